@@ -1,0 +1,7 @@
+-- The frames' state as a pool's fields have it.
+use Rattle.pager_model.specs.FrameStates.{FrameState}
+use Rattle.frame_pool.specs.declared.pool.Pool.TheInside.{Inside}
+
+abbrev pub state_of : Inside → FrameState
+state_of p =
+    record { free = p.free.items; records = p.records.items; used = p.used.items; held = p.held.items; entries = p.entries; preemptions = p.preemptions }

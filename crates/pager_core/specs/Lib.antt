@@ -1,0 +1,4 @@
+pub mod Flights
+pub mod Steps
+pub mod Running
+pub mod Machines

@@ -1,0 +1,6 @@
+pub mod Histories
+pub mod Taking
+pub mod Soundness
+pub mod Agreeing
+pub mod Texts
+pub mod Counting

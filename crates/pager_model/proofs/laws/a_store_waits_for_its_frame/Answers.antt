@@ -1,0 +1,56 @@
+use Rattle.std.proofs.Common.{◌≡◌, true, false, [], ◌∷◌, refl, lit<}
+use Rattle.pager_model.specs.declared.call.Call.TheVariants.{Load, Store}
+use Rattle.pager_model.specs.declared.reply.Reply.TheVariants.{Done, Unmapped}
+use Rattle.pager_model.specs.Examples.{answer, map_eight, take_page_one, small_setting}
+use Rattle.pager_model.specs.Legal.{MayFollow}
+use Rattle.pager_model.specs.Order.{Idle, Filling}
+use Rattle.pager_model.proofs.Soundness.{HasNothing-sound, IsSound-start}
+use Rattle.pager_model.specs.FrameStates.{start_frames}
+use Rattle.pager_model.proofs.laws.a_store_waits_for_its_frame.Goals as goal
+
+first : MayFollow small_setting [] (answer 0 map_eight Done)
+first =
+    record {
+      parts = refl;
+      processor = lit< tt;
+      space = lit< tt;
+      by_space = (tt, ((refl, tt), (refl, refl), refl));
+      by_frames = λ e. (let h : false ≡ true = e in cc);
+      ordered = (record { answered = 1; doing = Idle }, refl);
+    }
+
+second : MayFollow small_setting (answer 0 map_eight Done ∷ []) take_page_one
+second =
+    record {
+      parts = ((0, refl), refl);
+      processor = lit< tt;
+      space = lit< tt;
+      by_space = (tt, (refl, refl));
+      by_frames = λ e. (refl, HasNothing-sound 2 (start_frames 2 1) 0 (IsSound-start 2 1), refl);
+      ordered = (record { answered = 1; doing = Filling 0 1 }, refl);
+    }
+
+third : MayFollow small_setting (answer 0 map_eight Done ∷ take_page_one ∷ []) (answer 1 (Store 0 8192 5) Done)
+third =
+    record {
+      parts = refl;
+      processor = lit< tt;
+      space = lit< tt;
+      by_space = (refl, ((refl, (0, refl)), (refl, refl), refl));
+      by_frames = λ e. (let h : false ≡ true = e in cc);
+      ordered = (record { answered = 2; doing = Idle }, refl);
+    }
+
+fourth : MayFollow small_setting (answer 0 map_eight Done ∷ take_page_one ∷ answer 1 (Store 0 8192 5) Done ∷ []) (answer 2 (Load 0 65536) Unmapped)
+fourth =
+    record {
+      parts = refl;
+      processor = lit< tt;
+      space = lit< tt;
+      by_space = (tt, (refl, (refl, refl), refl));
+      by_frames = λ e. (let h : false ≡ true = e in cc);
+      ordered = (record { answered = 3; doing = Idle }, refl);
+    }
+
+pub returns-clause-legal : goal.returns-clause-legal
+returns-clause-legal c = (first, (second, (third, (fourth, tt))))

@@ -1,0 +1,33 @@
+-- What holds of frames and pages together: each frame is in one role, and spaces and frames agree on the resident pages.
+use Rattle.std.specs.Prelude.{ℕ, ◌≡◌, ◌+◌, ◌<◌, ◌^◌, Bool, false, ◌&&◌, ◌==◌, nat_le, nat_lt, if◌then◌else◌, List, count_by, Option, Some, None, IsSome, slice_index_or, length}
+use Rattle.pager_model.specs.declared.entry.Entry.{Entry}
+use Rattle.pager_model.specs.declared.reservation.Reservation.{Reservation}
+use Rattle.pager_model.specs.FrameStates.{FrameState, is_free, used_at, frame_of}
+use Rattle.pager_model.specs.Legal.{space_at, frames_at}
+use Rattle.pager_model.specs.Settings.{Given}
+
+-- the frame is a place of the reservation, used or not
+abbrev pub has_frame : ℕ → Option Reservation → Bool
+has_frame frame None = false
+has_frame frame (Some r) = nat_le r.frame frame && nat_lt frame (r.frame + 8 ^ r.size)
+
+abbrev pub is_frame : ℕ → Option ℕ → Bool
+is_frame frame None = false
+is_frame frame (Some f) = f == frame
+
+-- in how many roles a frame is: free, a place of a reservation, held by a processor
+abbrev pub roles : FrameState → ℕ → ℕ
+roles st frame = (if is_free st frame then 1 else 0) + count_by (has_frame frame) st.records + count_by (is_frame frame) st.held
+
+-- each frame is exactly one of free, a place of one reservation, and held by one processor; and a used place is a place
+abbrev pub IsPartition : ℕ → FrameState → Type 0
+IsPartition frames st =
+    (frame : ℕ) → frame < frames → (roles st frame ≡ 1) × (IsSome (used_at st frame) → count_by (has_frame frame) st.records ≡ 1)
+
+-- no processor holds a frame
+abbrev pub NothingHeld : FrameState → Type 0
+NothingHeld st = (processor : ℕ) → slice_index_or st.held processor None ≡ None
+
+-- page by page, the frame of a resident page is the used place of the page
+abbrev pub Agrees : Given → List Entry → Type 0
+Agrees g history = (s page : ℕ) → s < length g.told → (space_at history s).base page ≡ frame_of (frames_at g history) s page

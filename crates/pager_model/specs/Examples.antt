@@ -1,0 +1,70 @@
+-- Small values on which the definitions are computed.
+use Rattle.std.specs.Prelude.{ℕ, true, false, List, [], ◌∷◌, Some, None}
+use Rattle.pager_model.specs.declared.call.Call.{Call}
+use Rattle.pager_model.specs.declared.call.Call.TheVariants.{Map, Load, Store}
+use Rattle.pager_model.specs.declared.entry.Entry.{Entry}
+use Rattle.pager_model.specs.declared.entry.Want.{Want}
+use Rattle.pager_model.specs.declared.entry.What.TheVariants.{Answer, Take}
+use Rattle.pager_model.specs.declared.region.Kind.TheVariants.{Fixed}
+use Rattle.pager_model.specs.declared.region.Rights.TheVariants.{Write}
+use Rattle.pager_model.specs.declared.reply.Reply.{Reply}
+use Rattle.pager_model.specs.declared.reply.Reply.TheVariants.{Done, Unmapped}
+use Rattle.pager_model.specs.declared.reservation.Reservation.{Reservation}
+use Rattle.pager_model.specs.Flat.{Flat, empty_space, after_call}
+use Rattle.pager_model.specs.FrameStates.{FrameState, start_frames, taken, counted}
+use Rattle.pager_model.specs.Plans.{Plan}
+use Rattle.pager_model.specs.Settings.{Given}
+
+-- eight pages that may be written, from page 0 on
+abbrev pub map_eight : Call
+map_eight = Map 0 0 8 Fixed Write
+
+abbrev pub eight_pages : Flat
+eight_pages = after_call empty_space map_eight
+
+-- where a reservation in these pages may lie
+abbrev pub want_eight : Want
+want_eight = record { low = 0; high = 8; cap = 8; wired = false }
+
+-- two frames, of which one and then both are taken
+abbrev pub two_frames : FrameState
+two_frames = start_frames 2 1
+
+abbrev pub one_taken : FrameState
+one_taken = counted (taken two_frames 0 3 want_eight 0)
+
+abbrev pub both_taken : FrameState
+both_taken = counted (taken one_taken 0 5 want_eight 1)
+
+abbrev pub small_setting : Given
+small_setting = record { frames = 2; marks = 0 ∷ []; told = true ∷ []; faults = 0 ∷ [] }
+
+abbrev pub answer : ℕ → Call → Reply → Entry
+answer number call reply =
+    record { processor = 0; space = Some 0; frames = false; what = Answer number call (record { reply = reply; hit = false; size = None }) }
+
+abbrev pub take_page_one : Entry
+take_page_one = record { processor = 0; space = Some 0; frames = true; what = Take 1 0 want_eight }
+
+-- a map, a store for which a frame is taken, and a load past the region
+abbrev pub legal_history : List Entry
+legal_history = answer 0 map_eight Done ∷ take_page_one ∷ answer 1 (Store 0 8192 5) Done ∷ answer 2 (Load 0 65536) Unmapped ∷ []
+
+-- the same, with the store answered before its frame is taken
+abbrev pub exchanged_history : List Entry
+exchanged_history = answer 0 map_eight Done ∷ answer 1 (Store 0 8192 5) Done ∷ take_page_one ∷ answer 2 (Load 0 65536) Unmapped ∷ []
+
+-- a trace of two calls
+abbrev pub small_plan : Plan
+small_plan =
+    record {
+      frames = 512;
+      processors = 1;
+      spaces = 1;
+      daemon = None;
+      calls = record { processor = 0; call = map_eight } ∷ record { processor = 0; call = Store 0 8192 5 } ∷ [];
+    }
+
+-- a reservation of eight places at page 8 and frame 16, of an age of 7
+abbrev pub eight_places : Reservation
+eight_places = record { space = 0; first = 8; size = 1; frame = 16; stamp = 7 }

@@ -1,0 +1,15 @@
+-- The preferred size of a reservation for a page.
+use Rattle.std.specs.Prelude.{ℕ, ◌+◌, ◌^◌, Bool, ◌&&◌, not, nat_le, if◌then◌else◌}
+use Rattle.pager_model.specs.declared.entry.Want.{Want}
+use Rattle.pager_model.specs.Extents.{extent_start}
+
+-- The extent of size k round the page lies from the want's low to before its high, has at most the cap's number of pages, and
+-- meets nothing; whether an extent of a size and a first page meets a reservation of the space is a test.
+abbrev pub fits : (ℕ → ℕ → Bool) → ℕ → Want → ℕ → Bool
+fits meets page want k =
+    (nat_le want.low (extent_start k page) && nat_le (extent_start k page + 8 ^ k) want.high) && (nat_le (8 ^ k) want.cap && not (meets k (extent_start k page)))
+
+-- The preferred size: the largest whose extent round the page fits. A page alone always does.
+abbrev pub preferred_size : (ℕ → ℕ → Bool) → ℕ → Want → ℕ
+preferred_size meets page want =
+    if fits meets page want 3 then 3 else (if fits meets page want 2 then 2 else (if fits meets page want 1 then 1 else 0))

@@ -1,0 +1,72 @@
+-- Reservations, their used places and their yields.
+use Rattle.std.specs.Prelude.{ℕ, ◌+◌, ◌-◌, ◌*◌, ◌^◌, zero, suc, Bool, true, false, not, if◌then◌else◌, List, slice_index_or, slice_set, fold, ◌==◌, find, option_map, Option, Some, None}
+use Rattle.std.specs.List.{range_with_len, list_any, list_all}
+use Rattle.std.specs.Option.{option_map_or}
+use Rattle.pager_model.specs.declared.reservation.Reservation.{Reservation}
+
+-- Reservations as they are kept: for each frame the reservation that begins at it, where one does, and whether it is a used
+-- place.
+pub record Records : Type 0 where
+  pub records : List (Option Reservation)
+  pub used : List Bool
+
+-- the frame is a used place
+abbrev pub is_used : List Bool → ℕ → Bool
+is_used used frame = slice_index_or used frame false
+
+-- none of the count frames from first on is a used place
+abbrev pub none_used : (ℕ → Bool) → ℕ → ℕ → Bool
+none_used used first count = list_all (λ frame. not (used frame)) (range_with_len first count)
+
+-- some extent of size k inside the reservation has no used place
+abbrev pub has_empty : (ℕ → Bool) → Reservation → ℕ → Bool
+has_empty used r k = list_any (λ i. none_used used (r.frame + i * 8 ^ k) (8 ^ k)) (range_with_len 0 (8 ^ (r.size - k)))
+
+abbrev pub yield_up_to : (ℕ → Bool) → Reservation → ℕ → Option ℕ
+yield_up_to used r zero = if has_empty used r 0 then Some 0 else None
+yield_up_to used r (suc k) = if has_empty used r (suc k) then Some (suc k) else yield_up_to used r k
+
+-- the yield of a reservation: the largest size of an extent inside it without a used place; a full one has none
+abbrev pub yield_of : (ℕ → Bool) → Reservation → Option ℕ
+yield_of used r = yield_up_to used r r.size
+
+-- the i-th of the eight parts of a reservation of size 1 or more, which keeps the stamp
+abbrev pub part_of : Reservation → ℕ → Reservation
+part_of r i =
+    record { space = r.space; first = r.first + i * 8 ^ (r.size - 1); size = r.size - 1; frame = r.frame + i * 8 ^ (r.size - 1); stamp = r.stamp }
+
+abbrev pub is_part_empty : (ℕ → Bool) → Reservation → ℕ → Bool
+is_part_empty used r i = none_used used (part_of r i).frame (8 ^ (r.size - 1))
+
+-- a part with a used place stays a reservation
+abbrev pub kept_part : (ℕ → Bool) → Reservation → ℕ → Option Reservation
+kept_part used r i = if is_part_empty used r i then None else Some (part_of r i)
+
+-- the reservation is split into its eight parts, of which the empty ones are no reservations
+abbrev pub split_records : (ℕ → Bool) → Reservation → List (Option Reservation) → List (Option Reservation)
+split_records used r records = fold (λ rs i. slice_set rs (part_of r i).frame (kept_part used r i)) records (range_with_len 0 8)
+
+abbrev pub same_size : Option ℕ → Option ℕ → Bool
+same_size None None = true
+same_size None (Some b) = false
+same_size (Some a) None = false
+same_size (Some a) (Some b) = a == b
+
+-- the lowest part with the yield of the whole
+abbrev pub lowest_as_wide : (ℕ → Bool) → Reservation → Option ℕ
+lowest_as_wide used r = find (λ i. same_size (yield_of used (part_of r i)) (yield_of used r)) (range_with_len 0 8)
+
+-- the part at which a breaking goes on: none where a part is empty, else the lowest part with the yield of the whole
+abbrev pub goes_on_at : (ℕ → Bool) → Reservation → Option Reservation
+goes_on_at used r = if list_any (is_part_empty used r) (range_with_len 0 8) then None else option_map (part_of r) (lowest_as_wide used r)
+
+-- Breaking over at most so many levels: the reservation is split, and while none of its parts was empty, the lowest part with
+-- its yield is broken in the same way.
+abbrev pub broken_over : ℕ → (ℕ → Bool) → Reservation → List (Option Reservation) → List (Option Reservation)
+broken_over zero used r records = records
+broken_over (suc levels) used r records =
+    option_map_or (λ part. broken_over levels used part (split_records used r records)) (goes_on_at used r) (split_records used r records)
+
+-- a reservation broken: it has at most as many levels as its size
+abbrev pub broken : (ℕ → Bool) → Reservation → List (Option Reservation) → List (Option Reservation)
+broken used r records = broken_over r.size used r records

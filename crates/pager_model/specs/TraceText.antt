@@ -1,0 +1,85 @@
+-- The text of a trace, and which traces have one. Lines end with a line feed, and their words are apart by one space.
+use Rattle.std.specs.Prelude.{ℕ, ◌≡◌, ◌+◌, ◌%◌, ◌^◌, ◌<◌, ◌≤◌, ◌⊎◌, List, [], ◌∷◌, ◌++◌, length, codes, decimal, flat_map, All, None}
+use Rattle.std.specs.List.{join_with_byte}
+use Rattle.pager_model.specs.declared.call.Call.{Call}
+use Rattle.pager_model.specs.declared.call.Call.TheVariants.{Map, Grow, Unmap, Protect, Load, Store, Sync, Evict}
+use Rattle.pager_model.specs.declared.call.Line.{Line}
+use Rattle.pager_model.specs.declared.region.Kind.{Kind}
+use Rattle.pager_model.specs.declared.region.Kind.TheVariants.{Fixed, Growing, Wired}
+use Rattle.pager_model.specs.declared.region.Rights.{Rights}
+use Rattle.pager_model.specs.declared.region.Rights.TheVariants.{NoAccess, Read, Write}
+use Rattle.pager_model.specs.Plans.{Plan}
+
+abbrev pub kind_word : Kind → List ℕ
+kind_word Fixed = codes "fixed"
+kind_word Growing = codes "growing"
+kind_word Wired = codes "wired"
+
+abbrev pub rights_word : Rights → List ℕ
+rights_word NoAccess = codes "none"
+rights_word Read = codes "read"
+rights_word Write = codes "write"
+
+-- the words of a call after its processor
+abbrev pub call_words : Call → List (List ℕ)
+call_words (Map space page len kind rights) =
+    codes "map" ∷ decimal space ∷ decimal page ∷ decimal len ∷ kind_word kind ∷ rights_word rights ∷ []
+call_words (Grow space page by) = codes "grow" ∷ decimal space ∷ decimal page ∷ decimal by ∷ []
+call_words (Unmap space page) = codes "unmap" ∷ decimal space ∷ decimal page ∷ []
+call_words (Protect space page len rights) =
+    codes "protect" ∷ decimal space ∷ decimal page ∷ decimal len ∷ rights_word rights ∷ []
+call_words (Load space address) = codes "load" ∷ decimal space ∷ decimal address ∷ []
+call_words (Store space address word) = codes "store" ∷ decimal space ∷ decimal address ∷ decimal word ∷ []
+call_words (Sync space page) = codes "sync" ∷ decimal space ∷ decimal page ∷ []
+call_words (Evict space page) = codes "evict" ∷ decimal space ∷ decimal page ∷ []
+
+-- a line of these words: one space (byte 32) between two, and a line feed (byte 10) at the end
+abbrev pub line_of_words : List (List ℕ) → List ℕ
+line_of_words words = join_with_byte 32 words ++ 10 ∷ []
+
+abbrev pub call_line : Line → List ℕ
+call_line line = line_of_words (decimal line.processor ∷ call_words line.call)
+
+abbrev pub first_line : Plan → List ℕ
+first_line plan = line_of_words (codes "trace" ∷ codes "1" ∷ decimal plan.frames ∷ decimal plan.processors ∷ decimal plan.spaces ∷ [])
+
+-- the whole text: the first line, a line for each call, and the line end
+abbrev pub text_of : Plan → List ℕ
+text_of plan = first_line plan ++ flat_map call_line plan.calls ++ line_of_words (codes "end" ∷ [])
+
+-- a load or a store that a line may hold: of processor 0 and space 0, at a word of one of the 1,048,576 pages
+abbrev pub IsAccessCall : Call → Type 0
+IsAccessCall (Load space address) = (space ≡ 0) × (address % 8 ≡ 0) × (address < 8589934592)
+IsAccessCall (Store space address word) = (space ≡ 0) × (address % 8 ≡ 0) × (address < 8589934592) × (word < 2 ^ 64)
+IsAccessCall call = ⊥
+
+-- a map that a line may hold: of a fixed region that lies in the space
+abbrev pub IsMapCall : Call → Type 0
+IsMapCall (Map space page len Fixed rights) = (space ≡ 0) × (1 ≤ len) × (page + len ≤ 1048576)
+IsMapCall call = ⊥
+
+abbrev pub IsAccessLine : Line → Type 0
+IsAccessLine line = (line.processor ≡ 0) × IsAccessCall line.call
+
+abbrev pub IsMapLine : Line → Type 0
+IsMapLine line = (line.processor ≡ 0) × IsMapCall line.call
+
+-- the first call may be a map, and every other is a load or a store
+abbrev pub AreLines : List Line → Type 0
+AreLines [] = Unit {0}
+AreLines (line ∷ lines) = (IsMapLine line ⊎ IsAccessLine line) × All IsAccessLine lines
+
+-- the traces that have a text: a multiple of 512 frames from 512 to 32,768, one processor, one space, no daemon,
+-- lines in their ranges, and at most 65,536 bytes
+pub record HasText (plan : Plan) : Type 0 where
+  pub frames_in : (512 ≤ plan.frames) × (plan.frames ≤ 32768)
+  pub frames_whole : plan.frames % 512 ≡ 0
+  pub one_processor : plan.processors ≡ 1
+  pub one_space : plan.spaces ≡ 1
+  pub no_daemon : plan.daemon ≡ None
+  pub lines : AreLines plan.calls
+  pub short : length (text_of plan) ≤ 65536
+
+-- these bytes are the text of this trace
+abbrev pub IsTextOf : List ℕ → Plan → Type 0
+IsTextOf bytes plan = HasText plan × (bytes ≡ text_of plan)

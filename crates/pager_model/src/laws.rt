@@ -1,0 +1,87 @@
+//! Examples of the definitions, and laws over them: each is a function that does nothing, whose contract the gate proves.
+
+ghost use Rattle.std.specs.Prelude.{◌≡◌, ℕ, ◌∷◌, ◌++◌, ◌==◌, ◌<◌, [], Some, None, true, false, List, codes, nat_lt};
+ghost use Rattle.pager_model.specs.declared.entry.Entry.{Entry};
+ghost use Rattle.pager_model.specs.Agreement.{Agrees, IsPartition, NothingHeld};
+ghost use Rattle.pager_model.specs.declared.call.Call.TheVariants.{Load, Store};
+ghost use Rattle.pager_model.specs.declared.region.Rights.TheVariants.{Read};
+ghost use Rattle.pager_model.specs.declared.reply.Reply.TheVariants.{Done, Value, Denied, Unmapped};
+ghost use Rattle.pager_model.specs.Ages.{with_member, oldest_in};
+ghost use Rattle.pager_model.specs.Examples.{eight_pages, two_frames, one_taken, both_taken, want_eight, small_setting, legal_history, exchanged_history, small_plan, eight_places};
+ghost use Rattle.pager_model.specs.Flat.{after_call, reply_of};
+ghost use Rattle.pager_model.specs.FrameStates.{take_frame, lowest_free, frame_of};
+ghost use Rattle.pager_model.specs.FreeBlocks.{choice};
+ghost use Rattle.pager_model.specs.PreferredSize.{preferred_size};
+ghost use Rattle.pager_model.specs.PrintedText.{answers_text};
+ghost use Rattle.pager_model.specs.Records.{yield_of, kept_part};
+ghost use Rattle.pager_model.specs.TraceText.{text_of};
+ghost use Rattle.pager_model.specs.Legal.{IsLegal, MayFollow, frames_at};
+ghost use Rattle.pager_model.specs.Settings.{Given};
+
+/// A legal history goes on by an entry that may follow it.
+pub fn legal_goes_on()
+    ensures { (g : Given) (history : List Entry) (e : Entry) → IsLegal g history → MayFollow g history e → IsLegal g (history ++ e ∷ []) }
+{}
+
+/// After every legal history each frame is in one role, nobody holds one, and spaces and frames agree on the resident pages.
+pub fn frames_have_one_role()
+    ensures partition { (g : Given) (history : List Entry) → IsLegal g history → IsPartition g.frames (frames_at g history) }
+    ensures held { (g : Given) (history : List Entry) → IsLegal g history → NothingHeld (frames_at g history) }
+    ensures agrees { (g : Given) (history : List Entry) → IsLegal g history → Agrees g history }
+{}
+
+/// Of free blocks of two frames at 2 and one frame at 5, the choice of one frame is the block of one: the lowest free frames
+/// are not the choice.
+pub fn choice_is_the_least_block()
+    ensures one { choice (false ∷ false ∷ true ∷ true ∷ false ∷ true ∷ false ∷ false ∷ []) 0 ≡ Some 5 }
+    ensures none_of_eight { choice (false ∷ false ∷ true ∷ true ∷ false ∷ true ∷ false ∷ false ∷ []) 1 ≡ None }
+{}
+
+/// A stored word is loaded again, another page's word is still zero, and a page past the region is unmapped.
+pub fn flat_memory_keeps_words()
+    ensures stored { reply_of (after_call eight_pages (Store 0 8192 5)) (Load 0 8192) ≡ Value 5 }
+    ensures other { reply_of (after_call eight_pages (Store 0 8192 5)) (Load 0 0) ≡ Value 0 }
+    ensures past { reply_of eight_pages (Load 0 65536) ≡ Unmapped }
+{}
+
+/// Of two frames the first taking has frame 0, the second frame 1, and a third has none.
+pub fn frames_are_taken_in_order()
+    ensures first { lowest_free two_frames ≡ Some 0 }
+    ensures second { lowest_free one_taken ≡ Some 1 }
+    ensures third { take_frame both_taken 0 7 want_eight ≡ None }
+    ensures place { frame_of both_taken 0 5 ≡ Some 1 }
+{}
+
+/// A page that was never taken has no answer: the history is legal as it is, and isn't with two entries exchanged.
+pub fn a_store_waits_for_its_frame()
+    ensures legal { IsLegal small_setting legal_history }
+    ensures exchanged { IsLegal small_setting exchanged_history → ⊥ }
+{}
+
+/// A trace of two calls has this text, and a legal history prints these answers.
+pub fn small_texts()
+    ensures trace { text_of small_plan ≡ codes "trace 1 512 1 1\n0 map 0 0 8 fixed write\n0 store 0 8192 5\nend\n" }
+    ensures answers { answers_text 1 legal_history ≡ codes "0 0 done\n0 1 done\n0 2 unmapped\n" }
+{}
+
+/// Page 5 of a region of pages 0 to 15 has a reservation of eight pages, and one of a single page where a reservation has
+/// page 7, or where at most seven pages may be had.
+pub fn preferred_sizes()
+    ensures eight { preferred_size (λ k first. false) 5 (record { low = 0; high = 16; cap = 16; wired = false }) ≡ 1 }
+    ensures in_the_way { preferred_size (λ k first. nat_lt 0 k) 5 (record { low = 0; high = 16; cap = 16; wired = false }) ≡ 0 }
+    ensures capped { preferred_size (λ k first. false) 5 (record { low = 0; high = 16; cap = 7; wired = false }) ≡ 0 }
+{}
+
+/// A reservation of eight places with its fourth used yields one page; with all used it yields nothing; and its parts are
+/// reservations where they are used.
+pub fn yields_and_parts()
+    ensures one_used { yield_of (λ frame. frame == 19) eight_places ≡ Some 0 }
+    ensures full { yield_of (λ frame. nat_lt 15 frame) eight_places ≡ None }
+    ensures used_part { kept_part (λ frame. frame == 19) eight_places 3 ≡ Some (record { space = 0; first = 11; size = 0; frame = 19; stamp = 7 }) }
+    ensures empty_part { kept_part (λ frame. frame == 19) eight_places 4 ≡ None }
+{}
+
+/// Of two reservations with one stamp the one with the lower frame is the older.
+pub fn equal_stamps_go_by_frame()
+    ensures { oldest_in (with_member (record { stamp = 3; frame = 9 }) (with_member (record { stamp = 3; frame = 12 }) [])) ≡ Some 9 }
+{}

@@ -1,0 +1,36 @@
+//! The words that every other crate of the pager speaks: its types in `src/`, its definitions in `specs/`.
+//!
+//! The types are plain data: sizes, extents, regions, calls and their replies, the entries of a history, a trace,
+//! and the frames, which move and are never copied. The definitions say in the field's words what a pager may do:
+//! the flat memory that each answer is measured by, the frames' state, and which histories are legal.
+#![tactic(auto)]
+
+pub mod call;
+pub mod entry;
+pub mod extent;
+pub mod frame;
+pub mod laws;
+pub mod region;
+pub mod reply;
+pub mod reservation;
+pub mod setting;
+pub mod size;
+pub mod summary;
+pub mod tile;
+pub mod trace;
+
+pub use call::{Call, Line};
+pub use entry::{Entry, Need, Numbered, Want, What};
+pub use extent::Extent;
+pub use frame::{Frame, NoMemory, frames_of};
+pub use region::{Kind, Region, Rights};
+pub use reply::{Answered, Reply};
+pub use reservation::{Reservation, Used};
+pub use setting::Setting;
+pub use size::Size;
+pub use summary::Summary;
+pub use tile::Tile;
+pub use trace::{Daemon, Trace};
+
+#[cfg(test)]
+mod tests;

@@ -1,0 +1,38 @@
+ghost use Rattle.std.specs.Prelude.{◌≡◌, ◌≤◌, ◌<◌, vec_len};
+
+use std::marker::Model;
+
+/// What a history is legal for.
+#[derive(Debug, Drop)]
+pub struct Setting {
+    frames: u32,
+    marks: Vec<u32>,
+    told: Vec<bool>,
+    faults: Vec<u64>,
+}
+
+impl Model for Setting {
+    ghost use Rattle.pager_model.specs.Settings.{Given};
+
+    ghost Value = { Given };
+
+    ghost view = { λ s. record { frames = s.frames; marks = s.marks.items; told = s.told.items; faults = s.faults.items } };
+}
+
+impl Setting {
+    /// The number of frames; for each processor 0 where it makes calls, and a daemon's low mark; and for each space
+    /// whether its store tells its copies, and its store's count of faults at entry.
+    pub fn of(frames: u32, marks: Vec<u32>, told: Vec<bool>, faults: Vec<u64>) -> Setting
+        requires spaces { (1 ≤ vec_len told) × (vec_len told ≤ 16) }
+        requires counts { vec_len faults ≡ vec_len told }
+        requires processors { (1 ≤ vec_len marks) × (vec_len marks ≤ 17) }
+        ensures { result ≡ record { frames = frames; marks = marks.items; told = told.items; faults = faults.items } }
+    {
+        Setting {
+            frames,
+            marks,
+            told,
+            faults,
+        }
+    }
+}

@@ -1,0 +1,38 @@
+use super::*;
+use std::test::Fail;
+
+#[test]
+fn frames_are_numbered_and_zero(rt: HostRuntime) -> Result<(), Fail> {
+    let frames = frames_of(rt.alloc(), 3).map_err(|_| "memory")?;
+    assert_eq!(rt; frames.len(), 3);
+    for (i, frame) in frames.iter().enumerate() {
+        assert_eq!(rt; frame.number() as usize, i);
+        assert_eq!(rt; frame.words().len(), 1024);
+        assert!(rt; frame.words().iter().all(|word| *word == 0));
+    }
+    Ok(())
+}
+
+#[test]
+fn a_frame_keeps_what_is_written(rt: HostRuntime) -> Result<(), Fail> {
+    let mut frames = frames_of(rt.alloc(), 1).map_err(|_| "memory")?;
+    let mut frame = frames.pop().ok_or("a frame")?;
+    let words = frame.words_mut();
+    assert_eq!(rt; words.len(), 1024);
+    words[1023] = 7;
+    assert_eq!(rt; frame.words()[1023], 7);
+    assert_eq!(rt; frame.words()[0], 0);
+    assert_eq!(rt; frame.number(), 0);
+    Ok(())
+}
+
+#[test]
+fn sizes_have_powers_of_eight_pages(rt: HostRuntime) -> Result<(), Fail> {
+    for (level, pages) in [(0u8, 1u32), (1, 8), (2, 64), (3, 512)] {
+        let size = Size::of(level).ok_or("a size")?;
+        assert_eq!(rt; size.level(), level);
+        assert_eq!(rt; size.pages(), pages);
+    }
+    assert!(rt; Size::of(4).is_none());
+    Ok(())
+}

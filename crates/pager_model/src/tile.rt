@@ -1,0 +1,11 @@
+use crate::extent::Extent;
+use crate::region::Rights;
+
+/// A translation: an extent of pages over the extent of frames from `frame` on, of one rights and one dirty flag.
+#[derive(Clone, Copy, Debug, PartialEq, Eq)]
+pub struct Tile {
+    pub extent: Extent,
+    pub frame: u32,
+    pub rights: Rights,
+    pub dirty: bool,
+}

@@ -1,0 +1,99 @@
+ghost use Rattle.std.specs.Prelude.{◌≡◌, ◌≤◌, length};
+ghost use Rattle.pager_model.specs.TraceText.{HasText};
+
+use crate::call::Line;
+use std::marker::Model;
+
+/// What a paging daemon keeps free, and how many turns it makes.
+#[derive(Clone, Copy, Debug, PartialEq, Eq)]
+pub struct Daemon {
+    pub low: u32,
+    pub turns: u32,
+}
+
+/// A trace: the frames, processors and spaces of a run, and the calls in the order of their lines.
+///
+/// Every trace has a text of the grammar, so what it holds is within the grammar's ranges.
+#[derive(Debug, Drop)]
+pub struct Trace {
+    frames: u32,
+    processors: u32,
+    spaces: u32,
+    daemon: Option<Daemon>,
+    calls: Vec<Line>,
+}
+
+impl Model for Trace {
+    ghost use Rattle.pager_model.specs.Plans.{Plan};
+
+    ghost Value = { Plan };
+
+    ghost use Rattle.pager_model.specs.TraceText.{HasText};
+
+    ghost view = { λ t. record { frames = t.frames; processors = t.processors; spaces = t.spaces; daemon = t.daemon; calls = t.calls.items } };
+
+    ghost invariant = { λ t. HasText (record { frames = t.frames; processors = t.processors; spaces = t.spaces; daemon = t.daemon; calls = t.calls.items }) };
+}
+
+impl Trace {
+    /// A trace of what has a text of the grammar.
+    pub fn of(
+        frames: u32,
+        processors: u32,
+        spaces: u32,
+        daemon: Option<Daemon>,
+        calls: Vec<Line>,
+    ) -> Trace
+        requires { HasText (record { frames = frames; processors = processors; spaces = spaces; daemon = daemon; calls = calls.items }) }
+        ensures { result ≡ record { frames = frames; processors = processors; spaces = spaces; daemon = daemon; calls = calls.items } }
+    {
+        Trace {
+            frames,
+            processors,
+            spaces,
+            daemon,
+            calls,
+        }
+    }
+
+    /// How many frames there are.
+    pub fn frames(&self) -> u32
+        ensures frames { result ≡ self.now.frames }
+        ensures text { HasText self.now }
+    {
+        self.frames
+    }
+
+    /// How many processors make calls.
+    pub fn processors(&self) -> u32
+        ensures processors { result ≡ self.now.processors }
+        ensures text { HasText self.now }
+    {
+        self.processors
+    }
+
+    /// How many spaces there are.
+    pub fn spaces(&self) -> u32
+        ensures spaces { result ≡ self.now.spaces }
+        ensures text { HasText self.now }
+    {
+        self.spaces
+    }
+
+    /// The daemon's line, where there is one.
+    pub fn daemon(&self) -> Option<Daemon>
+        ensures daemon { result ≡ self.now.daemon }
+        ensures text { HasText self.now }
+    {
+        self.daemon
+    }
+
+    /// The calls, in the order of their lines.
+    pub fn calls(&self) -> &[Line]
+        ensures calls { result.now ≡ self.now.calls }
+        ensures few { length result.now ≤ 65536 }
+        ensures text { HasText self.now }
+    {
+        self.calls.as_slice()
+    }
+}

@@ -1,0 +1,82 @@
+//! Loads and stores as a space sees them: the page, the word in it, and what a region allows.
+
+ghost use Rattle.std.specs.Prelude.{◌≡◌, ◌+◌, ◌<◌, ◌≤◌, [], ◌∷◌, true, false, Some, None};
+ghost use Rattle.pager_model.specs.Flat.{page_of, word_of};
+ghost use Rattle.pager_model.specs.Regions.{has_page, want_in};
+ghost use Rattle.space_core.specs.Standing.{region_allows};
+
+use pager_model::{Answered, Call, Kind, Region, Reply, Rights, Want};
+
+/// The number of pages of a space.
+pub const PAGES: u32 = 1 << 20;
+
+/// The bytes of a base page.
+const PAGE_BYTES: u64 = 8192;
+
+/// The bytes of a word.
+const WORD_BYTES: u64 = 8;
+
+/// The page of an address.
+pub fn page_of(address: u64) -> u32
+    requires { address < 8589934592 }
+    ensures page { result ≡ page_of address }
+    ensures in_space { result < 1048576 }
+{
+    (address / PAGE_BYTES) as u32
+}
+
+/// The number of an address's word in its page.
+pub fn word_of(address: u64) -> usize
+    ensures word { result ≡ word_of address }
+    ensures in_page { result < 1024 }
+{
+    (address % PAGE_BYTES / WORD_BYTES) as usize
+}
+
+/// Whether the region has the page.
+pub fn has_page(region: &Region, page: u32) -> bool
+    requires { region.now.first + region.now.length ≤ 1048576 }
+    ensures { result ≡ has_page page region.now }
+{
+    region.first <= page && page < region.first + region.length
+}
+
+/// Whether the region allows the load or the store.
+pub fn allows(region: &Region, call: &Call) -> bool
+    ensures { result ≡ region_allows call.now (Some region.now) }
+{
+    match call {
+        Call::Load { .. } => !matches!(region.rights, Rights::NoAccess),
+        Call::Store { .. } => matches!(region.rights, Rights::Write),
+        _ => false,
+    }
+}
+
+/// Where a reservation for a page of the region may lie: within the region, and up to the space's end where it may grow.
+pub fn want_in(region: &Region, page: u32) -> Want
+    requires in_space { region.now.first + region.now.length ≤ 1048576 }
+    requires has { has_page page region.now ≡ true }
+    ensures { result ≡ want_in (region.now ∷ []) page region.now }
+{
+    let high = match region.kind {
+        Kind::Growing => PAGES,
+        Kind::Fixed | Kind::Wired => region.first + region.length,
+    };
+    Want {
+        low: region.first,
+        high,
+        cap: region.length,
+        wired: matches!(region.kind, Kind::Wired),
+    }
+}
+
+/// A reply, where no processor keeps a translation.
+pub fn answered(reply: Reply) -> Answered
+    ensures { result ≡ record { reply = reply; hit = false; size = None } }
+{
+    Answered {
+        reply,
+        hit: false,
+        size: None,
+    }
+}

@@ -1,0 +1,4 @@
+pub mod Reading
+pub mod Ranges
+pub mod CallsText
+pub mod Faults
