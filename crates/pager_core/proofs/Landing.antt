@@ -1,7 +1,6 @@
 -- How a machine's run begins, goes on from call to call, and ends.
-use Rattle.std.proofs.Common.{◌≡◌, ◌≢◌, ℕ, zero, suc, ◌+◌, ◌*◌, ◌<◌, ◌≤◌, Bool, true, false, cond, eqb, ◌==◌, List, [], ◌∷◌, ◌++◌, length, take, drop, map, filter, get_or, slice_get, replicate, is_some, Option, Some, None, IfSome, MatchOption, option_to_list, refl, ap, sym, subst, ◌∙◌, inl, inr, ◌⊎◌, map-id, arith, All}
+use Rattle.std.proofs.Common.{◌≡◌, ℕ, zero, suc, ◌+◌, ◌*◌, ◌<◌, ◌≤◌, true, false, cond, ◌==◌, List, [], ◌∷◌, ◌++◌, length, take, map, filter, get_or, slice_get, is_some, Option, Some, None, option_to_list, refl, ap, sym, subst, ◌∙◌, inl, inr, map-id, arith, All}
 use Rattle.std.specs.List.{enumerate_from, range_with_len}
-use Rattle.std.proofs.lemmas.Bool.Decides.{nat_tests}
 use Rattle.std.proofs.lemmas.List.{append-nil, map_push, take_more, length_push}
 use Rattle.std.proofs.lemmas.List.FromFn.{map-range_with_len_more}
 use Rattle.std.proofs.lemmas.Option.{slice_get_within, get_or_from_slice_get}
@@ -17,20 +16,20 @@ use Rattle.pager_model.specs.declared.region.Region.{Region}
 use Rattle.pager_model.specs.declared.reply.Reply.{Reply}
 use Rattle.pager_model.specs.Flat.{space_of_call}
 use Rattle.pager_model.specs.FrameStates.{FrameState}
-use Rattle.pager_model.specs.Legal.{entries_in, progress_at}
+use Rattle.pager_model.specs.Legal.{entries_in}
 use Rattle.pager_model.specs.Entries.{entries_of}
 use Rattle.pager_model.specs.Order.{Idle, Progress, IsWhole}
 use Rattle.pager_model.specs.Plans.{Plan}
-use Rattle.pager_model.specs.Showing.{setting_of, answers_in, answer_in, calls_of, IsFiled, IsSequence, Shows}
-use Rattle.pager_model.specs.TraceText.{AreLines, IsAccessLine, IsMapLine, IsAccessCall, IsMapCall}
+use Rattle.pager_model.specs.Showing.{setting_of, answers_in, calls_of, IsFiled, IsSequence}
+use Rattle.pager_model.specs.TraceText.{AreLines, IsAccessLine, IsAccessCall, IsMapCall}
 use Rattle.pager_model.proofs.Agreeing.{IsPartition-legal, NothingHeld-legal, Agrees-legal}
 use Rattle.space_core.specs.Standing.{Kept, CanBegin}
 use Rattle.pager_core.specs.declared.flight.Flight.{Flight}
 use Rattle.pager_core.specs.declared.flight.Phase.{Phase}
 use Rattle.pager_core.specs.declared.flight.Phase.TheVariants.{Start, Frame, Fill, Short, Ended}
-use Rattle.pager_core.specs.Flights.{PhaseReady, PartIn, made_in, answer_made, reply_in, progress_in, IsReady, IsPart}
+use Rattle.pager_core.specs.Flights.{PhaseReady, PartIn, made_in, answer_made, reply_in, progress_in}
 use Rattle.pager_core.specs.Running.{Running, OneMore, plan_of, Runs, Between, InFlight, AnswersFirst, RestsOrFlies, IsRun, IsNext, IsNumbered, IsWholeRun, call_in}
-use Rattle.pager_core.specs.Steps.{Steps, StepsOn, Waits}
+use Rattle.pager_core.specs.Steps.{StepsOn}
 use Rattle.pager_core.proofs.Moves.{Runs-step, InFlight-step, InFlight-waits, IsFiled-push, enumerate-push, answers-push}
 
 -- what a line of a trace lets its call begin with
@@ -69,9 +68,10 @@ line_begins [] i line regions are at first = absurd (let h = slice_get_within []
 line_begins (l ∷ lines) zero line regions are at first =
     let same : l ≡ line = (let e : Some l ≡ Some line = at in cc) in
     subst (λ x. IsOwnLine x regions) same
-    (elim are.0
-     [ inl map_line ↦ (let b = map_begins l.call regions (first refl) map_line.1 in record { processor = map_line.0; space = b.0; can = b.1 })
-     | inr access ↦ access_line l regions access ])
+    (elim are.0 [
+      | inl map_line ↦ (let b = map_begins l.call regions (first refl) map_line.1 in record { processor = map_line.0; space = b.0; can = b.1 })
+      | inr access ↦ access_line l regions access
+    ])
 line_begins (l ∷ lines) (suc i) line regions are at first =
     let within : i < length lines = (let h = slice_get_within (l ∷ lines) (suc i) line at in omega arith) in
     let same : get_or lines i line ≡ line = get_or_from_slice_get lines i line line at in
@@ -98,20 +98,22 @@ launched plan answered kept pool h line runs between at =
 -- the next flight goes on in the run, and hasn't ended
 pub next_flies : (plan : Plan) (answered : ℕ) (flight : Option Flight) (kept : Kept) (pool : FrameState) (h : List Entry) (f : Flight) → Runs plan kept pool h → RestsOrFlies plan answered flight kept h → IsNext flight plan.calls answered f → InFlight plan answered kept h f × (reply_in f.phase ≡ None)
 next_flies plan answered flight kept pool h f runs state next =
-    elim next
-    [ inl goes ↦ subst (λ o. RestsOrFlies plan answered o kept h) goes state
-    | inr begins ↦
-      let between : Between plan answered kept h = subst (λ o. RestsOrFlies plan answered o kept h) begins.0 state in
-      let line = begins.1.0 in
-      (subst (InFlight plan answered kept h) (sym begins.1.2) (launched plan answered kept pool h line runs between begins.1.1), ap (λ (x : Flight). reply_in x.phase) begins.1.2) ]
+    elim next [
+      | inl goes ↦ subst (λ o. RestsOrFlies plan answered o kept h) goes state
+      | inr begins ↦
+          let between : Between plan answered kept h = subst (λ o. RestsOrFlies plan answered o kept h) begins.0 state in
+          let line = begins.1.0 in
+          (subst (InFlight plan answered kept h) (sym begins.1.2) (launched plan answered kept pool h line runs between begins.1.1), ap (λ (x : Flight). reply_in x.phase) begins.1.2)
+    ]
 
 -- the steps up to the next entry keep the run
 module _ (plan : Plan) (answered : ℕ) (h : List Entry) (f f' : Flight) (kept kept' : Kept) (pool pool' : FrameState) (e : Entry) where
   mid_flies : InFlight plan answered kept h f → (on : StepsOn f f' kept kept' pool pool' e) → InFlight plan answered kept h on.mid
   mid_flies flying on =
-      elim on.waited
-      [ inl same ↦ subst (InFlight plan answered kept h) (sym same) flying
-      | inr waits ↦ InFlight-waits plan answered h f on.mid kept kept flying waits ]
+      elim on.waited [
+        | inl same ↦ subst (InFlight plan answered kept h) (sym same) flying
+        | inr waits ↦ InFlight-waits plan answered h f on.mid kept kept flying waits
+      ]
 
   pub Runs-on : Runs plan kept pool h → InFlight plan answered kept h f → StepsOn f f' kept kept' pool pool' e → Runs plan kept' pool' (h ++ e ∷ [])
   Runs-on runs flying on =
@@ -137,9 +139,9 @@ landed plan answered kept h f reply phase flying =
       ready = subst (λ p. PhaseReady f.call kept p) phase flying.ready.phase;
       first = λ is. absurd (omega (arith, is));
       filed = subst (λ l. IsFiled l h) (sym more)
-        (subst (IsFiled (take answered plan.calls ++ line ∷ [])) (sym flying.parts)
+          (subst (IsFiled (take answered plan.calls ++ line ∷ [])) (sym flying.parts)
           (IsFiled-push (take answered plan.calls) line flying.done flying.part flying.filed
-            (subst (λ c. IsSequence (record { processor = c; call = f.call }) flying.part) flying.processor (subst (λ p. PartIn f p flying.part) phase flying.is_part))));
+          (subst (λ c. IsSequence (record { processor = c; call = f.call }) flying.part) flying.processor (subst (λ p. PartIn f p flying.part) phase flying.is_part))));
       few = (let few = subst (λ p. length h ≤ 2 * answered + made_in p) phase flying.few in omega (arith, few));
     }
 
@@ -200,10 +202,10 @@ module _ (plan : Plan) (answered : ℕ) (history : List Numbered) (f f' : Flight
       record {
         runs = subst (Runs plan kept' pool') same runs;
         answers = subst (AnswersFirst plan (answered + 1)) same
-          (answers-push (entries_in history) e
-           ∙ ap (λ o. answers_in (entries_in history) ++ option_to_list o) (on.steps.answers ∙ made)
-           ∙ ap (λ l. l ++ (answered, f'.call) ∷ []) run.answers
-           ∙ sym (calls-more plan answered f'.call flying.line));
+            (answers-push (entries_in history) e
+            ∙ ap (λ o. answers_in (entries_in history) ++ option_to_list o) (on.steps.answers ∙ made)
+            ∙ ap (λ l. l ++ (answered, f'.call) ∷ []) run.answers
+            ∙ sym (calls-more plan answered f'.call flying.line));
         numbered = numbered-push history e number run.numbered is;
         state = subst (Between plan (answered + 1) kept') same (landed plan answered kept' (entries_in history ++ e ∷ []) f' reply.0 phase flying);
       }
@@ -223,10 +225,10 @@ module _ (plan : Plan) (answered : ℕ) (history : List Numbered) (f f' : Flight
       record {
         runs = subst (Runs plan kept' pool') same runs;
         answers = subst (AnswersFirst plan answered) same
-          (answers-push (entries_in history) e
-           ∙ ap (λ o. answers_in (entries_in history) ++ option_to_list o) (on.steps.answers ∙ none_made f' f'.phase none)
-           ∙ append-nil (answers_in (entries_in history))
-           ∙ run.answers);
+            (answers-push (entries_in history) e
+            ∙ ap (λ o. answers_in (entries_in history) ++ option_to_list o) (on.steps.answers ∙ none_made f' f'.phase none)
+            ∙ append-nil (answers_in (entries_in history))
+            ∙ run.answers);
         numbered = numbered-push history e number run.numbered is;
         state = (subst (λ l. InFlight plan answered kept' l f') same flying, none);
       }
@@ -264,10 +266,11 @@ IsWholeRun-ended plan answered flight kept pool history run rest all =
       numbered = run.numbered;
       legal = runs.legal;
       shows = λ c below.
-        let only : c ≡ 0 = (let one = runs.one_processor in omega arith) in
-        subst (λ p. (answers_in (entries_of p (entries_in history)) ≡ enumerate_from 0 (calls_of p plan.calls)) × IsWhole (entries_of p (entries_in history))) (sym only)
-          (ap answers_in runs.own ∙ run.answers ∙ ap (λ l. enumerate_from 0 (map call_in l)) whole ∙ ap (enumerate_from 0) (sym (calls_of-all plan.calls runs.lines)),
-           (answered, between.progress));
+          let only : c ≡ 0 = (let one = runs.one_processor in omega arith) in
+          subst (λ p. (answers_in (entries_of p (entries_in history)) ≡ enumerate_from 0 (calls_of p plan.calls)) × IsWhole (entries_of p (entries_in history))) (sym only) (
+            ap answers_in runs.own ∙ run.answers ∙ ap (λ l. enumerate_from 0 (map call_in l)) whole ∙ ap (enumerate_from 0) (sym (calls_of-all plan.calls runs.lines)),
+            (answered, between.progress),
+          );
       filed = subst (λ l. IsFiled l (entries_in history)) whole between.filed;
       partition = IsPartition-legal (setting_of plan) (entries_in history) runs.legal;
       none_held = NothingHeld-legal (setting_of plan) (entries_in history) runs.legal;
@@ -290,14 +293,25 @@ room_left plan answered kept history f flying going =
     let same = length-map history (λ (n : Numbered). n.entry) in
     omega (arith, within, few, made, same)
 
--- one entry more, of the one actor
-pub one_more : (frames : ℕ) (lines : List Line) (answered : ℕ) (flight : Option Flight) (history : List Numbered) (old new : Running) (actor : ℕ) (e : Entry) (number : ℕ) → record { plan = plan_of frames lines; answered = answered; flight = flight; history = history } ≡ old → number ≡ length history → new.history ≡ history ++ record { number = number; entry = e } ∷ [] → e.processor ≡ 0 → actor < old.plan.processors → OneMore old new actor
-one_more frames lines answered flight history old new actor e number was at more own below =
+-- one entry more, of the one actor, where the history had room for it
+pub one_more : (frames : ℕ) (lines : List Line) (answered : ℕ) (flight : Option Flight) (history : List Numbered) (old new : Running) (actor : ℕ) (e : Entry) (number : ℕ) → record { plan = plan_of frames lines; answered = answered; flight = flight; history = history } ≡ old → number ≡ length history → new.plan.calls ≡ lines → new.history ≡ history ++ record { number = number; entry = e } ∷ [] → e.processor ≡ 0 → actor < old.plan.processors → length history < 8 * length lines → OneMore old new actor
+one_more frames lines answered flight history old new actor e number was at same more own below room =
     let was_history : history ≡ old.history = ap (λ (r : Running). r.history) was in
     let processors : 1 ≡ old.plan.processors = ap (λ (r : Running). r.plan.processors) was in
     record {
       entry = e;
       history = more ∙ ap (λ n. history ++ (let x : Numbered = record { number = n; entry = e } in x) ∷ []) at
-        ∙ ap (λ (l : List Numbered). l ++ (let x : Numbered = record { number = length l; entry = e } in x) ∷ []) was_history;
+          ∙ ap (λ (l : List Numbered). l ++ (let x : Numbered = record { number = length l; entry = e } in x) ∷ []) was_history;
       of_actor = (let zero_is : actor ≡ 0 = omega (arith, processors, below) in own ∙ sym zero_is);
+      few = (let count : length new.history ≡ length history + 1 = ap length more ∙ length_push history (record { number = number; entry = e }) in
+          let calls : length new.plan.calls ≡ length lines = ap length same in
+          omega (arith, count, calls, room));
     }
+
+-- no flight is next where every call was answered
+pub not_next : (flight : Option Flight) (lines : List Line) (answered : ℕ) (f : Flight) → IsNext flight lines answered f → flight ≡ None → answered ≡ length lines → ⊥
+not_next flight lines answered f next rests all =
+    elim next [
+      | inl goes ↦ (let e : Some f ≡ None = sym goes ∙ rests in cc)
+      | inr begins ↦ (let within = slice_get_within lines answered begins.1.0 begins.1.1 in omega (arith, within, all))
+    ]

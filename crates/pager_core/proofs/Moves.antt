@@ -1,35 +1,31 @@
 -- What a step of the flight does to a run.
-use Rattle.std.proofs.Common.{◌≡◌, ℕ, zero, suc, ◌+◌, ◌*◌, ◌<◌, ◌≤◌, Bool, true, false, cond, eqb, List, [], ◌∷◌, ◌++◌, length, take, map, filter_map, replicate, get_or, slice_get, Option, Some, None, IfSome, option_to_list, refl, ap, sym, subst, ◌∙◌, append_assoc, inl, inr, ◌⊎◌, arith, All, filter}
+use Rattle.std.proofs.Common.{◌≡◌, ℕ, suc, ◌+◌, ◌<◌, ◌≤◌, true, false, cond, eqb, List, [], ◌∷◌, ◌++◌, length, filter_map, Option, Some, None, IfSome, option_to_list, refl, ap, sym, subst, ◌∙◌, append_assoc, arith}
 use Rattle.std.specs.List.{enumerate_from}
 use Rattle.std.proofs.lemmas.Bool.Decides.{nat_tests}
-use Rattle.std.proofs.lemmas.List.{append-nil, map_push, take_more, length_push}
+use Rattle.std.proofs.lemmas.List.{append-nil, length_push}
 use Rattle.std.proofs.lemmas.List.Elements.{filter_map-append}
-use Rattle.std.proofs.lemmas.Option.{slice_get_within, get_or_from_slice_get}
-use Rattle.std.proofs.Math.ListN.{length-replicate, length-take}
+use Rattle.std.proofs.Math.ListN.{length-replicate}
 use Rattle.pager_model.specs.declared.call.Call.{Call}
 use Rattle.pager_model.specs.declared.call.Line.{Line}
 use Rattle.pager_model.specs.declared.entry.Entry.{Entry}
 use Rattle.pager_model.specs.declared.entry.What.{What}
 use Rattle.pager_model.specs.declared.entry.What.TheVariants.{Answer, Out, Failed, Take, Give, Clear, Claim, UseHeld, DropHeld, Got, Unclaim, Refused, Rest}
-use Rattle.pager_model.specs.declared.reply.Reply.{Reply}
-use Rattle.pager_model.specs.Entries.{names_space, is_space, is_of, entries_of}
+use Rattle.pager_model.specs.Entries.{names_space, is_of}
 use Rattle.pager_model.specs.Flat.{space_of_call}
 use Rattle.pager_model.specs.FrameStates.{FrameState, frames_after, frame_of, HasNothing, FramesAllow}
-use Rattle.pager_model.specs.Legal.{space_at, frames_at, progress_at, MayFollow, IsLegal}
-use Rattle.pager_model.specs.Order.{Progress, Idle, progress_by, progress_after}
+use Rattle.pager_model.specs.Legal.{space_at, frames_at, progress_at, MayFollow}
+use Rattle.pager_model.specs.Order.{progress_by}
 use Rattle.pager_model.specs.Plans.{Plan}
 use Rattle.pager_model.specs.Showing.{setting_of, answers_in, answer_in, IsFiled, IsSequence}
-use Rattle.pager_model.specs.SpaceStates.{SpaceState, space_after, pending_after, MayGoOn, SpaceAllows, WhatAllowed}
-use Rattle.pager_model.proofs.Agreeing.{IsKept-legal, names-is}
+use Rattle.pager_model.specs.SpaceStates.{SpaceState, space_after, pending_after, MayGoOn, SpaceAllows}
+use Rattle.pager_model.proofs.Agreeing.{IsKept-legal}
 use Rattle.pager_model.proofs.Counting.{frames_after-entries}
 use Rattle.pager_model.proofs.Histories.{space_at-named, space_at-other, frames_at-named, frames_at-other, progress_at-own, IsLegal-push, filter-push_in}
 use Rattle.pager_model.proofs.Soundness.{HasNothing-sound}
-use Rattle.space_core.specs.Standing.{Kept, StandsFor, frame_at}
-use Rattle.pager_core.specs.declared.flight.Phase.{Phase}
-use Rattle.pager_core.specs.declared.flight.Phase.TheVariants.{Start, Frame, Fill, Short, Ended}
+use Rattle.space_core.specs.Standing.{Kept, StandsFor}
 use Rattle.pager_core.specs.declared.flight.Flight.{Flight}
-use Rattle.pager_core.specs.Flights.{progress_in, answer_made, made_in, IsReady, IsPart}
-use Rattle.pager_core.specs.Running.{Runs, Between, InFlight, AnswersFirst, call_in}
+use Rattle.pager_core.specs.Flights.{progress_in, IsReady}
+use Rattle.pager_core.specs.Running.{Runs, InFlight}
 use Rattle.pager_core.specs.Steps.{Steps, Waits, after_named, after_frames}
 
 -- two facts of the value of an option
@@ -69,9 +65,10 @@ counted-step : (h : List Entry) (e : Entry) (pool pool' : FrameState) → pool.e
 counted-step h e pool pool' few moves =
     let more = length_push h e in
     let at : pool'.entries ≡ (after_frames pool e).entries = ap (λ (st : FrameState). st.entries) moves in
-    elim e.frames as (λ b. e.frames ≡ b → pool'.entries ≤ length (h ++ e ∷ []))
-    [ true ↦ λ is. let one : (after_frames pool e).entries ≡ pool.entries + 1 = ap (λ b. (let st : FrameState = cond b (frames_after pool e) pool in st).entries) is ∙ frames_after-entries pool e in omega (arith, few, at, one, more)
-    | false ↦ λ is. let none : (after_frames pool e).entries ≡ pool.entries = ap (λ b. (let st : FrameState = cond b (frames_after pool e) pool in st).entries) is in omega (arith, few, at, none, more) ] refl
+    elim e.frames as (λ b. e.frames ≡ b → pool'.entries ≤ length (h ++ e ∷ [])) [
+      | true ↦ λ is. let one : (after_frames pool e).entries ≡ pool.entries + 1 = ap (λ b. (let st : FrameState = cond b (frames_after pool e) pool in st).entries) is ∙ frames_after-entries pool e in omega (arith, few, at, one, more)
+      | false ↦ λ is. let none : (after_frames pool e).entries ≡ pool.entries = ap (λ b. (let st : FrameState = cond b (frames_after pool e) pool in st).entries) is in omega (arith, few, at, none, more)
+    ] refl
 
 module _ (plan : Plan) (h : List Entry) (f f' : Flight) (kept kept' : Kept) (pool pool' : FrameState) (e : Entry) where
   -- the flight's space and processor are the only ones
@@ -81,61 +78,61 @@ module _ (plan : Plan) (h : List Entry) (f f' : Flight) (kept kept' : Kept) (poo
   -- the entry of a step may follow
   pub MayFollow-step : Runs plan kept pool h → IsReady f kept → f.processor ≡ 0 → progress_at h 0 ≡ Some (progress_in f) → Steps f f' kept kept' pool pool' e → MayFollow (setting_of plan) h e
   MayFollow-step runs ready first progress steps =
-    let legal = IsKept-legal (setting_of plan) h runs.legal in
-    let at : space_of_call f.call ≡ 0 = own_space runs ready in
-    let own : e.processor ≡ 0 = steps.processor ∙ first in
-    record {
-      parts = steps.parts;
-      processor = subst (λ n. e.processor < n) (sym (length-replicate plan.processors 0 ∙ runs.one_processor)) (let below : e.processor < 1 = omega (arith, own) in below);
-      space = both_some e.space (λ s named allowed. subst (λ n. s < n) (sym (length-replicate plan.spaces true ∙ runs.one_space)) (let below : s < 1 = omega (arith, named, at) in below)) steps.own_space (steps.space_allows (space_at h 0) runs.space);
-      by_space = both_some e.space
-        (λ s named allowed. subst (λ t. SpaceAllows (space_at h t) e) (sym (named ∙ at)) (subst (MayGoOn (space_at h 0).pending) (sym own) runs.goes_on, allowed))
-        steps.own_space (steps.space_allows (space_at h 0) runs.space);
-      by_frames = λ is. subst (λ st. FramesAllow st e.processor e.space e.what) runs.frames
-        (steps.frames_allow is
-          (λ page. sym (runs.space.base page) ∙ legal.agrees 0 page ∙ ap (λ st. frame_of st 0 page) (sym runs.frames) ∙ ap (λ s. frame_of pool s page) (sym at))
-          (subst (λ st. HasNothing st f.processor) (sym runs.frames) (HasNothing-sound plan.frames (frames_at (setting_of plan) h) f.processor legal.sound)));
-      ordered = (progress_in f', subst (λ c. progress_by (progress_at h c) e ≡ Some (progress_in f')) (sym own) (ap (λ p. progress_by p e) progress ∙ steps.in_order));
-    }
+      let legal = IsKept-legal (setting_of plan) h runs.legal in
+      let at : space_of_call f.call ≡ 0 = own_space runs ready in
+      let own : e.processor ≡ 0 = steps.processor ∙ first in
+      record {
+        parts = steps.parts;
+        processor = subst (λ n. e.processor < n) (sym (length-replicate plan.processors 0 ∙ runs.one_processor)) (let below : e.processor < 1 = omega (arith, own) in below);
+        space = both_some e.space (λ s named allowed. subst (λ n. s < n) (sym (length-replicate plan.spaces true ∙ runs.one_space)) (let below : s < 1 = omega (arith, named, at) in below)) steps.own_space (steps.space_allows (space_at h 0) runs.space);
+        by_space = both_some e.space
+            (λ s named allowed. subst (λ t. SpaceAllows (space_at h t) e) (sym (named ∙ at)) (subst (MayGoOn (space_at h 0).pending) (sym own) runs.goes_on, allowed))
+            steps.own_space (steps.space_allows (space_at h 0) runs.space);
+        by_frames = λ is. subst (λ st. FramesAllow st e.processor e.space e.what) runs.frames
+            (steps.frames_allow is
+            (λ page. sym (runs.space.base page) ∙ legal.agrees 0 page ∙ ap (λ st. frame_of st 0 page) (sym runs.frames) ∙ ap (λ s. frame_of pool s page) (sym at))
+            (subst (λ st. HasNothing st f.processor) (sym runs.frames) (HasNothing-sound plan.frames (frames_at (setting_of plan) h) f.processor legal.sound)));
+        ordered = (progress_in f', subst (λ c. progress_by (progress_at h c) e ≡ Some (progress_in f')) (sym own) (ap (λ p. progress_by p e) progress ∙ steps.in_order));
+      }
 
   -- and with it the run goes on
   pub Runs-step : Runs plan kept pool h → IsReady f kept → f.processor ≡ 0 → progress_at h 0 ≡ Some (progress_in f) → Steps f f' kept kept' pool pool' e → Runs plan kept' pool' (h ++ e ∷ [])
   Runs-step runs ready first progress steps =
-    let at : space_of_call f.call ≡ 0 = own_space runs ready in
-    let own : e.processor ≡ 0 = steps.processor ∙ first in
-    let after : after_named (space_of_call f.call) (space_at h 0) e ≡ space_at (h ++ e ∷ []) 0 = ap (λ s. after_named s (space_at h 0) e) at ∙ sym (space_at-after h e 0) in
-    record {
-      lines = runs.lines;
-      one_processor = runs.one_processor;
-      one_space = runs.one_space;
-      legal = IsLegal-push (setting_of plan) h e runs.legal (MayFollow-step runs ready first progress steps);
-      space = subst (StandsFor kept') after (steps.space_stands (space_at h 0) runs.space);
-      frames = steps.frames_stand ∙ ap (λ st. after_frames st e) runs.frames ∙ sym (frames_at-after plan h e);
-      goes_on = subst (λ (st : SpaceState). MayGoOn st.pending 0) (sym (space_at-after h e 0))
-        (elim (names_space 0 e) as (λ b. MayGoOn (cond b (space_after (space_at h 0) e) (space_at h 0)).pending 0)
-         [ true ↦ subst (λ c. MayGoOn (pending_after e.processor e.what) c) own (pending-own e.processor e.what) | false ↦ runs.goes_on ]);
-      own = filter-push_in (is_of 0) h e (let same : eqb e.processor 0 ≡ true = grind (arith, nat_tests) in same) ∙ ap (λ l. l ++ e ∷ []) runs.own;
-      number = steps.ready.number ∙ ap space_of_call steps.same_call.call ∙ at;
-      counted = counted-step h e pool pool' runs.counted steps.frames_stand;
-    }
+      let at : space_of_call f.call ≡ 0 = own_space runs ready in
+      let own : e.processor ≡ 0 = steps.processor ∙ first in
+      let after : after_named (space_of_call f.call) (space_at h 0) e ≡ space_at (h ++ e ∷ []) 0 = ap (λ s. after_named s (space_at h 0) e) at ∙ sym (space_at-after h e 0) in
+      record {
+        lines = runs.lines;
+        one_processor = runs.one_processor;
+        one_space = runs.one_space;
+        legal = IsLegal-push (setting_of plan) h e runs.legal (MayFollow-step runs ready first progress steps);
+        space = subst (StandsFor kept') after (steps.space_stands (space_at h 0) runs.space);
+        frames = steps.frames_stand ∙ ap (λ st. after_frames st e) runs.frames ∙ sym (frames_at-after plan h e);
+        goes_on = subst (λ (st : SpaceState). MayGoOn st.pending 0) (sym (space_at-after h e 0))
+            (elim (names_space 0 e) as (λ b. MayGoOn (cond b (space_after (space_at h 0) e) (space_at h 0)).pending 0)
+            [ true ↦ subst (λ c. MayGoOn (pending_after e.processor e.what) c) own (pending-own e.processor e.what) | false ↦ runs.goes_on ]);
+        own = filter-push_in (is_of 0) h e (let same : eqb e.processor 0 ≡ true = grind (arith, nat_tests) in same) ∙ ap (λ l. l ++ e ∷ []) runs.own;
+        number = steps.ready.number ∙ ap space_of_call steps.same_call.call ∙ at;
+        counted = counted-step h e pool pool' runs.counted steps.frames_stand;
+      }
 
   -- the flight goes on in its call, with the entry made
   pub InFlight-step : (answered : ℕ) → Runs plan kept pool h → InFlight plan answered kept h f → Steps f f' kept kept' pool pool' e → InFlight plan answered kept' (h ++ e ∷ []) f'
   InFlight-step answered runs flying steps =
-    let own : e.processor ≡ 0 = steps.processor ∙ flying.processor in
-    record {
-      processor = steps.same_call.processor ∙ flying.processor;
-      number = steps.same_call.number ∙ flying.number;
-      line = flying.line ∙ ap (λ (c : Call). Some (let l : Line = record { processor = 0; call = c } in l)) (sym steps.same_call.call);
-      progress = progress_at-own h e 0 (let same : eqb e.processor 0 ≡ true = grind (arith, nat_tests) in same) ∙ ap (λ p. progress_by p e) flying.progress ∙ steps.in_order;
-      ready = steps.ready;
-      done = flying.done;
-      part = flying.part ++ e ∷ [];
-      parts = ap (λ l. l ++ e ∷ []) flying.parts ∙ append_assoc flying.done flying.part (e ∷ []);
-      filed = flying.filed;
-      is_part = steps.filed flying.part flying.is_part;
-      few = (let n = length_push h e in let more = steps.few in let few = flying.few in omega (arith, n, more, few));
-    }
+      let own : e.processor ≡ 0 = steps.processor ∙ flying.processor in
+      record {
+        processor = steps.same_call.processor ∙ flying.processor;
+        number = steps.same_call.number ∙ flying.number;
+        line = flying.line ∙ ap (λ (c : Call). Some (let l : Line = record { processor = 0; call = c } in l)) (sym steps.same_call.call);
+        progress = progress_at-own h e 0 (let same : eqb e.processor 0 ≡ true = grind (arith, nat_tests) in same) ∙ ap (λ p. progress_by p e) flying.progress ∙ steps.in_order;
+        ready = steps.ready;
+        done = flying.done;
+        part = flying.part ++ e ∷ [];
+        parts = ap (λ l. l ++ e ∷ []) flying.parts ∙ append_assoc flying.done flying.part (e ∷ []);
+        filed = flying.filed;
+        is_part = steps.filed flying.part flying.is_part;
+        few = (let n = length_push h e in let more = steps.few in let few = flying.few in omega (arith, n, more, few));
+      }
 
 -- a step that makes no entry leaves the run as it is
 pub InFlight-waits : (plan : Plan) (answered : ℕ) (h : List Entry) (f f' : Flight) (kept kept' : Kept) → InFlight plan answered kept h f → Waits f f' kept kept' → InFlight plan answered kept' h f'

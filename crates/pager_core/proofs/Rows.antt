@@ -1,29 +1,27 @@
 -- The rows of the table of steps, over plain values.
-use Rattle.std.proofs.Common.{◌≡◌, ◌≢◌, ℕ, ◌+◌, ◌<◌, Bool, true, false, cond, eqb, ◌&&◌, List, [], ◌∷◌, ◌++◌, Option, Some, None, IfSome, IsSomeAnd, inl, inr, refl, ap, sym, subst, ◌∙◌, arith}
+use Rattle.std.proofs.Common.{◌≡◌, ℕ, ◌+◌, ◌<◌, true, false, cond, eqb, ◌&&◌, List, [], ◌∷◌, ◌++◌, Option, Some, None, IsSomeAnd, inl, inr, refl, ap, sym, subst, ◌∙◌, arith}
 use Rattle.std.proofs.lemmas.Bool.Decides.{nat_tests}
 use Rattle.pager_model.specs.declared.call.Call.{Call}
 use Rattle.pager_model.specs.declared.call.Call.TheVariants.{Map, Grow, Unmap, Protect, Load, Store, Sync, Evict}
-use Rattle.pager_model.specs.declared.call.Line.{Line}
 use Rattle.pager_model.specs.declared.entry.Entry.{Entry}
 use Rattle.pager_model.specs.declared.entry.Want.{Want}
 use Rattle.pager_model.specs.declared.entry.What.TheVariants.{Answer, Take, Refused}
 use Rattle.pager_model.specs.declared.reply.Answered.{Answered}
-use Rattle.pager_model.specs.declared.reply.Reply.{Reply}
 use Rattle.pager_model.specs.declared.reply.Reply.TheVariants.{NoFrames}
-use Rattle.pager_model.specs.Flat.{space_of_call, page_of, reply_of, is_lawful}
-use Rattle.pager_model.specs.FrameStates.{FrameState, Taking, frames_after, take_frame, take_at, state_taken, taken, counted, lowest_free, frame_of, HasNothing, FramesAllow, IsFull}
+use Rattle.pager_model.specs.Flat.{space_of_call}
+use Rattle.pager_model.specs.FrameStates.{FrameState, Taking, take_frame, state_taken, counted, IsFull}
 use Rattle.pager_model.specs.Order.{Progress, progress_after, may_answer, is_answered_alone, is_plain, is_served, is_access, is_access_at, is_no_frames, Idle}
 use Rattle.pager_model.specs.Regions.{wanted}
 use Rattle.pager_model.specs.Showing.{IsSequence}
 use Rattle.pager_model.specs.SpaceStates.{SpaceState, space_after, WhatAllowed, LacksItsPage, access_page}
 use Rattle.pager_model.proofs.Agreeing.{base-answer}
 use Rattle.space_core.specs.Beginning.{BeginsAnswered, BeginsNeedingFrame, Places, ReadsIn, Finishes}
-use Rattle.space_core.specs.Standing.{Kept, StandsFor, frame_at, answer_entry, take_entry, CanBegin, page_of_access, is_allowed}
+use Rattle.space_core.specs.Standing.{Kept, StandsFor, answer_entry, take_entry, CanBegin, page_of_access, is_allowed}
 use Rattle.pager_core.specs.declared.flight.Flight.{Flight}
 use Rattle.pager_core.specs.declared.flight.Phase.{Phase}
 use Rattle.pager_core.specs.declared.flight.Phase.TheVariants.{Start, Frame, Fill, Short, Ended}
-use Rattle.pager_core.specs.Flights.{PhaseReady, doing_in, answered_in, made_in, steps_left, progress_in, IsReady, IsPart, IsLawfulAccess, LacksFrame, HasFrame, PartIn, IsTaking, IsRefusal}
-use Rattle.pager_core.specs.Steps.{Steps, Waits, after_named}
+use Rattle.pager_core.specs.Flights.{PhaseReady, doing_in, answered_in, made_in, steps_left, progress_in, IsReady, IsPart, LacksFrame, HasFrame, PartIn}
+use Rattle.pager_core.specs.Steps.{Steps, Waits}
 
 -- the flight in another phase
 abbrev pub in_phase : Flight → Phase → Flight
@@ -35,36 +33,36 @@ eqb-same n = grind (arith, nat_tests)
 -- Whatever answers ends the flight: an answer that the space allows and then stands for, which may come where the flight is.
 module _ (f : Flight) (a : Answered) (kept kept' : Kept) where
   pub Steps-answer :
-    IsReady f kept → kept'.number ≡ kept.number → kept'.pending ≡ None
-    → ((st : SpaceState) → StandsFor kept st → (number : ℕ) → WhatAllowed st false (Answer number f.call a))
-    → ((st : SpaceState) → StandsFor kept st → (c number : ℕ) → StandsFor kept' (space_after st (answer_entry c number f.call a)))
-    → answered_in f.number f.phase ≡ f.number
-    → may_answer (doing_in (space_of_call f.call) f.phase) f.call a.reply ≡ true
-    → ((part : List Entry) → IsPart f part → IsSequence (record { processor = f.processor; call = f.call }) (part ++ answer_entry f.processor f.number f.call a ∷ []))
-    → made_in f.phase < 2 → 0 < steps_left f.phase
-    → (frames : FrameState) → Steps f (in_phase f (Ended a.reply)) kept kept' frames frames (answer_entry f.processor f.number f.call a)
+      IsReady f kept → kept'.number ≡ kept.number → kept'.pending ≡ None
+      → ((st : SpaceState) → StandsFor kept st → (number : ℕ) → WhatAllowed st false (Answer number f.call a))
+      → ((st : SpaceState) → StandsFor kept st → (c number : ℕ) → StandsFor kept' (space_after st (answer_entry c number f.call a)))
+      → answered_in f.number f.phase ≡ f.number
+      → may_answer (doing_in (space_of_call f.call) f.phase) f.call a.reply ≡ true
+      → ((part : List Entry) → IsPart f part → IsSequence (record { processor = f.processor; call = f.call }) (part ++ answer_entry f.processor f.number f.call a ∷ []))
+      → made_in f.phase < 2 → 0 < steps_left f.phase
+      → (frames : FrameState) → Steps f (in_phase f (Ended a.reply)) kept kept' frames frames (answer_entry f.processor f.number f.call a)
   Steps-answer ready same_number not_pending allowed stands at may filed few nearer frames =
-    let e = answer_entry f.processor f.number f.call a in
-    let s = space_of_call f.call in
-    record {
-      same_call = record { processor = refl; number = refl; call = refl };
-      processor = refl;
-      parts = refl;
-      own_space = refl;
-      space_allows = λ st is. allowed st is f.number;
-      space_stands = λ st is. subst (StandsFor kept') (sym (ap (λ b. cond b (space_after st (answer_entry f.processor f.number f.call a)) st) (eqb-same (space_of_call f.call)))) (stands st is f.processor f.number);
-      frames_allow = λ is. (let h : false ≡ true = is in cc);
-      frames_stand = refl;
-      in_order =
-        ap (λ n. cond (eqb f.number n && may_answer (doing_in (space_of_call f.call) f.phase) f.call a.reply) (Some (let p : Progress = record { answered = n + 1; doing = Idle } in p)) None) at
-        ∙ ap (λ b. cond (b && may_answer (doing_in (space_of_call f.call) f.phase) f.call a.reply) (Some (let p : Progress = record { answered = f.number + 1; doing = Idle } in p)) None) (eqb-same f.number)
-        ∙ ap (λ b. cond b (Some (let p : Progress = record { answered = f.number + 1; doing = Idle } in p)) None) may;
-      ready = record { number = same_number ∙ ready.number; phase = not_pending };
-      answers = refl;
-      filed = filed;
-      few = few;
-      nearer = nearer;
-    }
+      let e = answer_entry f.processor f.number f.call a in
+      let s = space_of_call f.call in
+      record {
+        same_call = record { processor = refl; number = refl; call = refl };
+        processor = refl;
+        parts = refl;
+        own_space = refl;
+        space_allows = λ st is. allowed st is f.number;
+        space_stands = λ st is. subst (StandsFor kept') (sym (ap (λ b. cond b (space_after st (answer_entry f.processor f.number f.call a)) st) (eqb-same (space_of_call f.call)))) (stands st is f.processor f.number);
+        frames_allow = λ is. (let h : false ≡ true = is in cc);
+        frames_stand = refl;
+        in_order =
+            ap (λ n. cond (eqb f.number n && may_answer (doing_in (space_of_call f.call) f.phase) f.call a.reply) (Some (let p : Progress = record { answered = n + 1; doing = Idle } in p)) None) at
+            ∙ ap (λ b. cond (b && may_answer (doing_in (space_of_call f.call) f.phase) f.call a.reply) (Some (let p : Progress = record { answered = f.number + 1; doing = Idle } in p)) None) (eqb-same f.number)
+            ∙ ap (λ b. cond b (Some (let p : Progress = record { answered = f.number + 1; doing = Idle } in p)) None) may;
+        ready = record { number = same_number ∙ ready.number; phase = not_pending };
+        answers = refl;
+        filed = filed;
+        few = few;
+        nearer = nearer;
+      }
 
 -- a call that can begin now may be answered alone
 alone : (regions : _) (call : Call) → CanBegin regions call → is_answered_alone call ≡ true
@@ -96,7 +94,7 @@ start_answered f a kept kept' phase ready begins =
     (ap (answered_in f.number) phase)
     (ap (λ p. may_answer (doing_in (space_of_call f.call) p) f.call a.reply) phase ∙ ap (λ b. b && is_plain a.reply) (alone kept.regions f.call ready_start.1) ∙ begins.plain)
     (λ part is. let none : part ≡ [] = subst (λ p. PartIn f p part) phase is in
-      subst (λ l. IsSequence (record { processor = f.processor; call = f.call }) (l ++ answer_entry f.processor f.number f.call a ∷ [])) (sym none) (refl, (refl, begins.plain)))
+    subst (λ l. IsSequence (record { processor = f.processor; call = f.call }) (l ++ answer_entry f.processor f.number f.call a ∷ [])) (sym none) (refl, (refl, begins.plain)))
     (subst (λ p. made_in p < 2) (sym phase) (let h : 0 < 2 = omega arith in h))
     (subst (λ p. 0 < steps_left p) (sym phase) (let h : 0 < 3 = omega arith in h))
 
@@ -109,10 +107,10 @@ fill_answered f page a kept mid kept' phase ready reads finishes =
     (λ st is. finishes.allowed st (reads.stands st is)) (λ st is. finishes.stands st (reads.stands st is))
     (ap (answered_in f.number) phase)
     (ap (λ p. may_answer (doing_in (space_of_call f.call) p) f.call a.reply) phase
-      ∙ ap (λ b. b && is_served a.reply) (ap (λ p. is_access_at (space_of_call f.call) p f.call) lawful.page_is ∙ access_at f.call lawful.access) ∙ finishes.served)
+    ∙ ap (λ b. b && is_served a.reply) (ap (λ p. is_access_at (space_of_call f.call) p f.call) lawful.page_is ∙ access_at f.call lawful.access) ∙ finishes.served)
     (λ part is. let was : PartIn f (Fill page) part = subst (λ p. PartIn f p part) phase is in
-      subst (λ l. IsSequence (record { processor = f.processor; call = f.call }) (l ++ answer_entry f.processor f.number f.call a ∷ [])) (sym was.1)
-        (inl (was.2.processor, (page, was.2.frame, was.2.want, was.2.what), (refl, (refl, finishes.served)))))
+    subst (λ l. IsSequence (record { processor = f.processor; call = f.call }) (l ++ answer_entry f.processor f.number f.call a ∷ [])) (sym was.1)
+    (inl (was.2.processor, (page, was.2.frame, was.2.want, was.2.what), (refl, (refl, finishes.served)))))
     (subst (λ p. made_in p < 2) (sym phase) (let h : 1 < 2 = omega arith in h))
     (subst (λ p. 0 < steps_left p) (sym phase) (let h : 0 < 1 = omega arith in h))
 
@@ -140,8 +138,8 @@ short_answered f wired claimed held kept phase ready =
     (ap (answered_in f.number) phase)
     (ap (λ p. may_answer (doing_in (space_of_call f.call) p) f.call a.reply) phase ∙ ap (λ b. b && is_no_frames wired claimed held (NoFrames wired claimed held)) lawful.access ∙ numbers)
     (λ part is. let was : PartIn f (Short wired claimed held) part = subst (λ p. PartIn f p part) phase is in
-      subst (λ l. IsSequence (record { processor = f.processor; call = f.call }) (l ++ answer_entry f.processor f.number f.call a ∷ [])) (sym was.1)
-        (inr (was.2.processor, (wired, claimed, held, was.2.what, (refl, (refl, numbers))))))
+    subst (λ l. IsSequence (record { processor = f.processor; call = f.call }) (l ++ answer_entry f.processor f.number f.call a ∷ [])) (sym was.1)
+    (inr (was.2.processor, (wired, claimed, held, was.2.what, (refl, (refl, numbers))))))
     (subst (λ p. made_in p < 2) (sym phase) (let h : 1 < 2 = omega arith in h))
     (subst (λ p. 0 < steps_left p) (sym phase) (let h : 0 < 1 = omega arith in h))
 
@@ -159,7 +157,7 @@ frame_taken f page want kept kept' before t phase ready takes places =
       own_space = refl;
       space_allows = λ st is. (was.1 st is, is.base page ∙ lack.absent);
       space_stands = λ st is. subst (StandsFor kept') (sym (ap (λ b. cond b (space_after st (take_entry f.processor (space_of_call f.call) page t.frame want)) st) (eqb-same (space_of_call f.call))))
-        (subst (λ n. StandsFor kept' (space_after st (take_entry f.processor n page t.frame want))) ready.number (places.stands st f.processor want is));
+          (subst (λ n. StandsFor kept' (space_after st (take_entry f.processor n page t.frame want))) ready.number (places.stands st f.processor want is));
       frames_allow = λ is agree nothing. (sym (agree page) ∙ lack.absent, nothing, subst (λ o. IsSomeAnd o (λ (u : Taking). u.frame ≡ t.frame)) (sym takes) refl);
       frames_stand = ap (λ o. counted (state_taken before o)) (sym takes);
       in_order = ap (λ p. progress_after (progress_in (in_phase f p)) (Some (space_of_call f.call)) (Take page t.frame want)) phase;
@@ -179,7 +177,7 @@ frame_taken f page want kept kept' before t phase ready takes places =
       };
       answers = refl;
       filed = λ part is. let none : part ≡ [] = subst (λ p. PartIn f p part) phase is in
-        (take_entry f.processor (space_of_call f.call) page t.frame want, ap (λ l. l ++ take_entry f.processor (space_of_call f.call) page t.frame want ∷ []) none, record { processor = refl; frame = t.frame; want = want; what = refl });
+          (take_entry f.processor (space_of_call f.call) page t.frame want, ap (λ l. l ++ take_entry f.processor (space_of_call f.call) page t.frame want ∷ []) none, record { processor = refl; frame = t.frame; want = want; what = refl });
       few = subst (λ p. made_in p < 1) (sym phase) (let h : 0 < 1 = omega arith in h);
       nearer = subst (λ p. 1 < steps_left p) (sym phase) (let h : 1 < 2 = omega arith in h);
     }
@@ -201,7 +199,7 @@ frame_refused f page want kept before phase ready full =
       ready = record { number = ready.number; phase = subst (λ p. LacksFrame f.call kept p) was.0.lawful_access.page_is was.0 };
       answers = refl;
       filed = λ part is. let none : part ≡ [] = subst (λ p. PartIn f p part) phase is in
-        (record { processor = f.processor; space = None; frames = true; what = Refused 0 0 0 }, ap (λ l. l ++ record { processor = f.processor; space = None; frames = true; what = Refused 0 0 0 } ∷ []) none, record { processor = refl; what = refl });
+          (record { processor = f.processor; space = None; frames = true; what = Refused 0 0 0 }, ap (λ l. l ++ record { processor = f.processor; space = None; frames = true; what = Refused 0 0 0 } ∷ []) none, record { processor = refl; what = refl });
       few = subst (λ p. made_in p < 1) (sym phase) (let h : 0 < 1 = omega arith in h);
       nearer = subst (λ p. 1 < steps_left p) (sym phase) (let h : 1 < 2 = omega arith in h);
     }
@@ -226,12 +224,15 @@ start_waits f page want kept kept' phase ready begins =
       few = ap made_in (sym phase);
       ready = subst (λ k. IsReady (in_phase f (Frame page want)) k) (sym begins.same) (record {
         number = ready.number;
-        phase = (record {
-          lawful_access = record { can = was.1; access = begins.access; allowed = begins.allowed; page_is = begins.page_is; in_space = begins.in_space };
-          ready = was.0;
-          absent = begins.absent;
-          lawful = begins.lawful;
-        }, begins.wanted);
+        phase = (
+          record {
+            lawful_access = record { can = was.1; access = begins.access; allowed = begins.allowed; page_is = begins.page_is; in_space = begins.in_space };
+            ready = was.0;
+            absent = begins.absent;
+            lawful = begins.lawful;
+          },
+          begins.wanted,
+        );
       });
       filed = λ part is. subst (λ p. PartIn f p part) phase is;
       next = refl;

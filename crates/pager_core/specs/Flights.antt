@@ -15,7 +15,7 @@ use Rattle.pager_core.specs.declared.flight.Flight.{Flight}
 use Rattle.pager_core.specs.declared.flight.Phase.{Phase}
 use Rattle.pager_core.specs.declared.flight.Phase.TheVariants.{Start, Frame, Fill, Short, Ended}
 use Rattle.pager_core.specs.declared.flight.Needs.{Needs}
-use Rattle.pager_core.specs.declared.flight.Needs.TheVariants.{Space, Both, Frames, Ended as NoneNeeded}
+use Rattle.pager_core.specs.declared.flight.Needs.TheVariants.{Space, Both, Ended as NoneNeeded}
 
 -- what the next step is made under
 abbrev pub needs_in : ℕ → Phase → Needs

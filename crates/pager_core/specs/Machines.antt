@@ -1,5 +1,5 @@
 -- What the fields of a machine keep true.
-use Rattle.std.specs.Prelude.{ℕ, ◌≡◌, ◌*◌, ◌≤◌, List, length, Option}
+use Rattle.std.specs.Prelude.{ℕ, ◌*◌, ◌≤◌, List, length, Option}
 use Rattle.pager_model.specs.declared.entry.Numbered.{Numbered}
 use Rattle.pager_model.specs.FrameStates.{FrameState}
 use Rattle.pager_model.specs.Plans.{Plan}

@@ -1,5 +1,5 @@
 -- A machine in the middle of a run, and what it keeps true.
-use Rattle.std.specs.Prelude.{ℕ, ◌≡◌, ◌+◌, ◌*◌, ◌<◌, ◌≤◌, List, [], ◌∷◌, ◌++◌, ◌⊎◌, length, take, map, slice_get, Option, Some, None, MatchOption}
+use Rattle.std.specs.Prelude.{ℕ, ◌≡◌, ◌+◌, ◌*◌, ◌≤◌, List, [], ◌∷◌, ◌++◌, ◌⊎◌, length, take, map, slice_get, Option, Some, None, MatchOption}
 use Rattle.std.specs.List.{enumerate_from, range_with_len}
 use Rattle.pager_model.specs.declared.call.Call.{Call}
 use Rattle.pager_model.specs.declared.call.Line.{Line}
@@ -12,7 +12,7 @@ use Rattle.pager_model.specs.Legal.{IsLegal, space_at, frames_at, progress_at, e
 use Rattle.pager_model.specs.Order.{Idle}
 use Rattle.pager_model.specs.Plans.{Plan}
 use Rattle.pager_model.specs.Showing.{setting_of, answers_in, IsFiled, Shows}
-use Rattle.pager_model.specs.SpaceStates.{SpaceState, MayGoOn}
+use Rattle.pager_model.specs.SpaceStates.{MayGoOn}
 use Rattle.pager_model.specs.TraceText.{AreLines}
 use Rattle.space_core.specs.Standing.{Kept, StandsFor}
 use Rattle.pager_core.specs.declared.flight.Flight.{Flight}
@@ -100,11 +100,12 @@ IsNext flight lines answered f =
 abbrev pub plan_of : ℕ → List Line → Plan
 plan_of frames lines = record { frames = frames; processors = 1; spaces = 1; daemon = None; calls = lines }
 
--- one entry more, of this actor
+-- one entry more, of this actor, and at most eight for each call of the trace
 pub record OneMore (old new : Running) (actor : ℕ) : Type 0 where
   pub entry : Entry
   pub history : new.history ≡ old.history ++ record { number = length old.history; entry = entry } ∷ []
   pub of_actor : entry.processor ≡ actor
+  pub few : length new.history ≤ 8 * length new.plan.calls
 
 -- What holds of the whole run of a trace: its history is numbered, legal, shows the trace and is filed in the order of its lines;
 -- and after it each frame is in one role, none is held, and spaces and frames agree.

@@ -1,5 +1,5 @@
 -- What a step of a flight does, for every list of entries that its space and the frames stand for.
-use Rattle.std.specs.Prelude.{ℕ, ◌≡◌, ◌<◌, Bool, true, false, if◌then◌else◌, List, [], ◌∷◌, ◌++◌, ◌⊎◌, Option, Some, None, IfSome}
+use Rattle.std.specs.Prelude.{ℕ, ◌≡◌, ◌<◌, true, if◌then◌else◌, List, [], ◌∷◌, ◌++◌, ◌⊎◌, Some, None, IfSome}
 use Rattle.pager_model.specs.declared.entry.Entry.{Entry}
 use Rattle.pager_model.specs.Entries.{NamesItsParts, names_space}
 use Rattle.pager_model.specs.Flat.{space_of_call}
@@ -36,7 +36,7 @@ pub record Steps (old new : Flight) (was now : Kept) (before after : FrameState)
   pub space_allows : (st : SpaceState) → StandsFor was st → IfSome e.space (λ s. WhatAllowed st e.frames e.what)
   pub space_stands : (st : SpaceState) → StandsFor was st → StandsFor now (after_named (space_of_call old.call) st e)
   pub frames_allow :
-    e.frames ≡ true → ((page : ℕ) → frame_at was page ≡ frame_of before (space_of_call old.call) page) → HasNothing before old.processor → FramesAllow before e.processor e.space e.what
+      e.frames ≡ true → ((page : ℕ) → frame_at was page ≡ frame_of before (space_of_call old.call) page) → HasNothing before old.processor → FramesAllow before e.processor e.space e.what
   pub frames_stand : after ≡ after_frames before e
   pub in_order : progress_after (progress_in old) e.space e.what ≡ Some (progress_in new)
   pub ready : IsReady new now

@@ -200,6 +200,15 @@ impl Flight {
         }
     }
 
+    /// Does the next step under the lock of the frames alone. No phase of a call that is built has such a step, so none is made.
+    pub fn step_frames(&mut self, pool: &mut Pool) -> Option<Entry>
+        ensures none { result ≡ None }
+        ensures same { self.new ≡ self.old }
+        ensures same_frames { pool.new ≡ pool.old }
+    {
+        None
+    }
+
     /// Takes a frame for the page, or finds that there is none.
     fn take(&mut self, space: &mut Space, pool: &mut Pool, page: u32, want: Want) -> Entry
         requires phase { self.old.phase ≡ Phase.Frame page want }

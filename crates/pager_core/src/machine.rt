@@ -1,4 +1,5 @@
 ghost use Rattle.std.specs.Prelude.{◌≡◌, ℕ, ◌^◌, ◌<◌, ◌≤◌, ◌↔◌, [], Some, None, IfOk, IfSome, IfNone, IsTrue, length};
+ghost use Rattle.pager_model.specs.Agreement.{Agrees};
 ghost use Rattle.pager_model.specs.FrameStates.{free_count, reserved_count, used_count};
 ghost use Rattle.pager_model.specs.Legal.{IsLegal, entries_in, frames_at};
 ghost use Rattle.pager_model.specs.Showing.{setting_of};
@@ -26,7 +27,7 @@ pub enum Turn {
 #[derive(Drop)]
 pub struct Gathered {
     pub history: Vec<Numbered>,
-    /// Of its counts those of frames are told for now, and the others are 0.
+    /// Of its counts those of frames and the preemptions are told for now, and the others are 0.
     pub summary: Summary,
 }
 
@@ -87,13 +88,15 @@ impl Machine {
 
         // Nothing is left exactly where every call was answered, and then nothing changes.
         ensures ended { result ≡ Turn.Ended → (self.new ≡ self.old) × HasEnded self.old }
+        ensures not_ended { HasEnded self.old → result ≡ Turn.Ended }
 
         // One entry more, of the actor.
         ensures stepped { result ≡ Turn.Stepped → OneMore self.old self.new actor }
         ensures same_trace { self.new.plan ≡ self.old.plan }
 
-        // After any turns the history is legal and numbered, and its answers are of the first calls, in order.
+        // After any turns the history is legal and numbered, spaces and frames agree, and the answers are of the first calls, in order.
         ensures legal { IsLegal (setting_of self.new.plan) (entries_in self.new.history) }
+        ensures agrees { Agrees (setting_of self.new.plan) (entries_in self.new.history) }
         ensures numbered { IsNumbered self.new.history }
         ensures answers { AnswersFirst self.new.plan self.new.answered (entries_in self.new.history) }
     {
@@ -124,6 +127,7 @@ impl Machine {
         requires { HasEnded self }
         ensures history { result.history.items ≡ self.history }
         ensures run { IsWholeRun self.plan self.history }
+        ensures preemptions { result.summary.preemptions ≡ (frames_at (setting_of self.plan) (entries_in self.history)).preemptions }
         ensures free { result.summary.free ≡ free_count (frames_at (setting_of self.plan) (entries_in self.history)) }
         ensures reserved { result.summary.reserved ≡ reserved_count (frames_at (setting_of self.plan) (entries_in self.history)) }
         ensures used { result.summary.used ≡ used_count (frames_at (setting_of self.plan) (entries_in self.history)) }

@@ -1,5 +1,5 @@
 -- A text that goes out piece by piece.
-use Rattle.std.proofs.Common.{◌≡◌, ℕ, ◌+◌, ◌-◌, ◌<◌, ◌≤◌, List, ◌++◌, length, take, drop, min, Option, Some, None, Result, Ok, Err, IfSome, OnErr, ap, sym, subst, ◌∙◌, append_assoc, arith, length-drop, length-take}
+use Rattle.std.proofs.Common.{◌≡◌, ℕ, ◌+◌, ◌-◌, ◌<◌, ◌≤◌, List, ◌++◌, length, take, drop, Option, Some, None, Result, Ok, Err, IfSome, OnErr, ap, sym, subst, ◌∙◌, append_assoc, arith, length-drop, length-take}
 use Rattle.std.proofs.lemmas.List.{take-take}
 use Rattle.std.proofs.Math.Seq.{take-add}
 
@@ -23,7 +23,9 @@ pub piece_part : (first mid last : Option (List ℕ)) (text : List ℕ) (at end 
 piece_part None mid last text at end below within had more = tt
 piece_part (Some h) mid last text at end below within had more =
     let now : (k : ℕ) × (k < length (take (end - at) (drop at text))) × (last ≡ Some ((h ++ take at text) ++ take k (take (end - at) (drop at text)))) =
-      subst (λ o. IfSome o (λ x. (k : ℕ) × (k < length (take (end - at) (drop at text))) × (last ≡ Some (x ++ take k (take (end - at) (drop at text)))))) had more in
-    let few : now.0 ≤ end - at = omega (arith, now.1, length-take (end - at) (drop at text)) in
-    (at + now.0, omega (arith, now.1, length-take (end - at) (drop at text), length-drop at text, within, below),
-     now.2 ∙ ap (λ l. Some ((h ++ take at text) ++ l)) (take-take now.0 (end - at) (drop at text) few) ∙ ap Some (joined h text at now.0))
+    subst (λ o. IfSome o (λ x. (k : ℕ) × (k < length (take (end - at) (drop at text))) × (last ≡ Some (x ++ take k (take (end - at) (drop at text)))))) had more in
+    let few : now.0 ≤ end - at = omega (arith, now.1, length-take (end - at) (drop at text)) in (
+      at + now.0,
+      omega (arith, now.1, length-take (end - at) (drop at text), length-drop at text, within, below),
+      now.2 ∙ ap (λ l. Some ((h ++ take at text) ++ l)) (take-take now.0 (end - at) (drop at text) few) ∙ ap Some (joined h text at now.0),
+    )

@@ -5,9 +5,8 @@ mod run;
 mod text;
 mod writing;
 
-pub use run::{Outcome, run};
-
 use io_core::{RealSink, RealSource};
+pub use run::{Outcome, run};
 use run::{DONE, MEMORY, READ_FAULT, REFUSED, USAGE, WRITE_FAULT};
 use std::process::ExitCode;
 use std::{env, io};
@@ -31,10 +30,7 @@ fn main(rt: HostRuntime) -> ExitCode {
 fn run_words(rt: &HostRuntime) -> io::Result<u8> {
     let alloc = rt.alloc();
     let arguments: Vec<String> = env::args(rt)?.skip(1).collect(alloc)?;
-    let words: Vec<&str> = arguments
-        .iter()
-        .map(|word| word.as_str())
-        .collect(alloc)?;
+    let words: Vec<&str> = arguments.iter().map(|word| word.as_str()).collect(alloc)?;
     let mut source = RealSource::of(rt.stdin());
     let mut sink = RealSink::of(rt.stdout());
     let outcome = run(rt, alloc, words.as_slice(), &mut source, &mut sink);

@@ -163,7 +163,12 @@ fn replayed(alloc: Global, trace: &Trace) -> Result<(Gathered, Vec<u8>), NoMemor
 {
     let processors = trace.processors();
     let gathered = replay(alloc, trace)?;
-    let text = printed(alloc, processors, gathered.history.as_slice(), &gathered.summary)?;
+    let text = printed(
+        alloc,
+        processors,
+        gathered.history.as_slice(),
+        &gathered.summary,
+    )?;
     Ok((gathered, text))
 }
 

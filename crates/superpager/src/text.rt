@@ -58,7 +58,9 @@ fn push_entry(text: &mut Vec<u8>, entry: &Entry) -> Result<(), NoMemory>
 {
     match entry.what {
         What::Answer {
-            number, answered, ..
+            number,
+            answered,
+            ..
         } => push_answer(text, entry.processor, number, &answered.reply),
         _ => Ok(()),
     }

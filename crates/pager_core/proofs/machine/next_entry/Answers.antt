@@ -1,4 +1,4 @@
-use Rattle.std.proofs.Common.{refl, inl, inr}
+use Rattle.std.proofs.Common.{refl, inl}
 use Rattle.pager_core.proofs.machine.next_entry.Goals as goal
 
 pub returns-in-Some : goal.returns-in-Some

@@ -1,5 +1,4 @@
-use Rattle.std.proofs.Common.{codes, [], List, ℕ}
-use Rattle.std.specs.Borrow.{Bor}
+use Rattle.std.proofs.Common.{codes, []}
 use Rattle.superpager.proofs.Words.{one_word}
 use Rattle.superpager.proofs.run.is_order.Goals as goal
 

@@ -1,6 +1,4 @@
-use Rattle.std.proofs.Common.{List, ℕ, ap, sym, subst, ◌∙◌}
-use Rattle.pager_model.specs.Legal.{entries_in}
-use Rattle.pager_model.specs.PrintedText.{out_text}
+use Rattle.std.proofs.Common.{List, ℕ, subst, ◌∙◌}
 use Rattle.superpager.specs.Runs.{WroteAll, WrotePart}
 use Rattle.superpager.proofs.run.order.Goals as goal
 

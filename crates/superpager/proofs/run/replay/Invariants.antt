@@ -1,4 +1,4 @@
-use Rattle.std.proofs.Common.{◌≡◌, ◌-◌, ◌*◌, ◌<◌, length}
+use Rattle.std.proofs.Common.{◌≡◌, ◌-◌, ◌*◌, length}
 use Rattle.superpager.proofs.run.replay.Given as goal
 
 abbrev pub invariant-loop-machine : goal.invariant-loop-machine

@@ -8,5 +8,5 @@ pub returns : goal.returns
 returns c =
     c.loop-numbered.invariant
     ∙ ap (λ (l : List ℕ). c.args.text.now.items ++ l)
-      (ap (λ (l : List Numbered). flat_map (own_text c.args.processor) l) (take_all c.loop-numbered.numbered-index c.args.history.now c.loop-numbered-test.false)
-       ∙ sym (answers_of-each c.args.processor c.args.history.now))
+    (ap (λ (l : List Numbered). flat_map (own_text c.args.processor) l) (take_all c.loop-numbered.numbered-index c.args.history.now c.loop-numbered-test.false)
+    ∙ sym (answers_of-each c.args.processor c.args.history.now))

@@ -1,6 +1,3 @@
-use Rattle.std.proofs.Common.{subst, sym, ◌∙◌, ap, None}
-use Rattle.pager_model.specs.declared.entry.What.TheVariants.{Refused}
-use Rattle.pager_model.specs.FrameStates.{counted}
 use Rattle.pager_core.proofs.Rows.{frame_takes, frame_refused}
 use Rattle.pager_core.proofs.flight.Flight.take.Goals as goal
 
