@@ -1,8 +1,7 @@
 -- How a machine's run begins, goes on from call to call, and ends.
-use Rattle.std.proofs.Common.{◌≡◌, ℕ, zero, suc, ◌+◌, ◌*◌, ◌<◌, ◌≤◌, true, false, cond, ◌==◌, List, [], ◌∷◌, ◌++◌, length, take, map, filter, get_or, slice_get, is_some, Option, Some, None, option_to_list, refl, ap, sym, subst, ◌∙◌, inl, inr, map-id, arith, All}
+use Rattle.std.proofs.Common.{◌≡◌, ℕ, zero, suc, ◌+◌, ◌*◌, ◌<◌, ◌≤◌, true, false, cond, ◌==◌, List, [], ◌∷◌, ◌++◌, length, take, map, filter, get_or, slice_get, is_some, Option, Some, None, option_to_list, refl, ap, sym, subst, ◌∙◌, inl, inr, arith, All}
 use Rattle.std.specs.List.{enumerate_from, range_with_len}
 use Rattle.std.proofs.lemmas.List.{append-nil, map_push, take_more, length_push}
-use Rattle.std.proofs.lemmas.List.FromFn.{map-range_with_len_more}
 use Rattle.std.proofs.lemmas.Option.{slice_get_within, get_or_from_slice_get}
 use Rattle.std.proofs.Math.ListN.{length-take, length-map}
 use Rattle.std.proofs.Math.Seq.{take-length}
@@ -23,6 +22,7 @@ use Rattle.pager_model.specs.Plans.{Plan}
 use Rattle.pager_model.specs.Showing.{setting_of, answers_in, calls_of, IsFiled, IsSequence}
 use Rattle.pager_model.specs.TraceText.{AreLines, IsAccessLine, IsAccessCall, IsMapCall}
 use Rattle.pager_model.proofs.Agreeing.{IsPartition-legal, NothingHeld-legal, Agrees-legal}
+use Rattle.pager_model.proofs.Ranges.{range_with_len-more}
 use Rattle.space_core.specs.Standing.{Kept, CanBegin}
 use Rattle.pager_core.specs.declared.flight.Flight.{Flight}
 use Rattle.pager_core.specs.declared.flight.Phase.{Phase}
@@ -177,15 +177,9 @@ numbered-push history e number numbered is =
     map_push (λ (x : Numbered). x.number) history n
     ∙ ap (λ l. l ++ number ∷ []) numbered
     ∙ ap (λ (k : ℕ). range_with_len 0 (length history) ++ k ∷ []) is
-    ∙ sym (ap (range_with_len 0) (length_push history n) ∙ range-more (length history))
-  where
-    range-more : (k : ℕ) → range_with_len 0 (k + 1) ≡ range_with_len 0 k ++ k ∷ []
-    range-more k = sym (map-id (range_with_len 0 (k + 1))) ∙ map-range_with_len_more (λ (x : ℕ). x) 0 k k (omega arith) ∙ ap (λ l. l ++ k ∷ []) (map-id (range_with_len 0 k))
+    ∙ sym (ap (range_with_len 0) (length_push history n) ∙ range_with_len-more (length history))
 
 module _ (plan : Plan) (answered : ℕ) (history : List Numbered) (f f' : Flight) (kept kept' : Kept) (pool pool' : FrameState) (e : Entry) where
-  push : List Numbered
-  push = history ++ record { number = length history; entry = e } ∷ []
-
   entries-push : (number : ℕ) → entries_in (history ++ record { number = number; entry = e } ∷ []) ≡ entries_in history ++ e ∷ []
   entries-push number = map_push (λ (x : Numbered). x.entry) history (record { number = number; entry = e })
 

@@ -4,3 +4,4 @@ pub mod Soundness
 pub mod Agreeing
 pub mod Texts
 pub mod Counting
+pub mod Ranges

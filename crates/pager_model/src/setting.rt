@@ -1,4 +1,4 @@
-ghost use Rattle.std.specs.Prelude.{◌≡◌, ◌≤◌, ◌<◌, vec_len};
+ghost use Rattle.std.specs.Prelude.{◌≡◌, ◌≤◌, ◌<◌, vec_len, length};
 
 use std::marker::Model;
 
@@ -34,5 +34,12 @@ impl Setting {
             told,
             faults,
         }
+    }
+
+    /// The number of spaces.
+    pub fn spaces(&self) -> usize
+        ensures { result ≡ length self.now.told }
+    {
+        self.told.len()
     }
 }

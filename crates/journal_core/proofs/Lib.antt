@@ -1,0 +1,11 @@
+pub mod Lists
+pub mod Histories
+pub mod Bounds
+pub mod Moves
+pub mod Grows
+pub mod Commits
+pub mod Tells
+pub mod Deals
+pub mod Placing
+pub mod Closing
+pub mod Sampling

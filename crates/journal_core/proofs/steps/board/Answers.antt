@@ -1,0 +1,6 @@
+use Rattle.std.proofs.Common.{arith}
+use Rattle.journal_core.proofs.Moves.{joins}
+use Rattle.journal_core.proofs.steps.board.Goals as goal
+
+pub join_seat-requires : goal.join_seat-requires
+join_seat-requires c = (c.requires.table.0, c.requires.table.1, c.requires.other, omega arith, joins _ _ _ _ _)

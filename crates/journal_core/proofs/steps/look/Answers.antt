@@ -1,0 +1,8 @@
+use Rattle.std.proofs.Common.{arith}
+use mathlib.Core.Option.{none}
+use Rattle.atomic_table.specs.Table.{step}
+use Rattle.journal_core.proofs.Moves.{looks}
+use Rattle.journal_core.proofs.steps.look.Goals as goal
+
+pub load-requires : goal.load-requires
+load-requires c = (c.requires.table.0, omega arith, looks _ _ _ _ (step c.args.word.now.table_id.slots 0 0 0 none) c.requires.live)

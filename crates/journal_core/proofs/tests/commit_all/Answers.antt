@@ -1,0 +1,11 @@
+use Rattle.journal_core.proofs.Sampling.{answered, filled_more}
+use Rattle.journal_core.proofs.tests.commit_all.Goals as goal
+
+pub commit-next_author-requires-clause-order : goal.commit-next_author-requires-clause-order
+commit-next_author-requires-clause-order c =
+    (_, answered c.args.processor c.loop-number.number c.loop-number.pass.entries _ c.answer.ensures c.loop-number.invariant.progress)
+
+pub loop-number-preserved : goal.loop-number-preserved
+loop-number-preserved c =
+    let e = c.commit-next_author.ensures in
+    filled_more _ _ _ c.commit-next_author.result.0 _ _ _ _ _ c.loop-number.invariant c.answer.ensures e.author e.pass

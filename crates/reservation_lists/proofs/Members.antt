@@ -1,0 +1,111 @@
+-- What stays true of a list of members as one goes in or out.
+use Rattle.std.proofs.Common.{◌==◌, ◌||◌, suc, zero, ◌≡◌, ◌≢◌, ◌<◌, ◌≤◌, ℕ, ◌+◌, true, false, not, cond, eqb, List, [], ◌∷◌, length, get_or, map, refl, ap, sym, ◌∙◌, arith}
+use Rattle.std.proofs.lemmas.List.{length-map}
+use Rattle.std.proofs.Math.Numerals.{one-add}
+use Rattle.std.specs.List.{All, AllPairs, insert, position_or_len}
+use Rattle.std.proofs.lemmas.List.{get_or-map}
+use Rattle.std.proofs.lemmas.List.Elements.{All-cons, All-head, All-tail, All-filter, All-map}
+use Rattle.std.proofs.lemmas.List.Folds.{Any-from_list_any, list_any_at}
+use Rattle.std.proofs.lemmas.List.Kept.{AllPairs-cons, AllPairs-filter}
+use Rattle.std.proofs.lemmas.Bool.{eqb-true, ne_eqb, eq-eqb, or_parts, false≢true}
+use Rattle.std.proofs.lemmas.Map.Keys.{IsDistinct-from_apart}
+use Rattle.std.proofs.lemmas.Map.Steps.{length-le_from_distinct_below}
+use Rattle.pager_model.specs.Ages.{Member, Lists, is_before, same_member, with_member, without_member}
+use Rattle.reservation_lists.specs.Kept.{HasRoom, has_member_of, is_listed}
+
+-- a new member goes in before the first one that it comes before
+pub with_member_at_place : (new : Member) (ms : List Member) → with_member new ms ≡ insert ms (position_or_len (is_before new) ms) new
+with_member_at_place new [] = refl
+with_member_at_place new (m ∷ ms) =
+    let later : (n : ℕ) → m ∷ insert ms n new ≡ insert (m ∷ ms) (1 + n) new = λ n. rw one-add refl in
+    elim (is_before new m) as (λ b. cond b (new ∷ (m ∷ ms)) (m ∷ with_member new ms) ≡ insert (m ∷ ms) (cond (not b) (1 + position_or_len (is_before new) ms) 0) new) [
+      | true ↦ refl
+      | false ↦ ap (λ rest. m ∷ rest) (with_member_at_place new ms) ∙ later (position_or_len (is_before new) ms)
+    ]
+
+pub All-with_member : (P : Member → Type 0) (new : Member) (ms : List Member) → P new → All P ms → All P (with_member new ms)
+All-with_member P new [] p ps = All-cons P new [] p ps
+All-with_member P new (m ∷ ms) p ps =
+    elim (is_before new m) as (λ b. All P (cond b (new ∷ (m ∷ ms)) (m ∷ with_member new ms))) [
+      | true ↦ All-cons P new (m ∷ ms) p ps
+      | false ↦ All-cons P m (with_member new ms) (All-head P m ms ps) (All-with_member P new ms p (All-tail P m ms ps))
+    ]
+
+-- the frames of a list differ
+abbrev pub Differ : List Member → Type 0
+Differ ms = AllPairs (λ a b. a.frame ≢ b.frame) ms
+
+Differ-tail : (m : Member) (ms : List Member) → Differ (m ∷ ms) → Differ ms
+Differ-tail m ms differ = λ i j d lt below. differ (suc i) (suc j) d (omega arith) (omega arith)
+
+Differ-with_member : (new : Member) (ms : List Member) → All (λ m. m.frame ≢ new.frame) ms → Differ ms → Differ (with_member new ms)
+Differ-with_member new [] other differ = λ i j d lt below _. absurd (omega arith)
+Differ-with_member new (m ∷ ms) other differ =
+    let rest = Differ-with_member new ms (All-tail (λ n. n.frame ≢ new.frame) m ms other) (Differ-tail m ms differ) in
+    let behind : All (λ n. m.frame ≢ n.frame) ms = λ k d below. differ 0 (suc k) d (omega arith) (omega arith) in
+    elim (is_before new m) as (λ b. Differ (cond b (new ∷ (m ∷ ms)) (m ∷ with_member new ms))) [
+      | true ↦ AllPairs-cons (λ a b. a.frame ≢ b.frame) new (m ∷ ms) (λ k d below same. other k d below (sym same)) differ
+      | false ↦ AllPairs-cons (λ a b. a.frame ≢ b.frame) m (with_member new ms)
+          (All-with_member (λ n. m.frame ≢ n.frame) new ms (other 0 m (omega arith)) behind) rest
+    ]
+
+frames_apart : (frame : ℕ) (ms : List Member) → All (λ m. m.frame ≢ frame) ms → Differ ms → (i j d : ℕ) → i < j → j < suc (length ms) → eqb (get_or (frame ∷ map (λ (m : Member). m.frame) ms) i d) (get_or (frame ∷ map (λ (m : Member). m.frame) ms) j d) ≡ false
+frames_apart frame ms other differ i zero d lt below = absurd (omega arith)
+frames_apart frame ms other differ zero (suc j) d lt below =
+    let m : Member = record { stamp = 0; frame = 0 } in
+    let at = get_or-map (λ (n : Member). n.frame) ms j m d (omega arith) in
+    ne_eqb _ _ (λ same. other j m (omega arith) (sym at ∙ sym same))
+frames_apart frame ms other differ (suc i) (suc j) d lt below =
+    let m : Member = record { stamp = 0; frame = 0 } in
+    let at_i = get_or-map (λ (n : Member). n.frame) ms i m d (omega arith) in
+    let at_j = get_or-map (λ (n : Member). n.frame) ms j m d (omega arith) in
+    ne_eqb _ _ (λ same. differ i j m (omega arith) (omega arith) (sym at_i ∙ same ∙ at_j))
+
+-- frames that differ and are known leave room for one more that is known and not there
+pub room_for_one : (frames capacity frame : ℕ) (ms : List Member) → HasRoom frames capacity ms → frame < frames → All (λ m. m.frame ≢ frame) ms → length ms < frames
+room_for_one frames capacity frame ms has known other =
+    let all : List ℕ = frame ∷ map (λ (m : Member). m.frame) ms in
+    let below : All (λ n. n < frames) all =
+    All-cons (λ n. n < frames) frame (map (λ (m : Member). m.frame) ms) known (All-map (λ n. n < frames) (λ (m : Member). m.frame) ms has.known) in
+    let long = length-map ms (λ (m : Member). m.frame) in
+    let distinct = IsDistinct-from_apart eqb all (λ i j d lt within. frames_apart frame ms other has.differ i j d lt (omega arith)) in
+    let most = length-le_from_distinct_below all frames distinct (λ q h.
+    let found = Any-from_list_any (eqb q) all h in
+    omega (arith, below found.0 found.1 found.2, found.3, eqb-true q found.1 found.4)) in
+    omega arith
+
+pub HasRoom-with_member : (frames capacity more : ℕ) (new : Member) (ms : List Member) → HasRoom frames capacity ms → capacity ≤ more → new.frame < frames → All (λ m. m.frame ≢ new.frame) ms → HasRoom frames more (with_member new ms)
+HasRoom-with_member frames capacity more new ms has le known other = record {
+  room = omega (arith, has.room);
+  known = All-with_member (λ m. m.frame < frames) new ms known has.known;
+  differ = Differ-with_member new ms other has.differ;
+}
+
+pub HasRoom-without_member : (frames capacity : ℕ) (gone : Member) (ms : List Member) → HasRoom frames capacity ms → HasRoom frames capacity (without_member gone ms)
+HasRoom-without_member frames capacity gone ms has = record {
+  room = has.room;
+  known = All-filter (λ m. not (same_member gone m)) (λ m. m.frame < frames) ms has.known;
+  differ = AllPairs-filter (λ a b. a.frame ≢ b.frame) (λ m. not (same_member gone m)) ms has.differ;
+}
+
+-- a list without a member of the frame
+pub none_of_frame : (frame : ℕ) (ms : List Member) → has_member_of frame ms ≡ false → All (λ m. m.frame ≢ frame) ms
+none_of_frame frame ms none k d within same =
+    false≢true (sym none ∙ list_any_at (λ (m : Member). m.frame == frame) ms k d within (eq-eqb _ _ same))
+
+-- no list has a member of the frame
+pub record IsUnlisted (frame : ℕ) (lists : Lists) : Type 0 where
+  pub base : All (λ m. m.frame ≢ frame) lists.base
+  pub small : All (λ m. m.frame ≢ frame) lists.small
+  pub middle : All (λ m. m.frame ≢ frame) lists.middle
+
+pub IsUnlisted-from_false : (frame : ℕ) (lists : Lists) → is_listed frame lists ≡ false → IsUnlisted frame lists
+IsUnlisted-from_false frame lists none =
+    let small_middle = has_member_of frame lists.small || has_member_of frame lists.middle in
+    let first = or_parts (has_member_of frame lists.base) small_middle none in
+    let later = or_parts (has_member_of frame lists.small) (has_member_of frame lists.middle) first.1 in
+    record {
+      base = none_of_frame frame lists.base first.0;
+      small = none_of_frame frame lists.small later.0;
+      middle = none_of_frame frame lists.middle later.1;
+    }

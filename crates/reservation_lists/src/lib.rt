@@ -1,0 +1,165 @@
+//! The lists of reservations by age: one for each size of extent that a reservation can give back.
+//!
+//! A reservation that isn't full stands in the list of its yield, the largest size of an extent inside it without a used
+//! place. Each list is in order of the stamp and then of the first frame, so that its first member is the one to break.
+#![tactic(auto)]
+
+ghost use Rattle.std.specs.Prelude.{◌≡◌, ◌<◌, ◌≤◌, IfOk, vec_len, vec_capacity, false};
+ghost use Rattle.std.specs.List.{position_or_len};
+ghost use Rattle.pager_model.specs.Ages.{is_before, same_member, oldest_in};
+ghost use Rattle.pager_model.specs.Ages.{with_member, without_member, list_at, with_list};
+ghost use Rattle.reservation_lists.specs.Kept.{no_members, is_listed};
+
+use pager_model::{NoMemory, Size};
+use std::alloc::Global;
+use std::marker::Model;
+
+/// A reservation in a list.
+#[derive(Debug, Drop)]
+struct Member {
+    stamp: u64,
+    frame: u32,
+}
+
+impl Model for Member {
+    ghost use Rattle.pager_model.specs.Ages.{Member};
+
+    ghost Value = { Member };
+
+    ghost view = { λ m. record { stamp = m.stamp; frame = m.frame } };
+}
+
+impl Member {
+    /// Whether it stands before the other in a list.
+    fn is_before(&self, other: &Member) -> bool
+        ensures { result ≡ is_before self.now other.now }
+    {
+        self.stamp < other.stamp || (self.stamp == other.stamp && self.frame < other.frame)
+    }
+
+    /// Whether it has this stamp and first frame.
+    fn matches(&self, stamp: u64, frame: u32) -> bool
+        ensures { result ≡ same_member (record { stamp = stamp; frame = frame }) self.now }
+    {
+        self.stamp == stamp && self.frame == frame
+    }
+}
+
+/// Where the new member stands in the list.
+fn place_of(list: &[Member], new: &Member) -> usize
+    ensures { result ≡ position_or_len (is_before new.now) list.now }
+{
+    for (place, member) in list.iter().enumerate() {
+        if new.is_before(member) {
+            return place;
+        }
+    }
+    list.len()
+}
+
+/// Puts a member in its place in the list, which has room for it.
+fn insert_in(list: &mut Vec<Member>, new: Member)
+    requires { vec_len list.old < vec_capacity list.old }
+    ensures items { list.new.items ≡ with_member new list.old.items }
+    ensures capacity { vec_capacity list.old ≤ vec_capacity list.new }
+{
+    let place = place_of(list.as_slice(), &new);
+    list.insert(place, new).unwrap()
+}
+
+/// Takes the member of this stamp and first frame out of the list.
+fn remove_from(list: &mut Vec<Member>, stamp: u64, frame: u32)
+    ensures items { list.new.items
+        ≡ without_member (record { stamp = stamp; frame = frame }) list.old.items }
+    ensures capacity { vec_capacity list.new ≡ vec_capacity list.old }
+{
+    list.retain(|m| !m.matches(stamp, frame));
+}
+
+/// The lists of the sizes below the largest.
+#[derive(Debug, Drop)]
+pub struct Lists {
+    frames: u32,
+    base: Vec<Member>,
+    small: Vec<Member>,
+    middle: Vec<Member>,
+}
+
+impl Model for Lists {
+    ghost use Rattle.std.specs.Prelude.{vec_capacity};
+    ghost use Rattle.reservation_lists.specs.Kept.{Kept, HasRoom};
+
+    ghost Value = { Kept };
+
+    ghost view = { λ l. record {
+      lists = record { base = l.base.items; small = l.small.items; middle = l.middle.items };
+      frames = l.frames;
+    } };
+
+    ghost invariant = { λ l. HasRoom l.frames (vec_capacity l.base) l.base.items
+        × HasRoom l.frames (vec_capacity l.small) l.small.items
+        × HasRoom l.frames (vec_capacity l.middle) l.middle.items };
+}
+
+impl Lists {
+    /// Empty lists, with all the memory that they ever need for reservations over so many frames.
+    pub fn create(alloc: Global, frames: u32) -> Result<Lists, NoMemory>
+        ensures { IfOk result (λ kept. kept ≡ record { lists = no_members; frames = frames }) }
+    {
+        Ok(Lists {
+            frames,
+            base: Vec::with_capacity(alloc, frames as usize)?,
+            small: Vec::with_capacity(alloc, frames as usize)?,
+            middle: Vec::with_capacity(alloc, frames as usize)?,
+        })
+    }
+
+    /// Puts the reservation of this stamp and first frame in its place in the list of a size.
+    pub fn insert(&mut self, size: Size, stamp: u64, frame: u32)
+        requires has_list { size < 3 }
+        requires known { frame < self.old.frames }
+        requires unlisted { is_listed frame self.old.lists ≡ false }
+        ensures { self.new ≡ record self.old {
+          lists = with_list self.old.lists size
+              (with_member (record { stamp = stamp; frame = frame }) (list_at self.old.lists size));
+        } }
+    {
+        let new = Member { stamp, frame };
+        match size.level() {
+            0 => insert_in(&mut self.base, new),
+            1 => insert_in(&mut self.small, new),
+            _ => insert_in(&mut self.middle, new),
+        }
+    }
+
+    /// Takes the reservation of this stamp and first frame out of the list of a size, where it stands there.
+    pub fn remove(&mut self, size: Size, stamp: u64, frame: u32)
+        requires { size < 3 }
+        ensures { self.new ≡ record self.old {
+          lists = with_list self.old.lists size
+              (without_member (record { stamp = stamp; frame = frame }) (list_at self.old.lists size));
+        } }
+    {
+        match size.level() {
+            0 => remove_from(&mut self.base, stamp, frame),
+            1 => remove_from(&mut self.small, stamp, frame),
+            _ => remove_from(&mut self.middle, stamp, frame),
+        }
+    }
+
+    /// The first frame of the oldest reservation in the list of a size: of those with the least stamp the lowest.
+    pub fn oldest(&self, size: Size) -> Option<u32>
+        requires { size < 3 }
+        ensures { result ≡ oldest_in (list_at self.now.lists size) }
+    {
+        let list = match size.level() {
+            0 => &self.base,
+            1 => &self.small,
+            _ => &self.middle,
+        };
+        list.first().map(|m| m.frame)
+    }
+}
+
+#[cfg(test)]
+mod tests;

@@ -1,0 +1,163 @@
+-- Counting the used places of extents.
+use Rattle.std.proofs.Common.{◌≡◌, ◌≢◌, ◌<◌, ◌≤◌, ℕ, zero, suc, ◌+◌, ◌-◌, ◌*◌, ◌/◌, ◌%◌, ◌^◌, Bool, true, false, not, ◌&&◌, ◌||◌, cond, eqb, ltb, List, [], ◌∷◌, length, get_or, set, replicate, refl, ap, sym, subst, ◌∙◌, slice_index, arith, inl, inr, count_by}
+use Rattle.std.specs.List.{range_with_len, list_all, list_any}
+use Rattle.std.proofs.lemmas.List.{get_or-set_same, get_or-set_other, length-set, get_or-replicate, get_or_past, length-replicate, get_or_read}
+use Rattle.std.proofs.lemmas.List.Sums.{sum_by-cons, count_by-le-length}
+use Rattle.std.proofs.lemmas.List.FromFn.{length-range_with_len}
+use Rattle.std.proofs.lemmas.Bool.{cases_eq, cases_lt, ne_eqb, lt-ltb}
+use Rattle.std.proofs.lemmas.Bool.Decides.{nat_tests}
+use Rattle.std.proofs.lemmas.Nat.{div_below, div-mul-add, div-add-mod', mod_below}
+use Rattle.pager_model.specs.Records.{is_used, none_used}
+use Rattle.reservations.specs.Counts.{used_in, AreCounts}
+
+-- what a number adds to a count
+abbrev weight : Bool → ℕ
+weight b = cond b 1 0
+
+-- two tests that agree from a on count the same
+pub count-agree : (p q : ℕ → Bool) (a n : ℕ) → ((g : ℕ) → a ≤ g → g < a + n → p g ≡ q g) → count_by p (range_with_len a n) ≡ count_by q (range_with_len a n)
+count-agree p q a zero agree = refl
+count-agree p q a (suc n) agree =
+    let head = ap weight (agree a (omega arith) (omega arith)) in
+    let rest = count-agree p q (a + 1) n (λ g low high. agree g (omega arith) (omega arith)) in
+    let by_p = sum_by-cons (λ x. cond (p x) 1 0) a (range_with_len (a + 1) n) in
+    let by_q = sum_by-cons (λ x. cond (q x) 1 0) a (range_with_len (a + 1) n) in
+    omega (arith, head, rest, by_p, by_q)
+
+-- a test that one more number passes counts one more
+pub count-one_more : (p q : ℕ → Bool) (f : ℕ) → p f ≡ false → q f ≡ true → ((g : ℕ) → g ≢ f → p g ≡ q g) → (a n : ℕ) → a ≤ f → f < a + n → count_by q (range_with_len a n) ≡ count_by p (range_with_len a n) + 1
+count-one_more p q f fails passes agree a zero low high = absurd (omega arith)
+count-one_more p q f fails passes agree a (suc n) low high =
+    let by_p = sum_by-cons (λ x. cond (p x) 1 0) a (range_with_len (a + 1) n) in
+    let by_q = sum_by-cons (λ x. cond (q x) 1 0) a (range_with_len (a + 1) n) in
+    elim (cases_eq a f) [
+      | inl here ↦
+          let rest = count-agree p q (a + 1) n (λ g after _. agree g (λ same. absurd (omega arith))) in
+          let head_p : cond (p a) 1 0 ≡ 0 = ap weight (ap p here ∙ fails) in
+          let head_q : cond (q a) 1 0 ≡ 1 = ap weight (ap q here ∙ passes) in
+          omega (arith, head_p, head_q, rest, by_p, by_q)
+      | inr other ↦
+          let head = ap weight (agree a other) in
+          let rest = count-one_more p q f fails passes agree (a + 1) n (omega arith) (omega arith) in
+          omega (arith, head, rest, by_p, by_q)
+    ]
+
+-- nothing passes where the count is 0
+pub none-count : (p : ℕ → Bool) (xs : List ℕ) → list_all (λ x. not (p x)) xs ≡ eqb (count_by p xs) 0
+none-count p [] = refl
+none-count p (x ∷ xs) =
+    let by_p = sum_by-cons (λ y. cond (p y) 1 0) x xs in
+    let rest = none-count p xs in
+    rw by_p (elim (p x) as (λ b. (not b && list_all (λ y. not (p y)) xs) ≡ eqb (cond b 1 0 + count_by p xs) 0) [
+      | true ↦ sym (ne_eqb (1 + count_by p xs) 0 (λ same. absurd (omega arith)))
+      | false ↦ rest ∙ ap (λ n. eqb n 0) (omega arith)
+    ])
+
+-- some frame from first on is unused where fewer than all are used
+pub any-count : (p : ℕ → Bool) (first n b : ℕ) → list_any (λ i. none_used p (first + i * 1) 1) (range_with_len b n) ≡ ltb (count_by p (range_with_len (first + b) n)) n
+any-count p first zero b = refl
+any-count p first (suc n) b =
+    let next : first + (b + 1) ≡ first + b + 1 = omega arith in
+    let rest = any-count p first n (b + 1) ∙ ap (λ a. ltb (count_by p (range_with_len a n)) n) next in
+    let most = count_by-le-length p (range_with_len (first + b + 1) n) in
+    let long = length-range_with_len (first + b + 1) n in
+    let here : first + b * 1 ≡ first + b = omega arith in
+    let others = list_any (λ i. none_used p (first + i * 1) 1) (range_with_len (b + 1) n) in
+    rw (here, sum_by-cons (λ y. cond (p y) 1 0) (first + b) (range_with_len (first + b + 1) n))
+    (elim (p (first + b)) as (λ v. ((not v && true) || others) ≡ ltb (cond v 1 0 + count_by p (range_with_len (first + b + 1) n)) (suc n)) [
+      | true ↦ rest ∙ grind (arith, nat_tests)
+      | false ↦ sym (lt-ltb _ _ (omega arith))
+    ])
+
+-- what a write says of each frame
+is_used-same : (used : List Bool) (f : ℕ) (b : Bool) → f < length used → is_used (set used f b) f ≡ b
+is_used-same used f b within = get_or-set_same used f b false within
+
+is_used-other : (used : List Bool) (f g : ℕ) (b : Bool) → g ≢ f → is_used (set used f b) g ≡ is_used used g
+is_used-other used f g b other = get_or-set_other used f g b false other
+
+-- a frame of the i-th extent has i for its quotient
+pub extent_of_frame : (i w f : ℕ) → i * w ≤ f → f < i * w + w → f / w ≡ i
+extent_of_frame i w f low high =
+    let whole : i * w + (f - i * w) ≡ f = omega arith in
+    subst (λ n. n / w ≡ i) whole (div-mul-add i w (f - i * w) (omega arith))
+
+module _ (used : List Bool) (w : ℕ) (counts : List ℕ) (f : ℕ) (width : 0 < w) (known : f < length used) (are : AreCounts used w counts) where
+  pub in_counts : f / w < length counts
+  in_counts = div_below f w (length counts) width (omega (arith, are.long))
+
+  -- a write of a frame changes the count of its extent alone
+  AreCounts-set : (b : Bool) (c : ℕ) → c ≡ used_in (set used f b) (f / w * w) w → AreCounts (set used f b) w (set counts (f / w) c)
+  AreCounts-set b c value = record {
+    long = rw (length-set used f b, length-set counts (f / w) c) are.long;
+    exact = λ i. elim (cases_eq i (f / w)) [
+      | inl here ↦ subst (λ j. get_or (set counts (f / w) c) j 0 ≡ used_in (set used f b) (j * w) w) (sym here) (get_or-set_same counts (f / w) c 0 in_counts ∙ value)
+      | inr other ↦
+          get_or-set_other counts (f / w) i c 0 other ∙ are.exact i
+          ∙ count-agree (is_used used) (is_used (set used f b)) (i * w) w
+          (λ g low high. sym (is_used-other used f g b (λ same. other (sym (extent_of_frame i w f (omega arith) (omega arith))))))
+    ];
+  }
+
+  low_end : f / w * w ≤ f
+  low_end = omega (arith, div-add-mod' f w)
+
+  high_end : f < f / w * w + w
+  high_end = omega (arith, div-add-mod' f w, mod_below f w width)
+
+  pub AreCounts-insert : (x : ℕ) → is_used used f ≡ false → x ≡ get_or counts (f / w) x → AreCounts (set used f true) w (set counts (f / w) (x + 1))
+  AreCounts-insert x unused read =
+      let more = count-one_more (is_used used) (is_used (set used f true)) f unused (is_used-same used f true known)
+      (λ g other. sym (is_used-other used f g true other)) (f / w * w) w low_end high_end in
+      AreCounts-set true (x + 1) (omega (arith, more, get_or_read counts (f / w) x in_counts read 0, are.exact (f / w)))
+
+  pub count_fits : (x : ℕ) → x ≡ get_or counts (f / w) x → x ≤ w
+  count_fits x read =
+      let most = count_by-le-length (is_used used) (range_with_len (f / w * w) w) in
+      omega (arith, most, length-range_with_len (f / w * w) w, get_or_read counts (f / w) x in_counts read 0, are.exact (f / w))
+
+  less : is_used used f ≡ true → used_in used (f / w * w) w ≡ used_in (set used f false) (f / w * w) w + 1
+  less is = count-one_more (is_used (set used f false)) (is_used used) f (is_used-same used f false known) is
+      (λ g other. is_used-other used f g false other) (f / w * w) w low_end high_end
+
+  pub some_used : (x : ℕ) → is_used used f ≡ true → x ≡ get_or counts (f / w) x → 0 < x
+  some_used x is read = omega (arith, less is, get_or_read counts (f / w) x in_counts read 0, are.exact (f / w))
+
+  pub AreCounts-remove : (x : ℕ) → is_used used f ≡ true → x ≡ get_or counts (f / w) x → AreCounts (set used f false) w (set counts (f / w) (x - 1))
+  AreCounts-remove x is read =
+      AreCounts-set false (x - 1) (omega (arith, less is, get_or_read counts (f / w) x in_counts read 0, are.exact (f / w)))
+
+-- at first no frame is used
+pub is_used-replicate : (n f : ℕ) → is_used (replicate n false) f ≡ false
+is_used-replicate n f = elim (cases_lt f n) [
+  | inl within ↦ get_or-replicate n f false false within
+  | inr past ↦ get_or_past (replicate n false) f false (omega (arith, length-replicate {A = Bool} n false))
+]
+
+count-none : (p : ℕ → Bool) (a n : ℕ) → ((g : ℕ) → p g ≡ false) → count_by p (range_with_len a n) ≡ 0
+count-none p a zero none = refl
+count-none p a (suc n) none =
+    let by_p = sum_by-cons (λ x. cond (p x) 1 0) a (range_with_len (a + 1) n) in
+    omega (arith, by_p, ap weight (none a), count-none p (a + 1) n none)
+
+get_or-zeros : (n i : ℕ) → slice_index (replicate n 0) i ≡ 0
+get_or-zeros n i = elim (cases_lt i n) [
+  | inl within ↦ get_or-replicate n i 0 0 within
+  | inr past ↦ get_or_past (replicate n 0) i 0 (omega (arith, length-replicate {A = ℕ} n 0))
+]
+
+pub AreCounts-none : (n w : ℕ) → 0 < w → AreCounts (replicate n false) w (replicate (n / w + 1) 0)
+AreCounts-none n w width = record {
+  long = rw (length-replicate, length-replicate) (omega (arith, div-add-mod' n w, mod_below n w width));
+  exact = λ i. get_or-zeros (n / w + 1) i ∙ sym (count-none (is_used (replicate n false)) (i * w) w (is_used-replicate n));
+}
+
+-- the count of an aligned extent is read at its number
+pub count_read : (used : List Bool) (w : ℕ) (counts : List ℕ) (first k n : ℕ) → 0 < w → AreCounts used w counts → 8 ^ k ≡ w → first % 8 ^ k ≡ 0 → n ≡ get_or counts (first / w) 0 → n ≡ used_in used first (8 ^ k)
+count_read used w counts first k n width are size aligned read =
+    let start : first / w * w ≡ first = omega (arith, div-add-mod' first w, ap (λ m. first % m) size) in
+    read ∙ are.exact (first / w) ∙ ap (λ a. used_in used a w) start ∙ ap (λ m. used_in used first m) (sym size)
+
+-- and the extent is in the list
+pub count_known : (used : List Bool) (w : ℕ) (counts : List ℕ) (first : ℕ) → 0 < w → AreCounts used w counts → first < length used → first / w < length counts
+count_known used w counts first width are known = div_below first w (length counts) width (omega (arith, are.long))

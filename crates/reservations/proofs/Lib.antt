@@ -1,0 +1,6 @@
+pub mod BreakLemmas
+pub mod CountLemmas
+pub mod ExtentLemmas
+pub mod HoldLemmas
+pub mod SplitLemmas
+pub mod YieldLemmas

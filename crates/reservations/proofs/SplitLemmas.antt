@@ -1,0 +1,87 @@
+-- Splitting a reservation part by part.
+use Rattle.std.proofs.Common.{◌≡◌, ◌<◌, ◌≤◌, ℕ, ◌+◌, ◌-◌, ◌*◌, ◌^◌, ◌⊎◌, inl, inr, Bool, true, Option, Some, None, List, [], ◌∷◌, ◌++◌, length, set, refl, ap, sym, subst, ◌∙◌, arith, fold}
+use Rattle.std.specs.List.{range_with_len}
+use Rattle.std.proofs.lemmas.List.{set-set, map-id}
+use Rattle.std.proofs.lemmas.List.FromFn.{map-range_with_len_more}
+use Rattle.std.proofs.lemmas.List.Sums.{fold_push}
+use Rattle.std.proofs.lemmas.Bool.{cases_Bool, cond-true, cond-false}
+use Rattle.pager_model.specs.Records.{is_used, part_of, is_part_empty, kept_part, split_records}
+use Rattle.pager_model.specs.declared.reservation.Reservation.{Reservation}
+use Rattle.reservations.specs.Kept.{IsPlaced, ArePlaced, AreHeld, IsFilled, first_frame}
+use Rattle.reservations.proofs.ExtentLemmas.{eight_pos, part_of_eight, aligned_part}
+use Rattle.reservations.proofs.HoldLemmas.{Belongs, AreHeld-place, ArePlaced-set, vacant_in_gap, unused_in, None-not_Some, Some-same}
+
+-- one part is noted
+abbrev pub split_step : (ℕ → Bool) → Reservation → List (Option Reservation) → ℕ → List (Option Reservation)
+split_step used r rs i = set rs (part_of r i).frame (kept_part used r i)
+
+-- the first parts are noted
+abbrev pub split_up_to : ℕ → (ℕ → Bool) → Reservation → List (Option Reservation) → List (Option Reservation)
+split_up_to n used r records = fold (split_step used r) records (range_with_len 0 n)
+
+range_more : (a n : ℕ) → range_with_len a (n + 1) ≡ range_with_len a n ++ (a + n) ∷ []
+range_more a n = sym (map-id (range_with_len a (n + 1))) ∙ map-range_with_len_more (λ x. x) a n (a + n) refl ∙ ap (λ l. l ++ (a + n) ∷ []) (map-id (range_with_len a n))
+
+pub split_up_to-more : (n : ℕ) (used : ℕ → Bool) (r : Reservation) (records : List (Option Reservation)) → split_up_to (n + 1) used r records ≡ split_step used r (split_up_to n used r records) n
+split_up_to-more n used r records =
+    let more : range_with_len 0 (n + 1) ≡ range_with_len 0 n ++ n ∷ [] = range_more 0 n ∙ ap (λ m. range_with_len 0 n ++ m ∷ []) (omega arith) in
+    ap (fold (split_step used r) records) more ∙ fold_push (split_step used r) records (range_with_len 0 n) n
+
+-- that the whole is no longer noted makes no difference, since its first part is noted at the same frame
+pub split_records-open : (used : ℕ → Bool) (r : Reservation) (id : ℕ) (records : List (Option Reservation)) → r.frame ≡ id → split_records used r (set records id None) ≡ split_records used r records
+split_records-open used r id records named =
+    let first : id ≡ (part_of r 0).frame = omega (arith, named) in
+    let same = ap (λ k. set (set records k None) (part_of r 0).frame (kept_part used r 0)) first ∙ set-set records (part_of r 0).frame None (kept_part used r 0) in
+    ap (λ rs. fold (split_step used r) rs (range_with_len 1 7)) same
+
+-- a part is the whole part, or it has no used place
+pub kept_cases : (used : ℕ → Bool) (r : Reservation) (i : ℕ) → ((kept_part used r i ≡ None) × (is_part_empty used r i ≡ true)) ⊎ (kept_part used r i ≡ Some (part_of r i))
+kept_cases used r i = elim (cases_Bool (is_part_empty used r i)) [
+  | inl empty ↦ inl (cond-true _ _ _ empty, empty)
+  | inr filled ↦ inr (cond-false _ _ _ filled)
+]
+
+-- the i-th part is in its place
+pub part_placed : (frames i : ℕ) (r : Reservation) → IsPlaced frames r.frame r → 0 < r.size → i < 8 → IsPlaced frames (r.frame + i * 8 ^ (r.size - 1)) (part_of r i)
+part_placed frames i r placed splits one =
+    let small : r.size - 1 ≤ 3 = omega (arith, placed.aligned.0) in
+    record {
+      named = refl;
+      aligned = (small, aligned_part (r.size - 1) r.size r.frame i (omega arith) placed.aligned.1);
+      within = omega (arith, part_of_eight i r.size splits one, placed.within);
+      pages_aligned = (small, aligned_part (r.size - 1) r.size r.first i (omega arith) placed.pages_aligned.1);
+    }
+
+module _ (records : List (Option Reservation)) (used : List Bool) (r : Reservation) (frames i : ℕ) (long : length records ≡ frames) (splits : 0 < r.size) (one : i < 8) (placed : IsPlaced frames r.frame r) where
+  part_known : r.frame + i * 8 ^ (r.size - 1) < length records
+  part_known = omega (arith, part_of_eight i r.size splits one, placed.within, eight_pos (r.size - 1))
+
+  -- noting the i-th part keeps each record in its place
+  pub ArePlaced-part : ArePlaced records → ArePlaced (set records (r.frame + i * 8 ^ (r.size - 1)) (kept_part (is_used used) r i))
+  ArePlaced-part are = ArePlaced-set records (r.frame + i * 8 ^ (r.size - 1)) (kept_part (is_used used) r i) are part_known (λ q e.
+      elim (kept_cases (is_used used) r i) [
+        | inl empty ↦ absurd (None-not_Some q (sym empty.0 ∙ e))
+        | inr whole ↦
+            let same = Some-same (part_of r i) q (sym whole ∙ e) in
+            subst (λ p. IsPlaced (length records) (r.frame + i * 8 ^ (r.size - 1)) p) same
+            (subst (λ n. IsPlaced n (r.frame + i * 8 ^ (r.size - 1)) (part_of r i)) (sym long) (part_placed frames i r placed splits one))
+      ])
+
+  part_belongs : Belongs used (r.frame + i * 8 ^ (r.size - 1)) (8 ^ (r.size - 1)) (kept_part (is_used used) r i)
+  part_belongs = elim (kept_cases (is_used used) r i) [
+    | inl empty ↦
+        subst (Belongs used (r.frame + i * 8 ^ (r.size - 1)) (8 ^ (r.size - 1))) (sym empty.0)
+        (unused_in (is_used used) (r.frame + i * 8 ^ (r.size - 1)) (8 ^ (r.size - 1)) empty.1)
+    | inr whole ↦ subst (Belongs used (r.frame + i * 8 ^ (r.size - 1)) (8 ^ (r.size - 1))) (sym whole) (refl, refl)
+  ]
+
+  -- and leaves a gap at the later parts
+  pub AreHeld-part : (holders after : List (Option ℕ)) → ArePlaced records → AreHeld records holders used (r.frame + i * 8 ^ (r.size - 1)) (r.frame + 8 ^ r.size) → IsFilled holders after (r.frame + i * 8 ^ (r.size - 1)) (8 ^ (r.size - 1)) (first_frame (kept_part (is_used used) r i)) → AreHeld (set records (r.frame + i * 8 ^ (r.size - 1)) (kept_part (is_used used) r i)) after used (r.frame + (i + 1) * 8 ^ (r.size - 1)) (r.frame + 8 ^ r.size)
+  AreHeld-part holders after are held filled =
+      let w = 8 ^ (r.size - 1) in
+      let low = r.frame + i * w in
+      let ends = part_of_eight i r.size splits one in
+      let vacant = vacant_in_gap records holders used low (r.frame + 8 ^ r.size) are held (omega (arith, ends, eight_pos (r.size - 1))) in
+      let next : low + w ≡ r.frame + (i + 1) * w = omega arith in
+      subst (λ n. AreHeld (set records low (kept_part (is_used used) r i)) after used n (r.frame + 8 ^ r.size)) next
+      (AreHeld-place records holders after used low (r.frame + 8 ^ r.size) w (kept_part (is_used used) r i) held vacant part_known (omega (arith, ends)) part_belongs filled)

@@ -1,0 +1,44 @@
+use Rattle.std.proofs.Common.{◌≡◌, ◌-◌, ◌^◌, arith, ap, sym, ◌∙◌, set, length}
+use Rattle.pager_model.specs.Records.{is_used, part_of, kept_part}
+use Rattle.reservations.proofs.ExtentLemmas.{eight_pos, eight_small, part_of_eight, aligned_end}
+use Rattle.reservations.proofs.SplitLemmas.{split_up_to-more, ArePlaced-part, AreHeld-part}
+use Rattle.reservations.proofs.write_parts.Goals as goal
+
+pub overflow_mul-first : goal.overflow_mul-first
+overflow_mul-first c =
+    let r = c.args.whole.now in
+    let pages : c.pages.result ≡ 8 ^ (r.size - 1) = c.pages.ensures ∙ ap (λ k. 8 ^ k) c.smaller-size.ensures in
+    rw pages (omega (arith, part_of_eight c.loop-i.i r.size c.requires.splits c.loop-i-test.true, eight_small r.size c.requires.whole_placed.aligned.0))
+
+pub overflow_add-first : goal.overflow_add-first
+overflow_add-first c =
+    let r = c.args.whole.now in
+    let pages : c.pages.result ≡ 8 ^ (r.size - 1) = c.pages.ensures ∙ ap (λ k. 8 ^ k) c.smaller-size.ensures in
+    let ends = part_of_eight c.loop-i.i r.size c.requires.splits c.loop-i-test.true in
+    let last = aligned_end r.size r.frame c.requires.whole_placed.aligned.0 c.requires.whole_placed.aligned.1 (omega arith) in
+    rw pages (omega (arith, ends, last, eight_pos (r.size - 1)))
+
+pub write-requires-clause-known : goal.write-requires-clause-known
+write-requires-clause-known c =
+    let r = c.args.whole.now in
+    let pages : c.pages.result ≡ 8 ^ (r.size - 1) = c.pages.ensures ∙ ap (λ k. 8 ^ k) c.smaller-size.ensures in
+    let ends = part_of_eight c.loop-i.i r.size c.requires.splits c.loop-i-test.true in
+    rw pages (omega (arith, ends, c.requires.whole_placed.within, c.requires.records_long, c.loop-i.auto.records, eight_pos (r.size - 1)))
+
+pub loop-i-preserved : goal.loop-i-preserved
+loop-i-preserved c =
+    let r = c.args.whole.now in
+    let used = c.args.used.now in
+    let i = c.loop-i.i in
+    let was = c.loop-i.invariant in
+    let pages : c.pages.result ≡ 8 ^ (r.size - 1) = c.pages.ensures ∙ ap (λ k. 8 ^ k) c.smaller-size.ensures in
+    let long : length c.loop-i.records ≡ length used = omega (arith, c.loop-i.auto.records, c.requires.records_long) in
+    let noted = rw (pages, c.kept_part.ensures) at c.write.ensures.records in
+    let filled = rw (pages, c.smaller-size.ensures, c.kept_part.ensures) at c.write.ensures.holders in
+    record {
+      split =
+          noted ∙ ap (λ rs. set rs (part_of r i).frame (kept_part (is_used used) r i)) was.split
+          ∙ sym (split_up_to-more i (is_used used) r c.args.records.now);
+      placed = rw noted (ArePlaced-part c.loop-i.records used r _ i long c.requires.splits c.loop-i-test.true c.requires.whole_placed was.placed);
+      held = rw noted (AreHeld-part c.loop-i.records used r _ i long c.requires.splits c.loop-i-test.true c.requires.whole_placed _ _ was.placed was.held filled);
+    }

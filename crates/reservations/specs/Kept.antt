@@ -1,0 +1,63 @@
+-- What holds of the reservations that are kept.
+use Rattle.std.specs.Prelude.{ℕ, ◌≡◌, ◌≤◌, ◌<◌, ◌+◌, ◌^◌, ◌⊎◌, ◌↔◌, Bool, true, false, List, length, slice_index_or, slice_set, Option, Some, None, IsSomeAnd}
+use Rattle.pager_model.specs.Extents.{IsExtent}
+use Rattle.pager_model.specs.FrameStates.{frame_for}
+use Rattle.pager_model.specs.Agreement.{has_frame}
+use Rattle.pager_model.specs.Records.{Records, is_used}
+use Rattle.pager_model.specs.declared.reservation.Reservation.{Reservation}
+
+-- the reservation that begins at the frame, where one does
+abbrev pub record_at : Records → ℕ → Option Reservation
+record_at st frame = slice_index_or st.records frame None
+
+abbrev pub with_record : Records → ℕ → Option Reservation → Records
+with_record st frame r = record { records = slice_set st.records frame r; used = st.used }
+
+abbrev pub with_used : Records → ℕ → Bool → Records
+with_used st frame b = record { records = st.records; used = slice_set st.used frame b }
+
+-- the reservation begins at the frame that names it, and is an extent of known frames with an extent of pages
+pub record IsPlaced (frames id : ℕ) (r : Reservation) : Type 0 where
+  pub named : r.frame ≡ id
+  pub aligned : IsExtent r.size r.frame
+  pub within : r.frame + 8 ^ r.size ≤ frames
+  pub pages_aligned : IsExtent r.size r.first
+
+-- the page is one of the reservation's
+abbrev pub HasPage : Reservation → ℕ → Type 0
+HasPage r page = (r.first ≤ page) × (page < r.first + 8 ^ r.size)
+
+-- the reservation that begins at the frame has the page, at a place that is used or isn't
+abbrev pub HasPlace : Records → ℕ → ℕ → Bool → Type 0
+HasPlace st id page b = IsSomeAnd (record_at st id) (λ r. HasPage r page × (is_used st.used (frame_for page r) ≡ b))
+
+-- each record is in its place
+abbrev pub ArePlaced : List (Option Reservation) → Type 0
+ArePlaced records = (id : ℕ) (r : Reservation) → slice_index_or records id None ≡ Some r → IsPlaced (length records) id r
+
+-- Of each frame outside the gap from low up to high it is noted which reservation has it, and a frame without one is no used
+-- place; no reservation has a frame of the gap.
+pub record AreHeld (records : List (Option Reservation)) (holders : List (Option ℕ)) (used : List Bool) (low high : ℕ) : Type 0 where
+  pub noted : (frame id : ℕ) → (frame < low) ⊎ (high ≤ frame) → (slice_index_or holders frame None ≡ Some id) ↔ (has_frame frame (slice_index_or records id None) ≡ true)
+  pub idle : (frame : ℕ) → (frame < low) ⊎ (high ≤ frame) → slice_index_or holders frame None ≡ None → is_used used frame ≡ false
+  pub gap : (frame id : ℕ) → low ≤ frame → frame < high → has_frame frame (slice_index_or records id None) ≡ true → ⊥
+
+-- the reservations are kept: there is no gap
+pub record AreKept (records : List (Option Reservation)) (holders : List (Option ℕ)) (used : List Bool) : Type 0 where
+  pub holders_long : length holders ≡ length records
+  pub used_long : length used ≡ length records
+  pub placed : ArePlaced records
+  pub held : AreHeld records holders used 0 0
+
+-- the value is noted at the count frames from first on, and nothing else changes
+pub record IsFilled (old new : List (Option ℕ)) (first count : ℕ) (value : Option ℕ) : Type 0 where
+  pub inside : (frame : ℕ) → first ≤ frame → frame < first + count → slice_index_or new frame None ≡ value
+  pub outside : (frame : ℕ) → (frame < first) ⊎ (first + count ≤ frame) → slice_index_or new frame None ≡ slice_index_or old frame None
+
+-- the first frame of a reservation
+abbrev pub first_frame : Option Reservation → Option ℕ
+first_frame None = None
+first_frame (Some r) = Some r.frame
+
+abbrev pub stamped : Reservation → ℕ → Reservation
+stamped r stamp = record { space = r.space; first = r.first; size = r.size; frame = r.frame; stamp = stamp }

@@ -1,0 +1,4 @@
+pub mod Breaking
+pub mod Counts
+pub mod Kept
+pub mod Parts
