@@ -1,3 +1,4 @@
 pub mod Moves
 pub mod Rows
 pub mod Landing
+pub mod Loading

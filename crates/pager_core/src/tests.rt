@@ -1,4 +1,4 @@
-ghost use Rattle.std.specs.Prelude.{◌≡◌, ◌+◌, ◌^◌, ◌<◌, ◌≤◌, List};
+ghost use Rattle.std.specs.Prelude.{◌≡◌, ◌+◌, ◌^◌, ◌<◌, ◌≤◌, List, IfOk};
 ghost use Rattle.pager_model.specs.declared.region.Region.{Region};
 ghost use Rattle.pager_model.specs.Flat.{space_of_call};
 ghost use Rattle.pager_model.specs.TraceText.{HasText};
@@ -19,6 +19,12 @@ const PAGE: u64 = 8192;
 const LAST_PAGE: u32 = 1_048_575;
 
 const LAST_WORD: u64 = 8_589_934_584;
+
+const NO_FRAMES: Reply = Reply::NoFrames {
+    wired: 0,
+    claimed: 0,
+    held: 0,
+};
 
 fn map(page: u32, length: u32, rights: Rights) -> Call
     ensures { result ≡ Call.Map 0 page length Kind.Fixed rights }
@@ -94,6 +100,14 @@ fn answer(number: u32, call: Call, reply: Reply) -> Entry {
                 size: None,
             },
         },
+    }
+}
+
+/// The reply of an answer.
+fn reply_of(entry: &Entry) -> Option<Reply> {
+    match entry.what {
+        What::Answer { answered, .. } => Some(answered.reply),
+        _ => None,
     }
 }
 
@@ -195,11 +209,7 @@ fn an_access_takes_a_frame_and_then_ends(rt: HostRuntime) -> Result<(), Fail> {
 
 #[test]
 fn an_access_without_a_frame_is_refused(rt: HostRuntime) -> Result<(), Fail> {
-    let reply = Reply::NoFrames {
-        wired: 0,
-        claimed: 0,
-        held: 0,
-    };
+    let reply = NO_FRAMES;
     for (rights, writing) in [(Rights::Read, false), (Rights::Write, true)] {
         let flown = flown(rt.alloc(), 0, rights, 20, writing)?;
         let last = answer(5, access(20, writing), reply);
@@ -261,5 +271,42 @@ fn a_store_at_the_last_word_is_loaded_again(rt: HostRuntime) -> Result<(), Fail>
     }
     let summary = gathered.summary;
     assert_eq!(rt; (summary.free, summary.reserved, summary.used), (511, 0, 1));
+    Ok(())
+}
+
+/// A map of the pages 0 to 599 that may be read, a store that is denied, a load past the region, and a load of each of the pages
+/// 0 to 512.
+fn loads_of_513_pages(alloc: Global) -> Result<Vec<Line>, Fail>
+    ensures { IfOk result (λ v. HasText (plan_of 512 v.items)) }
+{
+    let mut lines = vec![in alloc;
+        line(map(0, 600, Rights::Read)),
+        line(store(0, 1)),
+        line(load(4_915_200)),
+    ]?;
+    for page in 0..513u64 {
+        lines.push(line(load(page * PAGE)))?;
+    }
+    Ok(lines)
+}
+
+#[test]
+fn the_page_after_the_last_frame_has_none(rt: HostRuntime) -> Result<(), Fail> {
+    let calls = loads_of_513_pages(rt.alloc())?;
+    let gathered = run(rt.alloc(), calls)?;
+    let mut replies = gathered
+        .history
+        .iter()
+        .filter_map(|numbered| reply_of(&numbered.entry));
+    for reply in [Reply::Done, Reply::Denied, Reply::Unmapped] {
+        assert_eq!(rt; replies.next(), Some(reply));
+    }
+    for _ in 0..512 {
+        assert_eq!(rt; replies.next(), Some(Reply::Value(0)));
+    }
+    assert_eq!(rt; replies.next(), Some(NO_FRAMES));
+    assert_eq!(rt; replies.next(), None);
+    let summary = gathered.summary;
+    assert_eq!(rt; (summary.free, summary.reserved, summary.used), (0, 0, 512));
     Ok(())
 }
