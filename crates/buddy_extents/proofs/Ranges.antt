@@ -17,13 +17,13 @@ with_range_outside free first count value h frame (inl before) = grind (arith, p
 with_range_outside free first count value h frame (inr behind) = grind (arith, places)
 
 -- each frame of a range is in, or each is out
-abbrev Holds : List Bool → ℕ → ℕ → Bool → Type 0
+abbrev pub Holds : List Bool → ℕ → ℕ → Bool → Type 0
 Holds free first count value = (frame : ℕ) → first ≤ frame → frame < first + count → get_or free frame false ≡ value
 
-Holds-from_run : (free : List Bool) (first count : ℕ) → run_free free first count ≡ true → Holds free first count true
+pub Holds-from_run : (free : List Bool) (first count : ℕ) → run_free free first count ≡ true → Holds free first count true
 Holds-from_run free first count run = (run_free_exactly free first count).0 run
 
-range_cases : (first count : ℕ) (P : ℕ → Type 0) → ((frame : ℕ) → (frame < first) ⊎ (first + count ≤ frame) → P frame) → ((frame : ℕ) → first ≤ frame → frame < first + count → P frame) → (frame : ℕ) → P frame
+pub range_cases : (first count : ℕ) (P : ℕ → Type 0) → ((frame : ℕ) → (frame < first) ⊎ (first + count ≤ frame) → P frame) → ((frame : ℕ) → first ≤ frame → frame < first + count → P frame) → (frame : ℕ) → P frame
 range_cases first count P outside inside frame =
     elim (cases_lt frame first) [
       | inl before ↦ outside frame (inl before)
@@ -34,7 +34,7 @@ range_cases first count P outside inside frame =
     ]
 
 -- a range may be set to what it holds
-with_range_same : (free : List Bool) (first count : ℕ) (value : Bool) → first + count ≤ length free → Holds free first count value → with_range free first count value ≡ free
+pub with_range_same : (free : List Bool) (first count : ℕ) (value : Bool) → first + count ≤ length free → Holds free first count value → with_range free first count value ≡ free
 with_range_same free first count value h held =
     ext_get_or false _ _ (length-with_range free first count value h) (λ frame _.
     range_cases first count (λ k. get_or (with_range free first count value) k false ≡ get_or free k false)
@@ -42,7 +42,7 @@ with_range_same free first count value h held =
     (λ k low high. with_range_inside free first count value h k low high ∙ sym (held k low high)) frame)
 
 -- what a range held before goes back into it
-with_range_back : (free : List Bool) (first count : ℕ) (value other : Bool) → first + count ≤ length free → Holds free first count value → with_range (with_range free first count other) first count value ≡ free
+pub with_range_back : (free : List Bool) (first count : ℕ) (value other : Bool) → first + count ≤ length free → Holds free first count value → with_range (with_range free first count other) first count value ≡ free
 with_range_back free first count value other h held =
     let changed = with_range free first count other in
     let long = length-with_range free first count other h in
@@ -52,7 +52,7 @@ with_range_back free first count value other h held =
     (λ k out. with_range_outside changed first count value fits k out ∙ with_range_outside free first count other h k out)
     (λ k low high. with_range_inside changed first count value fits k low high ∙ sym (held k low high)) frame)
 
-run_within : (free : List Bool) (first count : ℕ) → first ≤ length free → run_free free first count ≡ true → first + count ≤ length free
+pub run_within : (free : List Bool) (first count : ℕ) → first ≤ length free → run_free free first count ≡ true → first + count ≤ length free
 run_within free first zero h run = omega arith
 run_within free first (suc n) h run = run_free_within free first (suc n) run (omega arith)
 
@@ -67,7 +67,7 @@ take_after_give free first count h held = with_range_back free first count false
 abbrev free_count : List Bool → ℕ
 free_count free = count_by (λ is_free. is_free) free
 
-free_count-replicate : (n : ℕ) (value : Bool) → free_count (replicate n value) ≡ cond value n 0
+pub free_count-replicate : (n : ℕ) (value : Bool) → free_count (replicate n value) ≡ cond value n 0
 free_count-replicate zero true = refl
 free_count-replicate zero false = refl
 free_count-replicate (suc n) true =
@@ -75,7 +75,7 @@ free_count-replicate (suc n) true =
     sum_by-cons (λ is_free. cond is_free 1 0) true (replicate n true) ∙ (ap (λ m. 1 + m) (free_count-replicate n true) ∙ sum)
 free_count-replicate (suc n) false = free_count-replicate n false
 
-free_count-with_range : (free : List Bool) (first count : ℕ) (value : Bool) → free_count (with_range free first count value) ≡ (free_count (take first free) + cond value count 0) + free_count (drop (first + count) free)
+pub free_count-with_range : (free : List Bool) (first count : ℕ) (value : Bool) → free_count (with_range free first count value) ≡ (free_count (take first free) + cond value count 0) + free_count (drop (first + count) free)
 free_count-with_range free first count value =
     sum_by-append _ (take first free ++ replicate count value) (drop (first + count) free)
     ∙ ap (λ n. n + free_count (drop (first + count) free)) (sum_by-append _ (take first free) (replicate count value) ∙ ap (λ n. free_count (take first free) + n) (free_count-replicate count value))

@@ -1,30 +1,31 @@
 -- Runs of free frames, maximal blocks, and the choice.
-use Rattle.std.proofs.Common.{◌≡◌, ℕ, zero, suc, ◌+◌, ◌-◌, ◌*◌, ◌/◌, ◌%◌, ◌^◌, ◌<◌, ◌≤◌, Bool, true, false, not, ◌&&◌, List, length, get_or, find, eqb, Option, Some, None, ◌↔◌, inl, inr, refl, sym, ◌∙◌, ap, add-zero, arith}
+use Rattle.std.proofs.Common.{◌≡◌, ℕ, zero, suc, ◌+◌, ◌-◌, ◌*◌, ◌/◌, ◌%◌, ◌^◌, ◌<◌, ◌≤◌, Bool, true, false, not, ◌&&◌, List, length, get_or, find, eqb, Option, Some, None, ◌↔◌, inl, inr, refl, sym, subst, ◌∙◌, ap, add-zero, arith}
 use Rattle.std.specs.List.{range_with_len}
-use Rattle.std.proofs.lemmas.Bool.{and_parts, and_from, false≢true, eqb-true, eq-eqb, not-false, ltb-true, false_from_ne_true, cases_Bool, cases_lt}
+use Rattle.std.specs.Option.{option_or}
+use Rattle.std.proofs.lemmas.Bool.{cases_eq, cond-true, cond-false, and_parts, and_from, false≢true, eqb-true, eq-eqb, not-false, ltb-true, false_from_ne_true, cases_Bool, cases_lt}
 use Rattle.std.proofs.lemmas.List.{get_or_past}
 use Rattle.std.proofs.lemmas.Option.{none-some, same_Some}
-use Rattle.std.proofs.lemmas.Nat.{pow-add, pow_pos, shl-shr, shr_split}
+use Rattle.std.proofs.lemmas.Nat.{div-mul-add, pow-add, pow_pos, shl-shr, shr_split}
 use Rattle.std.proofs.Math.Nat.{mul-mod_left, pow-suc, mul_assoc, pow-le-pow_right, one-le-pow}
 use Rattle.pager_model.specs.Extents.{IsExtent}
-use Rattle.pager_model.specs.FreeBlocks.{run_free, block_start, is_maximal, lowest_block, or_else, least_block, choice}
+use Rattle.pager_model.specs.FreeBlocks.{run_free, block_start, is_maximal, lowest_block, least_block, choice}
 
 -- each frame of a free run is free, and frames that are each free are a free run
-run_free_at : (free : List Bool) (first count : ℕ) → run_free free first count ≡ true → (i : ℕ) → i < count → get_or free (first + i) false ≡ true
+pub run_free_at : (free : List Bool) (first count : ℕ) → run_free free first count ≡ true → (i : ℕ) → i < count → get_or free (first + i) false ≡ true
 run_free_at free first zero e i h = absurd (omega arith)
 run_free_at free first (suc n) e zero h = rw add-zero (and_parts _ _ e).0
 run_free_at free first (suc n) e (suc i) h =
     let next : (first + 1) + i ≡ first + suc i = omega arith in
     rw (← next) (run_free_at free (first + 1) n (and_parts _ _ e).1 i (omega arith))
 
-run_free_from : (free : List Bool) (first count : ℕ) → ((i : ℕ) → i < count → get_or free (first + i) false ≡ true) → run_free free first count ≡ true
+pub run_free_from : (free : List Bool) (first count : ℕ) → ((i : ℕ) → i < count → get_or free (first + i) false ≡ true) → run_free free first count ≡ true
 run_free_from free first zero each = refl
 run_free_from free first (suc n) each =
     and_from _ _ (rw add-zero at (each 0 (omega arith)))
     (run_free_from free (first + 1) n (λ i h. let next : (first + 1) + i ≡ first + suc i = omega arith in rw next (each (suc i) (omega arith))))
 
 -- the same by the frames' numbers
-run_free_frames : (free : List Bool) (first count : ℕ) → run_free free first count ≡ true → (frame : ℕ) → first ≤ frame → frame < first + count → get_or free frame false ≡ true
+pub run_free_frames : (free : List Bool) (first count : ℕ) → run_free free first count ≡ true → (frame : ℕ) → first ≤ frame → frame < first + count → get_or free frame false ≡ true
 run_free_frames free first count run frame low high =
     let place : first + (frame - first) ≡ frame = omega arith in
     rw (← place) (run_free_at free first count run (frame - first) (omega arith))
@@ -33,7 +34,7 @@ pub run_free_exactly : (free : List Bool) (first count : ℕ) → (run_free free
 run_free_exactly free first count =
     (run_free_frames free first count, λ each. run_free_from free first count (λ i h. each (first + i) (omega arith) (omega arith)))
 
-run_free_part : (free : List Bool) (first count part : ℕ) → run_free free first count ≡ true → part ≤ count → run_free free first part ≡ true
+pub run_free_part : (free : List Bool) (first count part : ℕ) → run_free free first count ≡ true → part ≤ count → run_free free first part ≡ true
 run_free_part free first count part e h =
     run_free_from free first part (λ i b. run_free_at free first count e i (omega arith))
 
@@ -46,7 +47,7 @@ run_free_within free first count e h =
     ]
 
 -- what the first number of a range that passes is, and that none passes where none is found
-find_passes : (p : ℕ → Bool) (a n f : ℕ) → find p (range_with_len a n) ≡ Some f → p f ≡ true
+pub find_passes : (p : ℕ → Bool) (a n f : ℕ) → find p (range_with_len a n) ≡ Some f → p f ≡ true
 find_passes p a zero f e = absurd (none-some _ e)
 find_passes p a (suc n) f e =
     elim (cases_Bool (p a)) [
@@ -54,11 +55,21 @@ find_passes p a (suc n) f e =
       | inr fails ↦ find_passes p (a + 1) n f (rw fails at e)
     ]
 
-none_passes_on : (p : ℕ → Bool) (a n : ℕ) → p a ≡ false → ((i : ℕ) → i < n → p ((a + 1) + i) ≡ false) → (i : ℕ) → i < suc n → p (a + i) ≡ false
+-- the first number of a range that passes, where none below it does
+pub find_first : (p : ℕ → Bool) (a n i : ℕ) → ((k : ℕ) → a ≤ k → k < i → p k ≡ false) → a ≤ i → i < a + n → p i ≡ true → find p (range_with_len a n) ≡ Some i
+find_first p a zero i none low high is = absurd (omega arith)
+find_first p a (suc n) i none low high is = elim (cases_eq a i) [
+  | inl here ↦ cond-true _ _ _ (ap p here ∙ is) ∙ ap Some here
+  | inr other ↦
+      cond-false _ _ _ (none a (omega arith) (omega arith))
+      ∙ find_first p (a + 1) n i (λ k from below. none k (omega arith) below) (omega arith) (omega arith) is
+]
+
+pub none_passes_on : (p : ℕ → Bool) (a n : ℕ) → p a ≡ false → ((i : ℕ) → i < n → p ((a + 1) + i) ≡ false) → (i : ℕ) → i < suc n → p (a + i) ≡ false
 none_passes_on p a n here later zero h = rw add-zero here
 none_passes_on p a n here later (suc i) h = let next : (a + 1) + i ≡ a + suc i = omega arith in rw (← next) (later i (omega arith))
 
-none_passes : (p : ℕ → Bool) (a n : ℕ) → find p (range_with_len a n) ≡ None → (i : ℕ) → i < n → p (a + i) ≡ false
+pub none_passes : (p : ℕ → Bool) (a n : ℕ) → find p (range_with_len a n) ≡ None → (i : ℕ) → i < n → p (a + i) ≡ false
 none_passes p a zero e i h = absurd (omega arith)
 none_passes p a (suc n) e i h =
     elim (cases_Bool (p a)) [
@@ -67,11 +78,11 @@ none_passes p a (suc n) e i h =
     ]
 
 -- the least block of some orders is a maximal one of one of them
-least_of : (free : List Bool) (n count f : ℕ) → (here : Option ℕ) → lowest_block free n ≡ here → (least_block free (n + 1) count ≡ Some f → (m : ℕ) × (n + 1 ≤ m) × (m < n + 1 + count) × (is_maximal free m f ≡ true)) → or_else here (least_block free (n + 1) count) ≡ Some f → (m : ℕ) × (n ≤ m) × (m < n + suc count) × (is_maximal free m f ≡ true)
+pub least_of : (free : List Bool) (n count f : ℕ) → (here : Option ℕ) → lowest_block free n ≡ here → (least_block free (n + 1) count ≡ Some f → (m : ℕ) × (n + 1 ≤ m) × (m < n + 1 + count) × (is_maximal free m f ≡ true)) → option_or here (least_block free (n + 1) count) ≡ Some f → (m : ℕ) × (n ≤ m) × (m < n + suc count) × (is_maximal free m f ≡ true)
 least_of free n count f (Some g) at later e = (n, omega arith, omega arith, find_passes (is_maximal free n) 0 (length free) f (at ∙ e))
 least_of free n count f None at later e = let l = later e in (l.0, omega arith, omega arith, l.3)
 
-least_block_is : (free : List Bool) (n count f : ℕ) → least_block free n count ≡ Some f → (m : ℕ) × (n ≤ m) × (m < n + count) × (is_maximal free m f ≡ true)
+pub least_block_is : (free : List Bool) (n count f : ℕ) → least_block free n count ≡ Some f → (m : ℕ) × (n ≤ m) × (m < n + count) × (is_maximal free m f ≡ true)
 least_block_is free n zero f e = absurd (none-some _ e)
 least_block_is free n (suc count) f e = least_of free n count f (lowest_block free n) refl (least_block_is free (n + 1) count f) e
 
@@ -84,25 +95,25 @@ least_later free n h e =
     let count : 10 - n ≡ suc (10 - (n + 1)) = omega arith in rw (count, e)
 
 -- where they have none, no block of those orders is maximal
-none_of : (free : List Bool) (n count : ℕ) → (here : Option ℕ) → lowest_block free n ≡ here → (least_block free (n + 1) count ≡ None → (i : ℕ) → i < count → (f : ℕ) → f < length free → is_maximal free ((n + 1) + i) f ≡ false) → or_else here (least_block free (n + 1) count) ≡ None → (i : ℕ) → i < suc count → (f : ℕ) → f < length free → is_maximal free (n + i) f ≡ false
+pub none_of : (free : List Bool) (n count : ℕ) → (here : Option ℕ) → lowest_block free n ≡ here → (least_block free (n + 1) count ≡ None → (i : ℕ) → i < count → (f : ℕ) → f < length free → is_maximal free ((n + 1) + i) f ≡ false) → option_or here (least_block free (n + 1) count) ≡ None → (i : ℕ) → i < suc count → (f : ℕ) → f < length free → is_maximal free (n + i) f ≡ false
 none_of free n count (Some g) at later e i h f b = absurd (none-some g (sym e))
 none_of free n count None at later e zero h f b =
     let here : 0 + f ≡ f = omega arith in rw (add-zero, ← here) (none_passes (is_maximal free n) 0 (length free) at f b)
 none_of free n count None at later e (suc i) h f b =
     let next : (n + 1) + i ≡ n + suc i = omega arith in rw (← next) (later e i (omega arith) f b)
 
-none_maximal : (free : List Bool) (n count : ℕ) → least_block free n count ≡ None → (i : ℕ) → i < count → (f : ℕ) → f < length free → is_maximal free (n + i) f ≡ false
+pub none_maximal : (free : List Bool) (n count : ℕ) → least_block free n count ≡ None → (i : ℕ) → i < count → (f : ℕ) → f < length free → is_maximal free (n + i) f ≡ false
 none_maximal free n zero e i h f b = absurd (omega arith)
 none_maximal free n (suc count) e i h f b = none_of free n count (lowest_block free n) refl (none_maximal free (n + 1) count) e i h f b
 
 -- a free block that is not maximal lies in a free block of the next order
-block_start_same : (n f : ℕ) → block_start n (block_start n f) ≡ block_start n f
+pub block_start_same : (n f : ℕ) → block_start n (block_start n f) ≡ block_start n f
 block_start_same n f = ap (λ q. q * 2 ^ n) (shl-shr (f / 2 ^ n) n)
 
-not_maximal : (aligned run larger : Bool) → aligned ≡ true → run ≡ true → (aligned && (run && not larger)) ≡ false → larger ≡ true
+pub not_maximal : (aligned run larger : Bool) → aligned ≡ true → run ≡ true → (aligned && (run && not larger)) ≡ false → larger ≡ true
 not_maximal aligned run larger a r e = not-false _ (rw (a, r) at e)
 
-grows : (free : List Bool) (n f count : ℕ) → n + count ≡ 10 → n ≤ 9 → ((i : ℕ) → i < count → (g : ℕ) → g < length free → is_maximal free (n + i) g ≡ false) → block_start n f ≡ f → run_free free f (2 ^ n) ≡ true → ⊥
+pub grows : (free : List Bool) (n f count : ℕ) → n + count ≡ 10 → n ≤ 9 → ((i : ℕ) → i < count → (g : ℕ) → g < length free → is_maximal free (n + i) g ≡ false) → block_start n f ≡ f → run_free free f (2 ^ n) ≡ true → ⊥
 grows free n f zero e h none start run = omega arith
 grows free n f (suc count) e h none start run =
     let inside : f < length free = omega (arith, run_free_within free f (2 ^ n) run (pow_pos n), pow_pos n) in
@@ -114,24 +125,24 @@ grows free n f (suc count) e h none start run =
     (block_start_same (n + 1) f) larger.1
 
 -- sizes in frames
-eight_pow : (k : ℕ) → 8 ^ k ≡ 2 ^ (3 * k)
+pub eight_pow : (k : ℕ) → 8 ^ k ≡ 2 ^ (3 * k)
 eight_pow zero = refl
 eight_pow (suc k) =
     let exponent : 3 * k + 3 ≡ 3 * suc k = omega arith in
     pow-suc 8 k ∙ (ap (λ p. p * 8) (eight_pow k) ∙ (sym (pow-add 2 (3 * k) 3) ∙ ap (λ j. 2 ^ j) exponent))
 
-aligned_smaller : (m n f : ℕ) → m ≤ n → block_start n f ≡ f → f % 2 ^ m ≡ 0
+pub aligned_smaller : (m n f : ℕ) → m ≤ n → block_start n f ≡ f → f % 2 ^ m ≡ 0
 aligned_smaller m n f h start =
     let sum : (n - m) + m ≡ n = omega arith in
     let power : 2 ^ n ≡ 2 ^ (n - m) * 2 ^ m = ap (λ j. 2 ^ j) (sym sum) ∙ pow-add 2 (n - m) m in
     let product : f ≡ (f / 2 ^ n * 2 ^ (n - m)) * 2 ^ m = sym start ∙ (ap (λ p. f / 2 ^ n * p) power ∙ sym (mul_assoc (f / 2 ^ n) (2 ^ (n - m)) (2 ^ m))) in
     ap (λ g. g % 2 ^ m) product ∙ mul-mod_left _ _
 
-aligned_block : (m f : ℕ) → f % 2 ^ m ≡ 0 → block_start m f ≡ f
+pub aligned_block : (m f : ℕ) → f % 2 ^ m ≡ 0 → block_start m f ≡ f
 aligned_block m f e = omega (arith, shr_split f m)
 
 -- the choice is an aligned run of free frames
-choice_is_free : (free : List Bool) (k f : ℕ) → choice free k ≡ Some f → (run_free free f (8 ^ k) ≡ true) × (f % 8 ^ k ≡ 0)
+pub choice_is_free : (free : List Bool) (k f : ℕ) → choice free k ≡ Some f → (run_free free f (8 ^ k) ≡ true) × (f % 8 ^ k ≡ 0)
 choice_is_free free k f e =
     let block = least_block_is free (3 * k) (10 - 3 * k) f e in
     let parts = and_parts (eqb (block_start block.0 f) f) _ block.3 in
@@ -150,14 +161,52 @@ pub choice_within : (free : List Bool) (k f : ℕ) → choice free k ≡ Some f 
 choice_within free k f e = run_free_within free f (8 ^ k) (choice_is_free free k f e).0 (one-le-pow k 8 (omega arith))
 
 -- there is none only where no such run is
-no_choice : (free : List Bool) (k : ℕ) → k ≤ 3 → choice free k ≡ None → (f : ℕ) → f % 8 ^ k ≡ 0 → run_free free f (8 ^ k) ≡ false
+pub no_choice : (free : List Bool) (k : ℕ) → k ≤ 3 → choice free k ≡ None → (f : ℕ) → f % 8 ^ k ≡ 0 → run_free free f (8 ^ k) ≡ false
 no_choice free k h e f aligned =
     false_from_ne_true _ (λ run. grows free (3 * k) f (10 - 3 * k) (omega arith) (omega arith) (none_maximal free (3 * k) (10 - 3 * k) e) (aligned_block (3 * k) f (rw eight_pow at aligned)) (rw eight_pow at run))
 
-some_choice : (free : List Bool) (k : ℕ) (chosen : Option ℕ) → choice free k ≡ chosen → ((f : ℕ) → f % 8 ^ k ≡ 0 → run_free free f (8 ^ k) ≡ false) → choice free k ≡ None
+pub some_choice : (free : List Bool) (k : ℕ) (chosen : Option ℕ) → choice free k ≡ chosen → ((f : ℕ) → f % 8 ^ k ≡ 0 → run_free free f (8 ^ k) ≡ false) → choice free k ≡ None
 some_choice free k None at none = at
 some_choice free k (Some f) at none =
     let block = choice_is_free free k f at in absurd (false≢true (sym (none f block.1) ∙ block.0))
 
 pub no_choice_exactly : (free : List Bool) (k : ℕ) → k ≤ 3 → (choice free k ≡ None) ↔ ((f : ℕ) → f % 8 ^ k ≡ 0 → run_free free f (8 ^ k) ≡ false)
 no_choice_exactly free k h = (no_choice free k h, some_choice free k (choice free k) refl)
+
+-- no block of the order begins before the multiple of its frames with this number
+abbrev pub NoneBefore : List Bool → ℕ → ℕ → Type 0
+NoneBefore free order block = (f : ℕ) → f < block * 2 ^ order → is_maximal free order f ≡ false
+
+-- a block begins at a multiple of its frames
+starts_at_multiple : (free : List Bool) (order f : ℕ) → is_maximal free order f ≡ true → f / 2 ^ order * 2 ^ order ≡ f
+starts_at_multiple free order f is = eqb-true _ _ (and_parts _ _ is).0
+
+-- where none begins at a multiple, none begins before the next one
+pub NoneBefore-more : (free : List Bool) (order block first : ℕ) → NoneBefore free order block → first ≡ block * 2 ^ order → is_maximal free order first ≡ false → NoneBefore free order (block + 1)
+NoneBefore-more free order block first none at here f below =
+    elim (cases_lt f (block * 2 ^ order)) [
+      | inl before ↦ none f before
+      | inr from ↦ false_from_ne_true _ (λ is.
+          let start = starts_at_multiple free order f is in
+          let split : block * 2 ^ order + (f - block * 2 ^ order) ≡ f = omega arith in
+          let quotient : f / 2 ^ order ≡ block = subst (λ n. n / 2 ^ order ≡ block) split (div-mul-add block (2 ^ order) (f - block * 2 ^ order) (omega (arith, below, from))) in
+          let same : f ≡ first = sym start ∙ ap (λ q. q * 2 ^ order) quotient ∙ sym at in
+          false≢true (sym here ∙ ap (is_maximal free order) (sym same) ∙ is))
+    ]
+
+-- the first one from 0 on is the lowest
+pub lowest_block-first : (free : List Bool) (order block first : ℕ) → NoneBefore free order block → first ≡ block * 2 ^ order → is_maximal free order first ≡ true → lowest_block free order ≡ Some first
+lowest_block-first free order block first none at is =
+    let within = run_free_within free first (2 ^ order) (and_parts _ _ (and_parts _ _ is).1).0 (pow_pos order) in
+    find_first (is_maximal free order) 0 (length free) first (λ k _ below. none k (omega arith)) (omega arith) (omega (arith, within, pow_pos order)) is
+
+-- and where none begins before a multiple past the last frame, there is none
+pub lowest_block-none : (free : List Bool) (order block : ℕ) → NoneBefore free order block → length free ≤ block * 2 ^ order → lowest_block free order ≡ None
+lowest_block-none free order block none past = at (lowest_block free order) refl
+  where
+    at : (o : Option ℕ) → lowest_block free order ≡ o → lowest_block free order ≡ None
+    at None is = is
+    at (Some f) is =
+        let passes = find_passes (is_maximal free order) 0 (length free) f is in
+        let within = run_free_within free f (2 ^ order) (and_parts _ _ (and_parts _ _ passes).1).0 (pow_pos order) in
+        absurd (false≢true (sym (none f (omega (arith, within, pow_pos order, past))) ∙ passes))

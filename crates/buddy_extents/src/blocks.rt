@@ -41,7 +41,15 @@ fn lowest_block(flags: &[bool], order: u32) -> Option<u32>
     requires most { length flags.now ≤ 32768 }
     ensures { result ≡ lowest_block flags.now order }
 {
-    (0..flags.len() as u32).find(|first| is_maximal(flags, order, *first))
+    let frames = 2u32.pow(order);
+    // A block begins at a multiple of its frames, and nowhere else.
+    for block in 0..flags.len() as u32 / frames + 1 {
+        let first = block * frames;
+        if is_maximal(flags, order, first) {
+            return Some(first);
+        }
+    }
+    None
 }
 
 /// The first frame of the chosen extent of this size: the lowest frames of the lowest maximal block of the least order that has

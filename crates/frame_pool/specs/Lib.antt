@@ -1,3 +1,7 @@
-pub mod Counting
+pub mod Laid
+pub mod Listed
+pub mod Placed
+pub mod Pooled
 pub mod PoolState
-pub mod Sound
+pub mod Victims
+pub mod Allowed

@@ -1,16 +1,48 @@
-ghost use Rattle.std.specs.Prelude.{◌≡◌, ◌+◌, ◌^◌, ◌<◌, ◌≤◌, IfOk, IfErr, Some, None, is_some, length, map, position, sum_by, count_by};
+ghost use Rattle.std.specs.Prelude.{◌≡◌, ℕ, ◌+◌, ◌%◌, ◌^◌, ◌<◌, ◌≤◌, ◌⊎◌, false, Some, None, IfOk, IfErr, IsErr, IsSome, length, map};
 ghost use Rattle.std.specs.List.{range_with_len};
 ghost use Rattle.pager_model.specs.Frame.{zero_frame};
-ghost use Rattle.pager_model.specs.FrameStates.{FrameState, Taking, start_frames, take_frame, counted, IsFull, free_count, used_count, reserved_count, places_in};
-ghost use Rattle.frame_pool.specs.Counting.{wired_count, claimed_count, held_count, is_wired_place, is_claimed_place};
+ghost use Rattle.pager_model.specs.FrameStates.{FrameState, Taking, start_frames, used_at, held_by, frame_of, claim_in, HasNothing};
+ghost use Rattle.pager_model.specs.FrameStates.{take_frame, counted, give_page, claimed, dropped, IsFull, IsVictim, has_evictable};
+ghost use Rattle.pager_model.specs.FrameStates.{free_count, used_count, reserved_count, wired_count, claimed_count, held_count};
+ghost use Rattle.pager_model.specs.PreferredSize.{IsWanted};
 
-use pager_model::{Frame, NoMemory, Reservation, Size, Used, Want, frames_of};
+use crate::layout::Layout;
+use crate::places::{
+    claimed_by, claimed_places, claimer, held_frames, used_places, victim, wired_places,
+};
+use crate::records::page_at;
+use pager_model::{Frame, NoMemory, Used, Want, frames_of};
 use std::alloc::Global;
 use std::marker::Model;
 
 /// No frame can be had.
 #[derive(Clone, Copy, Debug, PartialEq, Eq)]
 pub struct Full;
+
+/// The page whose frame is claimed, and the frame.
+#[derive(Clone, Copy, Debug, PartialEq, Eq)]
+pub struct Victim {
+    pub space: u32,
+    pub page: u32,
+    pub frame: u32,
+}
+
+/// Every used frame is wired or claimed: how many are wired and claimed, and how many frames are held by a processor.
+#[derive(Clone, Copy, Debug, PartialEq, Eq)]
+pub struct NoneLeft {
+    pub wired: u32,
+    pub claimed: u32,
+    pub held: u32,
+}
+
+/// What became of the frame that a processor claimed.
+#[derive(Clone, Copy, Debug, PartialEq, Eq)]
+pub enum Collected {
+    /// It is still its page's.
+    Claimed,
+    /// Its page gave it up, and the processor holds it.
+    Held,
+}
 
 /// How many frames are free, unused places of reservations, used places and held by a processor; and how many of the used
 /// ones are wired and claimed.
@@ -29,10 +61,7 @@ pub struct Counts {
 pub struct Pool {
     // for each frame the frame itself, where no page has it
     frames: Vec<Option<Frame>>,
-    // for each frame whether it is free
-    free: Vec<bool>,
-    // for each frame the reservation that begins at it
-    records: Vec<Option<Reservation>>,
+    layout: Layout,
     // for each frame what is noted of it as a used place
     used: Vec<Option<Used>>,
     // for each processor the frame that it holds
@@ -47,70 +76,169 @@ impl Model for Pool {
     ghost Value = { FrameState };
 
     ghost use Rattle.frame_pool.specs.PoolState.{state_of};
-    ghost use Rattle.frame_pool.specs.Sound.{IsSound};
+    ghost use Rattle.frame_pool.specs.Pooled.{IsPool};
 
     ghost view = { state_of };
 
-    ghost invariant = { λ p. IsSound p.frames.items (state_of p) };
+    ghost invariant = { λ p. IsPool p.frames.items p.layout (state_of p) };
 }
 
 impl Pool {
-    /// All frames are free. All the memory that the pool ever takes is taken here.
+    /// All frames are free. All the memory that the pool ever takes is taken here. `frames` is a multiple of 512, and `processors`
+    /// counts a daemon.
     pub fn create(
         alloc: Global,
         frames: u32,
         spaces: u32,
         processors: u32,
     ) -> Result<Pool, NoMemory>
+        requires whole { frames % 512 ≡ 0 }
         requires frames { frames ≤ 32768 }
         requires processors { processors ≤ 17 }
         ensures { IfOk result (λ pool. pool ≡ start_frames frames processors) }
     {
-        let count = frames as usize;
         Ok(Pool {
             frames: every_frame(alloc, frames)?,
-            free: vec![in alloc; true; count]?,
-            records: vec![in alloc; None; count]?,
-            used: vec![in alloc; None; count]?,
+            layout: Layout::create(alloc, frames)?,
+            used: vec![in alloc; None; frames as usize]?,
             held: vec![in alloc; None; processors as usize]?,
             entries: 0,
             preemptions: 0,
         })
     }
 
-    /// Takes a frame for a page of a space, which has none. `Full` exactly where no frame can be had, and then nothing
-    /// changes.
+    /// Takes a frame for a page of a space, which has none. `Full` exactly where no frame is free and every reservation is full,
+    /// and then nothing changes.
     pub fn take(&mut self, space: u32, page: u32, want: &Want) -> Result<Frame, Full>
-        requires { self.old.entries < 2 ^ 45 }
+        requires room { self.old.entries < 2 ^ 45 }
+        requires unplaced { frame_of self.old space page ≡ None }
+        requires wanted { IsWanted want.now page }
         ensures taken { IfOk result
             (λ frame. (t : Taking) × (take_frame self.old space page want.now ≡ Some t) × (self.new ≡ counted t.state) × (frame.number ≡ t.frame)) }
         ensures full { IfErr result (λ _. IsFull self.old × (self.new ≡ self.old)) }
+        ensures full_is_told { IsFull self.old → IsErr result }
     {
-        let Some(at) = lowest_free(&self.free) else {
+        let Some(place) = self.layout.place(self.entries, space, page, want) else {
             return Err(Full);
         };
+        let at = place.frame as usize;
         let Some(frame) = self.frames[at].take() else {
             unreachable!()
         };
-        self.free[at] = false;
-        self.records[at] = Some(Reservation {
-            space,
-            first: page,
-            size: base_size(),
-            frame: at as u32,
-            stamp: self.entries,
-        });
         self.used[at] = Some(Used {
             age: self.entries,
             wired: want.wired,
             claim: None,
         });
-        self.end_entry();
+        self.preemptions += place.broken;
+        self.entries += 1;
         Ok(frame)
+    }
+
+    /// Claims the victim for the processor, which has no claim and holds nothing: of the used frames that are neither wired nor
+    /// claimed the one of least age. `NoneLeft` exactly where there is none, and then nothing changes.
+    pub fn claim(&mut self, processor: u32) -> Result<Victim, NoneLeft>
+        requires room { self.old.entries < 2 ^ 45 }
+        requires known { processor < length self.old.held }
+        requires nothing { HasNothing self.old processor }
+        ensures claimed { IfOk result (λ v. IsVictim self.old v.space v.page v.frame
+            × (self.new ≡ counted (claimed self.old v.frame (Some processor)))) }
+        ensures none_left { IfErr result (λ none. (has_evictable self.old ≡ false) × (self.new ≡ self.old)
+            × (none ≡ record { wired = wired_count self.old; claimed = claimed_count self.old; held = held_count self.old })) }
+    {
+        let Some(at) = victim(self.used.as_slice()) else {
+            return Err(NoneLeft {
+                wired: wired_places(self.used.as_slice()),
+                claimed: claimed_places(self.used.as_slice()),
+                held: held_frames(self.held.as_slice()),
+            });
+        };
+        let frame = at as u32;
+        let reservation = self.layout.owner(frame).unwrap();
+        self.note_claim(at, Some(processor));
+        self.entries += 1;
+        Ok(Victim {
+            space: reservation.space,
+            page: page_at(&reservation, frame),
+            frame,
+        })
+    }
+
+    /// Takes the frame of a page back, which is the page's used place. Answers the processor that claimed it and holds it now, and
+    /// `None` exactly where it wasn't claimed.
+    pub fn give(&mut self, space: u32, page: u32, frame: Frame) -> Option<u32>
+        requires { frame_of self.old space page ≡ Some frame.number }
+        ensures claimer { result ≡ claim_in (used_at self.old frame.number) }
+        ensures given { self.new ≡ give_page self.old space page }
+    {
+        let number = frame.number();
+        let at = number as usize;
+        let claim = claimer(&self.used[at]);
+        self.used[at] = None;
+        self.frames[at] = Some(frame);
+        match claim {
+            None => self.layout.vacate(number),
+            Some(processor) => {
+                self.layout.carve(number);
+                self.held[processor as usize] = Some(number);
+            }
+        }
+        claim
+    }
+
+    /// What became of the frame that the processor claimed.
+    pub fn collect(&self, processor: u32) -> Collected
+        requires { IsSome (held_by self.now processor) ⊎ ((frame : ℕ) × (claim_in (used_at self.now frame) ≡ Some processor)) }
+        ensures held { result ≡ Collected.Held → IsSome (held_by self.now processor) }
+        ensures claimed { result ≡ Collected.Claimed → (frame : ℕ) × (claim_in (used_at self.now frame) ≡ Some processor) }
+    {
+        match self.held.get(processor as usize).copied().flatten() {
+            Some(_) => Collected::Held,
+            None => Collected::Claimed,
+        }
+    }
+
+    /// The frame that the processor holds becomes free, and a frame is taken for a page of a space, which has none: this one or
+    /// another.
+    pub fn use_held(&mut self, processor: u32, space: u32, page: u32, want: &Want) -> Frame
+        requires room { self.old.entries < 2 ^ 45 }
+        requires holds { IsSome (held_by self.old processor) }
+        requires unplaced { frame_of self.old space page ≡ None }
+        requires wanted { IsWanted want.now page }
+        ensures { (t : Taking) × (take_frame (dropped self.old processor) space page want.now ≡ Some t) × (self.new ≡ counted t.state) × (result.number ≡ t.frame) }
+    {
+        self.put_back(processor);
+        self.take(space, page, want).unwrap()
+    }
+
+    /// The frame that the processor holds becomes free. Answers its number.
+    pub fn drop_held(&mut self, processor: u32) -> u32
+        requires room { self.old.entries < 2 ^ 45 }
+        requires holds { IsSome (held_by self.old processor) }
+        ensures frame { held_by self.old processor ≡ Some result }
+        ensures dropped { self.new ≡ counted (dropped self.old processor) }
+    {
+        let frame = self.put_back(processor);
+        self.entries += 1;
+        frame
+    }
+
+    /// The frame that the processor claims is claimed no more. Answers its number.
+    pub fn unclaim(&mut self, processor: u32) -> u32
+        requires room { self.old.entries < 2 ^ 45 }
+        requires claims { (frame : ℕ) × (claim_in (used_at self.old frame) ≡ Some processor) }
+        ensures frame { claim_in (used_at self.old result) ≡ Some processor }
+        ensures unclaimed { self.new ≡ counted (claimed self.old result None) }
+    {
+        let at = claimed_by(self.used.as_slice(), processor).unwrap();
+        self.note_claim(at, None);
+        self.entries += 1;
+        at as u32
     }
 
     /// How many frames are in each role.
     pub fn counts(&self) -> Counts
+        ensures all { result.free + result.reserved + result.used + result.held ≡ length self.now.free }
         ensures free { result.free ≡ free_count self.now }
         ensures reserved { result.reserved ≡ reserved_count self.now }
         ensures used { result.used ≡ used_count self.now }
@@ -118,14 +246,14 @@ impl Pool {
         ensures claimed { result.claimed ≡ claimed_count self.now }
         ensures held { result.held ≡ held_count self.now }
     {
-        let used = used_places(&self.used);
+        let used = used_places(self.used.as_slice());
         Counts {
-            free: free_frames(&self.free),
-            reserved: places(&self.records) - used,
+            free: self.layout.free_frames(),
+            reserved: self.layout.places() - used,
             used,
-            wired: wired_places(&self.used),
-            claimed: claimed_places(&self.used),
-            held: held_frames(&self.held),
+            wired: wired_places(self.used.as_slice()),
+            claimed: claimed_places(self.used.as_slice()),
+            held: held_frames(self.held.as_slice()),
         }
     }
 
@@ -143,16 +271,28 @@ impl Pool {
     {
         self.entries += 1;
     }
-}
 
-/// The size of one base page.
-fn base_size() -> Size
-    ensures { result ≡ 0 }
-{
-    let Some(size) = Size::of(0) else {
-        unreachable!()
-    };
-    size
+    /// The used frame is claimed by this processor, or by none.
+    fn note_claim(&mut self, at: usize, claim: Option<u32>)
+        requires known { at < length self.old.used }
+        requires may { (processor : ℕ) → claim ≡ Some processor → (processor < length self.old.held) × HasNothing self.old processor }
+        ensures { self.new ≡ claimed self.old at claim }
+    {
+        if let Some(used) = self.used[at].as_mut() {
+            used.claim = claim;
+        }
+    }
+
+    /// The frame that the processor holds becomes free, and no entry is counted.
+    fn put_back(&mut self, processor: u32) -> u32
+        requires { IsSome (held_by self.old processor) }
+        ensures frame { held_by self.old processor ≡ Some result }
+        ensures dropped { self.new ≡ dropped self.old processor }
+    {
+        let frame = self.held[processor as usize].take().unwrap();
+        self.layout.put_back(frame);
+        frame
+    }
 }
 
 /// For each frame the frame itself.
@@ -163,87 +303,5 @@ fn every_frame(alloc: Global, count: u32) -> Result<Vec<Option<Frame>>, NoMemory
     Ok(frames.into_iter().map(Some).collect(alloc)?)
 }
 
-/// The lowest frame that is free, where one is.
-fn lowest_free(free: &[bool]) -> Option<usize>
-    ensures { result ≡ position (λ f. f) free.now }
-{
-    free.iter().position(|free| *free)
-}
-
-/// How many frames are free.
-fn free_frames(free: &[bool]) -> u32
-    requires { length free.now ≤ 32768 }
-    ensures { result ≡ count_by (λ f. f) free.now }
-{
-    free.iter().filter(|free| **free).count() as u32
-}
-
-/// How many places a reservation has, where there is one.
-fn places_of(place: &Option<Reservation>) -> u32
-    ensures { result ≡ places_in place.now }
-{
-    match place {
-        Some(reservation) => reservation.size.pages(),
-        None => 0,
-    }
-}
-
-/// How many places the reservations have.
-fn places(records: &[Option<Reservation>]) -> u32
-    requires { sum_by places_in records.now < 2 ^ 32 }
-    ensures { result ≡ sum_by places_in records.now }
-{
-    records.iter().map(places_of).sum()
-}
-
-/// How many places are used.
-fn used_places(used: &[Option<Used>]) -> u32
-    requires { length used.now ≤ 32768 }
-    ensures { result ≡ count_by is_some used.now }
-{
-    used.iter().filter(|place| place.is_some()).count() as u32
-}
-
-/// Whether it is a used place of a page in a wired region.
-fn is_wired(place: &Option<Used>) -> bool
-    ensures { result ≡ is_wired_place place.now }
-{
-    match place {
-        Some(used) => used.wired,
-        None => false,
-    }
-}
-
-/// How many used places are of a page in a wired region.
-fn wired_places(used: &[Option<Used>]) -> u32
-    requires { length used.now ≤ 32768 }
-    ensures { result ≡ count_by is_wired_place used.now }
-{
-    used.iter().filter(|place| is_wired(place)).count() as u32
-}
-
-/// Whether it is a used place whose frame a processor claims.
-fn is_claimed(place: &Option<Used>) -> bool
-    ensures { result ≡ is_claimed_place place.now }
-{
-    match place {
-        Some(used) => used.claim.is_some(),
-        None => false,
-    }
-}
-
-/// How many used places have a frame that a processor claims.
-fn claimed_places(used: &[Option<Used>]) -> u32
-    requires { length used.now ≤ 32768 }
-    ensures { result ≡ count_by is_claimed_place used.now }
-{
-    used.iter().filter(|place| is_claimed(place)).count() as u32
-}
-
-/// How many processors hold a frame.
-fn held_frames(held: &[Option<u32>]) -> u32
-    requires { length held.now ≤ 17 }
-    ensures { result ≡ count_by is_some held.now }
-{
-    held.iter().filter(|frame| frame.is_some()).count() as u32
-}
+#[cfg(test)]
+mod tests;

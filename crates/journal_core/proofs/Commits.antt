@@ -9,7 +9,7 @@ use Rattle.pager_model.specs.declared.entry.What.{What}
 use Rattle.pager_model.specs.declared.entry.What.TheVariants.{Answer, Out, Failed, Take, Give, Clear, Claim, UseHeld, DropHeld, Got, Unclaim, Refused, Rest}
 use Rattle.pager_model.specs.Entries.{IsOn, ClaimIsOn, NamesItsParts, is_space, space_part, frames_part, entries_of}
 use Rattle.pager_model.specs.FrameStates.{FramesAllow}
-use Rattle.pager_model.specs.Legal.{frames_state, space_at, progress_at, entries_in}
+use Rattle.pager_model.specs.Legal.{frames_state, mark_of, space_at, progress_at, entries_in}
 use Rattle.pager_model.specs.Order.{Progress, progress_of, progress_by}
 use Rattle.pager_model.specs.Settings.{Given}
 use Rattle.pager_model.specs.SpaceStates.{SpaceAllows, space_state}
@@ -104,7 +104,7 @@ one_may a p e same parts only own allowed order room most processor = record {
     processor = omega arith;
     space = space_below spaces a.part e.space only'.0;
     by_space = space_allows spaces a.part a.entries history e e.space k.authors.0 only'.0 allowed'.0;
-    by_frames = λ f. subst (λ l. FramesAllow (frames_state g l) e.processor e.space e.what) (k.authors.0 ∙ part_list-frames spaces a.part history (only'.1 f)) (allowed'.1 f);
+    by_frames = λ f. subst (λ l. FramesAllow (frames_state g l) (mark_of g e.processor) e.processor e.space e.what) (k.authors.0 ∙ part_list-frames spaces a.part history (only'.1 f)) (allowed'.1 f);
     ordered = ordered p.processor p history e own k.passes.0 order;
   };
   room = λ history k. short_enough p history e own k.passes.0 room most;

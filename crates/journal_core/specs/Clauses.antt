@@ -4,7 +4,7 @@ use Rattle.pager_model.specs.declared.entry.Entry.{Entry}
 use Rattle.pager_model.specs.declared.entry.Numbered.{Numbered}
 use Rattle.pager_model.specs.Entries.{space_part, frames_part, entries_of}
 use Rattle.pager_model.specs.FrameStates.{FramesAllow}
-use Rattle.pager_model.specs.Legal.{IsLegal, frames_state, entries_in}
+use Rattle.pager_model.specs.Legal.{IsLegal, frames_state, mark_of, entries_in}
 use Rattle.pager_model.specs.Order.{Progress, progress_of, progress_by}
 use Rattle.pager_model.specs.Settings.{Given}
 use Rattle.pager_model.specs.SpaceStates.{SpaceAllows, space_state}
@@ -18,7 +18,7 @@ NamesOnly spaces part e = IfSome e.space (λ s. (s ≡ part) × (s < spaces)) ×
 
 -- the part that the entry names allows it after these entries
 abbrev pub AllowedAfter : Given → List Entry → Entry → Type 0
-AllowedAfter g entries e = IfSome e.space (λ s. SpaceAllows (space_state entries) e) × (e.frames ≡ true → FramesAllow (frames_state g entries) e.processor e.space e.what)
+AllowedAfter g entries e = IfSome e.space (λ s. SpaceAllows (space_state entries) e) × (e.frames ≡ true → FramesAllow (frames_state g entries) (mark_of g e.processor) e.processor e.space e.what)
 
 -- with the entry the processor's list stays ordered
 abbrev pub KeepsOrder : List Numbered → Entry → Type 0

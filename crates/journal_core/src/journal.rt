@@ -2,7 +2,7 @@ ghost use Rattle.std.specs.Prelude.{◌≡◌, ◌+◌, ◌^◌, List, ◌≤◌
 ghost use Rattle.std.specs.List.{All, range_with_len};
 ghost use Rattle.pager_model.specs.Entries.{NamesItsParts};
 ghost use Rattle.pager_model.specs.FrameStates.{FramesAllow};
-ghost use Rattle.pager_model.specs.Legal.{frames_state, entries_in};
+ghost use Rattle.pager_model.specs.Legal.{frames_state, mark_of, entries_in};
 ghost use Rattle.pager_model.specs.SpaceStates.{SpaceAllows, space_state};
 ghost use Rattle.pager_model.specs.declared.entry.Entry.{Entry};
 ghost use Rattle.journal_core.specs.Clauses.{NamesOnly, AllowedAfter, KeepsOrder, IsHistory, IsPartOf, IsOwnOf, AreOf, AreOfTwo, AreSpaceAndFrames};
@@ -174,7 +174,8 @@ pub fn commit_two(
     requires authors { AreSpaceAndFrames space frames × (entry.space ≡ Some space.part) × (entry.frames ≡ true) }
     requires processor { entry.processor ≡ pass.processor }
     requires space { SpaceAllows (space_state space.entries) entry }
-    requires frames { FramesAllow (frames_state frames.journal.setting frames.entries) entry.processor entry.space entry.what }
+    requires frames { FramesAllow (frames_state frames.journal.setting frames.entries)
+        (mark_of frames.journal.setting entry.processor) entry.processor entry.space entry.what }
     requires order { KeepsOrder pass.entries entry }
     requires room { length pass.entries < pass.room }
     ensures space { result.1 ≡ written space entry }

@@ -21,7 +21,7 @@ use Rattle.pager_model.specs.Order.{Idle, Progress, IsWhole}
 use Rattle.pager_model.specs.Plans.{Plan}
 use Rattle.pager_model.specs.Showing.{setting_of, answers_in, calls_of, IsFiled, IsSequence}
 use Rattle.pager_model.specs.TraceText.{AreLines, IsAccessLine, IsAccessCall, IsMapCall}
-use Rattle.pager_model.proofs.Agreeing.{IsPartition-legal, NothingHeld-legal, Agrees-legal}
+use Rattle.frame_pool.proofs.Agreeing.{IsPartition-legal, NothingHeld-legal, Agrees-legal}
 use Rattle.pager_model.proofs.Ranges.{range_with_len-more}
 use Rattle.space_core.specs.Standing.{Kept, CanBegin}
 use Rattle.pager_core.specs.declared.flight.Flight.{Flight}

@@ -9,6 +9,7 @@ use Rattle.pager_model.specs.declared.call.Line.{Line}
 use Rattle.pager_model.specs.declared.region.Kind.TheVariants.{Fixed}
 use Rattle.pager_model.specs.declared.region.Rights.TheVariants.{Read}
 use Rattle.pager_model.specs.TraceText.{HasText, AreLines, IsAccessLine, first_line, call_line, line_of_words}
+use Rattle.pager_model.proofs.Texts.{AreLines-push}
 use Rattle.pager_core.specs.Running.{plan_of}
 
 -- lines that may stand in a trace, one at least, in at most n bytes
@@ -39,16 +40,12 @@ length-load address below =
     let word : length (codes "load") ≡ 4 = refl in
     omega (arith, ap length bytes, word, length-zero, length-append (decimal 0 ++ 32 ∷ second) (10 ∷ []), length-append (decimal 0) (32 ∷ second), length-append (codes "load") (32 ∷ third), length-append (decimal 0) (32 ∷ decimal address), length-decimal-le 10 address (omega arith) (omega (arith, below)) (omega (arith, below)))
 
-are-more : (lines : List Line) (line : Line) → 0 < length lines → AreLines lines → IsAccessLine line → AreLines (lines ++ line ∷ [])
-are-more [] line some are access = absurd (omega (arith, some))
-are-more (first ∷ lines) line some are access = (are.0, All-push IsAccessLine lines line are.1 access)
-
 -- a load more
 pub fits-load : (n address : ℕ) (lines : List Line) → FitsIn n lines → address % 8 ≡ 0 → address < 8589934592 → FitsIn (n + 20) (lines ++ load_line address ∷ [])
 fits-load n address lines f word below =
     record {
       some = (let more : length (lines ++ load_line address ∷ []) ≡ length lines + 1 = length-append lines (load_line address ∷ []) in omega (arith, more));
-      are = are-more lines (load_line address) f.some f.are (refl, (refl, word, below));
+      are = AreLines-push lines (load_line address) f.some f.are (refl, (refl, word, below));
       short = omega (arith, ap length (flat_map-append call_line lines (load_line address ∷ [])), length-append (flat_map call_line lines) (flat_map call_line (load_line address ∷ [])), length-append (call_line (load_line address)) [], length-load address below, f.short);
     }
 

@@ -1,8 +1,9 @@
 -- What a step of the flight does to a run.
-use Rattle.std.proofs.Common.{◌≡◌, ℕ, suc, ◌+◌, ◌<◌, ◌≤◌, true, false, cond, eqb, List, [], ◌∷◌, ◌++◌, length, filter_map, Option, Some, None, IfSome, option_to_list, refl, ap, sym, subst, ◌∙◌, append_assoc, arith}
+use Rattle.std.proofs.Common.{◌≡◌, ℕ, suc, ◌+◌, ◌<◌, ◌≤◌, true, false, cond, eqb, List, [], ◌∷◌, ◌++◌, length, replicate, get_or, inl, inr, filter_map, Option, Some, None, IfSome, option_to_list, refl, ap, sym, subst, ◌∙◌, append_assoc, arith}
 use Rattle.std.specs.List.{enumerate_from}
 use Rattle.std.proofs.lemmas.Bool.Decides.{nat_tests}
-use Rattle.std.proofs.lemmas.List.{append-nil, length_push}
+use Rattle.std.proofs.lemmas.Bool.{cases_lt}
+use Rattle.std.proofs.lemmas.List.{append-nil, length_push, get_or-replicate, get_or_past}
 use Rattle.std.proofs.lemmas.List.Elements.{filter_map-append}
 use Rattle.std.proofs.Math.ListN.{length-replicate}
 use Rattle.pager_model.specs.declared.call.Call.{Call}
@@ -13,20 +14,19 @@ use Rattle.pager_model.specs.declared.entry.What.TheVariants.{Answer, Out, Faile
 use Rattle.pager_model.specs.Entries.{names_space, is_of}
 use Rattle.pager_model.specs.Flat.{space_of_call}
 use Rattle.pager_model.specs.FrameStates.{FrameState, frames_after, frame_of, HasNothing, FramesAllow}
-use Rattle.pager_model.specs.Legal.{space_at, frames_at, progress_at, MayFollow}
+use Rattle.pager_model.specs.Legal.{space_at, frames_at, progress_at, mark_of, MayFollow}
 use Rattle.pager_model.specs.Order.{progress_by}
 use Rattle.pager_model.specs.Plans.{Plan}
 use Rattle.pager_model.specs.Showing.{setting_of, answers_in, answer_in, IsFiled, IsSequence}
 use Rattle.pager_model.specs.SpaceStates.{SpaceState, space_after, pending_after, MayGoOn, SpaceAllows}
-use Rattle.pager_model.proofs.Agreeing.{IsKept-legal}
 use Rattle.pager_model.proofs.Counting.{frames_after-entries}
 use Rattle.pager_model.proofs.Histories.{space_at-named, space_at-other, frames_at-named, frames_at-other, progress_at-own, IsLegal-push, filter-push_in}
-use Rattle.pager_model.proofs.Soundness.{HasNothing-sound}
+use Rattle.frame_pool.proofs.Agreeing.{IsKept-legal, HasNothing-quiet}
 use Rattle.space_core.specs.Standing.{Kept, StandsFor}
 use Rattle.pager_core.specs.declared.flight.Flight.{Flight}
 use Rattle.pager_core.specs.Flights.{progress_in, IsReady}
 use Rattle.pager_core.specs.Running.{Runs, InFlight}
-use Rattle.pager_core.specs.Steps.{Steps, Waits, after_named, after_frames}
+use Rattle.pager_core.specs.Steps.{AreAgreed, Steps, Waits, after_named, after_frames}
 
 -- two facts of the value of an option
 both_some : {P Q R : ℕ → Type 0} (o : Option ℕ) → ((s : ℕ) → P s → Q s → R s) → IfSome o P → IfSome o Q → IfSome o R
@@ -49,6 +49,13 @@ pending-own c (Unclaim frame) = tt
 pending-own c (Refused wired claimed held) = tt
 pending-own c (Rest short) = tt
 
+-- a processor of a trace makes calls: its mark is 0
+mark-zero : (plan : Plan) (c : ℕ) → mark_of (setting_of plan) c ≡ 0
+mark-zero plan c = none plan.processors c
+  where
+    none : (n c : ℕ) → ◌≡◌ {A = ℕ} (get_or (replicate n 0) c 0) 0
+    none n c = elim (cases_lt c n) [ inl below ↦ get_or-replicate n c 0 0 below | inr past ↦ get_or_past (replicate n 0) c 0 (rw length-replicate past) ]
+
 -- what an entry leads to, where it may name the space or the frames
 space_at-after : (h : List Entry) (e : Entry) (s : ℕ) → space_at (h ++ e ∷ []) s ≡ after_named s (space_at h s) e
 space_at-after h e s =
@@ -70,6 +77,14 @@ counted-step h e pool pool' few moves =
       | false ↦ λ is. let none : (after_frames pool e).entries ≡ pool.entries = ap (λ b. (let st : FrameState = cond b (frames_after pool e) pool in st).entries) is in omega (arith, few, at, none, more)
     ] refl
 
+-- in a run the space and the frames agree on the frame of each page
+pub AreAgreed-runs : (plan : Plan) (kept : Kept) (pool : FrameState) (h : List Entry) → Runs plan kept pool h → AreAgreed kept pool
+AreAgreed-runs plan kept pool h runs = λ page.
+    sym (runs.space.base page)
+    ∙ (IsKept-legal (setting_of plan) h runs.legal).agrees 0 page
+    ∙ ap (λ st. frame_of st 0 page) (sym runs.frames)
+    ∙ ap (λ s. frame_of pool s page) (sym runs.number)
+
 module _ (plan : Plan) (h : List Entry) (f f' : Flight) (kept kept' : Kept) (pool pool' : FrameState) (e : Entry) where
   -- the flight's space and processor are the only ones
   own_space : Runs plan kept pool h → IsReady f kept → space_of_call f.call ≡ 0
@@ -88,10 +103,11 @@ module _ (plan : Plan) (h : List Entry) (f f' : Flight) (kept kept' : Kept) (poo
         by_space = both_some e.space
             (λ s named allowed. subst (λ t. SpaceAllows (space_at h t) e) (sym (named ∙ at)) (subst (MayGoOn (space_at h 0).pending) (sym own) runs.goes_on, allowed))
             steps.own_space (steps.space_allows (space_at h 0) runs.space);
-        by_frames = λ is. subst (λ st. FramesAllow st e.processor e.space e.what) runs.frames
+        by_frames = λ is. subst (λ m. FramesAllow (frames_at (setting_of plan) h) m e.processor e.space e.what) (sym (mark-zero plan e.processor))
+            (subst (λ st. FramesAllow st 0 e.processor e.space e.what) runs.frames
             (steps.frames_allow is
             (λ page. sym (runs.space.base page) ∙ legal.agrees 0 page ∙ ap (λ st. frame_of st 0 page) (sym runs.frames) ∙ ap (λ s. frame_of pool s page) (sym at))
-            (subst (λ st. HasNothing st f.processor) (sym runs.frames) (HasNothing-sound plan.frames (frames_at (setting_of plan) h) f.processor legal.sound)));
+            (subst (λ st. HasNothing st f.processor) (sym runs.frames) (HasNothing-quiet (frames_at (setting_of plan) h) f.processor legal.quiet))));
         ordered = (progress_in f', subst (λ c. progress_by (progress_at h c) e ≡ Some (progress_in f')) (sym own) (ap (λ p. progress_by p e) progress ∙ steps.in_order));
       }
 

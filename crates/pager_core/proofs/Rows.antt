@@ -9,18 +9,17 @@ use Rattle.pager_model.specs.declared.entry.What.TheVariants.{Answer, Take, Refu
 use Rattle.pager_model.specs.declared.reply.Answered.{Answered}
 use Rattle.pager_model.specs.declared.reply.Reply.TheVariants.{NoFrames}
 use Rattle.pager_model.specs.Flat.{space_of_call}
-use Rattle.pager_model.specs.FrameStates.{FrameState, Taking, take_frame, state_taken, counted, IsFull}
+use Rattle.pager_model.specs.FrameStates.{FrameState, Taking, take_frame, state_taken, counted, IsFull, wired_count}
 use Rattle.pager_model.specs.Order.{Progress, progress_after, may_answer, is_answered_alone, is_plain, is_served, is_access, is_access_at, is_no_frames, Idle}
-use Rattle.pager_model.specs.Regions.{wanted}
 use Rattle.pager_model.specs.Showing.{IsSequence}
 use Rattle.pager_model.specs.SpaceStates.{SpaceState, space_after, WhatAllowed, LacksItsPage, access_page}
-use Rattle.pager_model.proofs.Agreeing.{base-answer}
+use Rattle.frame_pool.proofs.Agreeing.{base-answer}
 use Rattle.space_core.specs.Beginning.{BeginsAnswered, BeginsNeedingFrame, Places, ReadsIn, Finishes}
 use Rattle.space_core.specs.Standing.{Kept, StandsFor, answer_entry, take_entry, CanBegin, page_of_access, is_allowed}
 use Rattle.pager_core.specs.declared.flight.Flight.{Flight}
 use Rattle.pager_core.specs.declared.flight.Phase.{Phase}
 use Rattle.pager_core.specs.declared.flight.Phase.TheVariants.{Start, Frame, Fill, Short, Ended}
-use Rattle.pager_core.specs.Flights.{PhaseReady, doing_in, answered_in, made_in, steps_left, progress_in, IsReady, IsPart, LacksFrame, HasFrame, PartIn}
+use Rattle.pager_core.specs.Flights.{PhaseReady, doing_in, answered_in, made_in, steps_left, progress_in, IsReady, IsPart, LacksFrame, NeedsFrame, HasFrame, PartIn}
 use Rattle.pager_core.specs.Steps.{Steps, Waits}
 
 -- the flight in another phase
@@ -146,7 +145,7 @@ short_answered f wired claimed held kept phase ready =
 -- Frame: the page gets the frame that is taken
 pub frame_taken : (f : Flight) (page : ℕ) (want : Want) (kept kept' : Kept) (before : FrameState) (t : Taking) → f.phase ≡ Frame page want → IsReady f kept → take_frame before (space_of_call f.call) page want ≡ Some t → Places kept kept' page t.frame → Steps f (in_phase f (Fill page)) kept kept' before (counted t.state) (take_entry f.processor (space_of_call f.call) page t.frame want)
 frame_taken f page want kept kept' before t phase ready takes places =
-    let was : LacksFrame f.call kept page × ((st : SpaceState) → StandsFor kept st → wanted st.flat.regions page ≡ Some want) = subst (λ p. PhaseReady f.call kept p) phase ready.phase in
+    let was : NeedsFrame f.call kept page want = subst (λ p. PhaseReady f.call kept p) phase ready.phase in
     let lack = was.0 in
     let lawful = lack.lawful_access in
     let s = space_of_call f.call in
@@ -183,9 +182,9 @@ frame_taken f page want kept kept' before t phase ready takes places =
     }
 
 -- Frame: no frame can be had
-pub frame_refused : (f : Flight) (page : ℕ) (want : Want) (kept : Kept) (before : FrameState) → f.phase ≡ Frame page want → IsReady f kept → IsFull before → Steps f (in_phase f (Short 0 0 0)) kept kept before (counted before) (record { processor = f.processor; space = None; frames = true; what = Refused 0 0 0 })
-frame_refused f page want kept before phase ready full =
-    let was : LacksFrame f.call kept page × ((st : SpaceState) → StandsFor kept st → wanted st.flat.regions page ≡ Some want) = subst (λ p. PhaseReady f.call kept p) phase ready.phase in
+pub frame_refused : (f : Flight) (page wired : ℕ) (want : Want) (kept : Kept) (before : FrameState) → f.phase ≡ Frame page want → IsReady f kept → IsFull before → wired ≡ wired_count before → Steps f (in_phase f (Short wired 0 0)) kept kept before (counted before) (record { processor = f.processor; space = None; frames = true; what = Refused wired 0 0 })
+frame_refused f page wired want kept before phase ready full number =
+    let was : NeedsFrame f.call kept page want = subst (λ p. PhaseReady f.call kept p) phase ready.phase in
     record {
       same_call = record { processor = refl; number = refl; call = refl };
       processor = refl;
@@ -193,13 +192,13 @@ frame_refused f page want kept before phase ready full =
       own_space = tt;
       space_allows = λ st is. tt;
       space_stands = λ st is. is;
-      frames_allow = λ is agree nothing. (nothing, full, (refl, refl, refl));
+      frames_allow = λ is agree nothing. (nothing, full, (number, refl, refl));
       frames_stand = refl;
-      in_order = ap (λ p. progress_after (progress_in (in_phase f p)) None (Refused 0 0 0)) phase;
+      in_order = ap (λ p. progress_after (progress_in (in_phase f p)) None (Refused wired 0 0)) phase;
       ready = record { number = ready.number; phase = subst (λ p. LacksFrame f.call kept p) was.0.lawful_access.page_is was.0 };
       answers = refl;
       filed = λ part is. let none : part ≡ [] = subst (λ p. PartIn f p part) phase is in
-          (record { processor = f.processor; space = None; frames = true; what = Refused 0 0 0 }, ap (λ l. l ++ record { processor = f.processor; space = None; frames = true; what = Refused 0 0 0 } ∷ []) none, record { processor = refl; what = refl });
+          (record { processor = f.processor; space = None; frames = true; what = Refused wired 0 0 }, ap (λ l. l ++ record { processor = f.processor; space = None; frames = true; what = Refused wired 0 0 } ∷ []) none, record { processor = refl; what = refl });
       few = subst (λ p. made_in p < 1) (sym phase) (let h : 0 < 1 = omega arith in h);
       nearer = subst (λ p. 1 < steps_left p) (sym phase) (let h : 1 < 2 = omega arith in h);
     }
@@ -232,6 +231,7 @@ start_waits f page want kept kept' phase ready begins =
             lawful = begins.lawful;
           },
           begins.wanted,
+          begins.for_page,
         );
       });
       filed = λ part is. subst (λ p. PartIn f p part) phase is;

@@ -7,6 +7,7 @@ use Rattle.pager_model.specs.declared.entry.What.TheVariants.{Take, Refused}
 use Rattle.pager_model.specs.declared.reply.Reply.{Reply}
 use Rattle.pager_model.specs.Flat.{space_of_call, reply_of, is_lawful}
 use Rattle.pager_model.specs.Order.{Doing, Idle, Filling, Refusing, Progress, is_access}
+use Rattle.pager_model.specs.PreferredSize.{IsWanted}
 use Rattle.pager_model.specs.Regions.{wanted}
 use Rattle.pager_model.specs.Showing.{IsSequence}
 use Rattle.pager_model.specs.SpaceStates.{SpaceState}
@@ -101,10 +102,15 @@ pub record HasFrame (call : Call) (kept : Kept) (page : ℕ) : Type 0 where
   pub pending : kept.pending ≡ Some page
   pub resident : frame_at kept page ≢ None
 
+-- the page of a lawful access isn't resident, and a frame is taken for it by its region's want
+abbrev pub NeedsFrame : Call → Kept → ℕ → Want → Type 0
+NeedsFrame call kept page want =
+    LacksFrame call kept page × ((st : SpaceState) → StandsFor kept st → wanted st.flat.regions page ≡ Some want) × IsWanted want page
+
 -- what a step found in the space, and what still stands there
 abbrev pub PhaseReady : Call → Kept → Phase → Type 0
 PhaseReady call kept Start = (kept.pending ≡ None) × CanBegin kept.regions call
-PhaseReady call kept (Frame page want) = LacksFrame call kept page × ((st : SpaceState) → StandsFor kept st → wanted st.flat.regions page ≡ Some want)
+PhaseReady call kept (Frame page want) = NeedsFrame call kept page want
 PhaseReady call kept (Fill page) = HasFrame call kept page
 PhaseReady call kept (Short wired claimed held) = LacksFrame call kept (page_of_access call)
 PhaseReady call kept (Ended reply) = kept.pending ≡ None

@@ -3,7 +3,7 @@ ghost use Rattle.pager_model.specs.Flat.{space_of_call};
 ghost use Rattle.pager_model.specs.FrameStates.{FrameState};
 ghost use Rattle.pager_core.specs.Flights.{needs_of, keeps_in, reply_in, IsReady};
 ghost use Rattle.space_core.specs.Standing.{answer_entry};
-ghost use Rattle.pager_core.specs.Steps.{Steps, Waits};
+ghost use Rattle.pager_core.specs.Steps.{AreAgreed, Steps, Waits};
 
 use frame_pool::{Full, Pool};
 use pager_model::{Answered, Call, Entry, Reply, Want, What};
@@ -190,6 +190,7 @@ impl Flight {
     pub fn step_both(&mut self, space: &mut Space, pool: &mut Pool) -> Option<Entry>
         requires needs { needs_of self.old ≡ Needs.Both space.old.number }
         requires ready { IsReady self.old space.old }
+        requires agree { AreAgreed space.old pool.old }
         requires room { pool.old.entries < 2 ^ 45 }
         ensures some { IsSome result }
         ensures entry { IfSome result (λ e. Steps self.old self.new space.old space.new pool.old pool.new e) }
@@ -213,6 +214,7 @@ impl Flight {
     fn take(&mut self, space: &mut Space, pool: &mut Pool, page: u32, want: Want) -> Entry
         requires phase { self.old.phase ≡ Phase.Frame page want }
         requires ready { IsReady self.old space.old }
+        requires agree { AreAgreed space.old pool.old }
         requires room { pool.old.entries < 2 ^ 45 }
         ensures { Steps self.old self.new space.old space.new pool.old pool.new result }
     {
@@ -234,9 +236,10 @@ impl Flight {
                 }
             }
             Err(Full) => {
+                let wired = pool.counts().wired;
                 pool.end_entry();
                 self.phase = Phase::Short {
-                    wired: 0,
+                    wired,
                     claimed: 0,
                     held: 0,
                 };
@@ -245,7 +248,7 @@ impl Flight {
                     space: None,
                     frames: true,
                     what: What::Refused {
-                        wired: 0,
+                        wired,
                         claimed: 0,
                         held: 0,
                     },

@@ -5,7 +5,7 @@ ghost use Rattle.pager_model.specs.Legal.{IsLegal, entries_in, frames_at};
 ghost use Rattle.pager_model.specs.Showing.{setting_of};
 ghost use Rattle.pager_core.specs.Flights.{IsReady, needs_of, reply_in};
 ghost use Rattle.pager_core.specs.Running.{HasEnded, IsNext, IsNumbered, IsWholeRun, OneMore, AnswersFirst};
-ghost use Rattle.pager_core.specs.Steps.{Steps, StepsOn};
+ghost use Rattle.pager_core.specs.Steps.{AreAgreed, Steps, StepsOn};
 
 use crate::flight::{Flight, Needs};
 use frame_pool::Pool;
@@ -171,6 +171,7 @@ fn next_flight(flight: Option<Flight>, lines: &[Line], answered: usize) -> Optio
 fn next_entry(flight: &mut Flight, space: &mut Space, pool: &mut Pool) -> Entry
     requires going { reply_in flight.old.phase ≡ None }
     requires ready { IsReady flight.old space.old }
+    requires agree { AreAgreed space.old pool.old }
     requires room { pool.old.entries < 2 ^ 45 }
     ensures { StepsOn flight.old flight.new space.old space.new pool.old pool.new result }
 {
@@ -189,6 +190,7 @@ fn next_entry(flight: &mut Flight, space: &mut Space, pool: &mut Pool) -> Entry
 fn step_both(flight: &mut Flight, space: &mut Space, pool: &mut Pool) -> Entry
     requires needs { needs_of flight.old ≡ Needs.Both space.old.number }
     requires ready { IsReady flight.old space.old }
+    requires agree { AreAgreed space.old pool.old }
     requires room { pool.old.entries < 2 ^ 45 }
     ensures { Steps flight.old flight.new space.old space.new pool.old pool.new result }
 {

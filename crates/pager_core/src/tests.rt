@@ -4,6 +4,7 @@ ghost use Rattle.pager_model.specs.Flat.{space_of_call};
 ghost use Rattle.pager_model.specs.TraceText.{HasText};
 ghost use Rattle.space_core.specs.Standing.{CanBegin};
 ghost use Rattle.pager_core.specs.Flights.{IsReady};
+ghost use Rattle.pager_core.specs.Steps.{AgreeAtFirst};
 ghost use Rattle.pager_core.specs.Running.{plan_of};
 
 use crate::{Flight, Gathered, Machine, Needs, Turn};
@@ -57,8 +58,10 @@ fn store(address: u64, word: u64) -> Call
 /// Does a flight's next step, where it has one.
 fn step(flight: &mut Flight, space: &mut Space, pool: &mut Pool) -> Option<Entry>
     requires ready { IsReady flight.old space.old }
+    requires agree { AgreeAtFirst flight.old space.old pool.old }
     requires room { pool.old.entries < 2 ^ 45 }
     ensures ready { IsReady flight.new space.new }
+    ensures agree { AgreeAtFirst flight.new space.new pool.new }
     ensures entries { pool.new.entries ≤ pool.old.entries + 1 }
 {
     match flight.needs() {
@@ -75,6 +78,7 @@ fn three_steps(
     pool: &mut Pool,
 ) -> (Option<Entry>, Option<Entry>, Option<Entry>)
     requires ready { IsReady flight.old space.old }
+    requires agree { AgreeAtFirst flight.old space.old pool.old }
     requires room { pool.old.entries < 2 ^ 40 }
     ensures ready { IsReady flight.new space.new }
     ensures entries { pool.new.entries ≤ pool.old.entries + 3 }
@@ -111,8 +115,8 @@ fn reply_of(entry: &Entry) -> Option<Reply> {
     }
 }
 
-/// The entry of a taking of frame 0 for the page, in a region of `length` pages from page `low` on.
-fn taking(page: u32, low: u32, length: u32) -> Entry
+/// The entry of a taking of this frame for the page, in a region of `length` pages from page `low` on.
+fn taking(page: u32, frame: u32, low: u32, length: u32) -> Entry
     requires { low + length ≤ 1048576 }
 {
     Entry {
@@ -121,7 +125,7 @@ fn taking(page: u32, low: u32, length: u32) -> Entry
         frames: true,
         what: What::Take {
             page,
-            frame: 0,
+            frame,
             want: Want {
                 low,
                 high: low + length,
@@ -158,15 +162,16 @@ fn access(page: u16, writing: bool) -> Call
     load(address)
 }
 
-/// The entries of three steps of an access, in a space whose pages 16 to 23 have these rights, and its reply after them.
+/// The entries of three steps of an access, in a space whose pages 16 to 23 have these rights, and its reply after them. There
+/// are no frames at all, or 512.
 fn flown(
     alloc: Global,
-    frames: u8,
+    has_frames: bool,
     rights: Rights,
     page: u16,
     writing: bool,
 ) -> Result<(Option<Entry>, Option<Entry>, Option<Entry>, Option<Reply>), Fail> {
-    let frames = u32::from(frames);
+    let frames = if has_frames { 512 } else { 0 };
     let mut space = Space::create(alloc, 0, frames, 1)?;
     let mut pool = Pool::create(alloc, frames, 1, 1)?;
     let Begun::Answered(_) = space.begin(0, &map(16, 8, rights)) else {
@@ -180,10 +185,10 @@ fn flown(
 #[test]
 fn a_call_that_needs_no_frame_ends_in_one_step(rt: HostRuntime) -> Result<(), Fail> {
     for (frames, rights, page, writing, reply) in [
-        (1u8, Rights::Read, 20u16, true, Reply::Denied),
-        (1, Rights::NoAccess, 20, false, Reply::Denied),
-        (1, Rights::Write, 24, false, Reply::Unmapped),
-        (0, Rights::Write, 15, true, Reply::Unmapped),
+        (true, Rights::Read, 20u16, true, Reply::Denied),
+        (true, Rights::NoAccess, 20, false, Reply::Denied),
+        (true, Rights::Write, 24, false, Reply::Unmapped),
+        (false, Rights::Write, 15, true, Reply::Unmapped),
     ] {
         let flown = flown(rt.alloc(), frames, rights, page, writing)?;
         let last = answer(5, access(page, writing), reply);
@@ -199,8 +204,8 @@ fn an_access_takes_a_frame_and_then_ends(rt: HostRuntime) -> Result<(), Fail> {
         (Rights::Write, 23, false, Reply::Value(0)),
         (Rights::Write, 20, true, Reply::Done),
     ] {
-        let flown = flown(rt.alloc(), 1, rights, page, writing)?;
-        let take = taking(u32::from(page), 16, 8);
+        let flown = flown(rt.alloc(), true, rights, page, writing)?;
+        let take = taking(u32::from(page), u32::from(page % 8), 16, 8);
         let last = answer(5, access(page, writing), reply);
         assert_eq!(rt; flown, (None, Some(take), Some(last), Some(reply)));
     }
@@ -211,7 +216,7 @@ fn an_access_takes_a_frame_and_then_ends(rt: HostRuntime) -> Result<(), Fail> {
 fn an_access_without_a_frame_is_refused(rt: HostRuntime) -> Result<(), Fail> {
     let reply = NO_FRAMES;
     for (rights, writing) in [(Rights::Read, false), (Rights::Write, true)] {
-        let flown = flown(rt.alloc(), 0, rights, 20, writing)?;
+        let flown = flown(rt.alloc(), false, rights, 20, writing)?;
         let last = answer(5, access(20, writing), reply);
         assert_eq!(rt; flown, (None, Some(refusal()), Some(last), Some(reply)));
     }
@@ -257,7 +262,7 @@ fn a_store_at_the_last_word_is_loaded_again(rt: HostRuntime) -> Result<(), Fail>
     let gathered = run(rt.alloc(), calls)?;
     let expected = [
         answer(0, region, Reply::Done),
-        taking(LAST_PAGE, LAST_PAGE, 1),
+        taking(LAST_PAGE, 0, LAST_PAGE, 1),
         answer(1, write, Reply::Done),
         answer(2, read, Reply::Value(u64::MAX)),
     ];

@@ -11,7 +11,7 @@ use Rattle.pager_model.specs.declared.reply.Reply.{Reply}
 use Rattle.pager_model.specs.declared.reply.Reply.TheVariants.{Done, Unmapped}
 use Rattle.pager_model.specs.declared.reservation.Reservation.{Reservation}
 use Rattle.pager_model.specs.Flat.{Flat, empty_space, after_call}
-use Rattle.pager_model.specs.FrameStates.{FrameState, start_frames, taken, counted}
+use Rattle.pager_model.specs.FrameStates.{FrameState, start_frames, take_frame, state_taken, give_page, claimed, counted}
 use Rattle.pager_model.specs.Plans.{Plan}
 use Rattle.pager_model.specs.Settings.{Given}
 
@@ -26,15 +26,33 @@ eight_pages = after_call empty_space map_eight
 abbrev pub want_eight : Want
 want_eight = record { low = 0; high = 8; cap = 8; wired = false }
 
--- two frames, of which one and then both are taken
+-- what a taking leaves, with the entry counted
+abbrev pub after_taking : FrameState → ℕ → ℕ → FrameState
+after_taking st space page = counted (state_taken st (take_frame st space page want_eight))
+
+-- eight frames, of which the first taking reserves all, and one that a second space's page takes from them
+abbrev pub eight_frames : FrameState
+eight_frames = start_frames 8 1
+
+abbrev pub one_taken : FrameState
+one_taken = after_taking eight_frames 0 3
+
+abbrev pub one_broken : FrameState
+one_broken = after_taking one_taken 1 0
+
+-- the used place is given up; and the same where processor 0 claims its frame
+abbrev pub one_given : FrameState
+one_given = counted (give_page one_taken 0 3)
+
+abbrev pub one_carved : FrameState
+one_carved = counted (give_page (counted (claimed one_taken 3 (Some 0))) 0 3)
+
+-- two frames, which are too few for a reservation of eight
 abbrev pub two_frames : FrameState
 two_frames = start_frames 2 1
 
-abbrev pub one_taken : FrameState
-one_taken = counted (taken two_frames 0 3 want_eight 0)
-
 abbrev pub both_taken : FrameState
-both_taken = counted (taken one_taken 0 5 want_eight 1)
+both_taken = after_taking (after_taking two_frames 0 3) 0 5
 
 abbrev pub small_setting : Given
 small_setting = record { frames = 2; marks = 0 ∷ []; told = true ∷ []; faults = 0 ∷ [] }

@@ -1,11 +1,16 @@
--- The state of the frames: which are free, the reservations, their used places, and the frames that processors hold.
-use Rattle.std.specs.Prelude.{ℕ, ◌≡◌, ◌+◌, ◌-◌, ◌^◌, Bool, true, false, ◌&&◌, ◌==◌, nat_le, nat_lt, if◌then◌else◌, List, [], ◌∷◌, replicate, slice_index_or, slice_set, position, sum_by, count_by, Option, Some, None, is_some, IsSomeAnd}
+-- The state of the frames: their layout, what is noted of each used place, and the frames that processors hold; which entries it
+-- allows, and what each does to it.
+use Rattle.std.specs.Prelude.{ℕ, zero, suc, ◌≡◌, ◌+◌, ◌-◌, ◌<◌, ◌≤◌, ◌^◌, Bool, true, false, ◌&&◌, not, nat_lt, if◌then◌else◌, List, replicate, slice_index_or, slice_set, map, fold, sum_by, count_by, option_map, Option, Some, None, is_some, is_none, IsSomeAnd}
+use Rattle.std.specs.List.{range_with_len, list_any}
+use Rattle.pager_model.specs.declared.call.Call.{Call}
+use Rattle.pager_model.specs.declared.call.Call.TheVariants.{Evict}
 use Rattle.pager_model.specs.declared.entry.Entry.{Entry}
 use Rattle.pager_model.specs.declared.entry.Want.{Want}
 use Rattle.pager_model.specs.declared.entry.What.{What}
-use Rattle.pager_model.specs.declared.entry.What.TheVariants.{Take, Refused}
+use Rattle.pager_model.specs.declared.entry.What.TheVariants.{Answer, Take, Give, Clear, Claim, UseHeld, DropHeld, Got, Unclaim, Refused, Rest}
 use Rattle.pager_model.specs.declared.reservation.Reservation.{Reservation}
 use Rattle.pager_model.specs.declared.reservation.Used.{Used}
+use Rattle.pager_model.specs.Layouts.{Layout, Placing, covering, frame_for, frame_in, placing, is_full, vacate_layout, carve_layout, put_back}
 
 pub record FrameState : Type 0 where
   -- for each frame whether it is free
@@ -26,33 +31,23 @@ abbrev pub start_frames : ℕ → ℕ → FrameState
 start_frames frames processors =
     record { free = replicate frames true; records = replicate frames None; used = replicate frames None; held = replicate processors None; entries = 0; preemptions = 0 }
 
+-- the layout of the frames
+abbrev pub layout_of : FrameState → Layout
+layout_of st = record { free = st.free; records = st.records; used = map is_some st.used }
+
 abbrev pub is_free : FrameState → ℕ → Bool
 is_free st frame = slice_index_or st.free frame false
 
 abbrev pub used_at : FrameState → ℕ → Option Used
 used_at st frame = slice_index_or st.used frame None
 
--- the reservation has the page of the space
-abbrev pub covers : ℕ → ℕ → Reservation → Bool
-covers space page r = (r.space == space) && (nat_le r.first page && nat_lt page (r.first + 8 ^ r.size))
-
--- the reservation that has the page, where one has it
-abbrev pub covering : ℕ → ℕ → List (Option Reservation) → Option Reservation
-covering space page [] = None
-covering space page (None ∷ rs) = covering space page rs
-covering space page (Some r ∷ rs) = if covers space page r then Some r else covering space page rs
-
--- the frame that a reservation joins to a page of it
-abbrev pub frame_for : ℕ → Reservation → ℕ
-frame_for page r = r.frame + (page - r.first)
-
-abbrev pub used_in : FrameState → ℕ → Option Reservation → Option ℕ
-used_in st page None = None
-used_in st page (Some r) = if is_some (used_at st (frame_for page r)) then Some (frame_for page r) else None
+-- the frame that a processor holds
+abbrev pub held_by : FrameState → ℕ → Option ℕ
+held_by st processor = slice_index_or st.held processor None
 
 -- the frame that is the used place of the page, where there is one
 abbrev pub frame_of : FrameState → ℕ → ℕ → Option ℕ
-frame_of st space page = used_in st page (covering space page st.records)
+frame_of st space page = frame_in (layout_of st) space page
 
 abbrev pub claim_in : Option Used → Option ℕ
 claim_in None = None
@@ -60,71 +55,126 @@ claim_in (Some u) = u.claim
 
 -- the processor neither holds a frame nor claims one
 pub record HasNothing (st : FrameState) (processor : ℕ) : Type 0 where
-  pub holds_none : slice_index_or st.held processor None ≡ None
+  pub holds_none : held_by st processor ≡ None
   pub claims_none : (frame : ℕ) → claim_in (used_at st frame) ≡ Some processor → ⊥
+
+-- one entry more
+abbrev pub counted : FrameState → FrameState
+counted st = record { free = st.free; records = st.records; used = st.used; held = st.held; entries = st.entries + 1; preemptions = st.preemptions }
+
+-- Taking.
 
 -- The state after a taking, and the frame taken.
 pub record Taking : Type 0 where
   pub state : FrameState
   pub frame : ℕ
 
--- the frame becomes a reservation of one page, whose one place is used
-abbrev pub taken : FrameState → ℕ → ℕ → Want → ℕ → FrameState
-taken st space page want frame =
+-- the page has its place: its age is the count of entries
+abbrev pub taken : FrameState → Want → Placing → FrameState
+taken st want place =
     record {
-      free = slice_set st.free frame false;
-      records = slice_set st.records frame (Some (record { space = space; first = page; size = 0; frame = frame; stamp = st.entries }));
-      used = slice_set st.used frame (Some (record { age = st.entries; wired = want.wired; claim = None }));
+      free = place.layout.free;
+      records = place.layout.records;
+      used = slice_set st.used place.frame (Some (record { age = st.entries; wired = want.wired; claim = None }));
       held = st.held;
       entries = st.entries;
-      preemptions = st.preemptions;
+      preemptions = st.preemptions + place.broken;
     }
 
-abbrev pub take_at : FrameState → ℕ → ℕ → Want → Option ℕ → Option Taking
-take_at st space page want None = None
-take_at st space page want (Some frame) = Some (record { state = taken st space page want frame; frame = frame })
+abbrev pub taking : FrameState → Want → Placing → Taking
+taking st want place = record { state = taken st want place; frame = place.frame }
 
--- the lowest free frame, where one is free
-abbrev pub lowest_free : FrameState → Option ℕ
-lowest_free st = position (λ free. free) st.free
-
--- Taking a frame for a page, at the count of entries. For now reservations are not built beyond one page: the lowest free
--- frame is taken, and there is no result exactly where no frame is free.
+-- Taking a frame for a page, which has none, at the count of entries.
 abbrev pub take_frame : FrameState → ℕ → ℕ → Want → Option Taking
-take_frame st space page want = take_at st space page want (lowest_free st)
+take_frame st space page want = option_map (taking st want) (placing st.entries space page want (layout_of st))
 
--- no frame can be had
+-- no frame can be had: none is free, and every reservation is full
 abbrev pub IsFull : FrameState → Type 0
-IsFull st = lowest_free st ≡ None
-
--- one entry more
-abbrev pub counted : FrameState → FrameState
-counted st = record { free = st.free; records = st.records; used = st.used; held = st.held; entries = st.entries + 1; preemptions = st.preemptions }
+IsFull st = is_full (layout_of st) ≡ true
 
 abbrev pub state_taken : FrameState → Option Taking → FrameState
 state_taken st None = st
 state_taken st (Some t) = t.state
 
--- Some s gives s; an entry that takes names a space
-abbrev pub named_space : Option ℕ → ℕ
-named_space None = 0
-named_space (Some s) = s
+-- Giving up.
 
--- what an entry does to the frames, but for the count
-abbrev pub moved : FrameState → Option ℕ → What → FrameState
-moved st space (Take page frame want) = state_taken st (take_frame st (named_space space) page want)
-moved st space what = st
+-- the layout after a used frame of a reservation is given up, by whether a processor claims it
+abbrev pub layout_given : Option ℕ → ℕ → Reservation → Layout → Layout
+layout_given None frame r l = vacate_layout frame r l
+layout_given (Some processor) frame r l = carve_layout frame r l
 
-abbrev pub frames_after : FrameState → Entry → FrameState
-frames_after st e = counted (moved st e.space e.what)
+-- who claims the frame holds it then
+abbrev pub held_given : Option ℕ → ℕ → List (Option ℕ) → List (Option ℕ)
+held_given None frame held = held
+held_given (Some processor) frame held = slice_set held processor (Some frame)
 
--- Which entries the frames allow. For now only a taking, of the frame that taking gives, and a refusal where no frame is
--- free; nothing is evictable, and nothing is claimed or held.
-abbrev pub FramesAllow : FrameState → ℕ → Option ℕ → What → Type 0
-FramesAllow st c space (Take page frame want) =
-    (frame_of st (named_space space) page ≡ None) × HasNothing st c × IsSomeAnd (take_frame st (named_space space) page want) (λ t. t.frame ≡ frame)
-FramesAllow st c space (Refused wired claimed held) = HasNothing st c × IsFull st × ((wired ≡ 0) × (claimed ≡ 0) × (held ≡ 0))
-FramesAllow st c space what = ⊥
+-- A used frame of a reservation is given up. Where nobody claims it, its place is unused, and a reservation without a used place
+-- is free; where a processor claims it, it is carved out of its reservation, and the processor holds it.
+abbrev pub given : FrameState → ℕ → Reservation → FrameState
+given st frame r =
+    record {
+      free = (layout_given (claim_in (used_at st frame)) frame r (layout_of st)).free;
+      records = (layout_given (claim_in (used_at st frame)) frame r (layout_of st)).records;
+      used = slice_set st.used frame None;
+      held = held_given (claim_in (used_at st frame)) frame st.held;
+      entries = st.entries;
+      preemptions = st.preemptions;
+    }
+
+abbrev pub given_in : FrameState → ℕ → Option Reservation → FrameState
+given_in st page None = st
+given_in st page (Some r) = given st (frame_for page r) r
+
+-- the page gives its frame up
+abbrev pub give_page : FrameState → ℕ → ℕ → FrameState
+give_page st space page = given_in st page (covering space page st.records)
+
+abbrev pub give_if_used : ℕ → FrameState → ℕ → FrameState
+give_if_used space st page = if is_some (frame_of st space page) then give_page st space page else st
+
+-- each page of a range that has a frame gives it up, ascending by page
+abbrev pub give_range : FrameState → ℕ → ℕ → ℕ → FrameState
+give_range st space first len = fold (give_if_used space) st (range_with_len first len)
+
+-- Claiming and holding.
+
+abbrev pub with_claim : Option ℕ → Option Used → Option Used
+with_claim claim None = None
+with_claim claim (Some u) = Some (record { age = u.age; wired = u.wired; claim = claim })
+
+-- the used frame is claimed by this processor, or by none
+abbrev pub claimed : FrameState → ℕ → Option ℕ → FrameState
+claimed st frame claim =
+    record { free = st.free; records = st.records; used = slice_set st.used frame (with_claim claim (used_at st frame)); held = st.held; entries = st.entries; preemptions = st.preemptions }
+
+abbrev pub dropped_in : FrameState → ℕ → Option ℕ → FrameState
+dropped_in st processor None = st
+dropped_in st processor (Some frame) =
+    record { free = (put_back frame (layout_of st)).free; records = st.records; used = st.used; held = slice_set st.held processor None; entries = st.entries; preemptions = st.preemptions }
+
+-- the frame that the processor holds is free
+abbrev pub dropped : FrameState → ℕ → FrameState
+dropped st processor = dropped_in st processor (held_by st processor)
+
+-- a used place that may be paged out: its page is in no wired region, and no processor claims it
+abbrev pub is_evictable : Option Used → Bool
+is_evictable None = false
+is_evictable (Some u) = not u.wired && is_none u.claim
+
+abbrev pub has_evictable : FrameState → Bool
+has_evictable st = list_any is_evictable st.used
+
+abbrev pub age_in : Option Used → ℕ
+age_in None = 0
+age_in (Some u) = u.age
+
+-- The victim: of the used places that may be paged out the one of least age, which is this page's.
+pub record IsVictim (st : FrameState) (space page frame : ℕ) : Type 0 where
+  pub place : frame_of st space page ≡ Some frame
+  pub evictable : is_evictable (used_at st frame) ≡ true
+  pub least : (other : ℕ) → is_evictable (used_at st other) ≡ true → age_in (used_at st frame) ≤ age_in (used_at st other)
+
+-- Counts.
 
 -- how many frames are free, used places, and unused places
 abbrev pub free_count : FrameState → ℕ
@@ -139,3 +189,81 @@ places_in (Some r) = 8 ^ r.size
 
 abbrev pub reserved_count : FrameState → ℕ
 reserved_count st = sum_by places_in st.records - used_count st
+
+-- a used place of a page in a wired region
+abbrev pub is_wired_place : Option Used → Bool
+is_wired_place None = false
+is_wired_place (Some u) = u.wired
+
+-- a used place whose frame a processor claims
+abbrev pub is_claimed_place : Option Used → Bool
+is_claimed_place place = is_some (claim_in place)
+
+abbrev pub wired_count : FrameState → ℕ
+wired_count st = count_by is_wired_place st.used
+
+abbrev pub claimed_count : FrameState → ℕ
+claimed_count st = count_by is_claimed_place st.used
+
+-- how many processors hold a frame
+abbrev pub held_count : FrameState → ℕ
+held_count st = count_by is_some st.held
+
+-- free frames and unused places are fewer than a low mark
+abbrev pub is_short : FrameState → ℕ → Bool
+is_short st mark = nat_lt (free_count st + reserved_count st) mark
+
+-- What entries do.
+
+-- Some s gives s; an entry that takes or gives names a space
+abbrev pub named_space : Option ℕ → ℕ
+named_space None = 0
+named_space (Some s) = s
+
+-- an answer that names the frames is of an evict, whose page gives its frame up
+abbrev pub moved_by_answer : FrameState → ℕ → Call → FrameState
+moved_by_answer st space (Evict s page) = give_page st space page
+moved_by_answer st space call = st
+
+-- what an entry of a processor does to the frames, but for the count
+abbrev pub moved : FrameState → ℕ → Option ℕ → What → FrameState
+moved st c space (Answer number call answered) = moved_by_answer st (named_space space) call
+moved st c space (Take page frame want) = state_taken st (take_frame st (named_space space) page want)
+moved st c space (Give page frame) = give_page st (named_space space) page
+moved st c space (Clear first len) = give_range st (named_space space) first len
+moved st c space (Claim victim page frame need) = claimed st frame (Some c)
+moved st c space (UseHeld page frame want) = state_taken (dropped st c) (take_frame (dropped st c) (named_space space) page want)
+moved st c space (DropHeld frame) = dropped st c
+moved st c space (Unclaim frame) = claimed st frame None
+moved st c space what = st
+
+abbrev pub frames_after : FrameState → Entry → FrameState
+frames_after st e = counted (moved st e.processor e.space e.what)
+
+-- a processor that makes calls claims where no frame can be had, and a daemon where frames are short by its mark
+abbrev pub MayClaim : FrameState → ℕ → Type 0
+MayClaim st zero = IsFull st
+MayClaim st (suc n) = is_short st (suc n) ≡ true
+
+abbrev pub AllowsAnswer : FrameState → ℕ → Call → Type 0
+AllowsAnswer st space (Evict s page) = (frame : ℕ) × (frame_of st space page ≡ Some frame)
+AllowsAnswer st space call = ⊥
+
+-- Which entries of a processor with this mark the frames allow. No page is evicted yet: a refusal is allowed where no frame can be
+-- had, with the number of wired places.
+abbrev pub FramesAllow : FrameState → ℕ → ℕ → Option ℕ → What → Type 0
+FramesAllow st mark c space (Answer number call answered) = AllowsAnswer st (named_space space) call
+FramesAllow st mark c space (Take page frame want) =
+    (frame_of st (named_space space) page ≡ None) × HasNothing st c × IsSomeAnd (take_frame st (named_space space) page want) (λ t. t.frame ≡ frame)
+FramesAllow st mark c space (Give page frame) = frame_of st (named_space space) page ≡ Some frame
+FramesAllow st mark c space (Clear first len) = Unit {0}
+FramesAllow st mark c space (Claim victim page frame need) = HasNothing st c × IsVictim st victim page frame × MayClaim st mark
+FramesAllow st mark c space (UseHeld page frame want) =
+    (frame_of st (named_space space) page ≡ None) × ((h : ℕ) × (held_by st c ≡ Some h)) × IsSomeAnd (take_frame (dropped st c) (named_space space) page want) (λ t. t.frame ≡ frame)
+FramesAllow st mark c space (DropHeld frame) = held_by st c ≡ Some frame
+FramesAllow st mark c space (Got frame) = held_by st c ≡ Some frame
+FramesAllow st mark c space (Unclaim frame) =
+    (claim_in (used_at st frame) ≡ Some c) × ((page : ℕ) × (frame_of st (named_space space) page ≡ Some frame))
+FramesAllow st mark c space (Refused wired claimed held) = HasNothing st c × IsFull st × ((wired ≡ wired_count st) × (claimed ≡ 0) × (held ≡ 0))
+FramesAllow st mark c space (Rest short) = HasNothing st c × (0 < mark) × (short ≡ (is_short st mark && has_evictable st))
+FramesAllow st mark c space what = ⊥

@@ -1,6 +1,7 @@
 -- Free blocks: which extent a taking uses. A set of frames is a list that says of each frame whether it is in.
-use Rattle.std.specs.Prelude.{ℕ, ◌+◌, ◌-◌, ◌*◌, ◌/◌, ◌^◌, zero, suc, Bool, false, ◌&&◌, ◌==◌, not, nat_lt, List, ◌++◌, length, take, drop, replicate, slice_index_or, find, Option, Some, None}
+use Rattle.std.specs.Prelude.{ℕ, ◌+◌, ◌-◌, ◌*◌, ◌/◌, ◌^◌, zero, suc, Bool, false, ◌&&◌, ◌==◌, not, nat_lt, List, ◌++◌, length, take, drop, replicate, slice_index_or, find, Option, None}
 use Rattle.std.specs.List.{range_with_len, list_all}
+use Rattle.std.specs.Option.{option_or}
 
 -- the count frames from first on are all free
 abbrev pub run_free : List Bool → ℕ → ℕ → Bool
@@ -24,14 +25,10 @@ is_maximal free n first =
 abbrev pub lowest_block : List Bool → ℕ → Option ℕ
 lowest_block free n = find (is_maximal free n) (range_with_len 0 (length free))
 
-abbrev pub or_else : Option ℕ → Option ℕ → Option ℕ
-or_else None b = b
-or_else (Some a) b = Some a
-
 -- the lowest-numbered maximal free block of the least of the count orders from n on that has one
 abbrev pub least_block : List Bool → ℕ → ℕ → Option ℕ
 least_block free n zero = None
-least_block free n (suc count) = or_else (lowest_block free n) (least_block free (n + 1) count)
+least_block free n (suc count) = option_or (lowest_block free n) (least_block free (n + 1) count)
 
 -- The choice for an extent of size k: the lowest 8^k frames of the lowest-numbered maximal free block of the least order that
 -- is at least 3k, by their first frame. None where no block has such an order.

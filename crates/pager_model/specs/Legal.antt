@@ -1,6 +1,6 @@
 -- Which histories are legal: each entry names its parts, each part that it names allows it after the part's entries before
 -- it, and it keeps its processor's order.
-use Rattle.std.specs.Prelude.{ℕ, ◌≡◌, ◌<◌, true, List, [], ◌∷◌, ◌++◌, length, fold, Option, Some, IfSome, map}
+use Rattle.std.specs.Prelude.{ℕ, ◌≡◌, ◌<◌, true, List, [], ◌∷◌, ◌++◌, length, slice_index_or, fold, Option, Some, IfSome, map}
 use Rattle.pager_model.specs.declared.entry.Entry.{Entry}
 use Rattle.pager_model.specs.declared.entry.Numbered.{Numbered}
 use Rattle.pager_model.specs.Entries.{space_part, frames_part, entries_of, NamesItsParts}
@@ -23,13 +23,17 @@ frames_at g history = frames_state g (frames_part history)
 abbrev pub progress_at : List Entry → ℕ → Option Progress
 progress_at history c = progress_of (entries_of c history)
 
+-- the mark of a processor
+abbrev pub mark_of : Given → ℕ → ℕ
+mark_of g c = slice_index_or g.marks c 0
+
 -- the entry may come after the history
 pub record MayFollow (g : Given) (history : List Entry) (e : Entry) : Type 0 where
   pub parts : NamesItsParts e
   pub processor : e.processor < length g.marks
   pub space : IfSome e.space (λ s. s < length g.told)
   pub by_space : IfSome e.space (λ s. SpaceAllows (space_at history s) e)
-  pub by_frames : e.frames ≡ true → FramesAllow (frames_at g history) e.processor e.space e.what
+  pub by_frames : e.frames ≡ true → FramesAllow (frames_at g history) (mark_of g e.processor) e.processor e.space e.what
   pub ordered : (p : Progress) × (progress_by (progress_at history e.processor) e ≡ Some p)
 
 -- each of the entries may come after the history and the entries before it

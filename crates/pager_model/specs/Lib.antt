@@ -18,4 +18,5 @@ pub mod FreeBlocks
 pub mod PreferredSize
 pub mod Records
 pub mod Ages
+pub mod Layouts
 pub mod Examples

@@ -1,7 +1,14 @@
 -- The preferred size of a reservation for a page.
-use Rattle.std.specs.Prelude.{ℕ, ◌+◌, ◌^◌, Bool, ◌&&◌, not, nat_le, if◌then◌else◌}
+use Rattle.std.specs.Prelude.{ℕ, ◌+◌, ◌^◌, ◌<◌, ◌≤◌, Bool, ◌&&◌, not, nat_le, if◌then◌else◌}
 use Rattle.pager_model.specs.declared.entry.Want.{Want}
 use Rattle.pager_model.specs.Extents.{extent_start}
+
+-- the want is one for the page, in a space of pages
+pub record IsWanted (want : Want) (page : ℕ) : Type 0 where
+  pub low : want.low ≤ page
+  pub high : page < want.high
+  pub in_space : want.high ≤ 1048576
+  pub cap : 1 ≤ want.cap
 
 -- The extent of size k round the page lies from the want's low to before its high, has at most the cap's number of pages, and
 -- meets nothing; whether an extent of a size and a first page meets a reservation of the space is a test.

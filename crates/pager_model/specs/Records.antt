@@ -60,12 +60,16 @@ lowest_as_wide used r = find (λ i. same_size (yield_of used (part_of r i)) (yie
 abbrev pub goes_on_at : (ℕ → Bool) → Reservation → Option Reservation
 goes_on_at used r = if list_any (is_part_empty used r) (range_with_len 0 8) then None else option_map (part_of r) (lowest_as_wide used r)
 
+-- A reservation is split, over at most so many levels: and where a rule names one of its parts, that part is split in the same
+-- way. What a splitting changes is left open here: the records, the free frames, or both.
+abbrev pub split_on : {S : Type 0} → (Reservation → S → S) → (Reservation → Option Reservation) → ℕ → Reservation → S → S
+split_on split next zero r state = state
+split_on split next (suc levels) r state = option_map_or (λ part. split_on split next levels part (split r state)) (next r) (split r state)
+
 -- Breaking over at most so many levels: the reservation is split, and while none of its parts was empty, the lowest part with
 -- its yield is broken in the same way.
 abbrev pub broken_over : ℕ → (ℕ → Bool) → Reservation → List (Option Reservation) → List (Option Reservation)
-broken_over zero used r records = records
-broken_over (suc levels) used r records =
-    option_map_or (λ part. broken_over levels used part (split_records used r records)) (goes_on_at used r) (split_records used r records)
+broken_over levels used r records = split_on (split_records used) (goes_on_at used) levels r records
 
 -- a reservation broken: it has at most as many levels as its size
 abbrev pub broken : (ℕ → Bool) → Reservation → List (Option Reservation) → List (Option Reservation)

@@ -1,33 +1,25 @@
 //! Examples of the definitions, and laws over them: each is a function that does nothing, whose contract the gate proves.
 
-ghost use Rattle.std.specs.Prelude.{◌≡◌, ℕ, ◌∷◌, ◌++◌, ◌==◌, ◌<◌, [], Some, None, true, false, List, codes, nat_lt};
+ghost use Rattle.std.specs.Prelude.{◌≡◌, ℕ, ◌∷◌, ◌++◌, ◌==◌, ◌<◌, [], Some, None, true, false, List, codes, nat_lt, option_map};
 ghost use Rattle.pager_model.specs.declared.entry.Entry.{Entry};
-ghost use Rattle.pager_model.specs.Agreement.{Agrees, IsPartition, NothingHeld};
 ghost use Rattle.pager_model.specs.declared.call.Call.TheVariants.{Load, Store};
 ghost use Rattle.pager_model.specs.declared.region.Rights.TheVariants.{Read};
 ghost use Rattle.pager_model.specs.declared.reply.Reply.TheVariants.{Done, Value, Denied, Unmapped};
 ghost use Rattle.pager_model.specs.Ages.{with_member, oldest_in};
-ghost use Rattle.pager_model.specs.Examples.{eight_pages, two_frames, one_taken, both_taken, want_eight, small_setting, legal_history, exchanged_history, small_plan, eight_places};
+ghost use Rattle.pager_model.specs.Examples.{eight_pages, two_frames, one_taken, one_broken, one_given, one_carved, both_taken, want_eight, small_setting, legal_history, exchanged_history, small_plan, eight_places};
 ghost use Rattle.pager_model.specs.Flat.{after_call, reply_of};
-ghost use Rattle.pager_model.specs.FrameStates.{take_frame, lowest_free, frame_of};
+ghost use Rattle.pager_model.specs.FrameStates.{take_frame, frame_of, held_by, dropped, free_count, reserved_count};
 ghost use Rattle.pager_model.specs.FreeBlocks.{choice};
 ghost use Rattle.pager_model.specs.PreferredSize.{preferred_size};
 ghost use Rattle.pager_model.specs.PrintedText.{answers_text};
 ghost use Rattle.pager_model.specs.Records.{yield_of, kept_part};
 ghost use Rattle.pager_model.specs.TraceText.{text_of};
-ghost use Rattle.pager_model.specs.Legal.{IsLegal, MayFollow, frames_at};
+ghost use Rattle.pager_model.specs.Legal.{IsLegal, MayFollow};
 ghost use Rattle.pager_model.specs.Settings.{Given};
 
 /// A legal history goes on by an entry that may follow it.
 pub fn legal_goes_on()
     ensures { (g : Given) (history : List Entry) (e : Entry) → IsLegal g history → MayFollow g history e → IsLegal g (history ++ e ∷ []) }
-{}
-
-/// After every legal history each frame is in one role, nobody holds one, and spaces and frames agree on the resident pages.
-pub fn frames_have_one_role()
-    ensures partition { (g : Given) (history : List Entry) → IsLegal g history → IsPartition g.frames (frames_at g history) }
-    ensures held { (g : Given) (history : List Entry) → IsLegal g history → NothingHeld (frames_at g history) }
-    ensures agrees { (g : Given) (history : List Entry) → IsLegal g history → Agrees g history }
 {}
 
 /// Of free blocks of two frames at 2 and one frame at 5, the choice of one frame is the block of one: the lowest free frames
@@ -44,10 +36,41 @@ pub fn flat_memory_keeps_words()
     ensures past { reply_of eight_pages (Load 0 65536) ≡ Unmapped }
 {}
 
-/// Of two frames the first taking has frame 0, the second frame 1, and a third has none.
-pub fn frames_are_taken_in_order()
-    ensures first { lowest_free two_frames ≡ Some 0 }
-    ensures second { lowest_free one_taken ≡ Some 1 }
+/// Of eight frames the first taking reserves all, at the frame of the page's place in its extent, and the next page of the extent
+/// has the frame of its own place.
+pub fn a_page_has_its_place()
+    ensures first { frame_of one_taken 0 3 ≡ Some 3 }
+    ensures reserved { reserved_count one_taken ≡ 7 }
+    ensures next { option_map (λ t. t.frame) (take_frame one_taken 0 5 want_eight) ≡ Some 5 }
+{}
+
+/// Where no frame is free, a page of another space breaks the reservation: it has a frame of the least free block that is left,
+/// the used place stays, and the breaking is counted.
+pub fn a_reservation_is_broken_when_frames_run_short()
+    ensures frame { frame_of one_broken 1 0 ≡ Some 2 }
+    ensures stays { frame_of one_broken 0 3 ≡ Some 3 }
+    ensures free { free_count one_broken ≡ 6 }
+    ensures counted { one_broken.preemptions ≡ 1 }
+{}
+
+/// A page that gives its frame up has none, and a reservation without a used place is free.
+pub fn a_reservation_without_a_page_is_free()
+    ensures none { frame_of one_given 0 3 ≡ None }
+    ensures free { free_count one_given ≡ 8 }
+{}
+
+/// A claimed frame that is given up is carved out of its reservation, and its claimer holds it. Dropped it is free, and may be taken
+/// again.
+pub fn a_claimed_frame_comes_to_its_claimer()
+    ensures held { held_by one_carved 0 ≡ Some 3 }
+    ensures free { free_count one_carved ≡ 7 }
+    ensures dropped { free_count (dropped one_carved 0) ≡ 8 }
+    ensures taken { option_map (λ t. t.frame) (take_frame (dropped one_carved 0) 0 3 want_eight) ≡ Some 3 }
+{}
+
+/// Two frames are too few for a reservation of eight: the takings have one each, and a third has none.
+pub fn smaller_sizes_are_tried()
+    ensures first { option_map (λ t. t.frame) (take_frame two_frames 0 3 want_eight) ≡ Some 0 }
     ensures third { take_frame both_taken 0 7 want_eight ≡ None }
     ensures place { frame_of both_taken 0 5 ≡ Some 1 }
 {}

@@ -21,7 +21,7 @@ use Rattle.reservations.proofs.YieldLemmas.{yield_below, yield_below-found, yiel
 
 -- The yield, by the sizes that have an extent without a used place.
 
-yield_narrow : (used : ℕ → Bool) (r : Reservation) (k : ℕ) → yield_of used r ≡ Some k → k < r.size → yield_below used r r.size ≡ Some k
+pub yield_narrow : (used : ℕ → Bool) (r : Reservation) (k : ℕ) → yield_of used r ≡ Some k → k < r.size → yield_below used r r.size ≡ Some k
 yield_narrow used r k is narrow = elim (cases_Bool (has_empty used r r.size)) [
   | inl all ↦
       let whole = Some-same r.size k (sym (yield_below-found used r (suc r.size) r.size refl all) ∙ is) in
@@ -34,7 +34,7 @@ pub record IsWidest (used : ℕ → Bool) (r : Reservation) (n k : ℕ) : Type 0
   has : has_empty used r k ≡ true
   wider : (j : ℕ) → k < j → j < n → has_empty used r j ≡ false
 
-IsWidest-from : (used : ℕ → Bool) (r : Reservation) (n k : ℕ) → yield_below used r n ≡ Some k → IsWidest used r n k
+pub IsWidest-from : (used : ℕ → Bool) (r : Reservation) (n k : ℕ) → yield_below used r n ≡ Some k → IsWidest used r n k
 IsWidest-from used r zero k is = absurd (None-not_Some k is)
 IsWidest-from used r (suc m) k is = elim (cases_Bool (has_empty used r m)) [
   | inl here ↦
@@ -49,7 +49,7 @@ IsWidest-from used r (suc m) k is = elim (cases_Bool (has_empty used r m)) [
       }
 ]
 
-yield_from_widest : (used : ℕ → Bool) (r : Reservation) (n k : ℕ) → IsWidest used r n k → yield_below used r n ≡ Some k
+pub yield_from_widest : (used : ℕ → Bool) (r : Reservation) (n k : ℕ) → IsWidest used r n k → yield_below used r n ≡ Some k
 yield_from_widest used r zero k widest = absurd (omega (arith, widest.below))
 yield_from_widest used r (suc m) k widest = elim (cases_eq k m) [
   | inl here ↦ yield_below-found used r (suc m) k (ap suc (sym here)) widest.has
@@ -59,7 +59,7 @@ yield_from_widest used r (suc m) k widest = elim (cases_eq k m) [
       ∙ yield_from_widest used r m k (record { below = omega (arith, widest.below); has = widest.has; wider = λ j low high. widest.wider j low (omega arith) })
 ]
 
-has_empty_some : (used : ℕ → Bool) (r : Reservation) (k : ℕ) → has_empty used r k ≡ true → (j : ℕ) × (j < 8 ^ (r.size - k)) × (none_used used (r.frame + j * 8 ^ k) (8 ^ k) ≡ true)
+pub has_empty_some : (used : ℕ → Bool) (r : Reservation) (k : ℕ) → has_empty used r k ≡ true → (j : ℕ) × (j < 8 ^ (r.size - k)) × (none_used used (r.frame + j * 8 ^ k) (8 ^ k) ≡ true)
 has_empty_some used r k has =
     let n = 8 ^ (r.size - k) in
     let any = Any-from_list_any (λ i. none_used used (r.frame + i * 8 ^ k) (8 ^ k)) (range_with_len 0 n) has in
@@ -70,18 +70,18 @@ has_empty_some used r k has =
 -- The extents inside a part are those inside the whole.
 
 module _ (used : ℕ → Bool) (r : Reservation) (k : ℕ) (splits : 0 < r.size) (le : k ≤ r.size - 1) where
-  eighth : 8 ^ (r.size - k) ≡ 8 * 8 ^ (r.size - 1 - k)
+  pub eighth : 8 ^ (r.size - k) ≡ 8 * 8 ^ (r.size - 1 - k)
   eighth =
       let less : r.size - k - 1 ≡ r.size - 1 - k = omega arith in
       eight_parts (r.size - k) (omega arith) ∙ ap (λ m. 8 * 8 ^ m) less
 
   -- the j-th extent of the i-th part
-  place_in_part : (i j : ℕ) → r.frame + (i * 8 ^ (r.size - 1 - k) + j) * 8 ^ k ≡ (part_of r i).frame + j * 8 ^ k
+  pub place_in_part : (i j : ℕ) → r.frame + (i * 8 ^ (r.size - 1 - k) + j) * 8 ^ k ≡ (part_of r i).frame + j * 8 ^ k
   place_in_part i j =
       let split : i * 8 ^ (r.size - 1) ≡ i * (8 ^ (r.size - 1 - k) * 8 ^ k) = ap (λ m. i * m) (eight_split k (r.size - 1) le) in
       omega (arith, split)
 
-  has_empty_of_part : (i : ℕ) → i < 8 → has_empty used (part_of r i) k ≡ true → has_empty used r k ≡ true
+  pub has_empty_of_part : (i : ℕ) → i < 8 → has_empty used (part_of r i) k ≡ true → has_empty used r k ≡ true
   has_empty_of_part i one has =
       let found = has_empty_some used (part_of r i) k has in
       let u = 8 ^ (r.size - 1 - k) in
@@ -89,7 +89,7 @@ module _ (used : ℕ → Bool) (r : Reservation) (k : ℕ) (splits : 0 < r.size)
       has_empty-yes used r k (i * u + found.0) (omega (arith, inside, found.1, eighth))
       (ap (λ a. none_used used a (8 ^ k)) (place_in_part i found.0) ∙ found.2)
 
-  has_empty_in_part : has_empty used r k ≡ true → (i : ℕ) × (i < 8) × (has_empty used (part_of r i) k ≡ true)
+  pub has_empty_in_part : has_empty used r k ≡ true → (i : ℕ) × (i < 8) × (has_empty used (part_of r i) k ≡ true)
   has_empty_in_part has =
       let found = has_empty_some used r k has in
       let u = 8 ^ (r.size - 1 - k) in
@@ -102,14 +102,14 @@ module _ (used : ℕ → Bool) (r : Reservation) (k : ℕ) (splits : 0 < r.size)
       (i, one, has_empty-yes used (part_of r i) k j (mod_below found.0 u pos) (ap (λ a. none_used used a (8 ^ k)) at ∙ found.2))
 
 -- the test of the whole for an empty part
-any_part_is : (used : ℕ → Bool) (r : Reservation) → 0 < r.size → list_any (is_part_empty used r) (range_with_len 0 8) ≡ has_empty used r (r.size - 1)
+pub any_part_is : (used : ℕ → Bool) (r : Reservation) → 0 < r.size → list_any (is_part_empty used r) (range_with_len 0 8) ≡ has_empty used r (r.size - 1)
 any_part_is used r splits =
     let one : r.size - (r.size - 1) ≡ 1 = omega arith in
     let parts : 8 ^ (r.size - (r.size - 1)) ≡ 8 = ap (λ m. 8 ^ m) one in
     ap (λ n. list_any (is_part_empty used r) (range_with_len 0 n)) (sym parts)
 
 -- some part has the yield of the whole, where no part is empty
-part_as_wide : (used : ℕ → Bool) (r : Reservation) (k : ℕ) → 0 < r.size → IsWidest used r r.size k → k < r.size - 1 → (i : ℕ) × (i < 8) × (yield_of used (part_of r i) ≡ Some k)
+pub part_as_wide : (used : ℕ → Bool) (r : Reservation) (k : ℕ) → 0 < r.size → IsWidest used r r.size k → k < r.size - 1 → (i : ℕ) × (i < 8) × (yield_of used (part_of r i) ≡ Some k)
 part_as_wide used r k splits widest narrow =
     let found = has_empty_in_part used r k splits (omega arith) widest.has in
     let part = part_of r found.0 in
@@ -124,7 +124,7 @@ part_as_wide used r k splits widest narrow =
 
 -- The search for the lowest such part.
 
-find_range : (p : ℕ → Bool) (a n i : ℕ) → a ≤ i → i < a + n → p i ≡ true → (j : ℕ) × (find p (range_with_len a n) ≡ Some j) × (j < a + n) × (p j ≡ true)
+pub find_range : (p : ℕ → Bool) (a n i : ℕ) → a ≤ i → i < a + n → p i ≡ true → (j : ℕ) × (find p (range_with_len a n) ≡ Some j) × (j < a + n) × (p j ≡ true)
 find_range p a zero i low high is = absurd (omega arith)
 find_range p a (suc n) i low high is = elim (cases_Bool (p a)) [
   | inl here ↦ (a, cond-true _ _ _ here, omega arith, here)
@@ -134,11 +134,11 @@ find_range p a (suc n) i low high is = elim (cases_Bool (p a)) [
       (rest.0, cond-false _ _ _ missed ∙ rest.1, omega (arith, rest.2), rest.3)
 ]
 
-same_size_from : (o : Option ℕ) (k : ℕ) → same_size o (Some k) ≡ true → o ≡ Some k
+pub same_size_from : (o : Option ℕ) (k : ℕ) → same_size o (Some k) ≡ true → o ≡ Some k
 same_size_from None k is = absurd (false≢true is)
 same_size_from (Some a) k is = ap Some (eqb-true a k is)
 
-lowest_found : (used : ℕ → Bool) (r : Reservation) (k i : ℕ) → yield_of used r ≡ Some k → i < 8 → yield_of used (part_of r i) ≡ Some k → (j : ℕ) × (lowest_as_wide used r ≡ Some j) × (j < 8) × (yield_of used (part_of r j) ≡ Some k)
+pub lowest_found : (used : ℕ → Bool) (r : Reservation) (k i : ℕ) → yield_of used r ≡ Some k → i < 8 → yield_of used (part_of r i) ≡ Some k → (j : ℕ) × (lowest_as_wide used r ≡ Some j) × (j < 8) × (yield_of used (part_of r j) ≡ Some k)
 lowest_found used r k i is one part =
     let test : ℕ → Bool = λ m. same_size (yield_of used (part_of r m)) (yield_of used r) in
     let passes : test i ≡ true = rw (part, is) (eq-eqb k k refl) in
@@ -148,24 +148,24 @@ lowest_found used r k i is one part =
 
 -- The records after a split.
 
-split_suc : (n : ℕ) (used : ℕ → Bool) (r : Reservation) (records : List (Option Reservation)) → split_up_to (suc n) used r records ≡ split_step used r (split_up_to n used r records) n
+pub split_suc : (n : ℕ) (used : ℕ → Bool) (r : Reservation) (records : List (Option Reservation)) → split_up_to (suc n) used r records ≡ split_step used r (split_up_to n used r records) n
 split_suc n used r records = subst (λ m. split_up_to m used r records ≡ split_step used r (split_up_to n used r records) n) (add-one n) (split_up_to-more n used r records)
 
 module _ (used : ℕ → Bool) (r : Reservation) (records : List (Option Reservation)) (splits : 0 < r.size) (placed : IsPlaced (length records) r.frame r) where
-  length-split : (n : ℕ) → length (split_up_to n used r records) ≡ length records
+  pub length-split : (n : ℕ) → length (split_up_to n used r records) ≡ length records
   length-split zero = refl
   length-split (suc n) = ap length (split_suc n used r records) ∙ length-set (split_up_to n used r records) (part_of r n).frame (kept_part used r n) ∙ length-split n
 
-  parts_apart : (i j : ℕ) → (part_of r i).frame ≡ (part_of r j).frame → i ≡ j
+  pub parts_apart : (i j : ℕ) → (part_of r i).frame ≡ (part_of r j).frame → i ≡ j
   parts_apart i j same =
       let pos = eight_pos (r.size - 1) in
       let at : i * 8 ^ (r.size - 1) + 0 ≡ j * 8 ^ (r.size - 1) + 0 = omega (arith, same) in
       (same_from_place i 0 j 0 (8 ^ (r.size - 1)) pos pos at).0
 
-  part_known : (i : ℕ) → i < 8 → (part_of r i).frame < length records
+  pub part_known : (i : ℕ) → i < 8 → (part_of r i).frame < length records
   part_known i one = omega (arith, part_of_eight i r.size splits one, placed.within, eight_pos (r.size - 1))
 
-  split_at : (n i : ℕ) → i < n → n ≤ 8 → get_or (split_up_to n used r records) (part_of r i).frame None ≡ kept_part used r i
+  pub split_at : (n i : ℕ) → i < n → n ≤ 8 → get_or (split_up_to n used r records) (part_of r i).frame None ≡ kept_part used r i
   split_at zero i lt le = absurd (omega arith)
   split_at (suc n) i lt le =
       let rs = split_up_to n used r records in
@@ -180,7 +180,7 @@ module _ (used : ℕ → Bool) (r : Reservation) (records : List (Option Reserva
             ∙ split_at n i (omega arith) (omega arith)
       ]
 
-  split_other : (n id : ℕ) → ((i : ℕ) → i < n → id ≡ (part_of r i).frame → ⊥) → get_or (split_up_to n used r records) id None ≡ get_or records id None
+  pub split_other : (n id : ℕ) → ((i : ℕ) → i < n → id ≡ (part_of r i).frame → ⊥) → get_or (split_up_to n used r records) id None ≡ get_or records id None
   split_other zero id none = refl
   split_other (suc n) id none =
       ap (λ l. get_or l id None) (split_suc n used r records)
@@ -190,7 +190,7 @@ module _ (used : ℕ → Bool) (r : Reservation) (records : List (Option Reserva
 -- Which record has a frame after a split of a reservation whose frames no other record has.
 
 module _ (used : ℕ → Bool) (r : Reservation) (records : List (Option Reservation)) (splits : 0 < r.size) (placed : IsPlaced (length records) r.frame r) (alone : IsAlone r records) where
-  find_part : (n id : ℕ) → ((i : ℕ) × (i < n) × (id ≡ (part_of r i).frame)) ⊎ ((i : ℕ) → i < n → id ≡ (part_of r i).frame → ⊥)
+  pub find_part : (n id : ℕ) → ((i : ℕ) × (i < n) × (id ≡ (part_of r i).frame)) ⊎ ((i : ℕ) → i < n → id ≡ (part_of r i).frame → ⊥)
   find_part zero id = inr (λ i lt same. omega (arith, lt))
   find_part (suc n) id = elim (cases_eq id (part_of r n).frame) [
     | inl here ↦ inl (n, omega arith, here)
@@ -203,12 +203,12 @@ module _ (used : ℕ → Bool) (r : Reservation) (records : List (Option Reserva
     ]
   ]
 
-  part_in_whole : (i : ℕ) → i < 8 → (f : ℕ) → has_frame f (Some (part_of r i)) ≡ true → has_frame f (Some r) ≡ true
+  pub part_in_whole : (i : ℕ) → i < 8 → (f : ℕ) → has_frame f (Some (part_of r i)) ≡ true → has_frame f (Some r) ≡ true
   part_in_whole i one f has =
       let bounds = has_frame_bounds f (part_of r i) has in
       has_frame_from f r (omega (arith, bounds.0)) (omega (arith, bounds.1, part_of_eight i r.size splits one))
 
-  same_part : (f i j : ℕ) → has_frame f (Some (part_of r i)) ≡ true → has_frame f (Some (part_of r j)) ≡ true → i ≡ j
+  pub same_part : (f i j : ℕ) → has_frame f (Some (part_of r i)) ≡ true → has_frame f (Some (part_of r j)) ≡ true → i ≡ j
   same_part f i j in_i in_j =
       let w = 8 ^ (r.size - 1) in
       let by_i = has_frame_bounds f (part_of r i) in_i in
@@ -216,7 +216,7 @@ module _ (used : ℕ → Bool) (r : Reservation) (records : List (Option Reserva
       sym (extent_of_frame i w (f - r.frame) (omega (arith, by_i.0)) (omega (arith, by_i.0, by_i.1)))
       ∙ extent_of_frame j w (f - r.frame) (omega (arith, by_j.0)) (omega (arith, by_j.0, by_j.1))
 
-  which_part : (f : ℕ) → has_frame f (Some r) ≡ true → (j : ℕ) × (j < 8) × (has_frame f (Some (part_of r j)) ≡ true)
+  pub which_part : (f : ℕ) → has_frame f (Some r) ≡ true → (j : ℕ) × (j < 8) × (has_frame f (Some (part_of r j)) ≡ true)
   which_part f has =
       let w = 8 ^ (r.size - 1) in
       let pos = eight_pos (r.size - 1) in
@@ -229,7 +229,7 @@ module _ (used : ℕ → Bool) (r : Reservation) (records : List (Option Reserva
         has_frame_from f (part_of r j) (omega (arith, whole, bounds.0)) (omega (arith, whole, rest, bounds.0)),
       )
 
-  who_has : (f id : ℕ) → has_frame f (Some r) ≡ true → has_frame f (get_or (split_records used r records) id None) ≡ true → (j : ℕ) × (j < 8) × (id ≡ (part_of r j).frame) × (has_frame f (Some (part_of r j)) ≡ true)
+  pub who_has : (f id : ℕ) → has_frame f (Some r) ≡ true → has_frame f (get_or (split_records used r records) id None) ≡ true → (j : ℕ) × (j < 8) × (id ≡ (part_of r j).frame) × (has_frame f (Some (part_of r j)) ≡ true)
   who_has f id whole has = elim (find_part 8 id) [
     | inl at ↦
         let is : get_or (split_records used r records) id None ≡ kept_part used r at.0 =
@@ -244,12 +244,12 @@ module _ (used : ℕ → Bool) (r : Reservation) (records : List (Option Reserva
         absurd (none 0 (omega arith) (omega (arith, first)))
   ]
 
-  alone_part : (i : ℕ) → i < 8 → IsAlone (part_of r i) (split_records used r records)
+  pub alone_part : (i : ℕ) → i < 8 → IsAlone (part_of r i) (split_records used r records)
   alone_part i one = λ f id in_part has.
       let by = who_has f id (part_in_whole i one f in_part) has in
       by.2 ∙ ap (λ m. (part_of r m).frame) (same_part f by.0 i by.3 in_part)
 
-  used_part : (f j : ℕ) → used f ≡ true → has_frame f (Some (part_of r j)) ≡ true → kept_part used r j ≡ Some (part_of r j)
+  pub used_part : (f j : ℕ) → used f ≡ true → has_frame f (Some (part_of r j)) ≡ true → kept_part used r j ≡ Some (part_of r j)
   used_part f j is has = elim (kept_cases used r j) [
     | inl empty ↦
         let bounds = has_frame_bounds f (part_of r j) has in
@@ -257,19 +257,19 @@ module _ (used : ℕ → Bool) (r : Reservation) (records : List (Option Reserva
     | inr kept ↦ kept
   ]
 
-  keeps_part : (f j : ℕ) → has_frame f (Some (part_of r j)) ≡ true → KeepsPlace r (part_of r j) f
+  pub keeps_part : (f j : ℕ) → has_frame f (Some (part_of r j)) ≡ true → KeepsPlace r (part_of r j) f
   keeps_part f j has =
       let bounds = has_frame_bounds f (part_of r j) has in
       record { has = has; space = refl; page = omega (arith, bounds.0); stamp = refl }
 
-  outside_parts : (id : ℕ) → (id < r.frame) ⊎ (r.frame + 8 ^ r.size ≤ id) → (i : ℕ) → i < 8 → id ≡ (part_of r i).frame → ⊥
+  pub outside_parts : (id : ℕ) → (id < r.frame) ⊎ (r.frame + 8 ^ r.size ≤ id) → (i : ℕ) → i < 8 → id ≡ (part_of r i).frame → ⊥
   outside_parts id out i one same = elim out [
     | inl before ↦ omega (arith, same)
     | inr past ↦ omega (arith, same, part_of_eight i r.size splits one, eight_pos (r.size - 1))
   ]
 
   -- a part without a used place is freed
-  Breaks-now : (i : ℕ) → i < 8 → is_part_empty used r i ≡ true → Breaks used r (r.size - 1) records (split_records used r records)
+  pub Breaks-now : (i : ℕ) → i < 8 → is_part_empty used r i ≡ true → Breaks used r (r.size - 1) records (split_records used r records)
   Breaks-now i one empty = record {
     freed = (
       (part_of r i).frame,
@@ -295,7 +295,7 @@ module _ (used : ℕ → Bool) (r : Reservation) (records : List (Option Reserva
   }
 
   -- breaking a part of those that a split leaves
-  Breaks-part : (i k : ℕ) (after : List (Option Reservation)) → i < 8 → Breaks used (part_of r i) k (split_records used r records) after → Breaks used r k records after
+  pub Breaks-part : (i k : ℕ) (after : List (Option Reservation)) → i < 8 → Breaks used (part_of r i) k (split_records used r records) after → Breaks used r k records after
   Breaks-part i k after one breaks =
       let freed = breaks.freed.1 in
       let ends = part_of_eight i r.size splits one in
@@ -347,7 +347,7 @@ module _ (used : ℕ → Bool) (r : Reservation) (records : List (Option Reserva
           ]
 
 -- the part at which a breaking goes on
-goes_on : (used : ℕ → Bool) (r : Reservation) (i : ℕ) → list_any (is_part_empty used r) (range_with_len 0 8) ≡ false → lowest_as_wide used r ≡ Some i → goes_on_at used r ≡ Some (part_of r i)
+pub goes_on : (used : ℕ → Bool) (r : Reservation) (i : ℕ) → list_any (is_part_empty used r) (range_with_len 0 8) ≡ false → lowest_as_wide used r ≡ Some i → goes_on_at used r ≡ Some (part_of r i)
 goes_on used r i none lowest = cond-false _ _ _ none ∙ ap (option_map (part_of r)) lowest
 
 pub Breaks-broken_over : (levels : ℕ) (used : ℕ → Bool) (r : Reservation) (k : ℕ) (records : List (Option Reservation)) → r.size ≤ levels → IsPlaced (length records) r.frame r → IsAlone r records → yield_of used r ≡ Some k → k < r.size → Breaks used r k records (broken_over levels used r records)

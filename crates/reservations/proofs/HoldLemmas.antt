@@ -41,25 +41,25 @@ ArePlaced-set records id o are within new = λ j r is. rw length-set (elim (case
 ])
 
 -- a frame in no reservation
-no_frame : (f : ℕ) (o : Option Reservation) → o ≡ None → has_frame f o ≡ true → ⊥
+pub no_frame : (f : ℕ) (o : Option Reservation) → o ≡ None → has_frame f o ≡ true → ⊥
 no_frame f o none has = false≢true (sym (ap (has_frame f) none) ∙ has)
 
 -- a reservation that is no longer noted leaves a gap
 module _ (records : List (Option Reservation)) (holders : List (Option ℕ)) (used : List Bool) (id : ℕ) (r : Reservation) (held : AreHeld records holders used 0 0) (placed : IsPlaced (length records) id r) (is : get_or records id None ≡ Some r) where
-  gone : (j : ℕ) → j ≡ id → get_or (set records id None) j None ≡ None
+  pub gone : (j : ℕ) → j ≡ id → get_or (set records id None) j None ≡ None
   gone j here = ap (λ k. get_or (set records id None) k None) here ∙ get_or-set_same records id None None (known_record records id r is)
 
-  kept : (j : ℕ) → j ≢ id → get_or (set records id None) j None ≡ get_or records j None
+  pub kept : (j : ℕ) → j ≢ id → get_or (set records id None) j None ≡ get_or records j None
   kept j other = get_or-set_other records id j None None other
 
   -- the frames of the reservation, and their holder
-  not_outside : (f j : ℕ) → j ≡ id → (f < id) ⊎ (id + 8 ^ r.size ≤ f) → has_frame f (get_or records j None) ≡ true → ⊥
+  pub not_outside : (f j : ℕ) → j ≡ id → (f < id) ⊎ (id + 8 ^ r.size ≤ f) → has_frame f (get_or records j None) ≡ true → ⊥
   not_outside f j here out has =
       let at : has_frame f (Some r) ≡ true = sym (ap (has_frame f) (ap (λ k. get_or records k None) here ∙ is)) ∙ has in
       let bounds = has_frame_bounds f r at in
       elim out [ inl below ↦ omega (arith, bounds.0, placed.named) | inr past ↦ omega (arith, bounds.1, placed.named) ]
 
-  one_holder : (f j : ℕ) → id ≤ f → f < id + 8 ^ r.size → has_frame f (get_or records j None) ≡ true → j ≡ id
+  pub one_holder : (f j : ℕ) → id ≤ f → f < id + 8 ^ r.size → has_frame f (get_or records j None) ≡ true → j ≡ id
   one_holder f j low high has =
       let by_j = (held.noted f j (inr (omega arith))).1 has in
       let mine = has_frame_from f r (omega (arith, placed.named)) (omega (arith, placed.named)) in
@@ -86,40 +86,40 @@ abbrev pub Belongs : List Bool → ℕ → ℕ → Option Reservation → Type 0
 Belongs used low w None = (f : ℕ) → low ≤ f → f < low + w → is_used used f ≡ false
 Belongs used low w (Some r) = (r.frame ≡ low) × (8 ^ r.size ≡ w)
 
-own_bounds : (used : List Bool) (low w : ℕ) (o : Option Reservation) → Belongs used low w o → (f : ℕ) → has_frame f o ≡ true → (low ≤ f) × (f < low + w)
+pub own_bounds : (used : List Bool) (low w : ℕ) (o : Option Reservation) → Belongs used low w o → (f : ℕ) → has_frame f o ≡ true → (low ≤ f) × (f < low + w)
 own_bounds used low w None belongs f has = absurd (false≢true has)
 own_bounds used low w (Some r) belongs f has =
     let bounds = has_frame_bounds f r has in
     (omega (arith, bounds.0, belongs.0), omega (arith, bounds.1, belongs.0, belongs.1))
 
-own_noted : (used : List Bool) (low w : ℕ) (o : Option Reservation) → Belongs used low w o → (f j : ℕ) → low ≤ f → f < low + w → (first_frame o ≡ Some j) ↔ ((j ≡ low) × (has_frame f o ≡ true))
+pub own_noted : (used : List Bool) (low w : ℕ) (o : Option Reservation) → Belongs used low w o → (f j : ℕ) → low ≤ f → f < low + w → (first_frame o ≡ Some j) ↔ ((j ≡ low) × (has_frame f o ≡ true))
 own_noted used low w None belongs f j at_least below = (λ e. absurd (None-not_Some j e), λ h. absurd (false≢true h.1))
 own_noted used low w (Some r) belongs f j at_least below = (
   λ e. (sym (Some-same r.frame j e) ∙ belongs.0, has_frame_from f r (omega (arith, belongs.0)) (omega (arith, belongs.0, belongs.1))),
   λ h. ap Some (belongs.0 ∙ sym h.0),
 )
 
-own_idle : (used : List Bool) (low w : ℕ) (o : Option Reservation) → Belongs used low w o → (f : ℕ) → low ≤ f → f < low + w → first_frame o ≡ None → is_used used f ≡ false
+pub own_idle : (used : List Bool) (low w : ℕ) (o : Option Reservation) → Belongs used low w o → (f : ℕ) → low ≤ f → f < low + w → first_frame o ≡ None → is_used used f ≡ false
 own_idle used low w None belongs f at_least below e = belongs f at_least below
 own_idle used low w (Some r) belongs f at_least below e = absurd (None-not_Some r.frame (sym e))
 
 -- a part of the gap is closed
 module _ (records : List (Option Reservation)) (holders after : List (Option ℕ)) (used : List Bool) (low high w : ℕ) (o : Option Reservation) (held : AreHeld records holders used low high) (vacant : get_or records low None ≡ None) (within : low < length records) (inside : low + w ≤ high) (belongs : Belongs used low w o) (filled : IsFilled holders after low w (first_frame o)) where
-  placed_at : (f j : ℕ) → j ≡ low → has_frame f (get_or (set records low o) j None) ≡ has_frame f o
+  pub placed_at : (f j : ℕ) → j ≡ low → has_frame f (get_or (set records low o) j None) ≡ has_frame f o
   placed_at f j here = ap (has_frame f) (ap (λ k. get_or (set records low o) k None) here ∙ get_or-set_same records low o None within)
 
-  same_at : (f j : ℕ) → j ≢ low → has_frame f (get_or (set records low o) j None) ≡ has_frame f (get_or records j None)
+  pub same_at : (f j : ℕ) → j ≢ low → has_frame f (get_or (set records low o) j None) ≡ has_frame f (get_or records j None)
   same_at f j other = ap (has_frame f) (get_or-set_other records low j o None other)
 
-  beside : (f : ℕ) → (f < low) ⊎ (high ≤ f) → (f < low) ⊎ (low + w ≤ f)
+  pub beside : (f : ℕ) → (f < low) ⊎ (high ≤ f) → (f < low) ⊎ (low + w ≤ f)
   beside f out = elim out [ inl below ↦ inl below | inr past ↦ inr (omega arith) ]
 
-  not_own : (f : ℕ) → (f < low) ⊎ (high ≤ f) → has_frame f o ≡ true → ⊥
+  pub not_own : (f : ℕ) → (f < low) ⊎ (high ≤ f) → has_frame f o ≡ true → ⊥
   not_own f out has =
       let bounds = own_bounds used low w o belongs f has in
       elim out [ inl below ↦ omega (arith, bounds.0) | inr past ↦ omega (arith, bounds.1) ]
 
-  noted_beside : (f j : ℕ) → (f < low) ⊎ (high ≤ f) → (get_or after f None ≡ Some j) ↔ (has_frame f (get_or (set records low o) j None) ≡ true)
+  pub noted_beside : (f j : ℕ) → (f < low) ⊎ (high ≤ f) → (get_or after f None ≡ Some j) ↔ (has_frame f (get_or (set records low o) j None) ≡ true)
   noted_beside f j out =
       let same = filled.outside f (beside f out) in
       let was = held.noted f j out in
@@ -131,7 +131,7 @@ module _ (records : List (Option Reservation)) (holders after : List (Option ℕ
         | inr other ↦ (λ e. same_at f j other ∙ was.0 (sym same ∙ e), λ has. same ∙ was.1 (sym (same_at f j other) ∙ has))
       ]
 
-  noted_inside : (f j : ℕ) → low ≤ f → f < low + w → (get_or after f None ≡ Some j) ↔ (has_frame f (get_or (set records low o) j None) ≡ true)
+  pub noted_inside : (f j : ℕ) → low ≤ f → f < low + w → (get_or after f None ≡ Some j) ↔ (has_frame f (get_or (set records low o) j None) ≡ true)
   noted_inside f j at_least below =
       let value = filled.inside f at_least below in
       let own = own_noted used low w o belongs f j at_least below in (
@@ -143,7 +143,7 @@ module _ (records : List (Option Reservation)) (holders after : List (Option ℕ
       )
 
   -- a frame beside the new gap is in the part or beside the old gap
-  where_is : (f : ℕ) → (f < low + w) ⊎ (high ≤ f) → ((low ≤ f) × (f < low + w)) ⊎ ((f < low) ⊎ (high ≤ f))
+  pub where_is : (f : ℕ) → (f < low + w) ⊎ (high ≤ f) → ((low ≤ f) × (f < low + w)) ⊎ ((f < low) ⊎ (high ≤ f))
   where_is f out = elim out [
     | inl below ↦ elim (cases_lt f low) [ inl before ↦ inr (inl before) | inr at_least ↦ inl (at_least, below) ]
     | inr past ↦ inr (inr past)
@@ -191,7 +191,7 @@ vacant_in_gap records holders used low high are held room = at (get_or records l
         absurd (held.gap low low (omega arith) room (ap (has_frame low) is ∙ has))
 
 -- nothing is noted at first
-none_at : {A : Type 0} → (n i : ℕ) (none : A) → get_or (replicate n none) i none ≡ none
+pub none_at : {A : Type 0} → (n i : ℕ) (none : A) → get_or (replicate n none) i none ≡ none
 none_at n i none = elim (cases_lt i n) [
   | inl within ↦ get_or-replicate n i none none within
   | inr past ↦ get_or_past (replicate n none) i none (rw length-replicate past)
@@ -229,7 +229,7 @@ module _ (records : List (Option Reservation)) (holders : List (Option ℕ)) (us
     gap = are.held.gap;
   }
 
-  same_frames : (new : Reservation) → new.frame ≡ r.frame → new.size ≡ r.size → (f j : ℕ) → has_frame f (get_or (set records id (Some new)) j None) ≡ has_frame f (get_or records j None)
+  pub same_frames : (new : Reservation) → new.frame ≡ r.frame → new.size ≡ r.size → (f j : ℕ) → has_frame f (get_or (set records id (Some new)) j None) ≡ has_frame f (get_or records j None)
   same_frames new frame size f j = elim (cases_eq j id) [
     | inl here ↦
         ap (has_frame f) (ap (λ k. get_or (set records id (Some new)) k None) here ∙ get_or-set_same records id (Some new) None (known_record records id r is))

@@ -19,7 +19,7 @@ split_step used r rs i = set rs (part_of r i).frame (kept_part used r i)
 abbrev pub split_up_to : ℕ → (ℕ → Bool) → Reservation → List (Option Reservation) → List (Option Reservation)
 split_up_to n used r records = fold (split_step used r) records (range_with_len 0 n)
 
-range_more : (a n : ℕ) → range_with_len a (n + 1) ≡ range_with_len a n ++ (a + n) ∷ []
+pub range_more : (a n : ℕ) → range_with_len a (n + 1) ≡ range_with_len a n ++ (a + n) ∷ []
 range_more a n = sym (map-id (range_with_len a (n + 1))) ∙ map-range_with_len_more (λ x. x) a n (a + n) refl ∙ ap (λ l. l ++ (a + n) ∷ []) (map-id (range_with_len a n))
 
 pub split_up_to-more : (n : ℕ) (used : ℕ → Bool) (r : Reservation) (records : List (Option Reservation)) → split_up_to (n + 1) used r records ≡ split_step used r (split_up_to n used r records) n
@@ -53,7 +53,7 @@ part_placed frames i r placed splits one =
     }
 
 module _ (records : List (Option Reservation)) (used : List Bool) (r : Reservation) (frames i : ℕ) (long : length records ≡ frames) (splits : 0 < r.size) (one : i < 8) (placed : IsPlaced frames r.frame r) where
-  part_known : r.frame + i * 8 ^ (r.size - 1) < length records
+  pub part_known : r.frame + i * 8 ^ (r.size - 1) < length records
   part_known = omega (arith, part_of_eight i r.size splits one, placed.within, eight_pos (r.size - 1))
 
   -- noting the i-th part keeps each record in its place
@@ -67,7 +67,7 @@ module _ (records : List (Option Reservation)) (used : List Bool) (r : Reservati
             (subst (λ n. IsPlaced n (r.frame + i * 8 ^ (r.size - 1)) (part_of r i)) (sym long) (part_placed frames i r placed splits one))
       ])
 
-  part_belongs : Belongs used (r.frame + i * 8 ^ (r.size - 1)) (8 ^ (r.size - 1)) (kept_part (is_used used) r i)
+  pub part_belongs : Belongs used (r.frame + i * 8 ^ (r.size - 1)) (8 ^ (r.size - 1)) (kept_part (is_used used) r i)
   part_belongs = elim (kept_cases (is_used used) r i) [
     | inl empty ↦
         subst (Belongs used (r.frame + i * 8 ^ (r.size - 1)) (8 ^ (r.size - 1))) (sym empty.0)

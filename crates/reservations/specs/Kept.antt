@@ -1,7 +1,7 @@
 -- What holds of the reservations that are kept.
 use Rattle.std.specs.Prelude.{ℕ, ◌≡◌, ◌≤◌, ◌<◌, ◌+◌, ◌^◌, ◌⊎◌, ◌↔◌, Bool, true, false, List, length, slice_index_or, slice_set, Option, Some, None, IsSomeAnd}
 use Rattle.pager_model.specs.Extents.{IsExtent}
-use Rattle.pager_model.specs.FrameStates.{frame_for}
+use Rattle.pager_model.specs.Layouts.{frame_for}
 use Rattle.pager_model.specs.Agreement.{has_frame}
 use Rattle.pager_model.specs.Records.{Records, is_used}
 use Rattle.pager_model.specs.declared.reservation.Reservation.{Reservation}
@@ -58,6 +58,3 @@ pub record IsFilled (old new : List (Option ℕ)) (first count : ℕ) (value : O
 abbrev pub first_frame : Option Reservation → Option ℕ
 first_frame None = None
 first_frame (Some r) = Some r.frame
-
-abbrev pub stamped : Reservation → ℕ → Reservation
-stamped r stamp = record { space = r.space; first = r.first; size = r.size; frame = r.frame; stamp = stamp }

@@ -9,9 +9,9 @@ ghost use Rattle.std.specs.Prelude.{◌≡◌, ℕ, ◌<◌, ◌≤◌, ◌+◌,
 ghost use Rattle.std.specs.Prelude.{true, false, IfOk, IfSome, IsSome, IsSomeAnd};
 ghost use Rattle.pager_model.specs.Agreement.{has_frame};
 ghost use Rattle.pager_model.specs.Extents.{IsExtent};
-ghost use Rattle.pager_model.specs.FrameStates.{frame_for};
+ghost use Rattle.pager_model.specs.Layouts.{frame_for, stamped};
 ghost use Rattle.pager_model.specs.Records.{is_used, none_used, yield_of, kept_part, split_records};
-ghost use Rattle.reservations.specs.Kept.{record_at, with_record, with_used, stamped, first_frame};
+ghost use Rattle.reservations.specs.Kept.{record_at, with_record, with_used, first_frame};
 ghost use Rattle.reservations.specs.Kept.{ArePlaced, AreHeld, HasPage, HasPlace, IsFilled, IsPlaced};
 ghost use Rattle.reservations.specs.Parts.{told_parts};
 
@@ -102,7 +102,7 @@ impl Reservations {
         ensures { self.new ≡ with_used (with_record self.old reservation.frame (Some reservation))
             (frame_for page reservation) true }
     {
-        let place = place_of(&reservation, page);
+        let place = frame_for(&reservation, page);
         self.used.insert(place);
         write(
             self.records.as_mut_slice(),
@@ -121,7 +121,7 @@ impl Reservations {
             self.new ≡ with_used (with_record self.old id (Some (stamped r stamp))) (frame_for page r) true) }
     {
         let mut reservation = self.get(id).unwrap();
-        self.used.insert(place_of(&reservation, page));
+        self.used.insert(frame_for(&reservation, page));
         reservation.stamp = stamp;
         self.records[id as usize] = Some(reservation);
     }
@@ -136,7 +136,7 @@ impl Reservations {
             (λ r. result ≡ none_used (is_used self.new.used) r.frame (8 ^ r.size)) }
     {
         let reservation = self.get(id).unwrap();
-        self.used.remove(place_of(&reservation, page));
+        self.used.remove(frame_for(&reservation, page));
         self.used.is_empty(reservation.size, reservation.frame)
     }
 
@@ -179,8 +179,8 @@ impl Reservations {
     }
 }
 
-/// The frame that the reservation joins to a page of it.
-fn place_of(reservation: &Reservation, page: u32) -> u32
+/// The frame that a reservation joins to a page of it.
+pub fn frame_for(reservation: &Reservation, page: u32) -> u32
     requires page { HasPage reservation.now page }
     requires frames { IsExtent reservation.now.size reservation.now.frame }
     ensures { result ≡ frame_for page reservation.now }

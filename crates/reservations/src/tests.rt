@@ -1,7 +1,7 @@
 ghost use Rattle.std.specs.Prelude.{◌≡◌, ℕ, ◌<◌, ◌≤◌, ◌+◌, ◌^◌, true, false, IsSomeAnd, length};
 ghost use Rattle.pager_model.specs.Records.{is_used, none_used};
 ghost use Rattle.pager_model.specs.Agreement.{has_frame};
-ghost use Rattle.pager_model.specs.FrameStates.{frame_for};
+ghost use Rattle.pager_model.specs.Layouts.{frame_for};
 ghost use Rattle.reservations.specs.Kept.{record_at, HasPage};
 
 use super::*;
@@ -63,7 +63,7 @@ fn place(rt: &impl Abort, kept: &Reservations, id: u32, page: u32) -> u32
 {
     let reservation = kept.get(id).expect(rt, "a reservation");
     assert!(rt; reservation.first <= page && page - reservation.first < reservation.size.pages());
-    place_of(&reservation, page)
+    frame_for(&reservation, page)
 }
 
 fn populate(rt: &impl Abort, kept: &mut Reservations, id: u32, page: u32, stamp: u64) {

@@ -6,6 +6,7 @@ use Rattle.pager_model.specs.declared.entry.What.TheVariants.{Answer}
 use Rattle.pager_model.specs.declared.reply.Answered.{Answered}
 use Rattle.pager_model.specs.Flat.{reply_of, is_lawful}
 use Rattle.pager_model.specs.Order.{is_plain, is_served, is_access}
+use Rattle.pager_model.specs.PreferredSize.{IsWanted}
 use Rattle.pager_model.specs.Regions.{wanted}
 use Rattle.pager_model.specs.SpaceStates.{SpaceState, space_after, WhatAllowed}
 use Rattle.space_core.specs.declared.space.Begun.{Begun}
@@ -33,6 +34,7 @@ pub record BeginsNeedingFrame (old new : Kept) (call : Call) (page : ℕ) (want 
   pub lawful : (st : SpaceState) → StandsFor old st → is_lawful (reply_of st.flat call) ≡ true
   pub not_resident : (st : SpaceState) → StandsFor old st → st.base page ≡ None
   pub wanted : (st : SpaceState) → StandsFor old st → wanted st.flat.regions page ≡ Some want
+  pub for_page : IsWanted want page
 
 abbrev pub Begins : Kept → Kept → Call → Begun → Type 0
 Begins old new call (HasAnswered a) = BeginsAnswered old new call a

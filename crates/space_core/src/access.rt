@@ -2,6 +2,7 @@
 
 ghost use Rattle.std.specs.Prelude.{◌≡◌, ◌+◌, ◌<◌, ◌≤◌, [], ◌∷◌, true, false, Some, None};
 ghost use Rattle.pager_model.specs.Flat.{page_of, word_of};
+ghost use Rattle.pager_model.specs.PreferredSize.{IsWanted};
 ghost use Rattle.pager_model.specs.Regions.{has_page, want_in};
 ghost use Rattle.space_core.specs.Standing.{region_allows};
 
@@ -56,7 +57,8 @@ pub fn allows(region: &Region, call: &Call) -> bool
 pub fn want_in(region: &Region, page: u32) -> Want
     requires in_space { region.now.first + region.now.length ≤ 1048576 }
     requires has { has_page page region.now ≡ true }
-    ensures { result ≡ want_in (region.now ∷ []) page region.now }
+    ensures want { result ≡ want_in (region.now ∷ []) page region.now }
+    ensures for_page { IsWanted result page }
 {
     let high = match region.kind {
         Kind::Growing => PAGES,

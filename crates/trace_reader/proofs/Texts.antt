@@ -4,7 +4,7 @@ use Rattle.std.specs.List.{flat_map, AllByRecursion}
 use Rattle.std.proofs.lemmas.List.{length-append, append-nil}
 use Rattle.std.proofs.lemmas.Grind.{flat_map-append}
 use Rattle.std.proofs.lemmas.List.Concat.{flat_map-cons}
-use Rattle.std.proofs.lemmas.List.Elements.{recursion_from_All, All-nil, All-push}
+use Rattle.std.proofs.lemmas.List.Elements.{recursion_from_All, All-nil}
 use Rattle.std.proofs.lemmas.Option.{none-some, some_pair_parts}
 use Rattle.std.specs.List.{join_with_byte}
 use Rattle.pager_model.specs.declared.call.Call.{Call}
@@ -12,6 +12,7 @@ use Rattle.pager_model.specs.declared.call.Call.TheVariants.{Map, Load, Store}
 use Rattle.pager_model.specs.declared.call.Line.{Line}
 use Rattle.pager_model.specs.declared.region.Kind.TheVariants.{Fixed}
 use Rattle.pager_model.specs.TraceText.{call_words, call_line, line_of_words, IsAccessCall, IsMapCall, IsAccessLine, IsMapLine, AreLines}
+use Rattle.pager_model.proofs.Texts.{AreLines-push}
 use Rattle.trace_reader.specs.Reading.{word_at, number_at, short_at, line_at}
 use Rattle.trace_reader.specs.CallsText.{IsCallsText}
 use Rattle.trace_reader.specs.Ranges.{MayFollow}
@@ -48,7 +49,7 @@ lines_are_readable (line ∷ lines) h =
 pub one_more : (before : List Line) (line : Line) → AreLines before → MayFollow before line → AreLines (before ++ line ∷ [])
 one_more [] line are (inl access) = (inr access, All-nil IsAccessLine)
 one_more [] line are (inr map) = (inl map.1, All-nil IsAccessLine)
-one_more (first ∷ before) line are (inl access) = (are.0, All-push IsAccessLine before line are.1 access)
+one_more (first ∷ before) line are (inl access) = AreLines-push (first ∷ before) line (omega arith) are access
 one_more (first ∷ before) line are (inr map) = absurd (let e = map.0 in cc)
 
 front_of : (before : List Line) (line : Line) (others : List Line) → AllByRecursion IsAccessLine (before ++ line ∷ others) → IsAccessLine line

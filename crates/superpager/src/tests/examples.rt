@@ -2,11 +2,21 @@
 use super::*;
 
 /// The trace and the text of each example.
-const EXAMPLES: [(&[u8], &[u8]); 5] = [
+const EXAMPLES: [(&[u8], &[u8]); 9] = [
+    // eight-pages
+    (
+        b"trace 1 512 1 1\n0 map 0 0 8 fixed write\n0 load 0 0\n0 load 0 8192\n0 load 0 16384\n0 load 0 24576\n0 load 0 32768\n0 load 0 40960\n0 load 0 49152\n0 load 0 57344\nend\n",
+        b"0 0 done\n0 1 value 0\n0 2 value 0\n0 3 value 0\n0 4 value 0\n0 5 value 0\n0 6 value 0\n0 7 value 0\n0 8 value 0\nframes 504 0 8\nend\n",
+    ),
     // last-page
     (
         b"trace 1 512 1 1\n0 map 0 1048575 1 fixed write\n0 store 0 8589934584 18446744073709551615\n0 load 0 8589934584\nend\n",
         b"0 0 done\n0 1 done\n0 2 value 18446744073709551615\nframes 511 0 1\nend\n",
+    ),
+    // ninth-page
+    (
+        b"trace 1 512 1 1\n0 map 0 0 9 fixed write\n0 load 0 65536\nend\n",
+        b"0 0 done\n0 1 value 0\nframes 511 0 1\nend\n",
     ),
     // no-access
     (
@@ -18,10 +28,20 @@ const EXAMPLES: [(&[u8], &[u8]); 5] = [
         b"trace 1 1024 1 1\n0 load 0 0\n0 store 0 8 1\nend\n",
         b"0 0 unmapped\n0 1 unmapped\nframes 1024 0 0\nend\n",
     ),
+    // preempted
+    (
+        b"trace 1 512 1 1\n0 map 0 0 1024 fixed write\n0 load 0 0\n0 load 0 4194304\nend\n",
+        b"0 0 done\n0 1 value 0\n0 2 value 0\nframes 384 126 2\nend\n",
+    ),
     // read-only
     (
         b"trace 1 512 1 1\n0 map 0 16 2 fixed read\n0 load 0 131072\n0 store 0 131072 9\n0 load 0 131072\n0 load 0 147456\nend\n",
         b"0 0 done\n0 1 value 0\n0 2 denied\n0 3 value 0\n0 4 unmapped\nframes 511 0 1\nend\n",
+    ),
+    // two-levels
+    (
+        b"trace 1 512 1 1\n0 map 0 0 1024 fixed write\n0 load 0 0\n0 load 0 524288\n0 load 0 1048576\n0 load 0 1572864\n0 load 0 2097152\n0 load 0 2621440\n0 load 0 3145728\n0 load 0 3670016\n0 load 0 4194304\nend\n",
+        b"0 0 done\n0 1 value 0\n0 2 value 0\n0 3 value 0\n0 4 value 0\n0 5 value 0\n0 6 value 0\n0 7 value 0\n0 8 value 0\n0 9 value 0\nframes 48 455 9\nend\n",
     ),
     // zero-pages
     (

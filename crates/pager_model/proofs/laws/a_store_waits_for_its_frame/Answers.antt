@@ -4,8 +4,7 @@ use Rattle.pager_model.specs.declared.reply.Reply.TheVariants.{Done, Unmapped}
 use Rattle.pager_model.specs.Examples.{answer, map_eight, take_page_one, small_setting}
 use Rattle.pager_model.specs.Legal.{MayFollow}
 use Rattle.pager_model.specs.Order.{Idle, Filling}
-use Rattle.pager_model.proofs.Soundness.{HasNothing-sound, IsSound-start}
-use Rattle.pager_model.specs.FrameStates.{start_frames}
+use Rattle.pager_model.proofs.Starting.{HasNothing-start}
 use Rattle.pager_model.proofs.laws.a_store_waits_for_its_frame.Goals as goal
 
 first : MayFollow small_setting [] (answer 0 map_eight Done)
@@ -26,7 +25,7 @@ second =
       processor = lit< tt;
       space = lit< tt;
       by_space = (tt, (refl, refl));
-      by_frames = λ e. (refl, HasNothing-sound 2 (start_frames 2 1) 0 (IsSound-start 2 1), refl);
+      by_frames = λ e. (refl, HasNothing-start 2 1 0, refl);
       ordered = (record { answered = 1; doing = Filling 0 1 }, refl);
     }
 

@@ -1,5 +1,5 @@
 use Rattle.std.proofs.Common.{◌≡◌, Some, length, set, arith, refl, ap, ◌∙◌, true}
-use Rattle.pager_model.specs.FrameStates.{frame_for}
+use Rattle.pager_model.specs.Layouts.{frame_for}
 use Rattle.pager_model.specs.Agreement.{has_frame}
 use Rattle.reservations.specs.Kept.{IsPlaced}
 use Rattle.reservations.proofs.HoldLemmas.{AreKept-add, unused_if_free, has_frame_from, whole_slice}
@@ -11,7 +11,7 @@ insert-requires-clause-unused c =
     let place = frame_for c.args.page r in
     let has : has_frame place (Some r) ≡ true = has_frame_from place r (omega arith) (omega (arith, c.requires.page.0, c.requires.page.1)) in
     let apart = rw (← c.self.view_is) at c.requires.apart in
-    rw c.place_of-place.ensures (unused_if_free _ _ _ place c.self.invariant (λ j. apart place j has))
+    rw c.frame_for-place.ensures (unused_if_free _ _ _ place c.self.invariant (λ j. apart place j has))
 
 pub invariant_of-self : goal.invariant_of-self
 invariant_of-self c =
@@ -29,6 +29,6 @@ invariant_of-self c =
       whole_slice c.self.inside.holders.len c.write.new.holders c.self.inside.holders.items (omega (arith, c.write.auto.holders, c.as_mut_slice-2.ensures.len)),
       noted,
       c.insert.ensures,
-      c.place_of-place.ensures,
+      c.frame_for-place.ensures,
     )
     (AreKept-add _ _ _ _ r place c.self.invariant placed apart has filled holders_long)

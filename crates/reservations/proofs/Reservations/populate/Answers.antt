@@ -1,7 +1,8 @@
 use Rattle.std.proofs.Common.{◌≡◌, Some, true, arith, refl, sym, ◌∙◌}
-use Rattle.pager_model.specs.FrameStates.{frame_for}
+use Rattle.pager_model.specs.Layouts.{frame_for}
 use Rattle.pager_model.specs.Agreement.{has_frame}
-use Rattle.reservations.specs.Kept.{record_at, stamped}
+use Rattle.pager_model.specs.Layouts.{stamped}
+use Rattle.reservations.specs.Kept.{record_at}
 use Rattle.reservations.proofs.HoldLemmas.{AreKept-populate, has_frame_from}
 use Rattle.reservations.proofs.Reservations.populate.Goals as goal
 
@@ -13,5 +14,5 @@ invariant_of-self c =
     let has_place = rw found at c.requires in
     let has : has_frame (frame_for c.args.page r) (Some r) ≡ true =
     has_frame_from (frame_for c.args.page r) r (omega arith) (omega (arith, has_place.0.0, has_place.0.1)) in
-    rw (c.insert.ensures, c.place_of.ensures)
+    rw (c.insert.ensures, c.frame_for.ensures)
     (AreKept-populate _ _ _ c.args.id r c.self.invariant is (stamped r c.args.stamp) (frame_for c.args.page r) refl refl refl has)

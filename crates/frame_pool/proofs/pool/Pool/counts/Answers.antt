@@ -1,15 +1,18 @@
-use Rattle.std.proofs.Common.{◌∙◌, sym, arith}
-use Rattle.frame_pool.proofs.Places.{sum_by-single, used-le-places}
+use Rattle.std.proofs.Common.{length, ap, arith}
+use Rattle.frame_pool.specs.PoolState.{state_of}
+use Rattle.frame_pool.proofs.Summing.{counts_sum, used_places_few}
 use Rattle.frame_pool.proofs.pool.Pool.counts.Goals as goal
 
-pub places-requires : goal.places-requires
-places-requires c =
-    let few = sum_by-single c.self.inside.records.items c.self.invariant.single_places in
-    rw c.deref-3.ensures.value (omega (arith, few, c.self.invariant.records_length, c.self.invariant.few_frames))
+pub returns-clause-all : goal.returns-clause-all
+returns-clause-all c =
+    let st = state_of c.self.inside in
+    let used = rw c.as_slice.ensures.value at c.used_places-used.ensures in
+    let held = rw c.as_slice-4.ensures.value at c.held_frames.ensures in
+    let long = ap (λ s. length s.free) c.self.view_is in
+    omega (arith, counts_sum (length st.free) (length st.held) st c.self.invariant.sound, long, used, held)
 
 pub overflow_sub-result : goal.overflow_sub-result
 overflow_sub-result c =
-    let inside = c.self.inside in
-    let sound = c.self.invariant in
-    let enough = used-le-places inside.used.items inside.records.items (sound.used_length ∙ sym sound.records_length) sound.used_are_places in
-    rw (c.used_places-used.ensures, c.deref.ensures.value, c.places.ensures, c.deref-3.ensures.value) enough
+    let st = state_of c.self.inside in
+    let used = rw c.as_slice.ensures.value at c.used_places-used.ensures in
+    omega (arith, used_places_few (length st.free) (length st.held) st c.self.invariant.sound, used, c.places.ensures)

@@ -1,28 +1,67 @@
-use Rattle.std.proofs.Common.{◌≡◌, Some, None, sym, ap, ◌∙◌, refl}
-use Rattle.pager_model.specs.FrameStates.{FrameState, taken, take_frame, take_at, counted}
+use Rattle.std.proofs.Common.{◌≡◌, Some, None, refl, sym, ap, subst, ◌∙◌, arith}
+use Rattle.std.proofs.lemmas.Option.{none-some, same_Some}
+use Rattle.pager_model.specs.FrameStates.{layout_of, take_frame, IsFull}
+use Rattle.pager_model.specs.Layouts.{placing}
 use Rattle.frame_pool.specs.PoolState.{state_of}
-use Rattle.frame_pool.specs.Sound.{number_in}
-use Rattle.frame_pool.proofs.Here.{number_here}
+use Rattle.frame_pool.specs.Pooled.{number_in}
+use Rattle.frame_pool.proofs.Placing.{full-placing, placing-full}
+use Rattle.frame_pool.proofs.Pooling.{layout_of-pool, used_long, taking_of, take_frame-placed, state_taken-is, frame_known, frame_there, IsPool-taken}
 use Rattle.frame_pool.proofs.pool.Pool.take.Goals as goal
+
+pub returns-in_default-clause-full : goal.returns-in_default-clause-full
+returns-in_default-clause-full c =
+    let p = c.self.inside in
+    let unplaced = rw (← c.self.view_is) at c.requires.unplaced in
+    let none = ap (placing p.entries c.args.space c.args.page c.args.want.now) (layout_of-pool p c.self.invariant) ∙ c.in_default.ensures.none.0 in
+    let full = full-placing (layout_of (state_of p)) p.entries c.args.space c.args.page c.args.want.now c.self.invariant.sound.laid unplaced none in
+    rw (c.in_default.ensures.none.1, ← c.self.view_is) (full, refl)
+
+pub index_mut-requires : goal.index_mut-requires
+index_mut-requires c =
+    let p = c.self.inside in
+    let unplaced = rw (← c.self.view_is) at c.requires.unplaced in
+    omega (arith, frame_known p c.args.space c.args.page c.args.want.now _ _ _ c.self.invariant unplaced c.in-Some.ensures.placed, p.frames.ok.0)
 
 pub unreachable-requires : goal.unreachable-requires
 unreachable-requires c =
-    let inside = c.self.inside in
-    let lowest = rw c.deref.ensures.value at c.in-Some.ensures in
-    let here = number_here inside.frames.items (state_of inside) c.in-Some.at c.index_mut.result.now c.self.invariant lowest c.index_mut.ensures.value in
-    let gone : None ≡ Some c.in-Some.at = ap number_in c.in_default-take.ensures.value ∙ here in
-    cc
+    let p = c.self.inside in
+    let unplaced = rw (← c.self.view_is) at c.requires.unplaced in
+    let there = frame_there p c.args.space c.args.page c.args.want.now _ _ _ c.self.invariant unplaced c.in-Some.ensures.placed c.index_mut.result.now c.index_mut.ensures.value in
+    let gone : None ≡ number_in c.index_mut.result.now = ap number_in c.in_default-take.ensures.value in
+    none-some c.in-Some.place.frame (gone ∙ there)
+
+pub index_mut-requires-2 : goal.index_mut-requires-2
+index_mut-requires-2 c =
+    let p = c.self.inside in
+    let unplaced = rw (← c.self.view_is) at c.requires.unplaced in
+    let known = frame_known p c.args.space c.args.page c.args.want.now _ _ _ c.self.invariant unplaced c.in-Some.ensures.placed in
+    omega (arith, known, used_long _ _ (state_of p) c.self.invariant, p.used.ok.0)
+
+pub invariant_of-self-2 : goal.invariant_of-self-2
+invariant_of-self-2 c =
+    let unplaced = rw (← c.self.view_is) at c.requires.unplaced in
+    rw c.take.ensures.after (IsPool-taken c.self.inside c.args.space c.args.page c.args.want.now _ _ _ c.self.invariant unplaced c.in-Some.ensures.placed)
 
 pub returns-clause-taken : goal.returns-clause-taken
 returns-clause-taken c =
-    let inside = c.self.inside in
-    let st = state_of inside in
-    let at = c.in-Some.at in
+    let p = c.self.inside in
+    let unplaced = rw (← c.self.view_is) at c.requires.unplaced in
+    let placed = c.in-Some.ensures.placed in
     let space = c.args.space in
     let page = c.args.page in
     let want = c.args.want.now in
-    let lowest = rw c.deref.ensures.value at c.in-Some.ensures in
-    let here = number_here inside.frames.items st at c.index_mut.result.now c.self.invariant lowest c.index_mut.ensures.value in
-    let takes = ap (λ (s : FrameState). take_frame s space page want) (sym c.self.view_is) ∙ ap (take_at st space page want) (sym lowest) in
-    let numbered : Some c.in-Some-take.frame.number ≡ Some at = ap number_in c.in-Some-take.ensures.value ∙ here in
-    (record { state = taken st space page want at; frame = at }, takes, c.end_entry.ensures ∙ ap counted (rw c.base_size.ensures refl), cc)
+    let there = frame_there p space page want _ _ _ c.self.invariant unplaced placed c.index_mut.result.now c.index_mut.ensures.value in
+    let number : Some c.in-Some-take.frame.number ≡ number_in c.index_mut.result.now = ap number_in c.in-Some-take.ensures.value in (
+      taking_of p space page want _ _ _ c.self.invariant unplaced placed,
+      ap (λ st. take_frame st space page want) (sym c.self.view_is) ∙ take_frame-placed p space page want _ _ _ c.self.invariant unplaced placed,
+      state_taken-is p space page want _ _ _ c.self.invariant unplaced placed,
+      same_Some _ _ (number ∙ there) ∙ placed.same_frame,
+    )
+
+pub returns-clause-full_is_told : goal.returns-clause-full_is_told
+returns-clause-full_is_told c = λ told.
+    let p = c.self.inside in
+    let unplaced = rw (← c.self.view_is) at c.requires.unplaced in
+    let full : IsFull (state_of p) = subst IsFull (sym c.self.view_is) told in
+    let none = placing-full (layout_of (state_of p)) p.entries c.args.space c.args.page c.args.want.now c.self.invariant.sound.laid unplaced full in
+    absurd (none-some _ (sym none ∙ ap (placing p.entries c.args.space c.args.page c.args.want.now) (layout_of-pool p c.self.invariant) ∙ c.in-Some.ensures.placed.is))

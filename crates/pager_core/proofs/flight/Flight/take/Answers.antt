@@ -1,3 +1,5 @@
+use Rattle.std.proofs.Common.{◌∙◌, ap}
+use Rattle.pager_model.specs.FrameStates.{wired_count}
 use Rattle.pager_core.proofs.Rows.{frame_takes, frame_refused}
 use Rattle.pager_core.proofs.flight.Flight.take.Goals as goal
 
@@ -9,4 +11,4 @@ returns-in-Ok c =
 
 pub returns-in-Err : goal.returns-in-Err
 returns-in-Err c =
-    rw (c.end_entry.ensures, c.in-Err.ensures.full.1) (frame_refused c.args.self.now c.args.page c.args.want c.args.space.now c.args.pool.now c.requires.phase c.requires.ready c.in-Err.ensures.full.0)
+    rw (c.end_entry.ensures, c.in-Err.ensures.full.1) (frame_refused c.args.self.now c.args.page c.counts-wired.result.wired c.args.want c.args.space.now c.args.pool.now c.requires.phase c.requires.ready c.in-Err.ensures.full.0 (c.counts-wired.ensures.wired ∙ ap wired_count c.in-Err.ensures.full.1))

@@ -4,7 +4,8 @@ use Rattle.pager_model.specs.Agreement.{Agrees}
 use Rattle.pager_model.specs.Legal.{entries_in}
 use Rattle.pager_model.specs.Showing.{setting_of}
 use Rattle.pager_core.specs.Running.{Running, IsRun, IsNext, plan_of}
-use Rattle.pager_model.proofs.Agreeing.{Agrees-legal}
+use Rattle.frame_pool.proofs.Agreeing.{Agrees-legal}
+use Rattle.pager_core.proofs.Moves.{AreAgreed-runs}
 use Rattle.pager_core.proofs.Landing.{next_flies, not_next, room_left, one_more, of_processor, IsRun-landed, IsRun-flying}
 use Rattle.pager_core.proofs.machine.Machine.turn.Goals as goal
 
@@ -13,6 +14,11 @@ next_entry-entry-requires-clause-ready c =
     let i = c.self.inside in
     let next = subst (λ (l : List Line). IsNext i.flight l i.answered c.in-Some.flight) c.as_slice.ensures.value c.in-Some.ensures.some in
     (next_flies (plan_of i.frames i.lines.items) i.answered i.flight i.space i.pool (entries_in i.history.items) c.in-Some.flight c.self.invariant.run.runs c.self.invariant.run.state next).0.ready
+
+pub next_entry-entry-requires-clause-agree : goal.next_entry-entry-requires-clause-agree
+next_entry-entry-requires-clause-agree c =
+    let i = c.self.inside in
+    AreAgreed-runs (plan_of i.frames i.lines.items) i.space i.pool (entries_in i.history.items) c.self.invariant.run.runs
 
 pub push_reserved-requires : goal.push_reserved-requires
 push_reserved-requires c =

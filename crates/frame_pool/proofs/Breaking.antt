@@ -1,0 +1,232 @@
+-- What breaking a reservation keeps and frees, and what narrowing one down to a used frame leaves.
+use Rattle.std.proofs.Common.{◌≡◌, ℕ, zero, suc, ◌+◌, ◌-◌, ◌*◌, ◌%◌, ◌^◌, ◌<◌, ◌≤◌, Bool, true, false, length, get_or, Option, Some, None, find, option_map, inl, inr, refl, sym, ap, subst, ◌∙◌, arith}
+use Rattle.std.specs.List.{range_with_len, list_any}
+use Rattle.std.specs.Option.{option_map_or}
+use Rattle.std.proofs.Math.Nat.{pow-le-pow_right}
+use Rattle.std.proofs.lemmas.Bool.{cases_Bool, cases_lt, cond-true, cond-false, false≢true, lt-ltb, le-ltb}
+use Rattle.std.proofs.lemmas.List.FromFn.{get_or-range_with_len}
+use Rattle.std.proofs.lemmas.List.Folds.{list_any_at}
+use Rattle.pager_model.specs.declared.reservation.Reservation.{Reservation}
+use Rattle.pager_model.specs.Agreement.{has_frame}
+use Rattle.pager_model.specs.FreeBlocks.{run_free, choice}
+use Rattle.pager_model.specs.Layouts.{Layout, split_layout, break_layout, part_with, narrows_to, narrow_layout}
+use Rattle.pager_model.specs.Records.{is_used, none_used, has_empty, yield_of, part_of, is_part_empty, kept_part, split_records, same_size, lowest_as_wide, goes_on_at, split_on}
+use Rattle.buddy_extents.proofs.Runs.{run_free_exactly, run_free_part, no_choice_exactly}
+use Rattle.reservations.specs.Breaking.{IsAlone}
+use Rattle.reservations.specs.Kept.{IsPlaced}
+use Rattle.reservations.proofs.BreakLemmas.{has_empty_some, split_at, which_part, used_part, Breaks-broken_over}
+use Rattle.reservations.proofs.CountLemmas.{extent_of_frame}
+use Rattle.reservations.proofs.ExtentLemmas.{aligned_part}
+use Rattle.reservations.proofs.HoldLemmas.{has_frame_bounds, has_frame_from, Some-same, None-not_Some, unused_in}
+use Rattle.reservations.proofs.SplitLemmas.{kept_cases}
+use Rattle.reservations.proofs.YieldLemmas.{yield_below, yield_below-found, yield_below-missed}
+use Rattle.frame_pool.specs.Laid.{IsLaid, record_at}
+use Rattle.frame_pool.proofs.Settling.{Settles, Settles-split}
+
+-- One splitting after another.
+
+-- a layout settles into itself
+pub Settles-same : (l : Layout) → IsLaid l → Settles l l
+Settles-same l laid = record {
+  laid = laid;
+  long = refl;
+  used = refl;
+  within = λ frame. (λ is. is, λ is. is);
+  pages = λ space page. refl;
+  covered = λ id space page r is has. (id, r, is, has);
+}
+
+-- one settling after another is a settling
+pub Settles-then : (a b c : Layout) → Settles a b → Settles b c → Settles a c
+Settles-then a b c first then' = record {
+  laid = then'.laid;
+  long = then'.long ∙ first.long;
+  used = then'.used ∙ first.used;
+  within = λ frame. (λ is. (first.within frame).0 ((then'.within frame).0 is), λ is. (then'.within frame).1 ((first.within frame).1 is));
+  pages = λ space page. then'.pages space page ∙ first.pages space page;
+  covered = λ id space page r is has. let w = then'.covered id space page r is has in first.covered w.0 space page w.1 w.2 w.3;
+}
+
+-- A reservation of a sound layout, and its parts.
+
+module _ (l : Layout) (id : ℕ) (r : Reservation) (laid : IsLaid l) (is : record_at l id ≡ Some r) where
+  -- it begins at its own frame
+  pub placed_own : IsPlaced (length l.records) r.frame r
+  placed_own = let placed = laid.placed id r is in subst (λ n. IsPlaced (length l.records) n r) (sym placed.named) placed
+
+  -- and no other has its frames
+  pub alone_own : IsAlone r l.records
+  alone_own = λ frame other own has. laid.apart frame other id has (ap (has_frame frame) is ∙ own) ∙ sym (laid.placed id r is).named
+
+  -- a part that is kept stands in the split layout
+  pub record_at-part : (i : ℕ) → 0 < r.size → i < 8 → kept_part (is_used l.used) r i ≡ Some (part_of r i) → record_at (split_layout r l) (part_of r i).frame ≡ Some (part_of r i)
+  record_at-part i splits one kept = split_at (is_used l.used) r l.records splits placed_own 8 i one (omega arith) ∙ kept
+
+-- Breaking.
+
+-- where no part is empty each is kept
+pub kept_each : (used : ℕ → Bool) (r : Reservation) (i : ℕ) → i < 8 → list_any (is_part_empty used r) (range_with_len 0 8) ≡ false → kept_part used r i ≡ Some (part_of r i)
+kept_each used r i one none = elim (kept_cases used r i) [
+  | inl empty ↦
+      let here : get_or (range_with_len 0 8) i 0 ≡ i = get_or-range_with_len 0 8 i 0 one ∙ omega arith in
+      let some = list_any_at (is_part_empty used r) (range_with_len 0 8) i 0 (omega arith) (ap (is_part_empty used r) here ∙ empty.1) in
+      absurd (false≢true (sym none ∙ some))
+  | inr kept ↦ kept
+]
+
+-- the first number of a range that passes is one of the range
+pub find_below : (p : ℕ → Bool) (a n i : ℕ) → find p (range_with_len a n) ≡ Some i → i < a + n
+find_below p a zero i found = absurd (None-not_Some i found)
+find_below p a (suc n) i found = elim (cases_Bool (p a)) [
+  | inl here ↦ let same = Some-same a i (sym (cond-true _ _ _ here) ∙ found) in omega (arith, same)
+  | inr missed ↦ let rest = find_below p (a + 1) n i (sym (cond-false _ _ _ missed) ∙ found) in omega (arith, rest)
+]
+
+-- a breaking goes on at a part that is kept
+pub goes_on_part : (used : ℕ → Bool) (r p : Reservation) → goes_on_at used r ≡ Some p → (i : ℕ) × (i < 8) × (part_of r i ≡ p) × (kept_part used r i ≡ Some (part_of r i))
+goes_on_part used r p goes = elim (cases_Bool (list_any (is_part_empty used r) (range_with_len 0 8))) [
+  | inl empty ↦ absurd (None-not_Some p (sym (cond-true _ _ _ empty) ∙ goes))
+  | inr none ↦
+      elim (lowest_as_wide used r) as (λ o. lowest_as_wide used r ≡ o → option_map (part_of r) o ≡ Some p → (i : ℕ) × (i < 8) × (part_of r i ≡ p) × (kept_part used r i ≡ Some (part_of r i))) [
+        | None ↦ λ no_one at. absurd (None-not_Some p at)
+        | Some i ↦ λ found at.
+            let one : i < 8 = find_below (λ m. same_size (yield_of used (part_of r m)) (yield_of used r)) 0 8 i found in
+            (i, one, Some-same (part_of r i) p at, kept_each used r i one none)
+      ] refl (sym (cond-false _ _ _ none) ∙ goes)
+]
+
+-- a reservation broken over as many levels as its size
+pub Settles-break_over : (levels : ℕ) (l : Layout) (id : ℕ) (r : Reservation) → r.size ≡ levels → IsLaid l → record_at l id ≡ Some r → Settles l (split_on split_layout (goes_on_at (is_used l.used)) levels r l)
+Settles-break_over zero l id r size laid is = Settles-same l laid
+Settles-break_over (suc n) l id r size laid is =
+    let splits : 0 < r.size = omega arith in
+    let next = split_layout r l in
+    let split = Settles-split l id r laid is splits in
+    let step : Option Reservation → Layout = λ o. option_map_or (λ part. split_on split_layout (goes_on_at (is_used l.used)) n part next) o next in
+    elim (goes_on_at (is_used l.used) r) as (λ o. goes_on_at (is_used l.used) r ≡ o → Settles l (step o)) [
+      | None ↦ λ stops. split
+      | Some p ↦ λ goes.
+          let part = goes_on_part (is_used l.used) r p goes in
+          let stands = record_at-part l id r laid is part.0 splits part.1 part.3 in
+          subst (λ q. Settles l (step (Some q))) part.2
+          (Settles-then l next _ split (Settles-break_over n next (part_of r part.0).frame (part_of r part.0) (omega arith) split.laid stands))
+    ] refl
+
+-- breaking a reservation settles
+pub Settles-break : (l : Layout) (id : ℕ) (r : Reservation) → IsLaid l → record_at l id ≡ Some r → Settles l (break_layout r l)
+Settles-break l id r laid is = Settles-break_over r.size l id r refl laid is
+
+-- what a splitting over some levels does to the records doesn't depend on the free frames
+pub split_on-records : (levels : ℕ) (next : Reservation → Option Reservation) (r : Reservation) (l : Layout) → (split_on split_layout next levels r l).records ≡ split_on (split_records (is_used l.used)) next levels r l.records
+split_on-records zero next r l = refl
+split_on-records (suc n) next r l =
+    let after = split_records (is_used l.used) r l.records in
+    elim (next r) as (λ o. (option_map_or (λ part. split_on split_layout next n part (split_layout r l)) o (split_layout r l)).records ≡ option_map_or (λ part. split_on (split_records (is_used l.used)) next n part after) o after) [
+      | None ↦ refl
+      | Some p ↦ split_on-records n next p (split_layout r l)
+    ]
+
+-- the largest size below a bound that has an empty extent is below the bound
+pub yield_below-less : (used : ℕ → Bool) (r : Reservation) (n k : ℕ) → yield_below used r n ≡ Some k → k < n
+yield_below-less used r zero k is = absurd (None-not_Some k is)
+yield_below-less used r (suc m) k is = elim (cases_Bool (has_empty used r m)) [
+  | inl here ↦ let same = Some-same m k (sym (yield_below-found used r (suc m) m refl here) ∙ is) in omega (arith, same)
+  | inr missed ↦ let rest = yield_below-less used r m k (sym (yield_below-missed used r (suc m) m refl missed) ∙ is) in omega (arith, rest)
+]
+
+-- a reservation with a used place yields less than all of it
+pub yield_less : (used : ℕ → Bool) (r : Reservation) (k frame : ℕ) → has_frame frame (Some r) ≡ true → used frame ≡ true → yield_of used r ≡ Some k → k < r.size
+yield_less used r k frame has is yields = elim (cases_Bool (has_empty used r r.size)) [
+  | inl all ↦
+      let found = has_empty_some used r r.size all in
+      let none : r.size - r.size ≡ 0 = omega arith in
+      let one : 8 ^ (r.size - r.size) ≡ 1 = ap (λ m. 8 ^ m) none in
+      let only : found.0 ≡ 0 = omega (arith, found.1, one) in
+      let start : r.frame + found.0 * 8 ^ r.size ≡ r.frame = ap (λ m. r.frame + m * 8 ^ r.size) only ∙ omega arith in
+      let bounds = has_frame_bounds frame r has in
+      let unused = unused_in used r.frame (8 ^ r.size) (ap (λ first. none_used used first (8 ^ r.size)) (sym start) ∙ found.2) frame bounds.0 bounds.1 in
+      absurd (false≢true (sym unused ∙ is))
+  | inr some ↦ yield_below-less used r r.size k (sym (yield_below-missed used r (suc r.size) r.size refl some) ∙ yields)
+]
+
+-- breaking a reservation frees the frames of an extent of its yield
+pub frees_extent : (l : Layout) (id : ℕ) (r : Reservation) (k : ℕ) → IsLaid l → record_at l id ≡ Some r → yield_of (is_used l.used) r ≡ Some k → (first : ℕ) × (k ≤ 3) × (first % 8 ^ k ≡ 0) × (run_free (break_layout r l).free first (8 ^ k) ≡ true)
+frees_extent l id r k laid is yields =
+    let some = laid.some_used id r is in
+    let less = yield_less (is_used l.used) r k some.0 some.1 some.2 yields in
+    let breaks = Breaks-broken_over r.size (is_used l.used) r k l.records (omega arith) (placed_own l id r laid is) (alone_own l id r laid is) yields less in
+    let records = split_on-records r.size (goes_on_at (is_used l.used)) r l in
+    let within = (Settles-break l id r laid is).within in
+    let first = breaks.freed.0 in
+    let freed = breaks.freed.1 in (
+      first,
+      freed.extent.0,
+      freed.extent.1,
+      (run_free_exactly (break_layout r l).free first (8 ^ k)).1 (λ frame low high.
+          let has = has_frame_from frame r (omega (arith, freed.begins)) (omega (arith, freed.ends)) in
+          elim ((within frame).1 (inr (id, ap (has_frame frame) is ∙ has))) [
+            | inl free ↦ free
+            | inr place ↦ absurd (freed.free frame place.0 low high (ap (λ rs. has_frame frame (get_or rs place.0 None)) (sym records) ∙ place.1))
+          ]),
+    )
+
+-- breaking a reservation makes a choice for every size up to its yield
+pub choice-break : (l : Layout) (id : ℕ) (r : Reservation) (k size : ℕ) → IsLaid l → record_at l id ≡ Some r → yield_of (is_used l.used) r ≡ Some k → size ≤ k → choice (break_layout r l).free size ≡ None → ⊥
+choice-break l id r k size laid is yields le none =
+    let freed = frees_extent l id r k laid is yields in
+    let positive : 0 < 8 = omega arith in
+    let run = run_free_part (break_layout r l).free freed.0 (8 ^ k) (8 ^ size) freed.3 (pow-le-pow_right positive le) in
+    let start : freed.0 + 0 * 8 ^ size ≡ freed.0 = omega arith in
+    let aligned : freed.0 % 8 ^ size ≡ 0 = ap (λ n. n % 8 ^ size) (sym start) ∙ aligned_part size k freed.0 0 le freed.2 in
+    let fails = (no_choice_exactly (break_layout r l).free size (omega (arith, freed.1))).0 none freed.0 aligned in
+    false≢true (sym fails ∙ run)
+
+-- Narrowing.
+
+-- what narrowing a reservation down to a used frame leaves there
+pub record Narrows (old new : Layout) (frame : ℕ) : Type 0 where
+  pub settles : Settles old new
+  pub alone : Reservation
+  pub is : record_at new frame ≡ Some alone
+  pub one : alone.size ≡ 0
+
+-- the part that a narrowing names is one of the eight, and has the frame
+pub part_with-has : (l : Layout) (id frame : ℕ) (r : Reservation) → IsLaid l → record_at l id ≡ Some r → 0 < r.size → has_frame frame (Some r) ≡ true → (i : ℕ) × (i < 8) × (part_of r i ≡ part_with frame r) × (has_frame frame (Some (part_of r i)) ≡ true)
+part_with-has l id frame r laid is splits has =
+    let at = which_part (is_used l.used) r l.records splits (placed_own l id r laid is) (alone_own l id r laid is) frame has in
+    let bounds = has_frame_bounds frame (part_of r at.0) at.2 in
+    let index = extent_of_frame at.0 (8 ^ (r.size - 1)) (frame - r.frame) (omega (arith, bounds.0)) (omega (arith, bounds.0, bounds.1)) in
+    (at.0, at.1, ap (part_of r) (sym index), at.2)
+
+-- a reservation narrowed over as many levels as its size
+pub Narrows-narrow_over : (levels : ℕ) (l : Layout) (id frame : ℕ) (r : Reservation) → r.size ≡ levels → IsLaid l → record_at l id ≡ Some r → has_frame frame (Some r) ≡ true → is_used l.used frame ≡ true → Narrows l (split_on split_layout (narrows_to frame) levels r l) frame
+Narrows-narrow_over zero l id frame r size laid is has used =
+    let bounds = has_frame_bounds frame r has in
+    let one : 8 ^ r.size ≡ 1 = ap (λ m. 8 ^ m) size in
+    let here : frame ≡ id = omega (arith, bounds.0, bounds.1, one, (laid.placed id r is).named) in
+    record { settles = Settles-same l laid; alone = r; is = ap (record_at l) here ∙ is; one = size }
+Narrows-narrow_over (suc n) l id frame r size laid is has used =
+    let splits : 0 < r.size = omega arith in
+    let next = split_layout r l in
+    let split = Settles-split l id r laid is splits in
+    let part = part_with-has l id frame r laid is splits has in
+    let kept = used_part (is_used l.used) r l.records splits (placed_own l id r laid is) (alone_own l id r laid is) frame part.0 used part.3 in
+    let stands = record_at-part l id r laid is part.0 splits part.1 kept in
+    let rest = Narrows-narrow_over n next (part_of r part.0).frame frame (part_of r part.0) (omega arith) split.laid stands part.3 used in
+    let step : Option Reservation → Layout = λ o. option_map_or (λ p. split_on split_layout (narrows_to frame) n p next) o next in
+    let both : Narrows l (split_on split_layout (narrows_to frame) n (part_of r part.0) next) frame =
+    record { settles = Settles-then l next _ split rest.settles; alone = rest.alone; is = rest.is; one = rest.one } in
+    elim (cases_lt 1 r.size) [
+      | inl more ↦
+          let goes : narrows_to frame r ≡ Some (part_with frame r) = cond-true _ _ _ (lt-ltb 1 r.size more) in
+          subst (λ o. Narrows l (step o) frame) (sym goes) (subst (λ p. Narrows l (step (Some p)) frame) part.2 both)
+      | inr most ↦
+          let stops : narrows_to frame r ≡ None = cond-false _ _ _ (le-ltb 1 r.size most) in
+          let last : n ≡ 0 = omega arith in
+          subst (λ o. Narrows l (step o) frame) (sym stops)
+          (subst (λ m. Narrows l (split_on split_layout (narrows_to frame) m (part_of r part.0) next) frame) last both)
+    ]
+
+-- narrowing down to a used frame leaves a reservation of this frame alone
+pub Narrows-narrow : (l : Layout) (id frame : ℕ) (r : Reservation) → IsLaid l → record_at l id ≡ Some r → has_frame frame (Some r) ≡ true → is_used l.used frame ≡ true → Narrows l (narrow_layout frame r l) frame
+Narrows-narrow l id frame r laid is has used = Narrows-narrow_over r.size l id frame r refl laid is has used

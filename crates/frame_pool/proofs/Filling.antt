@@ -1,0 +1,154 @@
+-- When a layout is full: no frame is free, and every reservation is full.
+use Rattle.std.proofs.Common.{◌≡◌, ◌<◌, ◌≤◌, ℕ, zero, suc, ◌+◌, ◌-◌, ◌*◌, ◌%◌, ◌^◌, Bool, true, false, cond, not, List, length, get_or, Option, Some, None, refl, sym, ap, ◌∙◌, inl, inr, arith}
+use Rattle.std.specs.List.{list_all}
+use Rattle.std.specs.Option.{is_none}
+use Rattle.std.proofs.lemmas.Bool.{cases_lt, and_parts, and_from, not-true, not_from_false, false≢true, false_from_ne_true}
+use Rattle.std.proofs.lemmas.List.{get_or_past, get_or_default}
+use Rattle.std.proofs.lemmas.List.Sums.{AllPass-from_list_all, list_all-from_AllPass}
+use Rattle.std.proofs.lemmas.Option.{none-some, same_Some}
+use Rattle.buddy_extents.proofs.Runs.{run_free-choice, run_free_at, run_free_from, no_choice}
+use Rattle.pager_model.specs.declared.reservation.Reservation.{Reservation}
+use Rattle.pager_model.specs.FreeBlocks.{choice, run_free}
+use Rattle.pager_model.specs.Layouts.{Layout, covers, frame_for, to_break, is_full, is_full_record}
+use Rattle.pager_model.specs.Records.{is_used, none_used, has_empty, yield_up_to, yield_of}
+use Rattle.reservations.proofs.BreakLemmas.{has_empty_some}
+use Rattle.reservations.proofs.ExtentLemmas.{eight_pos}
+use Rattle.reservations.proofs.HoldLemmas.{has_frame_bounds, known_record, unused_in}
+use Rattle.reservations.proofs.YieldLemmas.{has_empty-yes}
+use Rattle.frame_pool.proofs.Covering.{IsPageOf-covers}
+use Rattle.frame_pool.specs.Laid.{IsLaid, record_at, is_free}
+use Rattle.frame_pool.proofs.Finding.{MayBreak-found}
+use Rattle.frame_pool.proofs.Listing.{oldest_from-none}
+
+-- what is_full says of each frame and each reservation
+pub record EachFull (l : Layout) : Type 0 where
+  pub taken : (frame : ℕ) → is_free l frame ≡ false
+  pub full : (id : ℕ) (r : Reservation) → record_at l id ≡ Some r → yield_of (is_used l.used) r ≡ None
+
+-- where the test passes, no frame is free, known or not
+none_taken : (free : List Bool) → list_all not free ≡ true → (frame : ℕ) → get_or free frame false ≡ false
+none_taken free all frame = elim (cases_lt frame (length free)) [
+  | inl known ↦ not-true _ (AllPass-from_list_all not free all frame false known)
+  | inr past ↦ get_or_past free frame false past
+]
+
+-- a reservation that passes the test has no yield
+yields_none : (used : List Bool) (r : Reservation) → is_full_record used (Some r) ≡ true → yield_of (is_used used) r ≡ None
+yields_none used r full =
+    elim (yield_of (is_used used) r) as (λ o. is_none o ≡ true → o ≡ None) [
+      | None ↦ λ _. refl
+      | Some k ↦ λ h. absurd (false≢true h)
+    ] full
+
+-- the test says just this
+pub EachFull-from : (l : Layout) → is_full l ≡ true → EachFull l
+EachFull-from l full =
+    let parts = and_parts _ _ full in
+    record {
+      taken = none_taken l.free parts.0;
+      full = λ id r is.
+          let all = AllPass-from_list_all (is_full_record l.used) l.records parts.1 in
+          yields_none l.used r (sym (ap (is_full_record l.used) is) ∙ all id None (known_record l.records id r is));
+    }
+
+pub is_full-from : (l : Layout) → EachFull l → is_full l ≡ true
+is_full-from l full =
+    and_from _ _
+    (list_all-from_AllPass not l.free (λ frame d known. not_from_false _ (get_or_default l.free frame d false known ∙ full.taken frame)))
+    (list_all-from_AllPass (is_full_record l.used) l.records (λ id d known.
+    ap (is_full_record l.used) (get_or_default l.records id d None known) ∙ at id (record_at l id) refl))
+  where
+    at : (id : ℕ) (o : Option Reservation) → record_at l id ≡ o → is_full_record l.used o ≡ true
+    at id None is = refl
+    at id (Some r) is = ap is_none (full.full id r is)
+
+-- a choice is of free frames
+pub none-choice : (free : List Bool) (size : ℕ) → ((frame : ℕ) → get_or free frame false ≡ false) → choice free size ≡ None
+none-choice free size taken =
+    elim (choice free size) as (λ o. choice free size ≡ o → o ≡ None) [
+      | None ↦ λ _. refl
+      | Some first ↦ λ is. absurd (false≢true (sym (taken (first + 0)) ∙ run_free_at free first (8 ^ size) (run_free-choice free size first is) 0 (eight_pos size)))
+    ] refl
+
+-- where there is no choice for one frame, none is free
+pub choice-none : (free : List Bool) → choice free 0 ≡ None → (frame : ℕ) → get_or free frame false ≡ false
+choice-none free none frame = false_from_ne_true _ (λ is.
+    let first : frame + 0 ≡ frame = omega arith in
+    let run : run_free free frame 1 ≡ true = run_free_from free frame 1 (λ i h. let at : frame + i ≡ frame = omega arith in ap (λ f. get_or free f false) at ∙ is) in
+    let all : frame % 1 ≡ 0 = omega arith in
+    false≢true (sym (no_choice free 0 (omega arith) none frame all) ∙ run))
+
+-- the yield is a size of an extent without a used place, and where there is no yield no size up to the reservation's has one
+pub yield_up_to-found : (used : ℕ → Bool) (r : Reservation) (n k : ℕ) → yield_up_to used r n ≡ Some k → (k ≤ n) × (has_empty used r k ≡ true)
+yield_up_to-found used r zero k found =
+    elim (has_empty used r 0) as (λ b. has_empty used r 0 ≡ b → cond b (Some 0) None ≡ Some k → (k ≤ 0) × (has_empty used r k ≡ true)) [
+      | true ↦ λ is h. let same = same_Some 0 k h in (omega (arith, same), ap (has_empty used r) (sym same) ∙ is)
+      | false ↦ λ _ h. absurd (none-some k h)
+    ] refl found
+yield_up_to-found used r (suc n) k found =
+    elim (has_empty used r (suc n)) as (λ b. has_empty used r (suc n) ≡ b → cond b (Some (suc n)) (yield_up_to used r n) ≡ Some k → (k ≤ suc n) × (has_empty used r k ≡ true)) [
+      | true ↦ λ is h. let same = same_Some (suc n) k h in (omega (arith, same), ap (has_empty used r) (sym same) ∙ is)
+      | false ↦ λ _ h. let rest = yield_up_to-found used r n k h in (omega (arith, rest.0), rest.1)
+    ] refl found
+
+pub yield_up_to-none : (used : ℕ → Bool) (r : Reservation) (n : ℕ) → yield_up_to used r n ≡ None → has_empty used r 0 ≡ false
+yield_up_to-none used r zero none =
+    elim (has_empty used r 0) as (λ b. cond {A = Option ℕ} b (Some 0) None ≡ None → b ≡ false) [
+      | true ↦ λ h. absurd (none-some 0 (sym h))
+      | false ↦ λ _. refl
+    ] none
+yield_up_to-none used r (suc n) none =
+    elim (has_empty used r (suc n)) as (λ b. cond b (Some (suc n)) (yield_up_to used r n) ≡ None → has_empty used r 0 ≡ false) [
+      | true ↦ λ h. absurd (none-some (suc n) (sym h))
+      | false ↦ λ h. yield_up_to-none used r n h
+    ] none
+
+-- a reservation of the layout has a yield below 3, or none
+yields_small : (l : Layout) (id k : ℕ) (r : Reservation) → IsLaid l → record_at l id ≡ Some r → yield_of (is_used l.used) r ≡ Some k → k < 3
+yields_small l id k r laid is yields =
+    let placed = laid.placed id r is in
+    let sized = placed.aligned.0 in
+    let found = yield_up_to-found (is_used l.used) r r.size k yields in
+    elim (cases_lt k r.size) [
+      | inl below ↦ omega (arith, sized)
+      | inr whole ↦
+          let some = laid.some_used id r is in
+          let bounds = has_frame_bounds some.0 r some.1 in
+          let empty = has_empty_some (is_used l.used) r k found.1 in
+          let same : k ≡ r.size = omega (arith, found.0) in
+          let count : 8 ^ (r.size - k) ≡ 1 = (let none : r.size - k ≡ 0 = omega arith in ap (λ n. 8 ^ n) none) in
+          let first : r.frame + empty.0 * 8 ^ k ≡ r.frame = (let zero_th : empty.0 ≡ 0 = omega (arith, empty.1, count) in ap (λ i. r.frame + i * 8 ^ k) zero_th ∙ omega arith) in
+          let size : 8 ^ k ≡ 8 ^ r.size = ap (λ n. 8 ^ n) same in
+          absurd (false≢true (sym (unused_in (is_used l.used) (r.frame + empty.0 * 8 ^ k) (8 ^ k) empty.2 some.0 (omega (arith, first, bounds.0)) (omega (arith, first, size, bounds.1))) ∙ some.2))
+    ]
+
+-- where there is no choice for one frame and nothing to break, the layout is full
+pub EachFull-none : (l : Layout) → IsLaid l → choice l.free 0 ≡ None → to_break l 0 ≡ None → EachFull l
+EachFull-none l laid none nothing = record { taken = choice-none l.free none; full = λ id r is. at id r is (yield_of (is_used l.used) r) refl }
+  where
+    at : (id : ℕ) (r : Reservation) → record_at l id ≡ Some r → (o : Option ℕ) → yield_of (is_used l.used) r ≡ o → yield_of (is_used l.used) r ≡ None
+    at id r is None yields = yields
+    at id r is (Some k) yields =
+        let small = yields_small l id k r laid is yields in
+        absurd (oldest_from-none l 0 3 nothing k (omega arith) (omega arith) id r is yields)
+
+-- in a full layout there is nothing to break
+pub to_break-full : (l : Layout) (size : ℕ) → IsLaid l → EachFull l → to_break l size ≡ None
+to_break-full l size laid full = at (to_break l size) refl
+  where
+    at : (o : Option ℕ) → to_break l size ≡ o → to_break l size ≡ None
+    at None is = is
+    at (Some id) is =
+        let may = MayBreak-found l size id laid is in
+        absurd (none-some may.yields (sym (full.full id may.reservation may.is) ∙ may.yield_is))
+
+-- each place of a full reservation is used
+pub used-full : (l : Layout) (space page id : ℕ) (r : Reservation) → EachFull l → record_at l id ≡ Some r → covers space page r ≡ true → is_used l.used (frame_for page r) ≡ false → ⊥
+used-full l space page id r full is has unused =
+    let at = IsPageOf-covers space page r has in
+    let i = page - r.first in
+    let none = yield_up_to-none (is_used l.used) r r.size (full.full id r is) in
+    let size : 8 ^ (r.size - 0) ≡ 8 ^ r.size = (let same : r.size - 0 ≡ r.size = omega arith in ap (λ n. 8 ^ n) same) in
+    let frame : r.frame + i * 1 ≡ frame_for page r = omega arith in
+    let empty : none_used (is_used l.used) (r.frame + i * 1) 1 ≡ true = and_from _ _ (not_from_false _ (ap (is_used l.used) frame ∙ unused)) refl in
+    false≢true (sym none ∙ has_empty-yes (is_used l.used) r 0 i (omega (arith, size, at.low, at.high)) empty)

@@ -1,0 +1,232 @@
+-- What the calls of a layout keep: it stays sound, and its lists are those of its reservations.
+use Rattle.std.proofs.Common.{◌≡◌, ℕ, suc, ◌-◌, ◌^◌, ◌<◌, ◌≤◌, inl, inr, Bool, true, false, cond, List, length, get_or, set, Option, Some, None, refl, sym, ap, subst, ◌∙◌, arith}
+use Rattle.std.specs.Option.{IfSome, IfNone, IsSome, IsSomeAnd, option_map_or}
+use Rattle.std.proofs.lemmas.Bool.{cases_lt, cases_Bool, cond-true, cond-false, lt-ltb, le-ltb, false≢true}
+use Rattle.std.proofs.lemmas.List.{get_or-set_same, get_or-set_other, length-set, set-set}
+use Rattle.pager_model.specs.declared.reservation.Reservation.{Reservation}
+use Rattle.pager_model.specs.Ages.{Lists}
+use Rattle.pager_model.specs.Agreement.{has_frame}
+use Rattle.pager_model.specs.Layouts.{Layout, frame_for, stamped, populated, split_layout, part_with, narrows_to, narrow_layout, vacate_layout, is_last}
+use Rattle.pager_model.specs.Records.{Records, is_used, yield_of, part_of, split_records, split_on}
+use Rattle.pager_model.specs.FreeBlocks.{with_range}
+use Rattle.reservation_lists.specs.Kept.{Kept, is_listed}
+use Rattle.reservations.specs.Kept.{HasPage, IsPlaced, ArePlaced}
+use Rattle.reservations.proofs.BreakLemmas.{used_part}
+use Rattle.reservations.proofs.ExtentLemmas.{part_inside, part_of_eight}
+use Rattle.reservations.proofs.HoldLemmas.{ArePlaced-set, has_frame_bounds, has_frame_from, known_record, None-not_Some, Some-same}
+use Rattle.reservations.proofs.SplitLemmas.{split_records-open}
+use Rattle.frame_pool.specs.Laid.{IsLaid, record_at, is_free}
+use Rattle.frame_pool.specs.Listed.{AreListed, IsInOrder, WasSplit}
+use Rattle.frame_pool.proofs.Breaking.{placed_own, alone_own, record_at-part, part_with-has, yield_less}
+use Rattle.frame_pool.proofs.Giving.{had}
+use Rattle.frame_pool.proofs.Listing.{list_of-used, is_listed-none, AreListed-full}
+use Rattle.frame_pool.proofs.Covering.{covers-IsPageOf, frame_in-is, used_in-unused}
+use Rattle.frame_pool.proofs.Placing.{MayPut-stamped}
+use Rattle.frame_pool.proofs.Putting.{IsLaid-put}
+use Rattle.frame_pool.proofs.Settling.{Settles-split}
+use Rattle.frame_pool.proofs.Splitting.{free_up_to, free_up_to-cases}
+
+-- Clauses on an option.
+
+-- what holds of each value that it may have
+pub IfSome-from : {X : Type 0} (o : Option X) (P : X → Type 0) → ((x : X) → o ≡ Some x → P x) → IfSome o P
+IfSome-from None P all = tt
+IfSome-from (Some x) P all = all x refl
+
+-- its value, and what holds of it
+pub some_of : {X : Type 0} (o : Option X) (P : X → Type 0) → IsSomeAnd o P → (x : X) × (o ≡ Some x) × P x
+some_of None P holds = absurd holds
+some_of (Some x) P holds = (x, refl, holds)
+
+-- Which reservation has a frame.
+
+-- a used frame is one of a reservation
+pub owner_is : (l : Layout) (frame : ℕ) (o : Option Reservation) → IsLaid l → is_used l.used frame ≡ true → IfNone o ((id : ℕ) → has_frame frame (record_at l id) ≡ false) → IsSome o
+owner_is l frame None laid used none =
+    let place = laid.places frame used in
+    absurd (false≢true (sym (none place.0) ∙ place.1))
+owner_is l frame (Some r) laid used none = refl
+
+-- the frame that a reservation joins to a page of it is one of its frames
+pub place_has : (r : Reservation) (page : ℕ) → HasPage r page → has_frame (frame_for page r) (Some r) ≡ true
+place_has r page has = has_frame_from (frame_for page r) r (omega arith) (omega (arith, has.0, has.1))
+
+-- Populating.
+
+-- a page's place in a reservation is used from then on, and the reservation is younger
+pub IsLaid-populated : (l : Layout) (r : Reservation) (stamp page : ℕ) → IsLaid l → record_at l r.frame ≡ Some r → HasPage r page → is_used l.used (frame_for page r) ≡ false → IsLaid (populated stamp page l r).layout
+IsLaid-populated l r stamp page laid is has unused =
+    let covers_page = covers-IsPageOf r.space page r (record { space_is = refl; low = has.0; high = has.1 }) in
+    let none = frame_in-is l r.space page r.frame r laid is covers_page ∙ used_in-unused l page r unused in
+    IsLaid-put l r.space page (stamped r stamp) l.free (MayPut-stamped l stamp r.space page r.frame r laid is covers_page none)
+
+-- Lists, as a frame becomes used or unused.
+
+-- lists stay those of reservations that don't have the frame
+pub AreListed-used : (lists : Lists) (used : List Bool) (records : List (Option Reservation)) (f : ℕ) (b : Bool) → AreListed lists used records → ((id : ℕ) → has_frame f (get_or records id None) ≡ true → ⊥) → AreListed lists (set used f b) records
+AreListed-used lists used records f b are out =
+    let same : (g id : ℕ) → has_frame g (get_or records id None) ≡ true → is_used (set used f b) g ≡ is_used used g =
+    λ g id has. get_or-set_other used f g b false (λ here. out id (ap (λ h. has_frame h (get_or records id None)) (sym here) ∙ has)) in
+    λ k small. are k small ∙ sym (list_of-used used (set used f b) k records same)
+
+-- A reservation is taken out of the records.
+module _ (l : Layout) (id : ℕ) (r : Reservation) (laid : IsLaid l) (is : record_at l id ≡ Some r) where
+  -- the others have none of its frames
+  not_in_rest : (f j : ℕ) → has_frame f (Some r) ≡ true → has_frame f (get_or (set l.records id None) j None) ≡ true → ⊥
+  not_in_rest f j mine has =
+      let was = had l id r is f j has in
+      was.0 (laid.apart f j id was.1 (ap (has_frame f) is ∙ mine))
+
+  -- none stands there
+  none_there : get_or (set l.records id None) id None ≡ None
+  none_there = get_or-set_same l.records id None None (known_record l.records id r is)
+
+  -- the others are in their places
+  rest_placed : ArePlaced (set l.records id None)
+  rest_placed = ArePlaced-set l.records id None laid.placed (known_record l.records id r is) (λ q e. absurd (None-not_Some q e))
+
+  -- lists of the others have no member of it
+  pub rest_unlisted : (lists : Lists) → AreListed lists l.used (set l.records id None) → is_listed id lists ≡ false
+  rest_unlisted lists are = is_listed-none lists l.used (set l.records id None) id are rest_placed none_there
+
+  -- lists of the others stay theirs as a frame of it becomes used or unused
+  rest_listed : (lists : Lists) (f : ℕ) (b : Bool) → has_frame f (Some r) ≡ true → AreListed lists l.used (set l.records id None) → AreListed lists (set l.used f b) (set l.records id None)
+  rest_listed lists f b mine are = AreListed-used lists l.used (set l.records id None) f b are (λ j has. not_in_rest f j mine has)
+
+  -- and from there it was split
+  pub WasSplit-from : (lists : Kept) (after : Records) → lists.frames ≡ length l.records → AreListed lists.lists l.used (set l.records id None) → after.records ≡ split_records (is_used l.used) r l.records → after.used ≡ l.used → WasSplit lists after r
+  WasSplit-from lists after room are split used =
+      let long = length-set l.records id None in
+      let placed = laid.placed id r is in
+      record {
+        records = set l.records id None;
+        placed = subst (λ n. IsPlaced n r.frame r) (sym long) (subst (λ k. IsPlaced (length l.records) k r) (sym placed.named) placed);
+        others_placed = rest_placed;
+        vacant = λ f j mine. elim (cases_Bool (has_frame f (get_or (set l.records id None) j None))) [
+          | inl has ↦ absurd (not_in_rest f j mine has)
+          | inr none ↦ none
+        ];
+        room = room ∙ sym long;
+        split =
+            split ∙ sym (split_records-open (is_used l.used) r id l.records placed.named)
+            ∙ ap (λ u. split_records (is_used u) r (set l.records id None)) (sym used);
+        listed = subst (λ u. AreListed lists.lists u (set l.records id None)) (sym used) are;
+      }
+
+  -- no frame of it is free
+  pub not_free_there : (f : ℕ) → has_frame f (Some r) ≡ true → is_free l f ≡ false
+  not_free_there f mine = elim (cases_Bool (is_free l f)) [
+    | inl free ↦ absurd (laid.not_free f id free (ap (has_frame f) is ∙ mine))
+    | inr taken ↦ taken
+  ]
+
+  -- The reservation goes back into the lists as another one may stand in its place, where a frame of it became used or unused.
+  pub IsInOrder-again : (frames f : ℕ) (b : Bool) (o : Option Reservation) (new : Layout) (kept without after : Kept) → IsInOrder frames l kept → has_frame f (Some r) ≡ true → IsLaid new → length new.free ≡ length l.free → new.used ≡ set l.used f b → new.records ≡ set l.records id o → without.frames ≡ kept.frames → after.frames ≡ without.frames → AreListed without.lists l.used (set l.records id None) → ((records : List (Option Reservation)) → get_or records id None ≡ None → id < length records → AreListed without.lists new.used records → AreListed after.lists new.used (set records id (record_at new id))) → IsInOrder frames new after
+  IsInOrder-again frames f b o new kept without after order mine laid_after long used records room last are enlists =
+      let known = known_record l.records id r is in
+      let rest = subst (λ u. AreListed without.lists u (set l.records id None)) (sym used) (rest_listed without.lists f b mine are) in
+      let stands : record_at new id ≡ o = ap (λ rs. get_or rs id None) records ∙ get_or-set_same l.records id o None known in
+      let again : set (set l.records id None) id (record_at new id) ≡ new.records =
+      set-set l.records id None (record_at new id) ∙ ap (set l.records id) stands ∙ sym records in
+      record {
+        known = long ∙ order.known;
+        few = order.few;
+        laid = laid_after;
+        listed = subst (AreListed after.lists new.used) again (enlists (set l.records id None) none_there (omega (arith, known, length-set l.records id None)) rest);
+        room = last ∙ room ∙ order.room;
+      }
+
+  -- The reservation goes, and a frame of it became unused.
+  pub IsInOrder-gone : (frames f : ℕ) (new : Layout) (kept without : Kept) → IsInOrder frames l kept → has_frame f (Some r) ≡ true → IsLaid new → length new.free ≡ length l.free → new.used ≡ set l.used f false → new.records ≡ set l.records id None → without.frames ≡ kept.frames → AreListed without.lists l.used (set l.records id None) → IsInOrder frames new without
+  IsInOrder-gone frames f new kept without order mine laid_after long used records room are = record {
+    known = long ∙ order.known;
+    few = order.few;
+    laid = laid_after;
+    listed =
+        subst (λ u. AreListed without.lists u new.records) (sym used)
+        (subst (AreListed without.lists (set l.used f false)) (sym records) (rest_listed without.lists f false mine are));
+    room = room ∙ order.room;
+  }
+
+  -- it is the only one with a frame of it
+  pub same_owner : (f j : ℕ) (q : Reservation) → has_frame f (Some r) ≡ true → record_at l j ≡ Some q → has_frame f (Some q) ≡ true → r ≡ q
+  same_owner f j q mine stands also =
+      let here = laid.apart f id j (ap (has_frame f) is ∙ mine) (ap (has_frame f) stands ∙ also) in
+      Some-same r q (sym is ∙ ap (record_at l) here ∙ stands)
+
+-- Splitting.
+
+-- a frame of the next part isn't free yet, where none of the whole was
+pub free_up_to-later : (used : ℕ → Bool) (r : Reservation) (free : List Bool) (n f : ℕ) → 0 < r.size → IsPlaced (length free) r.frame r → n < 8 → ((g : ℕ) → has_frame g (Some r) ≡ true → get_or free g false ≡ false) → has_frame f (Some (part_of r n)) ≡ true → get_or (free_up_to n used r free) f false ≡ false
+free_up_to-later used r free n f splits placed below taken has =
+    let bounds = has_frame_bounds f (part_of r n) has in
+    elim (cases_Bool (get_or (free_up_to n used r free) f false)) [
+      | inl free_now ↦ elim (free_up_to-cases used r free splits placed.within n f (omega arith) free_now) [
+        | inl was ↦
+            let mine = has_frame_from f r (omega (arith, bounds.0)) (omega (arith, bounds.1, part_of_eight n r.size splits below)) in
+            absurd (false≢true (sym (taken f mine) ∙ was))
+        | inr emptied ↦
+            let earlier = has_frame_bounds f (part_of r emptied.part) emptied.has in
+            absurd (omega (arith, bounds.0, earlier.1, part_inside emptied.part (8 ^ (r.size - 1)) n emptied.below))
+      ]
+      | inr not_yet ↦ not_yet
+    ]
+
+-- Vacating.
+
+-- a reservation whose last used place this was becomes free, and another one stays
+pub vacated : (l : Layout) (frame : ℕ) (r : Reservation) (last : Bool) (free : List Bool) (st : Records) → is_last frame r l ≡ last → free ≡ cond last (with_range l.free r.frame (8 ^ r.size) true) l.free → st ≡ record { records = cond last (set l.records r.frame None) l.records; used = set l.used frame false } → record { free = free; records = st.records; used = st.used } ≡ vacate_layout frame r l
+vacated l frame r last free st is freed kept =
+    let with_free : List Bool → Layout = λ f. record { free = f; records = st.records; used = st.used } in
+    let freed_as : Bool → List Bool = λ b. cond b (with_range l.free r.frame (8 ^ r.size) true) l.free in
+    let with_records : Records → Layout = λ k. record { free = freed_as last; records = k.records; used = k.used } in
+    let by_last : Bool → Layout = λ b. record { free = freed_as b; records = cond b (set l.records r.frame None) l.records; used = set l.used frame false } in
+    ap with_free freed ∙ ap with_records kept ∙ sym (ap by_last is)
+
+-- Narrowing.
+
+-- a reservation of one frame has no other
+pub only_frame : (r : Reservation) (frame : ℕ) → r.size ≡ 0 → has_frame frame (Some r) ≡ true → frame ≡ r.frame
+only_frame r frame one has =
+    let bounds = has_frame_bounds frame r has in
+    let width : 8 ^ r.size ≡ 1 = ap (λ k. 8 ^ k) one in
+    omega (arith, bounds.0, bounds.1, width)
+
+-- a narrowing begins with a split, and goes on at the part with the frame
+narrow_suc : (n frame : ℕ) (r : Reservation) (l : Layout) → r.size ≡ suc n → narrow_layout frame r l ≡ split_on split_layout (narrows_to frame) n (part_with frame r) (split_layout r l)
+narrow_suc n frame r l size =
+    let next = split_layout r l in
+    let narrow : ℕ → Reservation → Layout → Layout = split_on split_layout (narrows_to frame) in
+    let step : Option Reservation → Layout = λ o. option_map_or (λ p. narrow n p next) o next in
+    ap (λ k. narrow k r l) size ∙ elim (cases_lt 1 r.size) [
+      | inl more ↦ ap step (cond-true _ _ _ (lt-ltb 1 r.size more))
+      | inr most ↦
+          let last : n ≡ 0 = omega arith in
+          ap step (cond-false _ _ _ (le-ltb 1 r.size most)) ∙ sym (ap (λ k. narrow k (part_with frame r) next) last)
+    ]
+
+-- the reservation that has the frame after a split is smaller, and narrowing it ends where narrowing the whole does
+pub narrow_step : (l : Layout) (frame : ℕ) (r q : Reservation) → IsLaid l → record_at l r.frame ≡ Some r → has_frame frame (Some r) ≡ true → is_used l.used frame ≡ true → 0 < r.size → record_at (split_layout r l) q.frame ≡ Some q → has_frame frame (Some q) ≡ true → (q.size < r.size) × (narrow_layout frame q (split_layout r l) ≡ narrow_layout frame r l)
+narrow_step l frame r q laid is has used splits at holds =
+    let next = split_layout r l in
+    let part = part_with-has l r.frame frame r laid is splits has in
+    let mine = part_of r part.0 in
+    let kept = used_part (is_used l.used) r l.records splits (placed_own l r.frame r laid is) (alone_own l r.frame r laid is) frame part.0 used part.3 in
+    let stands = record_at-part l r.frame r laid is part.0 splits part.1 kept in
+    let same = same_owner next mine.frame mine (Settles-split l r.frame r laid is splits).laid stands frame q.frame q part.3 at holds in
+    let narrow : Reservation → Layout = λ p. split_on split_layout (narrows_to frame) (r.size - 1) p next in
+    subst (λ p. (p.size < r.size) × (narrow_layout frame p next ≡ narrow_layout frame r l)) same
+    (omega arith, ap narrow part.2 ∙ sym (narrow_suc (r.size - 1) frame r l (omega arith)))
+
+-- Carving.
+
+-- a reservation of one frame is full, and stands in no list: without it the lists stay
+pub AreListed-take_out : (l : Layout) (frame : ℕ) (r : Reservation) (lists : Lists) → IsLaid l → record_at l frame ≡ Some r → r.size ≡ 0 → AreListed lists l.used l.records → AreListed lists (set l.used frame false) (set l.records frame None)
+AreListed-take_out l frame r lists laid is one are =
+    let named = (laid.placed frame r is).named in
+    let width : 8 ^ r.size ≡ 1 = ap (λ k. 8 ^ k) one in
+    let some = laid.some_used frame r is in
+    let full : (k : ℕ) → yield_of (is_used l.used) r ≡ Some k → 3 ≤ k =
+    λ k yields. absurd (omega (arith, yield_less (is_used l.used) r k some.0 some.1 some.2 yields)) in
+    let mine = has_frame_from frame r (omega (arith, named)) (omega (arith, named, width)) in
+    rest_listed l frame r laid is lists frame false mine ((AreListed-full lists l.used l.records frame r is full).0 are)

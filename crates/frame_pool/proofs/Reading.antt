@@ -1,0 +1,20 @@
+-- Reading the records one by one.
+use Rattle.std.proofs.Common.{◌≡◌, ℕ, ◌≤◌, nat_eq, Option, Some, None, IfSome, refl, arith}
+use Rattle.std.specs.Option.{option_eq}
+use Rattle.pager_model.specs.declared.reservation.Reservation.{Reservation}
+use Rattle.pager_model.specs.FrameStates.{places_in}
+use Rattle.pager_model.specs.Records.{same_size}
+use Rattle.reservations.specs.Kept.{IsPlaced}
+use Rattle.reservations.proofs.ExtentLemmas.{eight_small}
+
+-- a reservation that is kept has at most 512 places
+pub places_few : (frames id : ℕ) (o : Option Reservation) → IfSome o (IsPlaced frames id) → places_in o ≤ 512
+places_few frames id None placed = omega arith
+places_few frames id (Some r) placed = eight_small r.size placed.aligned.0
+
+-- the equality of optional sizes is the test for the same one
+pub same_size-is : (a b : Option ℕ) → option_eq nat_eq a b ≡ same_size a b
+same_size-is None None = refl
+same_size-is None (Some n) = refl
+same_size-is (Some m) None = refl
+same_size-is (Some m) (Some n) = refl

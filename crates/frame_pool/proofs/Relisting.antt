@@ -1,0 +1,137 @@
+-- What taking a reservation out of the lists and putting one in leaves, by the reservation that is found at the frame.
+use Rattle.std.proofs.Common.{◌≡◌, ℕ, zero, suc, ◌+◌, ◌-◌, ◌<◌, ◌≤◌, Bool, true, false, List, set, get_or, length, Option, Some, None, is_some, IsSomeAnd, refl, sym, ap, subst, ◌∙◌, arith}
+use Rattle.std.proofs.lemmas.Bool.{false≢true}
+use Rattle.std.proofs.lemmas.List.{get_or-set_same, set-set, set-get_or}
+use Rattle.pager_model.specs.declared.reservation.Reservation.{Reservation}
+use Rattle.pager_model.specs.Ages.{Lists, Member, list_at, with_list, with_member, without_member}
+use Rattle.pager_model.specs.Agreement.{has_frame}
+use Rattle.pager_model.specs.Records.{Records, is_used, yield_of, part_of, kept_part}
+use Rattle.reservation_lists.specs.Kept.{Kept, is_listed}
+use Rattle.reservations.specs.Kept.{IsPlaced, ArePlaced}
+use Rattle.reservations.proofs.BreakLemmas.{split_suc, length-split, parts_apart, part_known, split_at, split_other}
+use Rattle.reservations.proofs.ExtentLemmas.{eight_pos, part_of_eight}
+use Rattle.reservations.proofs.HoldLemmas.{has_frame_from}
+use Rattle.reservations.proofs.SplitLemmas.{split_up_to, split_up_to-more, ArePlaced-part}
+use Rattle.frame_pool.specs.Listed.{AreListed, WasSplit}
+use Rattle.frame_pool.proofs.Listing.{member_of, AreListed-without, AreListed-with, AreListed-full, is_listed-none}
+
+-- where something stands, it is a reservation
+pub found_record : (o : Option Reservation) → is_some o ≡ true → (r : Reservation) × (o ≡ Some r)
+found_record None some = absurd (false≢true some)
+found_record (Some r) some = (r, refl)
+
+pub no_record : (o : Option Reservation) → is_some o ≡ false → o ≡ None
+no_record None none = refl
+no_record (Some r) none = absurd (false≢true (sym none))
+
+pub found_record_and : (o : Option Reservation) (P : Reservation → Type 0) → IsSomeAnd o P → (r : Reservation) × (o ≡ Some r) × P r
+found_record_and None P some = absurd some
+found_record_and (Some r) P some = (r, refl, some)
+
+-- the member of the reservation that begins at the frame
+abbrev pub member_at : Reservation → ℕ → Member
+member_at r id = record { stamp = r.stamp; frame = id }
+
+pub member_at-named : (r : Reservation) (id : ℕ) → r.frame ≡ id → member_of r ≡ member_at r id
+member_at-named r id named = ap (member_at r) named
+
+-- where nothing stands, noting that nothing does changes nothing
+pub set-none : (records : List (Option Reservation)) (id : ℕ) → get_or records id None ≡ None → set records id None ≡ records
+set-none records id none = ap (set records id) (sym none) ∙ set-get_or records id None
+
+-- the reservation at the frame goes out of the list of its yield
+pub AreListed-unlisted : (lists : Lists) (used : List Bool) (records : List (Option Reservation)) (id k : ℕ) (r : Reservation) → AreListed lists used records → ArePlaced records → get_or records id None ≡ Some r → yield_of (is_used used) r ≡ Some k → k < 3 → AreListed (with_list lists k (without_member (member_at r id) (list_at lists k))) used (set records id None)
+AreListed-unlisted lists used records id k r are placed is yields small =
+    subst (λ m. AreListed (with_list lists k (without_member m (list_at lists k))) used (set records id None)) (member_at-named r id (placed id r is).named)
+    (AreListed-without lists used records id k r are placed is yields small)
+
+-- a reservation comes in at a frame at which none began
+module _ (lists : Lists) (used : List Bool) (records : List (Option Reservation)) (id : ℕ) (r : Reservation) (none : get_or records id None ≡ None) (known : id < length records) (are : AreListed lists used records) where
+  there : get_or (set records id (Some r)) id None ≡ Some r
+  there = get_or-set_same records id (Some r) None known
+
+  without : AreListed lists used (set (set records id (Some r)) id None)
+  without = subst (AreListed lists used) (sym (set-set records id (Some r) None ∙ set-none records id none)) are
+
+  pub AreListed-enlisted : (k : ℕ) → r.frame ≡ id → yield_of (is_used used) r ≡ Some k → k < 3 → AreListed (with_list lists k (with_member (member_at r id) (list_at lists k))) used (set records id (Some r))
+  AreListed-enlisted k named yields small =
+      subst (λ m. AreListed (with_list lists k (with_member m (list_at lists k))) used (set records id (Some r))) (member_at-named r id named)
+      (AreListed-with lists used (set records id (Some r)) id k r without there yields small)
+
+  pub AreListed-not_enlisted : ((k : ℕ) → yield_of (is_used used) r ≡ Some k → 3 ≤ k) → AreListed lists used (set records id (Some r))
+  AreListed-not_enlisted full = (AreListed-full lists used (set records id (Some r)) id r there full).1 without
+
+-- From these lists on, the first n parts that the reservation was split into went into the lists.
+pub record HasParts (n : ℕ) (start lists : Kept) (after : Records) (whole : Reservation) : Type 0 where
+  pub was : WasSplit start after whole
+  pub room : lists.frames ≡ start.frames
+  pub listed : AreListed lists.lists after.used (split_up_to n (is_used after.used) whole was.records)
+
+pub HasParts-none : (start : Kept) (after : Records) (whole : Reservation) → WasSplit start after whole → HasParts 0 start start after whole
+HasParts-none start after whole was = record { was = was; room = refl; listed = was.listed }
+
+pub HasParts-all : (start lists : Kept) (after : Records) (whole : Reservation) → HasParts 8 start lists after whole → AreListed lists.lists after.used after.records
+HasParts-all start lists after whole has = subst (AreListed lists.lists after.used) (sym has.was.split) has.listed
+
+-- no reservation begins at a frame that none has
+pub none_begins : (records : List (Option Reservation)) (frame : ℕ) → ArePlaced records → has_frame frame (get_or records frame None) ≡ false → get_or records frame None ≡ None
+none_begins records frame are free = at (get_or records frame None) refl
+  where
+    at : (o : Option Reservation) → get_or records frame None ≡ o → get_or records frame None ≡ None
+    at None is = is
+    at (Some r) is =
+        let named = (are frame r is).named in
+        let has = has_frame_from frame r (omega (arith, named)) (omega (arith, named, eight_pos r.size)) in
+        absurd (false≢true (sym free ∙ ap (has_frame frame) is ∙ has))
+
+-- the first parts are in their places
+pub ArePlaced-parts : (records : List (Option Reservation)) (used : List Bool) (whole : Reservation) (n : ℕ) → 0 < whole.size → IsPlaced (length records) whole.frame whole → ArePlaced records → n ≤ 8 → ArePlaced (split_up_to n (is_used used) whole records)
+ArePlaced-parts records used whole zero splits placed are small = are
+ArePlaced-parts records used whole (suc n) splits placed are small =
+    let before = split_up_to n (is_used used) whole records in
+    let long = length-split (is_used used) whole records splits placed n in
+    subst ArePlaced (sym (split_suc n (is_used used) whole records))
+    (ArePlaced-part before used whole (length records) n long splits (omega arith) placed (ArePlaced-parts records used whole n splits placed are (omega arith)))
+
+-- the next part
+module _ (n : ℕ) (start lists : Kept) (after : Records) (whole : Reservation) (splits : 0 < whole.size) (small : n < 8) (has : HasParts n start lists after whole) where
+  abbrev used : ℕ → Bool
+  used = is_used after.used
+
+  abbrev first : ℕ
+  first = (part_of whole n).frame
+
+  abbrev before : List (Option Reservation)
+  before = split_up_to n used whole has.was.records
+
+  pub part_found : get_or after.records first None ≡ kept_part used whole n
+  part_found = ap (λ l. get_or l first None) has.was.split ∙ split_at used whole has.was.records splits has.was.placed 8 n small (omega arith)
+
+  pub none_before : get_or before first None ≡ None
+  none_before =
+      let ends = part_of_eight n whole.size splits small in
+      let in_whole = has_frame_from first whole (omega arith) (omega (arith, ends, eight_pos (whole.size - 1))) in
+      split_other used whole has.was.records splits has.was.placed n first (λ i lt same. omega (arith, parts_apart used whole has.was.records splits has.was.placed n i same))
+      ∙ none_begins has.was.records first has.was.others_placed (has.was.vacant first first in_whole)
+
+  pub known_before : first < length before
+  known_before = omega (arith, part_known used whole has.was.records splits has.was.placed n small, length-split used whole has.was.records splits has.was.placed n)
+
+  pub part_in_room : first < lists.frames
+  part_in_room = omega (arith, part_known used whole has.was.records splits has.was.placed n small, has.room, has.was.room)
+
+  pub part_unlisted : is_listed first lists.lists ≡ false
+  part_unlisted =
+      is_listed-none lists.lists after.used before first has.listed
+      (ArePlaced-parts has.was.records after.used whole n splits has.was.placed has.was.others_placed (omega arith)) none_before
+
+  -- it goes in where it is a reservation
+  pub HasParts-more : (new : Kept) → AreListed new.lists after.used (set before first (get_or after.records first None)) → new.frames ≡ lists.frames → HasParts (n + 1) start new after whole
+  HasParts-more new listed room = record {
+    was = has.was;
+    room = room ∙ has.room;
+    listed = subst (AreListed new.lists after.used) (ap (set before first) part_found ∙ sym (split_up_to-more n used whole has.was.records)) listed;
+  }
+
+  pub HasParts-skip : get_or after.records first None ≡ None → HasParts (n + 1) start lists after whole
+  HasParts-skip none = HasParts-more lists (subst (AreListed lists.lists after.used) (sym (ap (set before first) none ∙ set-none before first none_before)) has.listed) refl

@@ -1,0 +1,83 @@
+-- What placing a page answers: in the reservation that has the page, or in a new one of an extent that was found.
+use Rattle.std.proofs.Common.{◌≡◌, ℕ, ◌+◌, ◌^◌, ◌<◌, ◌≤◌, length, Some, None, option_map, refl, sym, ap, subst, ◌∙◌, arith}
+use Rattle.std.proofs.lemmas.Nat.{div-add-mod', mod_below}
+use Rattle.pager_model.specs.declared.entry.Want.{Want}
+use Rattle.pager_model.specs.declared.reservation.Reservation.{Reservation}
+use Rattle.pager_model.specs.Extents.{extent_start}
+use Rattle.pager_model.specs.Layouts.{Layout, Placing, covering, frame_for, frame_in, largest_extent, preferred_in, populated, new_reservation, reserved, placing_in, placing}
+use Rattle.reservations.specs.Kept.{HasPage}
+use Rattle.reservations.proofs.ExtentLemmas.{eight_pos}
+use Rattle.frame_pool.specs.Laid.{IsLaid, record_at}
+use Rattle.frame_pool.specs.Placed.{FindsExtent, PlacesPage, with_reservation, without_extent}
+use Rattle.frame_pool.proofs.Covering.{IsPageOf-covers, covering-found}
+use Rattle.frame_pool.proofs.Placing.{Places-placing}
+
+-- what the definition gives is a place of the page
+pub PlacesPage-from : (l new : Layout) (stamp space page : ℕ) (want : Want) (place : Placing) → IsLaid l → frame_in l space page ≡ None → placing stamp space page want l ≡ Some place → new ≡ place.layout → place.broken ≤ 1 → PlacesPage l new (placing stamp space page want l) place.frame place.broken
+PlacesPage-from l new stamp space page want place laid unplaced is layout few =
+    let places = Places-placing l stamp space page want place laid unplaced is in
+    record {
+      place = place;
+      is = is;
+      layout = layout;
+      same_frame = refl;
+      same_broken = refl;
+      few_broken = few;
+      known = omega (arith, places.known, places.long, ap (λ (m : Layout). length m.free) layout);
+      unused = places.was_unused;
+      used = ap (λ (m : Layout). m.used) layout ∙ places.used;
+    }
+
+-- In the reservation that has the page.
+
+pub placing-covered : (l : Layout) (stamp space page : ℕ) (want : Want) (r : Reservation) → covering space page l.records ≡ Some r → placing stamp space page want l ≡ Some (populated stamp page l r)
+placing-covered l stamp space page want r is = ap (placing_in stamp space page want l) is
+
+module _ (l : Layout) (space page : ℕ) (r : Reservation) (laid : IsLaid l) (covers : covering space page l.records ≡ Some r) where
+  -- it stands at its first frame
+  pub record_at-covered : record_at l r.frame ≡ Some r
+  record_at-covered =
+      let w = covering-found space page l.records r covers in
+      ap (record_at l) (laid.placed w.0 r w.2).named ∙ w.2
+
+  pub HasPage-covered : HasPage r page
+  HasPage-covered =
+      let w = covering-found space page l.records r covers in
+      let bounds = IsPageOf-covers space page r w.3 in
+      (bounds.low, bounds.high)
+
+-- In a new reservation.
+
+-- the page lies in the extent of pages round it
+pub round_page : (size page start : ℕ) → start ≡ extent_start size page → (start ≤ page) × (page < start + 8 ^ size)
+round_page size page start round =
+    let whole = div-add-mod' page (8 ^ size) in
+    let rest = mod_below page (8 ^ size) (eight_pos size) in
+    (omega (arith, whole, round), omega (arith, whole, rest, round))
+
+module _ (l new : Layout) (stamp space page : ℕ) (want : Want) (preferred size first broken start : ℕ) (none : covering space page l.records ≡ None) (preferred_is : preferred ≡ preferred_in l space page want) (finds : FindsExtent new (largest_extent preferred l) size first broken) (round : start ≡ extent_start size page) where
+  abbrev added : Reservation
+  added = record { space = space; first = start; size = size; frame = first; stamp = stamp }
+
+  -- it is the one that the definition makes
+  added_is : added ≡ new_reservation stamp space page finds.found
+  added_is = rw (round, finds.same_size, finds.same_first) refl
+
+  layout_is : with_reservation added page new ≡ (reserved stamp space page finds.found).layout
+  layout_is =
+      ap (with_reservation added page) finds.layout
+      ∙ ap (λ r. with_reservation r page (without_extent finds.found)) added_is
+
+  placing_is : placing stamp space page want l ≡ Some (reserved stamp space page finds.found)
+  placing_is = ap (placing_in stamp space page want l) none ∙ ap (option_map (reserved stamp space page)) (ap (λ k. largest_extent k l) (sym preferred_is) ∙ finds.is)
+
+  pub IsLaid-added : IsLaid l → frame_in l space page ≡ None → IsLaid (with_reservation added page new)
+  IsLaid-added laid unplaced =
+      subst IsLaid (sym layout_is) (Places-placing l stamp space page want (reserved stamp space page finds.found) laid unplaced placing_is).laid
+
+  pub PlacesPage-added : IsLaid l → frame_in l space page ≡ None → PlacesPage l (with_reservation added page new) (placing stamp space page want l) (frame_for page added) broken
+  PlacesPage-added laid unplaced =
+      let few : finds.found.broken ≤ 1 = omega (arith, finds.same_broken, finds.few_broken) in
+      let places = PlacesPage-from l (with_reservation added page new) stamp space page want (reserved stamp space page finds.found) laid unplaced placing_is layout_is few in
+      subst (λ f. PlacesPage l (with_reservation added page new) (placing stamp space page want l) f broken) (sym (ap (frame_for page) added_is))
+      (subst (PlacesPage l (with_reservation added page new) (placing stamp space page want l) (reserved stamp space page finds.found).frame) (sym finds.same_broken) places)

@@ -1,0 +1,62 @@
+-- At first all frames are free: the layout and the state of the frames are sound, and no list has a member.
+use Rattle.std.proofs.Common.{◌≡◌, ℕ, zero, suc, Bool, true, false, List, [], ◌∷◌, map, replicate, Option, None, is_some, inl, refl, sym, ap, subst, ◌∙◌}
+use Rattle.std.proofs.lemmas.List.{length-replicate, get_or-replicate}
+use Rattle.std.proofs.lemmas.Bool.{false≢true}
+use Rattle.pager_model.specs.declared.reservation.Used.{Used}
+use Rattle.pager_model.specs.Ages.{list_at}
+use Rattle.pager_model.specs.FrameStates.{start_frames, claim_in}
+use Rattle.pager_model.specs.Layouts.{start_layout, list_of}
+use Rattle.pager_model.proofs.Starting.{get_or-nothing}
+use Rattle.reservation_lists.specs.Kept.{no_members}
+use Rattle.reservations.proofs.CountLemmas.{is_used-replicate}
+use Rattle.reservations.proofs.HoldLemmas.{None-not_Some, no_frame}
+use Rattle.frame_pool.specs.Laid.{IsLaid, IsSound}
+use Rattle.frame_pool.specs.Listed.{AreListed}
+
+-- without a reservation and with all frames free a layout is sound
+pub IsLaid-start : (frames : ℕ) → IsLaid (start_layout frames)
+IsLaid-start frames = record {
+  records_long = length-replicate frames None ∙ sym (length-replicate frames true);
+  used_long = length-replicate frames false ∙ sym (length-replicate frames true);
+  placed = λ id r is. absurd (None-not_Some r (sym (get_or-nothing frames id) ∙ is));
+  apart = λ f id other has _. absurd (no_frame f _ (get_or-nothing frames id) has);
+  not_free = λ f id _ has. no_frame f _ (get_or-nothing frames id) has;
+  places = λ f used. absurd (false≢true (sym (is_used-replicate frames f) ∙ used));
+  some_used = λ id r is. absurd (None-not_Some r (sym (get_or-nothing frames id) ∙ is));
+  one_cover = λ id other space page r q is _ _ _. absurd (None-not_Some r (sym (get_or-nothing frames id) ∙ is));
+}
+
+-- no reservation, no member
+list_of-nothing : (used : List Bool) (k n : ℕ) → list_of used k (replicate n None) ≡ []
+list_of-nothing used k zero = refl
+list_of-nothing used k (suc n) = list_of-nothing used k n
+
+-- each of the three lists is empty
+no_member_at : (k : ℕ) → list_at no_members k ≡ []
+no_member_at zero = refl
+no_member_at (suc zero) = refl
+no_member_at (suc (suc k)) = refl
+
+-- empty lists are those of no reservations
+pub AreListed-start : (frames : ℕ) → AreListed no_members (replicate frames false) (replicate frames None)
+AreListed-start frames k small = no_member_at k ∙ sym (list_of-nothing (replicate frames false) k frames)
+
+-- what is noted of no frame makes no used place
+pub nothing_used : (n : ℕ) → map is_some (replicate {A = Option Used} n None) ≡ replicate n false
+nothing_used zero = refl
+nothing_used (suc n) = ap (λ used. false ∷ used) (nothing_used n)
+
+-- at first the state of the frames is sound: each frame is free, and none is used, claimed or held
+pub IsSound-start : (frames processors : ℕ) → IsSound frames processors (start_frames frames processors)
+IsSound-start frames processors = record {
+  known = length-replicate frames true;
+  processors_known = length-replicate processors None;
+  laid = subst (λ used. IsLaid (record { free = replicate frames true; records = replicate frames None; used = used })) (sym (nothing_used frames)) (IsLaid-start frames);
+  accounted = λ f known. inl (inl (get_or-replicate frames f true false known));
+  held_apart = λ c f holds. absurd (None-not_Some f (sym (get_or-nothing processors c) ∙ holds));
+  held_once = λ c other f holds _. absurd (None-not_Some f (sym (get_or-nothing processors c) ∙ holds));
+  ages_past = λ f u is. absurd (None-not_Some u (sym (get_or-nothing frames f) ∙ is));
+  ages_differ = λ f other u v is _ _. absurd (None-not_Some u (sym (get_or-nothing frames f) ∙ is));
+  claims_once = λ f other c claims _. absurd (None-not_Some c (sym (ap claim_in (get_or-nothing frames f)) ∙ claims));
+  claims_known = λ f c claims. absurd (None-not_Some c (sym (ap claim_in (get_or-nothing frames f)) ∙ claims));
+}

@@ -1,0 +1,133 @@
+-- What finding an extent of free frames for a reservation gives, and what taking it out leaves.
+use Rattle.std.proofs.Common.{◌≡◌, ℕ, zero, suc, ◌+◌, ◌-◌, ◌^◌, ◌<◌, ◌≤◌, true, false, length, Option, Some, None, option_map, refl, sym, ap, subst, ◌∙◌, arith}
+use Rattle.std.specs.Option.{option_or, option_and_then, option_map_or, is_some, IsSome, IsSomeAnd}
+use Rattle.std.proofs.lemmas.Bool.{false≢true}
+use Rattle.buddy_extents.proofs.Runs.{IsExtent-choice, choice_within, run_free-choice, run_free_exactly}
+use Rattle.buddy_extents.proofs.Ranges.{length-with_range, with_range_inside, with_range_outside, range_cases}
+use Rattle.pager_model.specs.Agreement.{has_frame}
+use Rattle.pager_model.specs.FreeBlocks.{choice}
+use Rattle.pager_model.specs.Layouts.{Layout, Found, break_layout, broken_at, to_break, chosen, extent_of, largest_extent}
+use Rattle.pager_model.specs.Records.{is_used, yield_of}
+use Rattle.reservation_lists.specs.Kept.{Kept}
+use Rattle.frame_pool.specs.Laid.{IsLaid, record_at, is_free}
+use Rattle.frame_pool.specs.Listed.{IsInOrder}
+use Rattle.frame_pool.specs.Placed.{CanBreak, FindsExtent, without_extent}
+use Rattle.frame_pool.proofs.Breaking.{choice-break, yield_less}
+use Rattle.frame_pool.proofs.Listing.{oldest_from-found}
+use Rattle.frame_pool.proofs.Stepping.{option_or-some, option_or-none}
+
+-- An extent that was chosen in a sound layout.
+
+module _ (found : Found) (laid : IsLaid found.layout) (is : choice found.layout.free found.size ≡ Some found.first) where
+  within : found.first + 8 ^ found.size ≤ length found.layout.free
+  within = choice_within found.layout.free found.size found.first is
+
+  -- there are as many frames without it
+  pub without-long : length (without_extent found).free ≡ length found.layout.free
+  without-long = length-with_range found.layout.free found.first (8 ^ found.size) false within
+
+  -- the layout without its frames is sound
+  pub IsLaid-without : IsLaid (without_extent found)
+  IsLaid-without = record {
+    records_long = laid.records_long ∙ sym without-long;
+    used_long = laid.used_long ∙ sym without-long;
+    placed = laid.placed;
+    apart = laid.apart;
+    not_free = λ frame id free has.
+        range_cases found.first (8 ^ found.size) (λ f. is_free (without_extent found) f ≡ true → has_frame f (record_at found.layout id) ≡ true → ⊥)
+        (λ f out still holds. laid.not_free f id (sym (with_range_outside found.layout.free found.first (8 ^ found.size) false within f out) ∙ still) holds)
+        (λ f low high still holds. false≢true (sym (with_range_inside found.layout.free found.first (8 ^ found.size) false within f low high) ∙ still))
+        frame free has;
+    places = laid.places;
+    some_used = laid.some_used;
+    one_cover = laid.one_cover;
+  }
+
+  -- no reservation has a frame of it
+  out_of_all : (frame id : ℕ) → found.first ≤ frame → frame < found.first + 8 ^ found.size → has_frame frame (record_at found.layout id) ≡ false
+  out_of_all frame id low high =
+      let free = (run_free_exactly found.layout.free found.first (8 ^ found.size)).0 (run_free-choice found.layout.free found.size found.first is) frame low high in
+      elim (has_frame frame (record_at found.layout id)) as (λ b. has_frame frame (record_at found.layout id) ≡ b → b ≡ false) [
+        | true ↦ λ has. absurd (laid.not_free frame id free has)
+        | false ↦ λ has. refl
+      ] refl
+
+  pub FindsExtent-chosen : (finds : Option Found) → found.broken ≤ 1 → finds ≡ Some found → FindsExtent (without_extent found) finds found.size found.first found.broken
+  FindsExtent-chosen finds few found_is = record {
+    found = found;
+    is = found_is;
+    layout = refl;
+    same_size = refl;
+    same_first = refl;
+    same_broken = refl;
+    few_broken = few;
+    aligned = IsExtent-choice found.layout.free found.size found.first is;
+    known = omega (arith, within, without-long);
+    out = out_of_all;
+  }
+
+-- the lists are those of the layout without its frames
+pub IsInOrder-without : (frames : ℕ) (found : Found) (kept : Kept) → IsInOrder frames found.layout kept → choice found.layout.free found.size ≡ Some found.first → IsInOrder frames (without_extent found) kept
+IsInOrder-without frames found kept order is = record {
+  known = without-long found order.laid is ∙ order.known;
+  few = order.few;
+  laid = IsLaid-without found order.laid is;
+  listed = order.listed;
+  room = order.room;
+}
+
+-- Where an extent is found.
+
+-- an extent of free frames
+pub extent_of-free : (size first : ℕ) (l : Layout) → choice l.free size ≡ Some first → extent_of size l ≡ Some (record { layout = l; size = size; first = first; broken = 0 })
+extent_of-free size first l is =
+    ap (λ o. option_or (option_map (λ f. record { layout = l; size = size; first = f; broken = 0 }) o) (option_and_then (λ id. chosen size 1 (broken_at id l)) (to_break l size))) is
+
+-- and where there is none, one that breaking a reservation frees
+pub extent_of-broken : (size id first : ℕ) (l new : Layout) → choice l.free size ≡ None → to_break l size ≡ Some id → new ≡ broken_at id l → choice new.free size ≡ Some first → extent_of size l ≡ Some (record { layout = new; size = size; first = first; broken = 1 })
+extent_of-broken size id first l new none oldest broken is =
+    let later : Option Found = option_and_then (λ i. chosen size 1 (broken_at i l)) (to_break l size) in
+    ap (λ o. option_or (option_map (λ f. record { layout = l; size = size; first = f; broken = 0 }) o) later) none
+    ∙ ap (option_and_then (λ i. chosen size 1 (broken_at i l))) oldest
+    ∙ sym (ap (chosen size 1) broken)
+    ∙ ap (option_map (λ f. record { layout = new; size = size; first = f; broken = 1 })) is
+
+-- Where the oldest reservation of a list is broken.
+
+module _ (l : Layout) (size id : ℕ) (laid : IsLaid l) (oldest : to_break l size ≡ Some id) where
+  -- it can be broken
+  pub CanBreak-oldest : CanBreak l id
+  CanBreak-oldest =
+      let w = oldest_from-found l size (3 - size) id laid.placed oldest in
+      let some = laid.some_used id w.0 w.4 in
+      let less = yield_less (is_used l.used) w.0 w.1 some.0 some.1 some.2 w.5 in
+      subst (λ o. IsSomeAnd o (λ r. (0 < r.size) × IsSome (yield_of (is_used l.used) r))) (sym w.4) (omega (arith, less), ap is_some w.5)
+
+  -- and then there is a choice
+  pub choice-oldest : is_some (choice (broken_at id l).free size) ≡ true
+  choice-oldest =
+      let w = oldest_from-found l size (3 - size) id laid.placed oldest in
+      let broken : broken_at id l ≡ break_layout w.0 l = ap (λ o. option_map_or (λ r. break_layout r l) o l) w.4 in
+      elim (choice (broken_at id l).free size) as (λ o. choice (broken_at id l).free size ≡ o → is_some o ≡ true) [
+        | None ↦ λ none. absurd (choice-break l id w.0 w.1 size laid w.4 w.5 w.2 (sym (ap (λ (m : Layout). choice m.free size) broken) ∙ none))
+        | Some first ↦ λ is. refl
+      ] refl
+
+-- Of the largest size.
+
+-- the extent of the largest size below this one that has one
+abbrev pub largest_below : ℕ → Layout → Option Found
+largest_below zero l = None
+largest_below (suc size) l = largest_extent size l
+
+pub largest_below-found : (l : Layout) (n size : ℕ) (found : Found) → n ≡ suc size → extent_of size l ≡ Some found → extent_of size l ≡ largest_below n l
+largest_below-found l n zero found next is = sym (ap (λ m. largest_below m l) next)
+largest_below-found l n (suc size) found next is =
+    sym (option_or-some (extent_of (suc size) l) (largest_extent size l) (ap is_some is))
+    ∙ sym (ap (λ m. largest_below m l) next)
+
+pub largest_below-missed : (l : Layout) (n size : ℕ) → n ≡ suc size → extent_of size l ≡ None → largest_below n l ≡ largest_below size l
+largest_below-missed l n zero next none = ap (λ m. largest_below m l) next ∙ none
+largest_below-missed l n (suc size) next none =
+    ap (λ m. largest_below m l) next
+    ∙ option_or-none (extent_of (suc size) l) (largest_extent size l) (ap is_some none)

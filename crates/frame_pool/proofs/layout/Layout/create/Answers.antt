@@ -1,0 +1,16 @@
+use Rattle.std.proofs.Common.{true, refl}
+use Rattle.std.proofs.lemmas.List.{length-replicate}
+use Rattle.frame_pool.proofs.Starting.{IsLaid-start, AreListed-start}
+use Rattle.frame_pool.proofs.layout.Layout.create.Goals as goal
+
+pub invariant_of-result : goal.invariant_of-result
+invariant_of-result c =
+    let frames = c.args.frames in
+    rw (c.in_ok-create.ensures, c.in_ok-create-2.ensures, c.in_ok-create-3.ensures)
+    (record {
+      known = length-replicate frames true;
+      few = c.requires.most;
+      laid = IsLaid-start frames;
+      listed = AreListed-start frames;
+      room = refl;
+    })

@@ -1,0 +1,35 @@
+use Rattle.std.proofs.Common.{◌≡◌, Some, true, false, refl, sym, ap, subst}
+use Rattle.pager_model.specs.Layouts.{Layout, frame_for, stamped}
+use Rattle.pager_model.specs.Records.{Records, is_used}
+use Rattle.reservations.specs.Kept.{with_record, with_used}
+use Rattle.frame_pool.specs.Laid.{IsLaid, record_at}
+use Rattle.frame_pool.proofs.Keeping.{IsLaid-populated, IsInOrder-again, place_has, rest_unlisted}
+use Rattle.frame_pool.proofs.layout.Layout.populate.Goals as goal
+
+pub enlist-requires-clause-unlisted : goal.enlist-requires-clause-unlisted
+enlist-requires-clause-unlisted c =
+    let inside = c.self.inside in
+    let r = c.args.reservation.now in
+    let l : Layout = record { free = inside.free; records = inside.reservations.records; used = inside.reservations.used } in
+    let is : record_at l r.frame ≡ Some r = rw (← c.self.view_is) at c.requires.there in
+    rest_unlisted l r.frame r c.self.invariant.laid is c.unlist.new.lists.lists c.unlist.ensures.listed
+
+pub invariant_of-self : goal.invariant_of-self
+invariant_of-self c =
+    let inside = c.self.inside in
+    let r = c.args.reservation.now in
+    let page = c.args.page in
+    let l : Layout = record { free = inside.free; records = inside.reservations.records; used = inside.reservations.used } in
+    let is : record_at l r.frame ≡ Some r = rw (← c.self.view_is) at c.requires.there in
+    let unused : is_used l.used (frame_for page r) ≡ false = rw (← c.self.view_is) at c.requires.unused in
+    let laid = IsLaid-populated l r c.args.stamp page c.self.invariant.laid is c.requires.has unused in
+    let done : c.populate.new.self ≡ with_used (with_record inside.reservations r.frame (Some (stamped r c.args.stamp))) (frame_for page r) true = rw is at c.populate.ensures in
+    let after : Records → Layout = λ st. record { free = inside.free; records = st.records; used = st.used } in
+    IsInOrder-again l r.frame r c.self.invariant.laid is inside.frames (frame_for page r) true (Some (stamped r c.args.stamp)) (after c.populate.new.self) inside.lists c.unlist.new.lists c.enlist.new.lists c.self.invariant (place_has r page c.requires.has)
+    (subst (λ st. IsLaid (after st)) (sym done) laid) refl (ap (λ (st : Records). st.used) done) (ap (λ (st : Records). st.records) done)
+    c.unlist.ensures.room c.enlist.ensures.room c.unlist.ensures.listed c.enlist.ensures.listed
+
+pub frame_for-requires-clause-frames : goal.frame_for-requires-clause-frames
+frame_for-requires-clause-frames c =
+    let there = rw (← c.self.view_is) at c.requires.there in
+    (c.self.invariant.laid.placed c.args.reservation.now.frame c.args.reservation.now there).aligned

@@ -1,0 +1,43 @@
+use Rattle.std.proofs.Common.{◌≡◌, ◌∙◌, ◌<◌, ◌-◌, ℕ, Bool, List, length, get_or, ap, arith}
+use Rattle.std.proofs.lemmas.List.FromFn.{get_or-map-range_with_len}
+use Rattle.pager_model.specs.declared.reservation.Reservation.{Reservation}
+use Rattle.pager_model.specs.Records.{part_of}
+use Rattle.reservations.specs.declared.part.Part.{Part}
+use Rattle.reservations.specs.Parts.{told_part, told_parts}
+use Rattle.reservations.proofs.ExtentLemmas.{aligned_part, part_of_eight}
+use Rattle.reservations.proofs.HoldLemmas.{has_frame_from}
+use Rattle.frame_pool.proofs.Keeping.{free_up_to-later}
+use Rattle.frame_pool.proofs.Splitting.{length-free_up_to}
+use Rattle.frame_pool.proofs.layout.give_parts.Goals as goal
+
+-- what is told at a place is told of that part
+told_at : (used : ℕ → Bool) (r : Reservation) (parts : List Part) (i : ℕ) (d : Part) → parts ≡ told_parts used r → i < length parts → (i < 8) × (get_or parts i d ≡ told_part used r i)
+told_at used r parts i d is within =
+    let below : i < 8 = omega (arith, ap length is) in
+    (below, ap (λ ps. get_or ps i d) is ∙ get_or-map-range_with_len (told_part used r) 0 8 i i d below (omega arith))
+
+pub give-requires-clause-aligned : goal.give-requires-clause-aligned
+give-requires-clause-aligned c =
+    let r = c.args.whole.now in
+    let i = c.loop-part.part-index in
+    let told = told_at c.requires.parts.0 r c.args.parts.now i c.part-item.result c.requires.parts.1 c.loop-part-test.true in
+    let aligned = c.requires.placed.aligned in
+    rw (c.part-item.is ∙ told.1) (omega (arith, aligned.0), aligned_part (r.size - 1) r.size r.frame i (omega arith) aligned.1)
+
+pub give-requires-clause-within : goal.give-requires-clause-within
+give-requires-clause-within c =
+    let r = c.args.whole.now in
+    let i = c.loop-part.part-index in
+    let used = c.requires.parts.0 in
+    let told = told_at used r c.args.parts.now i c.part-item.result c.requires.parts.1 c.loop-part-test.true in
+    let long = ap length (c.loop-part.invariant used c.requires.parts.1) ∙ length-free_up_to used r c.args.free.now c.requires.splits c.requires.placed.within i (omega (arith, told.0)) in
+    rw (c.part-item.is ∙ told.1) (omega (arith, long, part_of_eight i r.size c.requires.splits told.0, c.requires.placed.within))
+
+pub give-requires-clause-taken : goal.give-requires-clause-taken
+give-requires-clause-taken c =
+    let r = c.args.whole.now in
+    let i = c.loop-part.part-index in
+    let used = c.requires.parts.0 in
+    let told = told_at used r c.args.parts.now i c.part-item.result c.requires.parts.1 c.loop-part-test.true in
+    rw (c.part-item.is ∙ told.1, c.loop-part.invariant used c.requires.parts.1)
+    (λ f low high. free_up_to-later used r c.args.free.now i f c.requires.splits c.requires.placed told.0 c.requires.taken (has_frame_from f (part_of r i) low high))

@@ -1,0 +1,65 @@
+use Rattle.std.proofs.Common.{◌≡◌, ℕ, ◌+◌, ◌-◌, ◌*◌, ◌/◌, ◌^◌, ◌<◌, is_some, arith, ap, sym, subst, ◌∙◌}
+use Rattle.reservations.specs.Kept.{record_at}
+use Rattle.reservations.proofs.ExtentLemmas.{eight_pos, eight_quotient, part_of_eight, aligned_end}
+use Rattle.frame_pool.proofs.Relisting.{no_record, HasParts, HasParts-none, HasParts-all, HasParts-more, HasParts-skip, part_in_room, part_unlisted, none_before, known_before}
+use Rattle.frame_pool.proofs.lists.enlist_parts.Goals as goal
+use Rattle.frame_pool.proofs.lists.enlist_parts.Goals.{then-is_some, else-is_some}
+
+-- the number of pages of a part
+eighth : (pages size : ℕ) → 0 < size → pages ≡ 8 ^ size → pages / 8 ≡ 8 ^ (size - 1)
+eighth pages size splits is = ap (λ n. n / 8) is ∙ eight_quotient 1 size splits
+
+pub loop-i-init : goal.loop-i-init
+loop-i-init c = HasParts-none c.args.lists.now c.args.reservations.now c.args.whole.now c.requires.split
+
+pub overflow_add-first : goal.overflow_add-first
+overflow_add-first c =
+    let r = c.args.whole.now in
+    let placed = c.requires.split.placed in
+    let pages = eighth c.pages-pages.result r.size c.requires.splits c.pages-pages.ensures in
+    let ends = part_of_eight c.loop-i.i r.size c.requires.splits c.loop-i-test.true in
+    let last = aligned_end r.size r.frame placed.aligned.0 placed.aligned.1 (omega arith) in
+    rw pages (omega (arith, ends, last, eight_pos (r.size - 1)))
+
+pub enlist-requires-clause-known : goal.enlist-requires-clause-known
+enlist-requires-clause-known c =
+    let r = c.args.whole.now in
+    let pages = eighth c.pages-pages.result r.size c.requires.splits c.pages-pages.ensures in
+    rw pages (part_in_room c.loop-i.i c.args.lists.now c.loop-i.lists c.args.reservations.now r c.requires.splits c.loop-i-test.true c.loop-i.invariant)
+
+pub enlist-requires-clause-unlisted : goal.enlist-requires-clause-unlisted
+enlist-requires-clause-unlisted c =
+    let r = c.args.whole.now in
+    let pages = eighth c.pages-pages.result r.size c.requires.splits c.pages-pages.ensures in
+    rw pages (part_unlisted c.loop-i.i c.args.lists.now c.loop-i.lists c.args.reservations.now r c.requires.splits c.loop-i-test.true c.loop-i.invariant)
+
+pub loop-i-preserved : goal.loop-i-preserved
+loop-i-preserved c =
+    let st = c.args.reservations.now in
+    let r = c.args.whole.now in
+    let i = c.loop-i.i in
+    let start = c.args.lists.now in
+    let lists = c.loop-i.lists in
+    let splits = c.requires.splits in
+    let small = c.loop-i-test.true in
+    let has = c.loop-i.invariant in
+    let pages = eighth c.pages-pages.result r.size splits c.pages-pages.ensures in
+    elim c.if-is_some.branch [
+      | then-is_some w ↦
+          let listed = rw pages at w.enlist.ensures.listed in
+          let none = none_before i start lists st r splits small has in
+          let known = known_before i start lists st r splits small has in
+          rw w.lists-is (HasParts-more i start lists st r splits small has w.enlist.new.lists (listed _ none known has.listed) w.enlist.ensures.room)
+      | else-is_some w ↦
+          let none = no_record (record_at st (r.frame + i * (c.pages-pages.result / 8))) (ap is_some (sym c.get.ensures.record) ∙ sym c.is_some.ensures ∙ w.if-is_some.false) in
+          rw w.lists-is (HasParts-skip i start lists st r splits small has (rw pages at none))
+    ]
+
+pub returns-clause-listed : goal.returns-clause-listed
+returns-clause-listed c =
+    let start = c.args.lists.now in
+    let lists = c.loop-i.lists in
+    let st = c.args.reservations.now in
+    let r = c.args.whole.now in
+    let done : c.loop-i.i ≡ 8 = omega arith in
+    HasParts-all start lists st r (subst (λ n. HasParts n start lists st r) done c.loop-i.invariant)

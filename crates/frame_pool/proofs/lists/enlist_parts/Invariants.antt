@@ -1,0 +1,5 @@
+use Rattle.frame_pool.proofs.Relisting.{HasParts}
+use Rattle.frame_pool.proofs.lists.enlist_parts.Given as goal
+
+abbrev pub invariant-loop-i : goal.invariant-loop-i
+invariant-loop-i l = HasParts l.i l.fn.lists l.lists l.reservations l.whole

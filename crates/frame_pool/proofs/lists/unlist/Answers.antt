@@ -1,0 +1,31 @@
+use Rattle.std.proofs.Common.{◌≡◌, Some, sym, ◌∙◌, arith}
+use Rattle.reservations.specs.Kept.{record_at}
+use Rattle.reservations.proofs.HoldLemmas.{Some-same, None-not_Some}
+use Rattle.frame_pool.proofs.Listing.{AreListed-full}
+use Rattle.frame_pool.proofs.Relisting.{found_record, AreListed-unlisted}
+use Rattle.frame_pool.proofs.lists.unlist.Goals as goal
+
+pub returns-then-level-lt3-clause-listed : goal.returns-then-level-lt3-clause-listed
+returns-then-level-lt3-clause-listed c =
+    let st = c.args.reservations.now in
+    let r = c.unwrap-reservation.result in
+    let is : record_at st c.args.id ≡ Some r = sym c.get.ensures.record ∙ c.unwrap-reservation.ensures in
+    let told = rw is at c.yields.ensures in
+    rw c.remove.ensures
+    (AreListed-unlisted c.args.lists.now.lists st.used st.records c.args.id c.in-Some.size r c.requires.listed c.requires.placed is (sym told ∙ c.in-Some.is) (omega arith))
+
+pub returns-else-level-lt3-clause-listed : goal.returns-else-level-lt3-clause-listed
+returns-else-level-lt3-clause-listed c =
+    let st = c.args.reservations.now in
+    let found = found_record (record_at st c.args.id) c.requires.there in
+    let told = rw found.1 at c.yields.ensures in
+    (AreListed-full c.args.lists.now.lists st.used st.records c.args.id found.0 found.1
+    (λ k yields. omega (arith, Some-same c.in-Some.size k (sym c.in-Some.is ∙ told ∙ yields)))).0 c.requires.listed
+
+pub returns-in_default-clause-listed : goal.returns-in_default-clause-listed
+returns-in_default-clause-listed c =
+    let st = c.args.reservations.now in
+    let found = found_record (record_at st c.args.id) c.requires.there in
+    let told = rw found.1 at c.yields.ensures in
+    (AreListed-full c.args.lists.now.lists st.used st.records c.args.id found.0 found.1
+    (λ k yields. absurd (None-not_Some k (sym c.in_default.is ∙ told ∙ yields)))).0 c.requires.listed

@@ -1,0 +1,47 @@
+use Rattle.std.proofs.Common.{◌≡◌, Some, None, sym, ap, ◌∙◌, arith}
+use Rattle.pager_model.specs.FrameStates.{FrameState, frame_of, give_page}
+use Rattle.frame_pool.specs.PoolState.{state_of}
+use Rattle.frame_pool.proofs.Pooling.{claim_read, give_page-is, IsPool-given}
+use Rattle.frame_pool.proofs.pool.Pool.give.Goals as goal
+
+pub invariant_of-self : goal.invariant_of-self
+invariant_of-self c =
+    let p = c.self.inside in
+    let n = c.number-number.result in
+    let is : frame_of (state_of p) c.args.space c.args.page ≡ Some n = rw (← c.self.view_is) at c.requires ∙ ap Some (sym c.number-number.ensures) in
+    let claims = claim_read p c.args.space c.args.page n c.self.invariant is None _ (sym c.in-None.is ∙ c.claimer-claim.ensures) c.index.ensures in
+    IsPool-given p c.args.space c.args.page n c.self.invariant is None _ claims c.vacate.ensures c.args.frame (sym c.number-number.ensures)
+
+pub index_mut-requires-in-Some : goal.index_mut-requires-in-Some
+index_mut-requires-in-Some c =
+    let p = c.self.inside in
+    let n = c.number-number.result in
+    let is : frame_of (state_of p) c.args.space c.args.page ≡ Some n = rw (← c.self.view_is) at c.requires ∙ ap Some (sym c.number-number.ensures) in
+    let claims = claim_read p c.args.space c.args.page n c.self.invariant is (Some c.in-Some.processor) _ (sym c.in-Some.is ∙ c.claimer-claim.ensures) c.index.ensures in
+    omega (arith, (c.self.invariant.sound.claims_known n c.in-Some.processor (sym claims)).0, p.held.ok.0)
+
+pub invariant_of-self-in-Some : goal.invariant_of-self-in-Some
+invariant_of-self-in-Some c =
+    let p = c.self.inside in
+    let n = c.number-number.result in
+    let is : frame_of (state_of p) c.args.space c.args.page ≡ Some n = rw (← c.self.view_is) at c.requires ∙ ap Some (sym c.number-number.ensures) in
+    let claims = claim_read p c.args.space c.args.page n c.self.invariant is (Some c.in-Some.processor) _ (sym c.in-Some.is ∙ c.claimer-claim.ensures) c.index.ensures in
+    IsPool-given p c.args.space c.args.page n c.self.invariant is (Some c.in-Some.processor) _ claims c.carve.ensures c.args.frame (sym c.number-number.ensures)
+
+pub returns-in-None-clause-given : goal.returns-in-None-clause-given
+returns-in-None-clause-given c =
+    let p = c.self.inside in
+    let n = c.number-number.result in
+    let is : frame_of (state_of p) c.args.space c.args.page ≡ Some n = rw (← c.self.view_is) at c.requires ∙ ap Some (sym c.number-number.ensures) in
+    let claims = claim_read p c.args.space c.args.page n c.self.invariant is None _ (sym c.in-None.is ∙ c.claimer-claim.ensures) c.index.ensures in
+    give_page-is p c.args.space c.args.page n c.self.invariant is None _ claims c.vacate.ensures
+    ∙ ap (λ (st : FrameState). give_page st c.args.space c.args.page) c.self.view_is
+
+pub returns-in-Some-clause-given : goal.returns-in-Some-clause-given
+returns-in-Some-clause-given c =
+    let p = c.self.inside in
+    let n = c.number-number.result in
+    let is : frame_of (state_of p) c.args.space c.args.page ≡ Some n = rw (← c.self.view_is) at c.requires ∙ ap Some (sym c.number-number.ensures) in
+    let claims = claim_read p c.args.space c.args.page n c.self.invariant is (Some c.in-Some.processor) _ (sym c.in-Some.is ∙ c.claimer-claim.ensures) c.index.ensures in
+    give_page-is p c.args.space c.args.page n c.self.invariant is (Some c.in-Some.processor) _ claims c.carve.ensures
+    ∙ ap (λ (st : FrameState). give_page st c.args.space c.args.page) c.self.view_is

@@ -1,0 +1,32 @@
+-- The lists by age, as they are kept beside a layout.
+use Rattle.std.specs.Prelude.{ℕ, ◌≡◌, ◌<◌, ◌≤◌, Bool, true, false, List, Option, Some, None, length, slice_index_or}
+use Rattle.pager_model.specs.declared.reservation.Reservation.{Reservation}
+use Rattle.pager_model.specs.Ages.{Lists, list_at}
+use Rattle.pager_model.specs.Layouts.{Layout, list_of}
+use Rattle.pager_model.specs.Agreement.{has_frame}
+use Rattle.pager_model.specs.Records.{Records, is_used, split_records}
+use Rattle.reservation_lists.specs.Kept.{Kept}
+use Rattle.reservations.specs.Kept.{IsPlaced, ArePlaced}
+use Rattle.frame_pool.specs.Laid.{IsLaid}
+
+-- the three lists are those of these reservations
+abbrev pub AreListed : Lists → List Bool → List (Option Reservation) → Type 0
+AreListed lists used records = (k : ℕ) → k < 3 → list_at lists k ≡ list_of used k records
+
+-- the layout of so many frames is sound, and the lists are its
+pub record IsInOrder (frames : ℕ) (l : Layout) (kept : Kept) : Type 0 where
+  pub known : length l.free ≡ frames
+  pub few : frames ≤ 32768
+  pub laid : IsLaid l
+  pub listed : AreListed kept.lists l.used l.records
+  pub room : kept.frames ≡ frames
+
+-- From records in which the reservation was none any more, and whose lists these are, the reservation was split.
+pub record WasSplit (lists : Kept) (after : Records) (whole : Reservation) : Type 0 where
+  pub records : List (Option Reservation)
+  pub placed : IsPlaced (length records) whole.frame whole
+  pub others_placed : ArePlaced records
+  pub vacant : (frame id : ℕ) → has_frame frame (Some whole) ≡ true → has_frame frame (slice_index_or records id None) ≡ false
+  pub room : lists.frames ≡ length records
+  pub split : after.records ≡ split_records (is_used after.used) whole records
+  pub listed : AreListed lists.lists after.used records

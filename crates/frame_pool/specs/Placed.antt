@@ -1,0 +1,58 @@
+-- What finding an extent and placing a page give.
+use Rattle.std.specs.Prelude.{ℕ, ◌≡◌, ◌+◌, ◌^◌, ◌<◌, ◌≤◌, true, false, length, slice_set, option_map, Option, Some, IsSome, IsSomeAnd}
+use Rattle.pager_model.specs.declared.reservation.Reservation.{Reservation}
+use Rattle.pager_model.specs.Agreement.{has_frame}
+use Rattle.pager_model.specs.Extents.{IsExtent}
+use Rattle.pager_model.specs.FreeBlocks.{with_range}
+use Rattle.pager_model.specs.Layouts.{Layout, Found, Placing, frame_for}
+use Rattle.pager_model.specs.Records.{is_used, yield_of}
+use Rattle.reservations.specs.Kept.{HasPage}
+use Rattle.frame_pool.specs.Laid.{record_at}
+
+-- the first frame of a reservation
+abbrev pub first_of : Option Reservation → Option ℕ
+first_of r = option_map (λ (q : Reservation). q.frame) r
+
+-- a reservation of more than one frame begins at the frame, and isn't full
+abbrev pub CanBreak : Layout → ℕ → Type 0
+CanBreak l id = IsSomeAnd (record_at l id) (λ r. (0 < r.size) × IsSome (yield_of (is_used l.used) r))
+
+-- the layout without the frames of the extent that was found in it
+abbrev pub without_extent : Found → Layout
+without_extent found =
+    record { free = with_range found.layout.free found.first (8 ^ found.size) false; records = found.layout.records; used = found.layout.used }
+
+-- the layout with one reservation more, whose used place is the page's
+abbrev pub with_reservation : Reservation → ℕ → Layout → Layout
+with_reservation r page l =
+    record { free = l.free; records = slice_set l.records r.frame (Some r); used = slice_set l.used (frame_for page r) true }
+
+-- The extent is the one that the definition finds: its frames are free no more, and in no reservation yet.
+pub record FindsExtent (new : Layout) (finds : Option Found) (size first broken : ℕ) : Type 0 where
+  pub found : Found
+  pub is : finds ≡ Some found
+  pub layout : new ≡ without_extent found
+  pub same_size : size ≡ found.size
+  pub same_first : first ≡ found.first
+  pub same_broken : broken ≡ found.broken
+  pub few_broken : broken ≤ 1
+  pub aligned : IsExtent size first
+  pub known : first + 8 ^ size ≤ length new.free
+  pub out : (frame id : ℕ) → first ≤ frame → frame < first + 8 ^ size → has_frame frame (record_at new id) ≡ false
+
+-- The page has the place that the definition gives, whose frame was no used place before.
+pub record PlacesPage (old new : Layout) (places : Option Placing) (frame broken : ℕ) : Type 0 where
+  pub place : Placing
+  pub is : places ≡ Some place
+  pub layout : new ≡ place.layout
+  pub same_frame : frame ≡ place.frame
+  pub same_broken : broken ≡ place.broken
+  pub few_broken : broken ≤ 1
+  pub known : frame < length new.free
+  pub unused : is_used old.used frame ≡ false
+  pub used : new.used ≡ slice_set old.used frame true
+
+-- the page is the one that the reservation joins to the frame
+pub record IsPageAt (r : Reservation) (frame page : ℕ) : Type 0 where
+  pub has : HasPage r page
+  pub joined : frame_for page r ≡ frame

@@ -1,0 +1,61 @@
+//! Laws over the frames' state: each is a clause of a function that does nothing.
+
+ghost use Rattle.std.specs.Prelude.{◌≡◌, ℕ, ◌≤◌, List, Some, None, true};
+ghost use Rattle.pager_model.specs.Agreement.{Agrees, IsPartition, NothingHeld, has_frame};
+ghost use Rattle.pager_model.specs.declared.entry.Entry.{Entry};
+ghost use Rattle.pager_model.specs.declared.entry.Want.{Want};
+ghost use Rattle.pager_model.specs.declared.reservation.Reservation.{Reservation};
+ghost use Rattle.pager_model.specs.declared.reservation.Used.{Used};
+ghost use Rattle.pager_model.specs.FrameStates.{frame_of, layout_of, used_at, held_by, claim_in, take_frame, IsFull};
+ghost use Rattle.pager_model.specs.Layouts.{covers};
+ghost use Rattle.pager_model.specs.Legal.{IsLegal, frames_at, frames_state};
+ghost use Rattle.pager_model.specs.Records.{is_used};
+ghost use Rattle.pager_model.specs.Settings.{Given};
+ghost use Rattle.frame_pool.specs.Allowed.{AreFrameEntries};
+ghost use Rattle.frame_pool.specs.Laid.{record_at};
+
+/// What the state keeps, whatever entries the frames allow.
+pub fn frames_keep()
+    // Each frame is exactly one of free, a place of one reservation, and held by one processor.
+    ensures partition { (g : Given) (entries : List Entry) → AreFrameEntries g entries → IsPartition g.frames (frames_state g entries) }
+
+    // Every reservation has a used place.
+    ensures used_place { (g : Given) (entries : List Entry) → AreFrameEntries g entries
+        → (id : ℕ) (r : Reservation) → record_at (layout_of (frames_state g entries)) id ≡ Some r
+        → (frame : ℕ) × (has_frame frame (Some r) ≡ true) × (is_used (layout_of (frames_state g entries)).used frame ≡ true) }
+
+    // Reservations of one space have no common page.
+    ensures pages { (g : Given) (entries : List Entry) → AreFrameEntries g entries
+        → (id other space page : ℕ) (r q : Reservation)
+        → record_at (layout_of (frames_state g entries)) id ≡ Some r → record_at (layout_of (frames_state g entries)) other ≡ Some q
+        → covers space page r ≡ true → covers space page q ≡ true → id ≡ other }
+
+    // The ages of two used frames differ.
+    ensures ages { (g : Given) (entries : List Entry) → AreFrameEntries g entries
+        → (frame other : ℕ) (u v : Used) → used_at (frames_state g entries) frame ≡ Some u
+        → used_at (frames_state g entries) other ≡ Some v → u.age ≡ v.age → frame ≡ other }
+
+    // A processor claims at most one frame, and while it does, holds none.
+    ensures one_claim { (g : Given) (entries : List Entry) → AreFrameEntries g entries
+        → (frame other c : ℕ) → claim_in (used_at (frames_state g entries) frame) ≡ Some c
+        → claim_in (used_at (frames_state g entries) other) ≡ Some c → frame ≡ other }
+    ensures claim_or_hold { (g : Given) (entries : List Entry) → AreFrameEntries g entries
+        → (frame c : ℕ) → claim_in (used_at (frames_state g entries) frame) ≡ Some c → held_by (frames_state g entries) c ≡ None }
+{}
+
+/// For a page without a frame a taking has no result exactly where no frame is free and every reservation is full.
+pub fn taking_fails_only_when_full()
+    ensures full { (g : Given) (entries : List Entry) → AreFrameEntries g entries → (space page : ℕ) (want : Want)
+        → frame_of (frames_state g entries) space page ≡ None
+        → take_frame (frames_state g entries) space page want ≡ None → IsFull (frames_state g entries) }
+    ensures none { (g : Given) (entries : List Entry) → AreFrameEntries g entries → (space page : ℕ) (want : Want)
+        → frame_of (frames_state g entries) space page ≡ None → IsFull (frames_state g entries)
+        → take_frame (frames_state g entries) space page want ≡ None }
+{}
+
+/// After every legal history each frame is in one role, nobody holds one, and spaces and frames agree on the resident pages.
+pub fn frames_have_one_role()
+    ensures partition { (g : Given) (history : List Entry) → IsLegal g history → IsPartition g.frames (frames_at g history) }
+    ensures held { (g : Given) (history : List Entry) → IsLegal g history → NothingHeld (frames_at g history) }
+    ensures agrees { (g : Given) (history : List Entry) → IsLegal g history → Agrees g history }
+{}

@@ -1,0 +1,337 @@
+ghost use Rattle.std.specs.Prelude.{◌≡◌, ℕ, Bool, ◌+◌, ◌%◌, ◌^◌, ◌<◌, ◌≤◌, Some, true, false, length, slice_index_or, sum_by, count_by, IfOk, IfSome, IfNone, IsSomeAnd};
+ghost use Rattle.std.specs.List.{list_any};
+ghost use Rattle.std.specs.Option.{option_and_then};
+ghost use Rattle.pager_model.specs.Agreement.{has_frame};
+ghost use Rattle.pager_model.specs.FrameStates.{places_in};
+ghost use Rattle.pager_model.specs.Layouts.{start_layout, frame_for, frame_in, split_layout, split_free, broken_at, to_break};
+ghost use Rattle.pager_model.specs.Layouts.{carve_layout, narrow_layout, take_out, vacate_layout, put_back};
+ghost use Rattle.pager_model.specs.Layouts.{extent_of, largest_extent, populated, placing};
+ghost use Rattle.pager_model.specs.PreferredSize.{IsWanted};
+ghost use Rattle.pager_model.specs.Records.{is_used, goes_on_at};
+ghost use Rattle.reservations.specs.Kept.{HasPage, IsPlaced};
+ghost use Rattle.reservations.specs.Parts.{told_parts};
+ghost use Rattle.frame_pool.specs.Laid.{record_at, IsIn, IsLaid};
+ghost use Rattle.frame_pool.specs.Placed.{CanBreak, FindsExtent, PlacesPage, with_reservation};
+
+use crate::lists::{enlist, enlist_parts, unlist};
+use crate::records::{covering, lowest_as_wide, page_at, places, preferred};
+use buddy_extents::Free;
+use pager_model::{Extent, NoMemory, Reservation, Size, Want};
+use reservation_lists::Lists;
+use reservations::{Part, Reservations, frame_for};
+use size_policy::extent_round;
+use std::alloc::Global;
+use std::marker::Model;
+
+/// Which frames are free, the reservations with their used places, and the lists of reservations by age.
+///
+/// Contracts see it as the layout of the frames.
+#[derive(Debug, Drop)]
+pub(crate) struct Layout {
+    frames: u32,
+    free: Free,
+    reservations: Reservations,
+    lists: Lists,
+}
+
+impl Model for Layout {
+    ghost use Rattle.pager_model.specs.Layouts.{Layout};
+    ghost use Rattle.frame_pool.specs.Listed.{IsInOrder};
+
+    ghost Value = { Layout };
+
+    ghost view = { λ l. record { free = l.free; records = l.reservations.records; used = l.reservations.used } };
+
+    ghost invariant = { λ l. IsInOrder l.frames (record { free = l.free; records = l.reservations.records; used = l.reservations.used }) l.lists };
+}
+
+/// An extent of frames for a new reservation, and how many reservations were broken for it.
+#[derive(Clone, Copy, Debug)]
+pub(crate) struct Found {
+    size: Size,
+    first: u32,
+    broken: u64,
+}
+
+/// The frame of a page's place, and how many reservations were broken for it.
+#[derive(Clone, Copy, Debug)]
+pub(crate) struct Place {
+    pub(crate) frame: u32,
+    pub(crate) broken: u64,
+}
+
+impl Layout {
+    /// All frames are free.
+    pub(crate) fn create(alloc: Global, frames: u32) -> Result<Layout, NoMemory>
+        requires whole { frames % 512 ≡ 0 }
+        requires most { frames ≤ 32768 }
+        ensures { IfOk result (λ l. l ≡ start_layout frames) }
+    {
+        Ok(Layout {
+            frames,
+            free: Free::create(alloc, frames)?,
+            reservations: Reservations::create(alloc, frames)?,
+            lists: Lists::create(alloc, frames)?,
+        })
+    }
+
+    /// The reservation that has the frame, if one has it.
+    pub(crate) fn owner(&self, frame: u32) -> Option<Reservation>
+        ensures owner { IfSome result (λ r. (record_at self.now r.frame ≡ Some r) × (has_frame frame (Some r) ≡ true)) }
+        ensures none { IfNone result ((id : ℕ) → has_frame frame (record_at self.now id) ≡ false) }
+        ensures laid { IsLaid self.now }
+    {
+        let id = self.reservations.holder(frame)?;
+        self.reservations.get(id)
+    }
+
+    /// How many frames are free.
+    pub(crate) fn free_frames(&self) -> u32
+        ensures { result ≡ count_by (λ free. free) self.now.free }
+    {
+        self.free.count()
+    }
+
+    /// How many places the reservations have, used or not.
+    pub(crate) fn places(&self) -> u32
+        ensures { result ≡ sum_by places_in self.now.records }
+    {
+        places(&self.reservations, self.frames)
+    }
+
+    /// Gives a page of a space, which has none, a place: in the reservation that has the page, or in a new one. `None` exactly
+    /// where there is none, and then nothing changes.
+    pub(crate) fn place(&mut self, stamp: u64, space: u32, page: u32, want: &Want) -> Option<Place>
+        requires unplaced { frame_in self.old space page ≡ None }
+        requires wanted { IsWanted want.now page }
+        ensures placed { IfSome result (λ p. PlacesPage self.old self.new (placing stamp space page want.now self.old) p.frame p.broken) }
+        ensures none { IfNone result ((placing stamp space page want.now self.old ≡ None) × (self.new ≡ self.old)) }
+    {
+        if let Some(reservation) = covering(&self.reservations, self.frames, space, page) {
+            let frame = self.populate(&reservation, page, stamp);
+            return Some(Place { frame, broken: 0 });
+        }
+        let size = preferred(&self.reservations, self.frames, space, page, want);
+        let found = self.largest_extent(size)?;
+        let pages = extent_round(found.size, page);
+        let reservation = Reservation {
+            space,
+            first: pages.first,
+            size: found.size,
+            frame: found.first,
+            stamp,
+        };
+        let frame = self.add(reservation, page);
+        Some(Place {
+            frame,
+            broken: found.broken,
+        })
+    }
+
+    /// Uses the page's place in the reservation, which is as young as the stamp from then on. Answers the place's frame.
+    fn populate(&mut self, reservation: &Reservation, page: u32, stamp: u64) -> u32
+        requires there { record_at self.old reservation.now.frame ≡ Some reservation.now }
+        requires has { HasPage reservation.now page }
+        requires unused { is_used self.old.used (frame_for page reservation.now) ≡ false }
+        ensures layout { self.new ≡ (populated stamp page self.old reservation.now).layout }
+        ensures frame { result ≡ frame_for page reservation.now }
+    {
+        let id = reservation.frame;
+        unlist(&mut self.lists, &self.reservations, id);
+        self.reservations.populate(id, page, stamp);
+        enlist(&mut self.lists, &self.reservations, id);
+        frame_for(reservation, page)
+    }
+
+    /// Adds a reservation of frames that are in none, whose one used place is the page's, where the layout is sound with it.
+    /// Answers the place's frame.
+    fn add(&mut self, reservation: Reservation, page: u32) -> u32
+        requires has { HasPage reservation page }
+        requires placed { IsPlaced (length self.old.free) reservation.frame reservation }
+        requires apart { (frame id : ℕ) → has_frame frame (Some reservation) ≡ true → has_frame frame (record_at self.old id) ≡ false }
+        requires laid { IsLaid (with_reservation reservation page self.old) }
+        ensures layout { self.new ≡ with_reservation reservation page self.old }
+        ensures frame { result ≡ frame_for page reservation }
+    {
+        let id = reservation.frame;
+        let frame = frame_for(&reservation, page);
+        self.reservations.add(reservation, page);
+        enlist(&mut self.lists, &self.reservations, id);
+        frame
+    }
+
+    /// Takes an extent for a new reservation out of the free frames: of the largest size, up to this one, for which one can be
+    /// had.
+    fn largest_extent(&mut self, size: Size) -> Option<Found>
+        ensures found { IfSome result (λ f. FindsExtent self.new (largest_extent size self.old) f.size f.first f.broken) }
+        ensures none { IfNone result ((largest_extent size self.old ≡ None) × (self.new ≡ self.old)) }
+    {
+        for level in (0..size.level() + 1).rev() {
+            let found = self.extent_of(Size::of(level).unwrap());
+            if found.is_some() {
+                return found;
+            }
+        }
+        None
+    }
+
+    /// Takes an extent of this size out of the free frames. Where none is free, the oldest reservation of the first list that can
+    /// give one back is broken for it.
+    fn extent_of(&mut self, size: Size) -> Option<Found>
+        ensures found { IfSome result (λ f. FindsExtent self.new (extent_of size self.old) f.size f.first f.broken) }
+        ensures none { IfNone result ((extent_of size self.old ≡ None) × (self.new ≡ self.old)) }
+    {
+        if let Some(first) = self.free.take(size) {
+            return Some(Found {
+                size,
+                first,
+                broken: 0,
+            });
+        }
+        let id = self.to_break(size)?;
+        self.break_at(id);
+        let first = self.free.take(size).unwrap();
+        Some(Found {
+            size,
+            first,
+            broken: 1,
+        })
+    }
+
+    /// The first frame of the reservation that is broken for an extent of this size.
+    fn to_break(&self, size: Size) -> Option<u32>
+        ensures { result ≡ to_break self.now size }
+    {
+        for level in size.level()..3 {
+            let oldest = self.lists.oldest(Size::of(level).unwrap());
+            if oldest.is_some() {
+                return oldest;
+            }
+        }
+        None
+    }
+
+    /// Breaks the reservation that begins at the frame `id`.
+    fn break_at(&mut self, id: u32)
+        requires { CanBreak self.old id }
+        ensures { self.new ≡ broken_at id self.old }
+    {
+        let mut part = Some(id);
+        while let Some(next) = part {
+            part = self.split_to_break(next);
+        }
+    }
+
+    /// Splits the reservation that begins at the frame `id`, and answers the first frame of the part at which its breaking goes
+    /// on.
+    fn split_to_break(&mut self, id: u32) -> Option<u32>
+        requires { CanBreak self.old id }
+        ensures split { IfSome (record_at self.old id) (λ r. self.new ≡ split_layout r self.old) }
+        ensures next { IfSome (record_at self.old id)
+            (λ r. option_and_then (record_at self.new) result ≡ goes_on_at (is_used self.old.used) r) }
+        ensures breaks { IfSome result (CanBreak self.new) }
+    {
+        let whole = self.reservations.get(id).unwrap();
+        let width = self.reservations.yields(id);
+        let parts = self.split(id);
+        if any_empty(&parts) {
+            return None;
+        }
+        lowest_as_wide(&self.reservations, &whole, width)
+    }
+
+    /// Splits the reservation that begins at the frame `id` into its eight parts: those with a used place are reservations, and
+    /// the frames of the others are free.
+    fn split(&mut self, id: u32) -> [Part; 8]
+        requires { IsSomeAnd (record_at self.old id) (λ r. 0 < r.size) }
+        ensures split { IfSome (record_at self.old id) (λ r. self.new ≡ split_layout r self.old) }
+        ensures parts { IfSome (record_at self.old id) (λ r. result ≡ told_parts (is_used self.old.used) r) }
+    {
+        let whole = self.reservations.get(id).unwrap();
+        unlist(&mut self.lists, &self.reservations, id);
+        let parts = self.reservations.split(id);
+        give_parts(&mut self.free, &whole, &parts);
+        enlist_parts(&mut self.lists, &self.reservations, &whole);
+        parts
+    }
+
+    /// The used frame is a used place no more, and where its reservation has no other used place, all its frames are free.
+    pub(crate) fn vacate(&mut self, frame: u32)
+        requires { is_used self.old.used frame ≡ true }
+        ensures { (id : ℕ) → IfSome (record_at self.old id) (λ r. has_frame frame (Some r) ≡ true → self.new ≡ vacate_layout frame r self.old) }
+    {
+        let reservation = self.owner(frame).unwrap();
+        let id = reservation.frame;
+        unlist(&mut self.lists, &self.reservations, id);
+        if self.reservations.vacate(id, page_at(&reservation, frame)) {
+            self.reservations.dissolve(id);
+            self.free.give(Extent {
+                size: reservation.size,
+                first: id,
+            });
+            return;
+        }
+        enlist(&mut self.lists, &self.reservations, id);
+    }
+
+    /// The used frame is carved out: it is neither free nor a place then, and the rest of its reservation is free or reserved.
+    pub(crate) fn carve(&mut self, frame: u32)
+        requires { is_used self.old.used frame ≡ true }
+        ensures { (id : ℕ) → IfSome (record_at self.old id) (λ r. has_frame frame (Some r) ≡ true → self.new ≡ carve_layout frame r self.old) }
+    {
+        let page = self.narrow(frame);
+        self.reservations.vacate(frame, page);
+        self.reservations.dissolve(frame);
+    }
+
+    /// Splits the reservation that has the used frame, and then the part that has it, down to the frame. Answers its page.
+    fn narrow(&mut self, frame: u32) -> u32
+        requires { is_used self.old.used frame ≡ true }
+        ensures narrowed { (id : ℕ) → IfSome (record_at self.old id) (λ r. has_frame frame (Some r) ≡ true → self.new ≡ narrow_layout frame r self.old) }
+        ensures alone { IsSomeAnd (record_at self.new frame) (λ r. (r.size ≡ 0) × (r.first ≡ result)) }
+    {
+        let mut part = self.owner(frame).unwrap();
+        while part.size.level() > 0 {
+            self.split(part.frame);
+            part = self.owner(frame).unwrap();
+        }
+        part.first
+    }
+
+    /// A frame that is neither free nor a place is free.
+    pub(crate) fn put_back(&mut self, frame: u32)
+        requires known { frame < length self.old.free }
+        requires out { IsIn self.old frame → ⊥ }
+        ensures { self.new ≡ put_back frame self.old }
+    {
+        self.free.give(Extent {
+            size: Size::of(0).unwrap(),
+            first: frame,
+        });
+    }
+}
+
+/// Whether some part has no used place.
+fn any_empty(parts: &[Part]) -> bool
+    ensures { result ≡ list_any (λ part. part.empty) parts.now }
+{
+    parts.iter().any(|part| part.empty)
+}
+
+/// Frees the frames of those parts of a reservation that have no used place.
+fn give_parts(free: &mut Free, whole: &Reservation, parts: &[Part])
+    requires placed { IsPlaced (length free.old) whole.now.frame whole.now }
+    requires splits { 0 < whole.now.size }
+    requires taken { (frame : ℕ) → has_frame frame (Some whole.now) ≡ true → slice_index_or free.old frame false ≡ false }
+    requires parts { (used : ℕ → Bool) × (parts.now ≡ told_parts used whole.now) }
+    ensures { (used : ℕ → Bool) → parts.now ≡ told_parts used whole.now → free.new ≡ split_free used whole.now free.old }
+{
+    for part in parts {
+        if part.empty {
+            free.give(part.extent);
+        }
+    }
+}
+
+#[cfg(test)]
+pub(crate) mod tests;

@@ -1,0 +1,140 @@
+ghost use Rattle.std.specs.Prelude.{◌≡◌, ℕ, ◌<◌, ◌≤◌, Some, true, length, option_map, sum_by};
+ghost use Rattle.pager_model.specs.FrameStates.{places_in};
+ghost use Rattle.pager_model.specs.Layouts.{covers, covering, frame_for, meets, meets_any};
+ghost use Rattle.pager_model.specs.PreferredSize.{IsWanted, preferred_size};
+ghost use Rattle.pager_model.specs.Agreement.{has_frame};
+ghost use Rattle.pager_model.specs.Extents.{IsExtent};
+ghost use Rattle.pager_model.specs.Records.{is_used, part_of, yield_of, lowest_as_wide};
+ghost use Rattle.reservations.specs.Kept.{IsPlaced, HasPage, record_at};
+ghost use Rattle.frame_pool.specs.Placed.{IsPageAt, first_of};
+
+use pager_model::{Extent, Reservation, Size, Want};
+use reservations::Reservations;
+
+/// Whether the reservation has the page of the space.
+fn has_page(reservation: &Reservation, space: u32, page: u32) -> bool
+    ensures { result ≡ covers space page reservation.now }
+{
+    reservation.space == space
+        && reservation.first <= page
+        && page - reservation.first < reservation.size.pages()
+}
+
+/// The reservation that has the page of the space, if one has it.
+pub(crate) fn covering(
+    reservations: &Reservations,
+    frames: u32,
+    space: u32,
+    page: u32,
+) -> Option<Reservation>
+    requires { frames ≡ length reservations.now.records }
+    ensures { result ≡ covering space page reservations.now.records }
+{
+    for id in 0..frames {
+        if let Some(reservation) = reservations.get(id) {
+            if has_page(&reservation, space, page) {
+                return Some(reservation);
+            }
+        }
+    }
+    None
+}
+
+/// Whether the reservation has a page of the extent of the space's pages.
+fn meets(reservation: &Reservation, space: u32, extent: &Extent) -> bool
+    ensures { result ≡ meets space extent.now.size extent.now.first (Some reservation.now) }
+{
+    if reservation.space != space {
+        return false;
+    }
+    if reservation.first < extent.first {
+        extent.first - reservation.first < reservation.size.pages()
+    } else {
+        reservation.first - extent.first < extent.size.pages()
+    }
+}
+
+/// Whether a reservation has a page of the extent of the space's pages.
+fn meets_any(reservations: &Reservations, frames: u32, space: u32, extent: &Extent) -> bool
+    requires { frames ≡ length reservations.now.records }
+    ensures { result ≡ meets_any space reservations.now.records extent.now.size extent.now.first }
+{
+    for id in 0..frames {
+        if let Some(reservation) = reservations.get(id) {
+            if meets(&reservation, space, extent) {
+                return true;
+            }
+        }
+    }
+    false
+}
+
+/// The size that is tried first for a page.
+pub(crate) fn preferred(
+    reservations: &Reservations,
+    frames: u32,
+    space: u32,
+    page: u32,
+    want: &Want,
+) -> Size
+    requires frames { frames ≡ length reservations.now.records }
+    requires wanted { IsWanted want.now page }
+    ensures { result ≡ preferred_size (meets_any space reservations.now.records) page want.now }
+{
+    let meets = |extent: Extent| meets_any(reservations, frames, space, &extent);
+    size_policy::preferred(page, want, meets)
+}
+
+/// How many places a reservation has, where there is one.
+fn places_of(reservation: Option<Reservation>) -> u32
+    ensures { result ≡ places_in reservation }
+{
+    match reservation {
+        Some(reservation) => reservation.size.pages(),
+        None => 0,
+    }
+}
+
+/// How many places the reservations have.
+pub(crate) fn places(reservations: &Reservations, frames: u32) -> u32
+    requires frames { frames ≡ length reservations.now.records }
+    requires few { frames ≤ 32768 }
+    ensures { result ≡ sum_by places_in reservations.now.records }
+{
+    let mut places = 0;
+    for id in 0..frames {
+        places += places_of(reservations.get(id));
+    }
+    places
+}
+
+/// The first frame of the lowest of the eight parts of a reservation that has this yield, where each is a reservation.
+pub(crate) fn lowest_as_wide(
+    reservations: &Reservations,
+    whole: &Reservation,
+    width: Option<Size>,
+) -> Option<u32>
+    requires splits { 0 < whole.now.size }
+    requires placed { IsPlaced (length reservations.now.records) whole.now.frame whole.now }
+    requires parts { (i : ℕ) → i < 8 → record_at reservations.now (part_of whole.now i).frame ≡ Some (part_of whole.now i) }
+    requires width { width ≡ yield_of (is_used reservations.now.used) whole.now }
+    ensures { result ≡ first_of (option_map (part_of whole.now) (lowest_as_wide (is_used reservations.now.used) whole.now)) }
+{
+    let pages = whole.size.pages() / 8;
+    for i in 0..8 {
+        let first = whole.frame + i * pages;
+        if reservations.yields(first) == width {
+            return Some(first);
+        }
+    }
+    None
+}
+
+/// The page that the reservation joins to a frame of it.
+pub(crate) fn page_at(reservation: &Reservation, frame: u32) -> u32
+    requires has { has_frame frame (Some reservation.now) ≡ true }
+    requires pages { IsExtent reservation.now.size reservation.now.first }
+    ensures { IsPageAt reservation.now frame result }
+{
+    reservation.first + (frame - reservation.frame)
+}
