@@ -165,7 +165,7 @@ impl Pool {
     }
 
     /// Takes the frame of a page back, which is the page's used place. Answers the processor that claimed it and holds it now, and
-    /// `None` exactly where it wasn't claimed.
+    /// `None` exactly where it wasn't claimed. No entry is counted: one entry may take many frames back.
     pub fn give(&mut self, space: u32, page: u32, frame: Frame) -> Option<u32>
         requires { frame_of self.old space page ≡ Some frame.number }
         ensures claimer { result ≡ claim_in (used_at self.old frame.number) }

@@ -78,7 +78,7 @@ counted-step h e pool pool' few moves =
     ] refl
 
 -- in a run the space and the frames agree on the frame of each page
-pub AreAgreed-runs : (plan : Plan) (kept : Kept) (pool : FrameState) (h : List Entry) → Runs plan kept pool h → AreAgreed kept pool
+pub AreAgreed-runs : (plan : Plan) (kept : Kept) (pool : FrameState) (h : List Entry) → Runs plan kept pool h → AreAgreed kept.number kept pool
 AreAgreed-runs plan kept pool h runs = λ page.
     sym (runs.space.base page)
     ∙ (IsKept-legal (setting_of plan) h runs.legal).agrees 0 page

@@ -20,13 +20,13 @@ after_named s st e = if names_space s e then space_after st e else st
 abbrev pub after_frames : FrameState → Entry → FrameState
 after_frames st e = if e.frames then frames_after st e else st
 
--- the frames have for each page of the space the frame that the space has
-abbrev pub AreAgreed : Kept → FrameState → Type 0
-AreAgreed kept frames = (page : ℕ) → frame_at kept page ≡ frame_of frames kept.number page
+-- the frames have for each page of the space with this number the frame that the space has
+abbrev pub AreAgreed : ℕ → Kept → FrameState → Type 0
+AreAgreed space kept frames = (page : ℕ) → frame_at kept page ≡ frame_of frames space page
 
 -- and so they do as long as the flight has made no entry
 abbrev pub AgreeAtFirst : Flight → Kept → FrameState → Type 0
-AgreeAtFirst f kept frames = made_in f.phase ≡ 0 → AreAgreed kept frames
+AgreeAtFirst f kept frames = made_in f.phase ≡ 0 → AreAgreed kept.number kept frames
 
 -- it is the same call
 pub record SameCall (old new : Flight) : Type 0 where
@@ -45,7 +45,7 @@ pub record Steps (old new : Flight) (was now : Kept) (before after : FrameState)
   pub space_stands : (st : SpaceState) → StandsFor was st → StandsFor now (after_named (space_of_call old.call) st e)
   -- by the frames, where its processor makes calls
   pub frames_allow :
-      e.frames ≡ true → ((page : ℕ) → frame_at was page ≡ frame_of before (space_of_call old.call) page) → HasNothing before old.processor → FramesAllow before 0 e.processor e.space e.what
+      e.frames ≡ true → AreAgreed (space_of_call old.call) was before → HasNothing before old.processor → FramesAllow before 0 e.processor e.space e.what
   pub frames_stand : after ≡ after_frames before e
   pub in_order : progress_after (progress_in old) e.space e.what ≡ Some (progress_in new)
   pub ready : IsReady new now

@@ -190,7 +190,7 @@ impl Flight {
     pub fn step_both(&mut self, space: &mut Space, pool: &mut Pool) -> Option<Entry>
         requires needs { needs_of self.old ≡ Needs.Both space.old.number }
         requires ready { IsReady self.old space.old }
-        requires agree { AreAgreed space.old pool.old }
+        requires agree { AreAgreed space.old.number space.old pool.old }
         requires room { pool.old.entries < 2 ^ 45 }
         ensures some { IsSome result }
         ensures entry { IfSome result (λ e. Steps self.old self.new space.old space.new pool.old pool.new e) }
@@ -214,7 +214,7 @@ impl Flight {
     fn take(&mut self, space: &mut Space, pool: &mut Pool, page: u32, want: Want) -> Entry
         requires phase { self.old.phase ≡ Phase.Frame page want }
         requires ready { IsReady self.old space.old }
-        requires agree { AreAgreed space.old pool.old }
+        requires agree { AreAgreed space.old.number space.old pool.old }
         requires room { pool.old.entries < 2 ^ 45 }
         ensures { Steps self.old self.new space.old space.new pool.old pool.new result }
     {

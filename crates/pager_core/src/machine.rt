@@ -171,7 +171,7 @@ fn next_flight(flight: Option<Flight>, lines: &[Line], answered: usize) -> Optio
 fn next_entry(flight: &mut Flight, space: &mut Space, pool: &mut Pool) -> Entry
     requires going { reply_in flight.old.phase ≡ None }
     requires ready { IsReady flight.old space.old }
-    requires agree { AreAgreed space.old pool.old }
+    requires agree { AreAgreed space.old.number space.old pool.old }
     requires room { pool.old.entries < 2 ^ 45 }
     ensures { StepsOn flight.old flight.new space.old space.new pool.old pool.new result }
 {
@@ -190,7 +190,7 @@ fn next_entry(flight: &mut Flight, space: &mut Space, pool: &mut Pool) -> Entry
 fn step_both(flight: &mut Flight, space: &mut Space, pool: &mut Pool) -> Entry
     requires needs { needs_of flight.old ≡ Needs.Both space.old.number }
     requires ready { IsReady flight.old space.old }
-    requires agree { AreAgreed space.old pool.old }
+    requires agree { AreAgreed space.old.number space.old pool.old }
     requires room { pool.old.entries < 2 ^ 45 }
     ensures { Steps flight.old flight.new space.old space.new pool.old pool.new result }
 {

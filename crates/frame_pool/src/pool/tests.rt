@@ -178,8 +178,8 @@ impl Both {
         }
     }
 
-    /// What the processor claims is claimed no more; or it collects what its claim became.
-    fn settle(&mut self, rt: &impl Abort, processor: u32) {
+    /// What the processor claims, and has been given up by no page, is claimed no more.
+    fn unclaim(&mut self, rt: &impl Abort, processor: u32) {
         assert!(rt; self.pool.entries < 1 << 40);
         let Some(frame) = self.pool.claim_of(processor) else {
             return;
@@ -288,7 +288,7 @@ fn does_as_the_plain_pool_over_a_thousand_calls(rt: HostRuntime) -> Result<(), F
             0..8 => both.take(&rt, space, page)?,
             8..10 => both.give(&rt, draw / 1024 % FRAMES)?,
             10..12 => both.claim(&rt, processor),
-            12 => both.settle(&rt, processor),
+            12 => both.unclaim(&rt, processor),
             13 => both.give_claimed(&rt, processor)?,
             14 => both.spend(&rt, processor, space, page)?,
             _ => both.end_entry(&rt),

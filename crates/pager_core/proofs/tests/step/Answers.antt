@@ -16,7 +16,7 @@ IsReady-stepped None old new was now frames steps waits = waits.ready
 AgreeAtFirst-stepped : (o : Option Entry) (old new : Flight) (was now : Kept) (frames : FrameState) → IfSome o (λ e. (frames : FrameState) → Steps old new was now frames frames e) → IfNone o (Waits old new was now) → AgreeAtFirst old was frames → AgreeAtFirst new now frames
 AgreeAtFirst-stepped (Some e) old new was now frames steps waits agree = λ first. (let made = (steps frames).few in absurd (omega (arith, made, first)))
 AgreeAtFirst-stepped None old new was now frames steps waits agree = λ first.
-    subst (λ k. AreAgreed k frames) (sym waits.same_space) (agree (sym waits.few ∙ first))
+    subst (λ k. AreAgreed k.number k frames) (sym waits.same_space) (agree (sym waits.few ∙ first))
 
 pub returns-in-Space-clause-agree : goal.returns-in-Space-clause-agree
 returns-in-Space-clause-agree c =
