@@ -47,6 +47,21 @@ first_line plan = line_of_words (codes "trace" ∷ codes "1" ∷ decimal plan.fr
 abbrev pub text_of : Plan → List ℕ
 text_of plan = first_line plan ++ flat_map call_line plan.calls ++ line_of_words (codes "end" ∷ [])
 
+-- a call that a line may hold, in a trace of so many spaces: at pages and at words of pages below 1,048,576, with at least one page
+abbrev pub IsCall : ℕ → Call → Type 0
+IsCall spaces (Map space page len kind rights) = (space < spaces) × (page < 1048576) × (1 ≤ len) × (len ≤ 1048576)
+IsCall spaces (Grow space page by) = (space < spaces) × (page < 1048576) × (1 ≤ by) × (by ≤ 1048576)
+IsCall spaces (Unmap space page) = (space < spaces) × (page < 1048576)
+IsCall spaces (Protect space page len rights) = (space < spaces) × (page < 1048576) × (1 ≤ len) × (len ≤ 1048576)
+IsCall spaces (Load space address) = (space < spaces) × (address % 8 ≡ 0) × (address < 8589934592)
+IsCall spaces (Store space address word) = (space < spaces) × (address % 8 ≡ 0) × (address < 8589934592) × (word < 2 ^ 64)
+IsCall spaces (Sync space page) = (space < spaces) × (page < 1048576)
+IsCall spaces (Evict space page) = (space < spaces) × (page < 1048576)
+
+-- a line of a trace of so many processors and spaces
+abbrev pub IsLine : ℕ → ℕ → Line → Type 0
+IsLine processors spaces line = (line.processor < processors) × IsCall spaces line.call
+
 -- a load or a store that a line may hold: of processor 0 and space 0, at a word of one of the 1,048,576 pages
 abbrev pub IsAccessCall : Call → Type 0
 IsAccessCall (Load space address) = (space ≡ 0) × (address % 8 ≡ 0) × (address < 8589934592)
