@@ -15,8 +15,11 @@ use Rattle.pager_model.proofs.Histories.{progress_from-append}
 answered : (g : Given) (c n : ℕ) (entries : List Entry) → progress_in g c entries ≡ Some (at_rest 0 n) → progress_by (progress_in g c entries) (unmapped c n) ≡ Some (at_rest 0 (n + 1))
 answered g c n entries progress = ap (λ p. progress_by p (unmapped c n)) progress ∙ ap (λ (b : Bool). cond (b && true) (Some (at_rest 0 (n + 1))) None) (eq-eqb n n refl)
 
-pub answer_next : (g : Given) (c n : ℕ) (entries : List Entry) (e : Entry) → e ≡ unmapped c n → progress_in g c entries ≡ Some (at_rest 0 n) → KeepsOrder g entries e
-answer_next g c n entries e is progress = subst (KeepsOrder g entries) (sym is) (at_rest 0 (n + 1), answered g c n entries progress)
+-- the next answer keeps the order
+pub answer_next : (j : JournalName) (c n : ℕ) (a : AuthorState) (p : PassState) (e : Entry) → Filled j c n a p → e ≡ unmapped c n → KeepsOrder p.journal.setting (entries_in p.entries) e
+answer_next j c n a p e f is =
+    subst (KeepsOrder p.journal.setting (entries_in p.entries)) (sym is)
+    (subst (λ (k : JournalName). KeepsOrder k.setting (entries_in p.entries) (unmapped c n)) (sym f.pass_of) (at_rest 0 (n + 1), answered j.setting c n (entries_in p.entries) f.progress))
 
 state_push : (g : Given) (entries : List Entry) (c n : ℕ) (e : Entry) → e ≡ unmapped c n → state_of_space g c (entries ++ e ∷ []) ≡ space_after (state_of_space g c entries) (unmapped c n)
 state_push g entries c n e is = fold-append space_after (empty_state (is_told g c) (faults_at_entry g c)) entries (e ∷ []) ∙ ap (space_after (state_of_space g c entries)) is
