@@ -12,7 +12,7 @@ use Rattle.space_core.specs.Standing.{Kept, CanBegin}
 use Rattle.pager_core.specs.declared.flight.Flight.{Flight}
 use Rattle.pager_core.specs.Rows.{row_of}
 use Rattle.pager_core.specs.Flights.{IsReady, IsAtRest}
-use Rattle.pager_core.specs.Running.{Running, calls_at, flight_at, IsLawful}
+use Rattle.pager_core.specs.Running.{Running, calls_at, flight_at, left_at, IsLawful}
 
 -- the setting of so many frames, processors that make calls, and spaces whose stores tell their copies; nothing is paged out yet
 abbrev pub given_of : ℕ → ℕ → ℕ → Given
@@ -23,14 +23,6 @@ given_of frames processors spaces =
 pub record CanFly (spaces : ℕ) (call : Call) : Type 0 where
   pub on : space_of_call call < spaces
   pub can : CanBegin call
-
--- how many entries a processor may make still: what is left of its flight, and eight for each call after that
-abbrev pub entries_left : List Call → Option Flight → ℕ
-entries_left calls None = 0
-entries_left calls (Some f) = (row_of f).entries + 8 * (length calls - (f.number + 1))
-
-abbrev pub left_at : Running → ℕ → ℕ
-left_at run c = entries_left (calls_at run.calls c) (flight_at run.flights c)
 
 abbrev pub all_left : Running → ℕ
 all_left run = sum_by (left_at run) (range_with_len 0 (length run.calls))

@@ -1,5 +1,5 @@
 -- A machine as contracts see it, and what holds of it after any turns.
-use Rattle.std.specs.Prelude.{ℕ, ◌≡◌, ◌≢◌, ◌+◌, ◌<◌, List, [], ◌∷◌, ◌++◌, length, map, take, slice_get, slice_index_or, option_map, Option, Some, None}
+use Rattle.std.specs.Prelude.{ℕ, ◌≡◌, ◌≢◌, ◌+◌, ◌-◌, ◌*◌, ◌<◌, ◌⊎◌, List, [], ◌∷◌, ◌++◌, length, map, take, slice_get, slice_index_or, option_map, Option, Some, None}
 use Rattle.std.specs.List.{enumerate_from, range_with_len}
 use Rattle.pager_model.specs.declared.call.Call.{Call}
 use Rattle.pager_model.specs.declared.entry.Entry.{Entry}
@@ -68,12 +68,34 @@ pub record MustWait (run : Running) (actor space : ℕ) : Type 0 where
 abbrev pub IsNumbered : List Numbered → Type 0
 IsNumbered history = map (λ (n : Numbered). n.number) history ≡ range_with_len 0 (length history)
 
--- one entry more, of this actor, while every other processor's flight stays as it was
+-- how many entries a processor may make still: what is left of its flight, and eight for each call after that
+abbrev pub entries_left : List Call → Option Flight → ℕ
+entries_left calls None = 0
+entries_left calls (Some f) = (row_of f).entries + 8 * (length calls - (f.number + 1))
+
+abbrev pub left_at : Running → ℕ → ℕ
+left_at run c = entries_left (calls_at run.calls c) (flight_at run.flights c)
+
+-- the processor's flight goes on with its call of this number
+pub record StillFlies (run : Running) (actor number : ℕ) : Type 0 where
+  pub flight : Flight
+  pub flies : flight_at run.flights actor ≡ Some flight
+  pub same_call : flight.number ≡ number
+  pub going : (row_of flight).reply ≡ None
+
+-- after a step the flight goes on, or its call was answered and the processor's next call comes next, where there is one
+abbrev pub WentOn : Running → ℕ → ℕ → Type 0
+WentOn run actor number =
+    StillFlies run actor number ⊎ (flight_at run.flights actor ≡ flight_of actor (number + 1) (calls_at run.calls actor))
+
+-- one entry more, of this actor, whose flight went on, while every other processor's flight stays as it was
 pub record OneMore (old new : Running) (actor : ℕ) : Type 0 where
   pub entry : Entry
   pub history : new.history ≡ old.history ++ record { number = length old.history; entry = entry } ∷ []
   pub of_actor : entry.processor ≡ actor
   pub others : (c : ℕ) → c ≢ actor → flight_at new.flights c ≡ flight_at old.flights c
+  pub went_on : (f : Flight) → flight_at old.flights actor ≡ Some f → WentOn new actor f.number
+  pub fewer : left_at new actor < left_at old actor
 
 -- What holds after any turns: the history is legal and numbered, spaces and frames agree, each processor is where its flight is, and
 -- its answers are of its first calls, in order and numbered from 0.

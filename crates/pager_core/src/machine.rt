@@ -9,7 +9,7 @@ ghost use Rattle.pager_model.specs.SpaceStates.{SpaceState};
 ghost use Rattle.space_core.specs.Standing.{CanBegin};
 ghost use Rattle.pager_core.specs.Flights.{IsReady};
 ghost use Rattle.pager_core.specs.Rows.{row_of, space_under};
-ghost use Rattle.pager_core.specs.Running.{Running, flight_at, flight_of, first_flights, HasEnded, IsKeptByOther, MustWait, OneMore, IsLawful, IsWholeRun};
+ghost use Rattle.pager_core.specs.Running.{Running, progress_of_actor, flight_at, flight_of, first_flights, HasEnded, IsKeptByOther, MustWait, OneMore, IsLawful, IsWholeRun};
 ghost use Rattle.pager_core.specs.Steps.{AreAgreed, Makes};
 
 use crate::flight::{Flight, Needs};
@@ -128,6 +128,18 @@ impl Machine {
         self.history.push_reserved(Numbered { number, entry });
         self.flights[actor as usize] = going_on(flight, self.calls[actor as usize].as_slice());
         Turn::Stepped
+    }
+
+    /// How many of its calls the actor has answered.
+    pub fn answered(&self, actor: u32) -> u32
+        requires { actor < length self.now.calls }
+        ensures made { result ≡ (progress_of_actor self.now actor).made }
+        ensures lawful { IsLawful self.now }
+    {
+        match &self.flights[actor as usize] {
+            Some(flight) => flight.number,
+            None => self.calls[actor as usize].len() as u32,
+        }
     }
 
     /// Whether no processor has a call left.
