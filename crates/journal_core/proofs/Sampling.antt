@@ -1,13 +1,14 @@
 -- One answer more in the tests' history.
-use Rattle.std.proofs.Common.{◌≡◌, ℕ, ◌+◌, Bool, true, cond, List, [], ◌∷◌, ◌++◌, ◌&&◌, Some, None, refl, sym, ap, subst, ◌∙◌, eq-eqb}
+use Rattle.std.proofs.Common.{◌≡◌, ℕ, ◌+◌, Bool, true, cond, List, [], ◌∷◌, ◌++◌, ◌&&◌, Some, None, refl, sym, ap, ap₂, subst, ◌∙◌, eq-eqb, true≢false, rules}
 use Rattle.std.proofs.lemmas.List.{map-append, length_push}
 use Rattle.std.proofs.lemmas.List.Sums.{fold-append}
 use Rattle.pager_model.specs.declared.entry.Entry.{Entry}
 use Rattle.pager_model.specs.declared.entry.Numbered.{Numbered}
-use Rattle.pager_model.specs.Legal.{state_of_space, progress_in, KeepsOrder, entries_in}
+use Rattle.pager_model.specs.Legal.{state_of_space, progress_in, SpaceJudges, KeepsOrder, entries_in}
 use Rattle.pager_model.specs.Order.{at_rest, progress_by}
-use Rattle.pager_model.specs.Settings.{Given, is_told, faults_at_entry}
-use Rattle.pager_model.specs.SpaceStates.{SpaceState, space_after, empty_state}
+use Rattle.pager_model.specs.Settings.{Given}
+use Rattle.pager_model.specs.SpaceStates.{space_after}
+use Rattle.journal_core.specs.Clauses.{AllowedAfter}
 use Rattle.journal_core.specs.Journals.{JournalName, AuthorState, PassState, written, kept}
 use Rattle.journal_core.specs.Samples.{unmapped, Filled}
 use Rattle.pager_model.proofs.Histories.{progress_from-append}
@@ -21,16 +22,24 @@ answer_next j c n a p e f is =
     subst (KeepsOrder p.journal.setting (entries_in p.entries)) (sym is)
     (subst (λ (k : JournalName). KeepsOrder k.setting (entries_in p.entries) (unmapped c n)) (sym f.pass_of) (at_rest 0 (n + 1), answered j.setting c n (entries_in p.entries) f.progress))
 
-state_push : (g : Given) (entries : List Entry) (c n : ℕ) (e : Entry) → e ≡ unmapped c n → state_of_space g c (entries ++ e ∷ []) ≡ space_after (state_of_space g c entries) (unmapped c n)
-state_push g entries c n e is = fold-append space_after (empty_state (is_told g c) (faults_at_entry g c)) entries (e ∷ []) ∙ ap (space_after (state_of_space g c entries)) is
+allowed_first : (g : Given) (c n : ℕ) → SpaceJudges g c [] (unmapped c n)
+allowed_first g c n = search rules
+
+-- and the space allows it
+pub answer_allowed : (j : JournalName) (c n : ℕ) (a : AuthorState) (p : PassState) (e : Entry) → Filled j c n a p → e ≡ unmapped c n → AllowedAfter a.journal.setting a.entries e
+answer_allowed j c n a p e f is =
+    subst (AllowedAfter a.journal.setting a.entries) (sym is)
+    (subst (λ (k : JournalName). AllowedAfter k.setting a.entries (unmapped c n)) (sym f.author_of) (rw f.space (allowed_first j.setting c n), λ frames. absurd (true≢false (sym frames))))
+
+same_space : (g : Given) (entries : List Entry) (c n : ℕ) (e : Entry) → e ≡ unmapped c n → state_of_space g c entries ≡ state_of_space g c [] → state_of_space g c (entries ++ e ∷ []) ≡ state_of_space g c []
+same_space g entries c n e is same = fold-append space_after (state_of_space g c []) entries (e ∷ []) ∙ ap₂ space_after same is
 
 pub filled_more : (j : JournalName) (c n place : ℕ) (a b : AuthorState) (p q : PassState) (e : Entry) → Filled j c n a p → e ≡ unmapped c n → b ≡ written a e → q ≡ kept p place e → Filled j c (n + 1) b q
 filled_more j c n place a b p q e f is author pass =
     subst (λ (x : AuthorState). Filled j c (n + 1) x q) (sym author) (subst (λ (x : PassState). Filled j c (n + 1) (written a e) x) (sym pass) (record {
       author_of = f.author_of;
       part = f.part;
-      regions = ap (λ (s : SpaceState). s.flat.regions) (state_push j.setting a.entries c n e is) ∙ f.regions;
-      next = ap (λ (s : SpaceState). s.next) (state_push j.setting a.entries c n e is);
+      space = same_space j.setting a.entries c n e is f.space;
       pass_of = f.pass_of;
       own = f.own;
       room = f.room;

@@ -1,5 +1,8 @@
-use Rattle.journal_core.proofs.Sampling.{answer_next, filled_more}
+use Rattle.journal_core.proofs.Sampling.{answer_allowed, answer_next, filled_more}
 use Rattle.journal_core.proofs.tests.commit_all.Goals as goal
+
+pub commit-next_author-requires-clause-allowed : goal.commit-next_author-requires-clause-allowed
+commit-next_author-requires-clause-allowed c = answer_allowed _ _ _ _ _ _ c.loop-number.invariant c.answer.ensures
 
 pub commit-next_author-requires-clause-order : goal.commit-next_author-requires-clause-order
 commit-next_author-requires-clause-order c = answer_next _ _ _ _ _ _ c.loop-number.invariant c.answer.ensures
