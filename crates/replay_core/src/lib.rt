@@ -4,3 +4,4 @@
 mod file_order;
 
 pub use file_order::replay_file_order;
+pub use pager_core::Gathered;
