@@ -1,5 +1,5 @@
 -- Steps that answer a flight's call.
-use Rattle.std.proofs.Common.{◌≡◌, ℕ, ◌+◌, ◌<◌, Bool, true, false, cond, eqb, ◌&&◌, List, [], ◌∷◌, Option, Some, None, refl, ap, sym, subst, ◌∙◌, inl, inr, arith}
+use Rattle.std.proofs.Common.{◌≡◌, ℕ, ◌+◌, ◌<◌, Bool, true, false, eqb, List, [], ◌∷◌, Some, None, refl, ap, sym, subst, ◌∙◌, inl, inr, arith}
 use Rattle.std.specs.List.{find}
 use Rattle.std.proofs.lemmas.Bool.{cases_Bool, cond-true, cond-false, and_from, eq-eqb, false≢true}
 use Rattle.pager_model.specs.declared.call.Call.{Call}
@@ -7,14 +7,12 @@ use Rattle.pager_model.specs.declared.call.Call.TheVariants.{Map, Grow, Unmap, P
 use Rattle.pager_model.specs.declared.entry.What.TheVariants.{Answer}
 use Rattle.pager_model.specs.declared.region.Region.{Region}
 use Rattle.pager_model.specs.declared.reply.Answered.{Answered}
-use Rattle.pager_model.specs.declared.reply.Reply.{Reply}
-use Rattle.pager_model.specs.declared.reply.Reply.TheVariants.{Done}
 use Rattle.pager_model.specs.Flat.{space_of_call, page_of}
 use Rattle.pager_model.specs.FrameStates.{FrameState}
-use Rattle.pager_model.specs.Order.{Progress, may_answer, is_served, is_access_at, is_done, leads, Idle, Cleared}
+use Rattle.pager_model.specs.Order.{Progress, may_answer, is_access_at, is_done, leads, Idle, Cleared}
 use Rattle.pager_model.specs.Regions.{in_range, has_page, region_at}
-use Rattle.pager_model.specs.SpaceStates.{SpaceState, space_after, MayGoOn, WhatAllowed, IsUnmapAnswer, IsUnmapOf, Anyone, Only, Unmaps, access_page}
-use Rattle.space_core.specs.Beginning.{BeginsAnswered, IsUnmapping, ReadsIn, Finishes, Unmapped}
+use Rattle.pager_model.specs.SpaceStates.{SpaceState, space_after, MayGoOn, WhatAllowed, IsUnmapOf, Unmaps, access_page}
+use Rattle.space_core.specs.Beginning.{BeginsAnswered, ReadsIn, Finishes, Unmapped}
 use Rattle.space_core.specs.Standing.{Kept, StandsFor, IsResting, answer_entry}
 use Rattle.pager_core.specs.declared.flight.Flight.{Flight}
 use Rattle.pager_core.specs.declared.flight.Phase.{Phase}
@@ -26,6 +24,10 @@ use Rattle.pager_core.specs.Steps.{Makes}
 -- the flight in another phase
 abbrev pub in_phase : Flight → Phase → Flight
 in_phase f phase = record { processor = f.processor; number = f.number; call = f.call; phase = phase }
+
+-- what holds of the flight in the phase that it is in holds of it
+pub by_phase : (f : Flight) (phase : Phase) → f.phase ≡ phase → (P : Flight → Type 0) → P (in_phase f phase) → P f
+by_phase f phase is P holds = subst (λ p. P (in_phase f p)) (sym is) holds
 
 pub Some-same : {A : Type 0} (a b : A) → Some a ≡ Some b → a ≡ b
 Some-same a b e = cc
@@ -71,7 +73,7 @@ Makes-begin f a was now st ready begins =
 
 pub start_answered : (f : Flight) (a : Answered) (was now : Kept) → f.phase ≡ Start → BeginsAnswered was now f.call a → (st : SpaceState) (frames : FrameState) → IsReady f was st → Makes f (in_phase f (Ended a.reply)) was now st frames frames (answer_entry f.processor f.number f.call a)
 start_answered f a was now phase begins st frames =
-    subst (λ p. IsReady (in_phase f p) was st → Makes (in_phase f p) (in_phase f (Ended a.reply)) was now st frames frames (answer_entry f.processor f.number f.call a)) (sym phase)
+    by_phase f Start phase (λ g. IsReady g was st → Makes g (in_phase f (Ended a.reply)) was now st frames frames (answer_entry f.processor f.number f.call a))
     (λ ready. Makes-begin f a was now st ready begins frames)
 
 -- the first element that does does
@@ -108,7 +110,7 @@ Makes-unmap f s page first len a was now st call ready unmapped =
 
 pub unmap_answered : (f : Flight) (s page first len : ℕ) (a : Answered) (was now : Kept) → f.phase ≡ Gone first len → f.call ≡ Unmap s page → Unmapped was now page a → (st : SpaceState) (frames : FrameState) → IsReady f was st → Makes f (in_phase f (Ended a.reply)) was now st frames frames (answer_entry f.processor f.number f.call a)
 unmap_answered f s page first len a was now phase call unmapped st frames =
-    subst (λ p. IsReady (in_phase f p) was st → Makes (in_phase f p) (in_phase f (Ended a.reply)) was now st frames frames (answer_entry f.processor f.number f.call a)) (sym phase)
+    by_phase f (Gone first len) phase (λ g. IsReady g was st → Makes g (in_phase f (Ended a.reply)) was now st frames frames (answer_entry f.processor f.number f.call a))
     (λ ready. Makes-unmap f s page first len a was now st call ready unmapped frames)
 
 -- Fill: the access is served
@@ -132,5 +134,5 @@ Makes-fill f page frame a was mid now st ready reads finishes =
 
 pub fill_answered : (f : Flight) (page frame : ℕ) (a : Answered) (was mid now : Kept) → f.phase ≡ Fill page frame → ReadsIn was mid → Finishes mid now f.call a → (st : SpaceState) (frames : FrameState) → IsReady f was st → Makes f (in_phase f (Ended a.reply)) was now st frames frames (answer_entry f.processor f.number f.call a)
 fill_answered f page frame a was mid now phase reads finishes st frames =
-    subst (λ p. IsReady (in_phase f p) was st → Makes (in_phase f p) (in_phase f (Ended a.reply)) was now st frames frames (answer_entry f.processor f.number f.call a)) (sym phase)
+    by_phase f (Fill page frame) phase (λ g. IsReady g was st → Makes g (in_phase f (Ended a.reply)) was now st frames frames (answer_entry f.processor f.number f.call a))
     (λ ready. Makes-fill f page frame a was mid now st ready reads finishes frames)

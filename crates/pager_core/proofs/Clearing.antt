@@ -1,12 +1,11 @@
--- The pages of a range give their frames up, one after another.
-use Rattle.std.proofs.Common.{◌≡◌, ◌≢◌, ℕ, zero, suc, ◌+◌, ◌<◌, ◌≤◌, Bool, true, false, cond, eqb, leb, ltb, ◌&&◌, List, [], ◌∷◌, fold, is_some, Option, Some, None, refl, ap, sym, subst, ◌∙◌, inl, inr, arith}
+-- A region's pages give their frames up, the lowest first, until none is resident.
+use Rattle.std.proofs.Common.{◌≡◌, ◌≢◌, ℕ, zero, suc, ◌+◌, ◌<◌, ◌≤◌, Bool, true, false, cond, eqb, leb, ltb, ◌&&◌, List, ◌∷◌, is_some, Some, None, refl, ap, sym, subst, ◌∙◌, inl, inr, arith}
 use Rattle.std.specs.List.{range_with_len, count_by}
 use Rattle.std.proofs.lemmas.List.Sums.{sum_by-cons}
 use Rattle.std.proofs.lemmas.Bool.{cases_eq, cond-true, cond-false, and_parts, and_from, and_right, eq-eqb, ne_eqb, le-leb, leb-true, lt-ltb, ltb-true}
 use Rattle.pager_model.specs.declared.entry.What.TheVariants.{Clear as ClearWhat}
-use Rattle.pager_model.specs.declared.reservation.Reservation.{Reservation}
 use Rattle.pager_model.specs.Flat.{space_of_call}
-use Rattle.pager_model.specs.FrameStates.{FrameState, frame_of, counted, given_in, give_page, give_if_used, give_range}
+use Rattle.pager_model.specs.FrameStates.{FrameState, frame_of, counted, give_page, give_range}
 use Rattle.pager_model.specs.Layouts.{covering}
 use Rattle.pager_model.specs.Regions.{region_at}
 use Rattle.pager_model.specs.SpaceStates.{SpaceState, space_after, MayGoOn, IsRegionOf}
@@ -16,39 +15,15 @@ use Rattle.pager_core.specs.declared.flight.Flight.{Flight}
 use Rattle.pager_core.specs.declared.flight.Phase.TheVariants.{Clear, Gone}
 use Rattle.pager_core.specs.Flights.{IsReady}
 use Rattle.pager_core.specs.Steps.{Makes}
-use Rattle.pager_core.proofs.Answering.{in_phase, Some-same}
+use Rattle.pager_core.proofs.Answering.{in_phase, by_phase, Some-same}
+use Rattle.pager_core.proofs.GivenRanges.{give_range-none, give_range-lowest, entries-given}
 
--- a page without a place gives none up
-give_skips : (space : ℕ) (st : FrameState) (page : ℕ) → frame_of st space page ≡ None → give_if_used space st page ≡ st
-give_skips space st page none = ap (λ o. cond (is_some o) (give_page st space page) st) none
+-- Counting over a range.
 
--- a range of such pages does
-pub give_range-none : (space : ℕ) (st : FrameState) (first len : ℕ) → ((p : ℕ) → first ≤ p → p < first + len → frame_of st space p ≡ None) → give_range st space first len ≡ st
-give_range-none space st first zero none = refl
-give_range-none space st first (suc len) none =
-    ap (λ t. fold (give_if_used space) t (range_with_len (first + 1) len)) (give_skips space st first (none first (omega arith) (omega arith)))
-    ∙ give_range-none space st (first + 1) len (λ p low high. none p (omega arith) (omega arith))
-
--- the lowest page with a place gives it up first
-pub give_range-lowest : (space : ℕ) (st : FrameState) (first len page : ℕ) → first ≤ page → page < first + len → ((p : ℕ) → first ≤ p → p < page → frame_of st space p ≡ None) → is_some (frame_of st space page) ≡ true → ((p : ℕ) → first ≤ p → p ≤ page → frame_of (give_page st space page) space p ≡ None) → give_range (give_page st space page) space first len ≡ give_range st space first len
-give_range-lowest space st first zero page low high none has gone = absurd (omega arith)
-give_range-lowest space st first (suc len) page low high none has gone =
-    elim (cases_eq page first) [
-      | inl same ↦
-          ap (λ t. fold (give_if_used space) t (range_with_len (first + 1) len))
-          (give_skips space (give_page st space page) first (gone first (omega arith) (omega arith))
-          ∙ ap (give_page st space) same
-          ∙ sym (ap (λ b. cond b (give_page st space first) st) (ap (λ p. is_some (frame_of st space p)) (sym same) ∙ has)))
-      | inr other ↦
-          ap (λ t. fold (give_if_used space) t (range_with_len (first + 1) len)) (give_skips space (give_page st space page) first (gone first (omega arith) low))
-          ∙ give_range-lowest space st (first + 1) len page (omega (arith, low, other)) (omega (arith, high)) (λ p over under. none p (omega (arith, over)) under) has (λ p over under. gone p (omega (arith, over)) under)
-          ∙ ap (λ t. fold (give_if_used space) t (range_with_len (first + 1) len)) (sym (give_skips space st first (none first (omega arith) (omega (arith, low, other)))))
-    ]
-
--- a test that fails at one number more, and gives the same elsewhere, counts fewer
 count-cons : (p : ℕ → Bool) (n : ℕ) (ns : List ℕ) → count_by p (n ∷ ns) ≡ cond (p n) 1 0 + count_by p ns
 count-cons p n ns = sum_by-cons (λ k. cond (p k) 1 0) n ns
 
+-- tests that give the same but at a number before the range count the same
 count-same : (f g : ℕ → Bool) (page first len : ℕ) → page < first → ((p : ℕ) → p ≢ page → g p ≡ f p) → count_by g (range_with_len first len) ≡ count_by f (range_with_len first len)
 count-same f g page first zero past same = refl
 count-same f g page first (suc len) past same =
@@ -58,7 +33,8 @@ count-same f g page first (suc len) past same =
     ∙ ap (λ b. cond b 1 0 + count_by g (range_with_len (first + 1) len)) here ∙ ap (λ n. cond (f first) 1 0 + n) rest
     ∙ sym (count-cons f first (range_with_len (first + 1) len))
 
-pub count-fewer : (f g : ℕ → Bool) (page first len : ℕ) → first ≤ page → page < first + len → ((p : ℕ) → p ≢ page → g p ≡ f p) → f page ≡ true → g page ≡ false → count_by g (range_with_len first len) < count_by f (range_with_len first len)
+-- a test that fails at one number of the range more counts fewer
+count-fewer : (f g : ℕ → Bool) (page first len : ℕ) → first ≤ page → page < first + len → ((p : ℕ) → p ≢ page → g p ≡ f p) → f page ≡ true → g page ≡ false → count_by g (range_with_len first len) < count_by f (range_with_len first len)
 count-fewer f g page first zero low high same was now = absurd (omega arith)
 count-fewer f g page first (suc len) low high same was now =
     elim (cases_eq page first) [
@@ -73,9 +49,11 @@ count-fewer f g page first (suc len) low high same was now =
           let rest = count-fewer f g page (first + 1) len (omega (arith, low, other)) (omega (arith, high)) same was now in
           let before : count_by f (range_with_len first (suc len)) ≡ cond (f first) 1 0 + count_by f (range_with_len (first + 1) len) = count-cons f first (range_with_len (first + 1) len) in
           let after : count_by g (range_with_len first (suc len)) ≡ cond (f first) 1 0 + count_by g (range_with_len (first + 1) len) =
-              count-cons g first (range_with_len (first + 1) len) ∙ ap (λ b. cond b 1 0 + count_by g (range_with_len (first + 1) len)) (same first (λ e. other (sym e))) in
+          count-cons g first (range_with_len (first + 1) len) ∙ ap (λ b. cond b 1 0 + count_by g (range_with_len (first + 1) len)) (same first (λ e. other (sym e))) in
           omega (arith, before, after, rest)
     ]
+
+-- One page after another.
 
 -- Some pages of a range gave their frames up, the lowest first: the space stands for the same entries but for the range, it and the
 -- frames agree, and the pages that are left lead to the same state of the frames.
@@ -88,11 +66,6 @@ pub record IsClearing (was : Kept) (before : FrameState) (now : Kept) (pool : Fr
   pub agrees : (p : ℕ) → frame_at now p ≡ frame_of pool was.number p
   pub leads : give_range pool was.number first len ≡ give_range before was.number first len
   pub same_entries : pool.entries ≡ before.entries
-
--- a page that gives its frame up counts no entry
-entries-given : (st : FrameState) (page : ℕ) (o : Option Reservation) → (given_in st page o).entries ≡ st.entries
-entries-given st page None = refl
-entries-given st page (Some r) = refl
 
 -- The lowest page gives its frame up.
 module _ (was kept now : Kept) (before pool after : FrameState) (first len page frame own : ℕ) where
@@ -109,8 +82,8 @@ module _ (was kept now : Kept) (before pool after : FrameState) (first len page 
     agrees = agrees;
     leads = ap (λ t. give_range t was.number first len) given_own
         ∙ give_range-lowest was.number pool first len page low high
-            (λ p over under. sym (so_far.agrees p) ∙ below p over under) (ap is_some (sym (so_far.agrees page) ∙ clears.had))
-            (λ p over under. ap (λ (t : FrameState). frame_of t was.number p) (sym given_own) ∙ sym (agrees p) ∙ up_to p over under)
+        (λ p over under. sym (so_far.agrees p) ∙ below p over under) (ap is_some (sym (so_far.agrees page) ∙ clears.had))
+        (λ p over under. ap (λ (t : FrameState). frame_of t was.number p) (sym given_own) ∙ sym (agrees p) ∙ up_to p over under)
         ∙ so_far.leads;
     same_entries = ap (λ (t : FrameState). t.entries) given ∙ entries-given pool page (covering own page pool.records) ∙ so_far.same_entries;
   }
@@ -162,7 +135,7 @@ StandsBut-rest kept st first len none stands = record {
 -- the flight's space is the call's
 pub on_clear : (f : Flight) (first len : ℕ) (was : Kept) (st : SpaceState) → f.phase ≡ Clear first len → IsReady f was st → space_of_call f.call ≡ was.number
 on_clear f first len was st phase =
-    subst (λ p. IsReady (in_phase f p) was st → space_of_call f.call ≡ was.number) (sym phase) (λ ready. Some-same _ _ ready.under)
+    by_phase f (Clear first len) phase (λ g. IsReady g was st → space_of_call f.call ≡ was.number) (λ ready. Some-same _ _ ready.under)
 
 -- No page of the range is left.
 module _ (f : Flight) (first len : ℕ) (was kept now : Kept) (before pool : FrameState) where
@@ -239,5 +212,5 @@ pub range_cleared : (f : Flight) (first len own : ℕ) (was kept now : Kept) (be
 range_cleared f first len own was kept now before pool after phase same so_far clears counts st =
     subst (λ n. IsReady f was st → Makes f (in_phase f (Gone first len)) was now st before after (clear_entry f.processor n first len)) (sym same)
     (subst (λ t. IsReady f was st → Makes f (in_phase f (Gone first len)) was now st before t (clear_entry f.processor (space_of_call f.call) first len)) (sym counts)
-    (subst (λ p. IsReady (in_phase f p) was st → Makes (in_phase f p) (in_phase f (Gone first len)) was now st before (counted pool) (clear_entry f.processor (space_of_call f.call) first len)) (sym phase)
+    (by_phase f (Clear first len) phase (λ g. IsReady g was st → Makes g (in_phase f (Gone first len)) was now st before (counted pool) (clear_entry f.processor (space_of_call f.call) first len))
     (λ ready. Makes-clear f first len was kept now before pool st ready so_far clears)))

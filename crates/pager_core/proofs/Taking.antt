@@ -1,5 +1,5 @@
 -- A page that isn't resident takes a frame.
-use Rattle.std.proofs.Common.{◌≡◌, ℕ, true, false, cond, eqb, ◌&&◌, is_some, Option, Some, None, refl, ap, sym, subst, ◌∙◌, arith}
+use Rattle.std.proofs.Common.{◌≡◌, ℕ, true, false, eqb, ◌&&◌, is_some, Some, None, refl, ap, sym, subst, ◌∙◌, arith}
 use Rattle.std.specs.Option.{IsSomeAnd}
 use Rattle.std.proofs.lemmas.Bool.{cond-true, eq-eqb, false≢true}
 use Rattle.pager_model.specs.declared.call.Call.{Call}
@@ -20,7 +20,7 @@ use Rattle.pager_core.specs.declared.flight.Phase.TheVariants.{Frame, Fill}
 use Rattle.pager_core.specs.Flights.{IsReady, IsLawfulAt}
 use Rattle.pager_core.specs.Rows.{row_of}
 use Rattle.pager_core.specs.Steps.{Makes, AreAgreed}
-use Rattle.pager_core.proofs.Answering.{in_phase, Some-same}
+use Rattle.pager_core.proofs.Answering.{in_phase, by_phase, Some-same}
 
 -- the place of a page is a used place
 place_is_used : (st : FrameState) (space page frame : ℕ) → frame_of st space page ≡ Some frame → is_some (used_at st frame) ≡ true
@@ -101,12 +101,12 @@ module _ (f : Flight) (page : ℕ) (want : Want) (was now : Kept) (before : Fram
 -- what a flight that wants a frame has: nothing
 HasNothing-wanting : (f : Flight) (page : ℕ) (want : Want) (before : FrameState) → f.phase ≡ Frame page want → OwnsBy before f.processor (row_of f).progress.doing → HasNothing before f.processor
 HasNothing-wanting f page want before phase =
-    subst (λ p. OwnsBy before f.processor (row_of (in_phase f p)).progress.doing → HasNothing before f.processor) (sym phase) (λ owns. owns)
+    by_phase f (Frame page want) phase (λ g. OwnsBy before f.processor (row_of g).progress.doing → HasNothing before f.processor) (λ owns. owns)
 
 pub frame_taken : (f : Flight) (page own frame : ℕ) (want : Want) (was now : Kept) (before after : FrameState) (t : Taking) → f.phase ≡ Frame page want → own ≡ space_of_call f.call → frame ≡ t.frame → AreAgreed was before → OwnsBy before f.processor (row_of f).progress.doing → take_frame before own page want ≡ Some t → after ≡ counted t.state → Places was now page t.frame → (st : SpaceState) → IsReady f was st → Makes f (in_phase f (Fill page frame)) was now st before after (take_entry f.processor own page frame want)
 frame_taken f page own frame want was now before after t phase same numbered agree owns takes counts places st =
     subst (λ n. IsReady f was st → Makes f (in_phase f (Fill page n)) was now st before after (take_entry f.processor own page n want)) (sym numbered)
     (subst (λ u. IsReady f was st → Makes f (in_phase f (Fill page t.frame)) was now st before u (take_entry f.processor own page t.frame want)) (sym counts)
     (subst (λ s. IsReady f was st → Makes f (in_phase f (Fill page t.frame)) was now st before (counted t.state) (take_entry f.processor s page t.frame want)) (sym same)
-    (subst (λ p. IsReady (in_phase f p) was st → Makes (in_phase f p) (in_phase f (Fill page t.frame)) was now st before (counted t.state) (take_entry f.processor (space_of_call f.call) page t.frame want)) (sym phase)
+    (by_phase f (Frame page want) phase (λ g. IsReady g was st → Makes g (in_phase f (Fill page t.frame)) was now st before (counted t.state) (take_entry f.processor (space_of_call f.call) page t.frame want))
     (λ ready. Makes-take f page want was now before t st ready agree (HasNothing-wanting f page want before phase owns) (ap (λ s. take_frame before s page want) (sym same) ∙ takes) places))))

@@ -1,4 +1,4 @@
-use Rattle.std.proofs.Common.{◌≡◌, ℕ, ◌<◌, ◌^◌, is_some}
+use Rattle.std.proofs.Common.{is_some}
 use Rattle.std.specs.List.{range_with_len, count_by}
 use Rattle.space_core.specs.Standing.{frame_at}
 use Rattle.pager_core.proofs.flight.Flight.clear.Given as goal

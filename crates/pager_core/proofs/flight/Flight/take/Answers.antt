@@ -1,4 +1,4 @@
-use Rattle.std.proofs.Common.{sym, ap, subst, ◌∙◌}
+use Rattle.std.proofs.Common.{subst, ◌∙◌}
 use Rattle.space_core.specs.Beginning.{Places}
 use Rattle.pager_core.specs.Steps.{Makes}
 use Rattle.pager_core.proofs.Taking.{unused_elsewhere, frame_taken}
