@@ -1,4 +1,4 @@
-ghost use Rattle.std.specs.Prelude.{◌≡◌, ℕ, ◌+◌, ◌%◌, ◌^◌, ◌<◌, ◌≤◌, ◌⊎◌, false, Some, None, IfOk, IfErr, IsErr, IsSome, is_some, length, map};
+ghost use Rattle.std.specs.Prelude.{◌≡◌, ℕ, ◌+◌, ◌%◌, ◌^◌, ◌<◌, ◌≤◌, ◌⊎◌, ◌==◌, ◌&&◌, if◌then◌else◌, false, Some, None, IfOk, IfErr, IsErr, IsSome, is_some, length, map};
 ghost use Rattle.std.specs.List.{range_with_len};
 ghost use Rattle.pager_model.specs.Frame.{zero_frame};
 ghost use Rattle.pager_model.specs.FrameStates.{FrameState, Taking, start_frames, used_at, held_by, frame_of, claim_in, HasNothing};
@@ -172,6 +172,7 @@ impl Pool {
         requires { frame_of self.old space page ≡ Some frame.number }
         ensures claimer { result ≡ claim_in (used_at self.old frame.number) }
         ensures given { self.new ≡ give_page self.old space page }
+        ensures places { (s p : ℕ) → frame_of self.new s p ≡ (if (space == s) && (p == page) then None else frame_of self.old s p) }
     {
         let number = frame.number();
         let at = number as usize;

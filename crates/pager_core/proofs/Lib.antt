@@ -1,0 +1,4 @@
+pub mod Answering
+pub mod GivenRanges
+pub mod Clearing
+pub mod Taking
