@@ -126,38 +126,91 @@ fn take(
     pool.take(space, page, want)
 }
 
+/// A space, a page of it, the cap of a reservation for the page, and the frame that the rules say.
+type Told = (u32, u32, u32, u32);
+
+/// How many frames there are, how many reservations are broken, and the pages that take a frame, in order.
+const ROWS: [(u32, u64, &[Told]); 5] = [
+    // Of two reservations the one that was allocated from least recently is broken.
+    (
+        1024,
+        1,
+        &[
+            (0, 0, 512, 0),
+            (1, 0, 512, 512),
+            (0, 1, 512, 1),
+            (2, 0, 512, 576),
+        ],
+    ),
+    // The second reservation of the row begins beside the one part of the first that has a used place.
+    (512, 1, &[(0, 0, 512, 0), (0, 512, 512, 64)]),
+    // Each part of the first has a used place, so its lowest part is broken too.
+    (
+        512,
+        1,
+        &[
+            (0, 0, 512, 0),
+            (0, 64, 512, 64),
+            (0, 128, 512, 128),
+            (0, 192, 512, 192),
+            (0, 256, 512, 256),
+            (0, 320, 512, 320),
+            (0, 384, 512, 384),
+            (0, 448, 512, 448),
+            (0, 512, 512, 8),
+        ],
+    ),
+    // An older reservation that can give back more is left alone.
+    (
+        1024,
+        1,
+        &[
+            (1, 0, 512, 0),
+            (0, 0, 512, 512),
+            (0, 64, 512, 576),
+            (0, 128, 512, 640),
+            (0, 192, 512, 704),
+            (0, 256, 512, 768),
+            (0, 320, 512, 832),
+            (0, 384, 512, 896),
+            (0, 448, 512, 960),
+            (2, 0, 8, 520),
+        ],
+    ),
+    // The part that stayed of a broken reservation is the next to be broken.
+    (
+        512,
+        2,
+        &[
+            (0, 0, 512, 0),
+            (0, 512, 512, 64),
+            (0, 576, 512, 128),
+            (0, 640, 512, 192),
+            (0, 704, 512, 256),
+            (0, 768, 512, 320),
+            (0, 832, 512, 384),
+            (0, 896, 512, 448),
+            (0, 960, 512, 8),
+        ],
+    ),
+];
+
+/// A new pool gives these pages the frames that the rules say. Answers how many reservations it broke.
+fn gives(rt: &impl Abort, alloc: Global, frames: u32, pages: &[Told]) -> Result<u64, Fail> {
+    assert!(rt; frames % 512 == 0 && frames <= 32768);
+    let mut pool = Pool::create(alloc, frames, 3, 1)?;
+    for (space, page, cap, frame) in pages {
+        let want = Want { cap: *cap, ..PLAIN };
+        let taken = take(rt, &mut pool, *space, *page, &want)?;
+        assert_eq!(rt; taken.number(), *frame);
+    }
+    Ok(pool.preempted())
+}
+
 #[test]
 fn gives_the_frames_that_the_rules_say(rt: HostRuntime) -> Result<(), Fail> {
-    // How many frames there are, how many reservations are broken, and for each page its space, its number and its frame.
-    let table: [(u32, u64, &[(u32, u32, u32)]); 3] = [
-        // The older of two is broken, though the newer was broken into first.
-        (1024, 1, &[(0, 0, 0), (1, 0, 512), (0, 1, 1), (2, 0, 576)]),
-        // The second of two reservations begins beside the one part of the first that has a used place.
-        (512, 1, &[(0, 0, 0), (0, 512, 64)]),
-        // Each part of the first has a used place, so its lowest part is broken too.
-        (
-            512,
-            1,
-            &[
-                (0, 0, 0),
-                (0, 64, 64),
-                (0, 128, 128),
-                (0, 192, 192),
-                (0, 256, 256),
-                (0, 320, 320),
-                (0, 384, 384),
-                (0, 448, 448),
-                (0, 512, 8),
-            ],
-        ),
-    ];
-    for (frames, broken, pages) in table {
-        let mut pool = Pool::create(rt.alloc(), frames, 3, 1)?;
-        for (space, page, frame) in pages {
-            let taken = take(&rt, &mut pool, *space, *page, &PLAIN)?;
-            assert_eq!(rt; taken.number(), *frame);
-        }
-        assert_eq!(rt; pool.preempted(), broken);
+    for (frames, broken, pages) in ROWS {
+        assert_eq!(rt; gives(&rt, rt.alloc(), frames, pages)?, broken);
     }
     Ok(())
 }
