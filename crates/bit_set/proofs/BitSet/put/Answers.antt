@@ -1,4 +1,4 @@
-use Rattle.std.proofs.Common.{◌≡◌, ◌<◌, length, ap, sym, ◌∙◌, arith}
+use Rattle.std.proofs.Common.{◌<◌, length, ap, arith}
 use Rattle.bit_set.proofs.Levels.{AreLevels-put}
 use Rattle.bit_set.proofs.BitSet.put.Goals as goal
 

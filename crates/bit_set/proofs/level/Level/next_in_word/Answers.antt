@@ -1,4 +1,4 @@
-use Rattle.std.proofs.Common.{ap, sym, subst, Some, None, ◌+◌, ◌*◌, ◌/◌}
+use Rattle.std.proofs.Common.{subst, Some, ◌+◌, ◌*◌, ◌/◌}
 use Rattle.bit_set.specs.Bits.{IsNextInWord}
 use Rattle.bit_set.proofs.Sets.{next_by_lowest, none_by_lowest}
 use Rattle.bit_set.proofs.level.Level.next_in_word.Goals as goal

@@ -1,9 +1,7 @@
-use Rattle.std.proofs.Common.{◌≡◌, ◌<◌, ◌+◌, ◌*◌, ◌/◌, ◌%◌, ◌^◌, length, not, eqb, true, inl, inr, ap, sym, subst, ◌∙◌, arith, get_or, get_or-set_same}
+use Rattle.std.proofs.Common.{◌≡◌, ◌<◌, ◌/◌, length, not, eqb, true, inl, inr, ap, sym, ◌∙◌, arith, get_or, get_or-set_same}
 use Rattle.std.proofs.Math.ListN.{set}
-use Rattle.std.specs.Int.{bit_at}
-use Rattle.std.specs.Bool.{OnTrue, OnFalse}
 use Rattle.std.proofs.lemmas.Bool.{cases_order, OnTrue_from, OnFalse_from, not-true, not-false, eqb-true, eqb-false}
-use Rattle.bit_set.specs.Bits.{bits_of, HasInWord, LacksWord}
+use Rattle.bit_set.specs.Bits.{bits_of}
 use Rattle.bit_set.proofs.Sets.{length-bits_of, bits_of-set, has_by_word, lacks_by_word}
 use Rattle.bit_set.proofs.level.Level.put.Goals as goal
 
