@@ -6,19 +6,28 @@ use Rattle.buddy_extents.proofs.Ranges.{length-with_range, with_range_inside, wi
 use Rattle.pager_model.specs.declared.reservation.Reservation.{Reservation}
 use Rattle.pager_model.specs.Agreement.{has_frame}
 use Rattle.pager_model.specs.FreeBlocks.{with_range}
-use Rattle.pager_model.specs.Layouts.{Layout, vacate_layout, carve_layout, narrow_layout, take_out, put_back, is_last}
+use Rattle.pager_model.specs.Layouts.{Layout, frame_in, vacate_layout, carve_layout, narrow_layout, take_out, put_back, is_last}
 use Rattle.pager_model.specs.Records.{is_used}
 use Rattle.reservations.proofs.HoldLemmas.{has_frame_bounds, has_frame_from, known_record, ArePlaced-set, Some-same, None-not_Some, no_frame, unused_in}
 use Rattle.frame_pool.specs.Laid.{IsLaid, IsIn, record_at, is_free}
+use Rattle.frame_pool.proofs.Covering.{HasPlace, has_frame_for, frame_in-found, frame_in-from}
 use Rattle.frame_pool.proofs.Splitting.{some_used_in}
 use Rattle.frame_pool.proofs.Breaking.{Narrows-narrow}
 
--- the frame is no used place any more; by which frames are in the layout
+-- the frame is no used place any more, and every other place stays its page's; by which frames are in the layout
 pub record Gives (old new : Layout) (frame : ℕ) (in_after : ℕ → Type 0) : Type 0 where
   pub laid : IsLaid new
   pub long : length new.free ≡ length old.free
   pub used : new.used ≡ set old.used frame false
   pub within : (f : ℕ) → IsIn new f ↔ in_after f
+  pub pages : (s p f : ℕ) → (frame_in new s p ≡ Some f) ↔ ((f ≢ frame) × (frame_in old s p ≡ Some f))
+
+-- a page's place is the one that it had, where the reservations with used places but the frame are the same
+pages_by : (old new : Layout) (frame : ℕ) → IsLaid old → IsLaid new → ((s p f : ℕ) → HasPlace new s p f → (f ≢ frame) × HasPlace old s p f) → ((s p f : ℕ) → f ≢ frame → HasPlace old s p f → HasPlace new s p f) → (s p f : ℕ) → (frame_in new s p ≡ Some f) ↔ ((f ≢ frame) × (frame_in old s p ≡ Some f))
+pages_by old new frame was now before after s p f = (
+  λ is. let had = before s p f (frame_in-found new s p f is) in (had.0, frame_in-from old s p f was had.1),
+  λ had. frame_in-from new s p f now (after s p f had.0 (frame_in-found old s p f had.1)),
+)
 
 -- a frame that becomes unused is no used place
 pub unused_now : (used : List Bool) (frame f : ℕ) → f ≡ frame → is_used (set used frame false) f ≡ false
@@ -95,29 +104,69 @@ IsLaid-without l free id frame r laid is long freed unused has = record {
   one_cover = λ j k space page q s at_j at_k. laid.one_cover j k space page q s (stood l id r is j q at_j).1 (stood l id r is k s at_k).1;
 }
 
+-- and every other place stays its page's
+pages-without : (l : Layout) (free : List Bool) (id frame : ℕ) (r : Reservation) → IsLaid l → record_at l id ≡ Some r → ((f : ℕ) → has_frame f (Some r) ≡ true → is_used (set l.used frame false) f ≡ false) → IsLaid (record { free = free; records = set l.records id None; used = set l.used frame false }) → (s p f : ℕ) → (frame_in (record { free = free; records = set l.records id None; used = set l.used frame false }) s p ≡ Some f) ↔ ((f ≢ frame) × (frame_in l s p ≡ Some f))
+pages-without l free id frame r laid is unused now = pages_by l (record { free = free; records = set l.records id None; used = set l.used frame false }) frame laid now
+    (λ s p f place.
+    let stands = stood l id r is place.id place.reservation place.is in
+    let used = used_before l.used frame f place.used in
+    (used.0, record { id = place.id; reservation = place.reservation; is = stands.1; covers_page = place.covers_page; frame = place.frame; used = used.1 }))
+    (λ s p f apart place.
+    let q = place.reservation in
+    let used = get_or-set_other l.used frame f false false apart ∙ place.used in
+    let mine : has_frame f (Some q) ≡ true = ap (λ g. has_frame g (Some q)) place.frame ∙ has_frame_for s p q place.covers_page in
+    elim (cases_eq place.id id) [
+      | inl here ↦
+          let same : q ≡ r = Some-same q r (sym place.is ∙ ap (record_at l) here ∙ is) in
+          absurd (false≢true (sym (unused f (ap (λ o. has_frame f (Some o)) (sym same) ∙ mine)) ∙ used))
+      | inr other ↦ record {
+        id = place.id;
+        reservation = q;
+        is = get_or-set_other l.records id place.id None None other ∙ place.is;
+        covers_page = place.covers_page;
+        frame = place.frame;
+        used = used;
+      }
+    ])
+
 -- the reservation keeps a used place
 Gives-keeping : (l : Layout) (id frame : ℕ) (r : Reservation) → IsLaid l → record_at l id ≡ Some r → has_frame frame (Some r) ≡ true → is_last frame r l ≡ false → Gives l (record { free = l.free; records = l.records; used = set l.used frame false }) frame (IsIn l)
-Gives-keeping l id frame r laid is has keeps = record {
-  laid = record {
-    records_long = laid.records_long;
-    used_long = length-set l.used frame false ∙ laid.used_long;
-    placed = laid.placed;
-    apart = laid.apart;
-    not_free = laid.not_free;
-    places = λ f used. laid.places f (used_before l.used frame f used).1;
-    some_used = λ j q at. elim (cases_eq j id) [
-      | inl here ↦
-          let w = some_used_in (is_used (set l.used frame false)) r.frame (8 ^ r.size) keeps in
-          let same : r ≡ q = Some-same r q (sym is ∙ ap (record_at l) (sym here) ∙ at) in
-          (w.0, ap (λ s. has_frame w.0 (Some s)) (sym same) ∙ has_frame_from w.0 r w.1 w.2, w.3)
-      | inr other ↦ used_elsewhere l id frame j r q laid is has at other
-    ];
-    one_cover = laid.one_cover;
-  };
-  long = refl;
-  used = refl;
-  within = λ f. (λ now. now, λ was. was);
-}
+Gives-keeping l id frame r laid is has keeps =
+    let new : Layout = record { free = l.free; records = l.records; used = set l.used frame false } in
+    let laid_after : IsLaid new = record {
+      records_long = laid.records_long;
+      used_long = length-set l.used frame false ∙ laid.used_long;
+      placed = laid.placed;
+      apart = laid.apart;
+      not_free = laid.not_free;
+      places = λ f used. laid.places f (used_before l.used frame f used).1;
+      some_used = λ j q at. elim (cases_eq j id) [
+        | inl here ↦
+            let w = some_used_in (is_used (set l.used frame false)) r.frame (8 ^ r.size) keeps in
+            let same : r ≡ q = Some-same r q (sym is ∙ ap (record_at l) (sym here) ∙ at) in
+            (w.0, ap (λ s. has_frame w.0 (Some s)) (sym same) ∙ has_frame_from w.0 r w.1 w.2, w.3)
+        | inr other ↦ used_elsewhere l id frame j r q laid is has at other
+      ];
+      one_cover = laid.one_cover;
+    } in
+    record {
+      laid = laid_after;
+      long = refl;
+      used = refl;
+      within = λ f. (λ now. now, λ was. was);
+      pages = pages_by l new frame laid laid_after
+          (λ s p f place.
+          let used = used_before l.used frame f place.used in
+          (used.0, record { id = place.id; reservation = place.reservation; is = place.is; covers_page = place.covers_page; frame = place.frame; used = used.1 }))
+          (λ s p f apart place. record {
+            id = place.id;
+            reservation = place.reservation;
+            is = place.is;
+            covers_page = place.covers_page;
+            frame = place.frame;
+            used = get_or-set_other l.used frame f false false apart ∙ place.used;
+          });
+    }
 
 -- the reservation has no used place left
 Gives-last : (l : Layout) (frame : ℕ) (r : Reservation) → IsLaid l → record_at l r.frame ≡ Some r → has_frame frame (Some r) ≡ true → is_last frame r l ≡ true → Gives l (record { free = with_range l.free r.frame (8 ^ r.size) true; records = set l.records r.frame None; used = set l.used frame false }) frame (IsIn l)
@@ -126,13 +175,15 @@ Gives-last l frame r laid is has last =
     let fits : r.frame + 8 ^ r.size ≤ length l.free = omega (arith, placed.within, laid.records_long) in
     let long = length-with_range l.free r.frame (8 ^ r.size) true fits in
     let freed = with_range_free l.free r.frame (8 ^ r.size) fits in
+    let unused : (f : ℕ) → has_frame f (Some r) ≡ true → is_used (set l.used frame false) f ≡ false =
+    λ f mine. (let bounds = has_frame_bounds f r mine in unused_in (is_used (set l.used frame false)) r.frame (8 ^ r.size) last f bounds.0 bounds.1) in
+    let laid_after = IsLaid-without l (with_range l.free r.frame (8 ^ r.size) true) r.frame frame r laid is long
+    (λ f now. elim ((freed f).0 now) [ inl was ↦ inl was | inr inside ↦ inr (has_frame_from f r inside.0 inside.1) ]) unused has in
     record {
-      laid = IsLaid-without l (with_range l.free r.frame (8 ^ r.size) true) r.frame frame r laid is long
-          (λ f now. elim ((freed f).0 now) [ inl was ↦ inl was | inr inside ↦ inr (has_frame_from f r inside.0 inside.1) ])
-          (λ f mine. let bounds = has_frame_bounds f r mine in unused_in (is_used (set l.used frame false)) r.frame (8 ^ r.size) last f bounds.0 bounds.1)
-          has;
+      laid = laid_after;
       long = long;
       used = refl;
+      pages = pages-without l (with_range l.free r.frame (8 ^ r.size) true) r.frame frame r laid is unused laid_after;
       within = λ f. (
         λ now. elim now [
           | inl free_now ↦ elim ((freed f).0 free_now) [
@@ -166,10 +217,13 @@ Gives-take_out l frame r laid is one =
     let width : 8 ^ r.size ≡ 1 = ap (λ k. 8 ^ k) one in
     let has : has_frame frame (Some r) ≡ true = has_frame_from frame r (omega (arith, named)) (omega (arith, named, width)) in
     let only : (f : ℕ) → has_frame f (Some r) ≡ true → f ≡ frame = λ f mine. (let bounds = has_frame_bounds f r mine in omega (arith, bounds.0, bounds.1, named, width)) in
+    let unused : (f : ℕ) → has_frame f (Some r) ≡ true → is_used (set l.used frame false) f ≡ false = λ f mine. unused_now l.used frame f (only f mine) in
+    let laid_after = IsLaid-without l l.free frame frame r laid is refl (λ f now. inl now) unused has in
     record {
-      laid = IsLaid-without l l.free frame frame r laid is refl (λ f now. inl now) (λ f mine. unused_now l.used frame f (only f mine)) has;
+      laid = laid_after;
       long = refl;
       used = refl;
+      pages = pages-without l l.free frame frame r laid is unused laid_after;
       within = λ f. (
         λ now. elim now [
           | inl free ↦ (inl free, λ same. laid.not_free f frame free (ap (has_frame f) is ∙ ap (λ g. has_frame g (Some r)) same ∙ has))
@@ -200,6 +254,10 @@ Gives-carve l id frame r laid is has used =
       within = λ f. (
         λ after. let w = (g.within f).0 after in ((s.within f).0 w.0, w.1),
         λ before. (g.within f).1 ((s.within f).1 before.0, before.1),
+      );
+      pages = λ t p f. (
+        λ after. let w = (g.pages t p f).0 after in (w.0, sym (s.pages t p) ∙ w.1),
+        λ before. (g.pages t p f).1 (before.0, s.pages t p ∙ before.1),
       );
     }
 

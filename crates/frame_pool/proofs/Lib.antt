@@ -19,8 +19,12 @@ pub mod Taking
 pub mod Reserving
 pub mod Keeping
 pub mod Soundness
+pub mod PageMoves
+pub mod Owners
+pub mod OrderedOwners
 pub mod Searching
 pub mod Pooling
 pub mod Partition
 pub mod Summing
-pub mod Agreeing
+pub mod AllowedEntries
+pub mod LegalHistories

@@ -45,7 +45,7 @@ same_used : (l : Layout) (used : List Bool) → used ≡ l.used → record { fre
 same_used l used same = ap (λ u. record { free = l.free; records = l.records; used = u }) same
 
 -- a claim is noted of a used place
-claim_from : (o : Option Used) (c : ℕ) → claim_in o ≡ Some c → (u : Used) × (o ≡ Some u) × (u.claim ≡ Some c)
+pub claim_from : (o : Option Used) (c : ℕ) → claim_in o ≡ Some c → (u : Used) × (o ≡ Some u) × (u.claim ≡ Some c)
 claim_from None c claims = absurd (None-not_Some c claims)
 claim_from (Some u) c claims = (u, refl, claims)
 
@@ -68,7 +68,7 @@ unset_cases : {A : Type 0} (xs : List (Option A)) (i j : ℕ) (x : A) → get_or
 unset_cases xs i j x is = elim (set_cases xs i j None x is) [ inl here ↦ absurd (None-not_Some x here.1) | inr there ↦ there ]
 
 -- None stands where None was written
-unset_at : {A : Type 0} (xs : List (Option A)) (i j : ℕ) → j ≡ i → get_or (set xs i None) j None ≡ None
+pub unset_at : {A : Type 0} (xs : List (Option A)) (i j : ℕ) → j ≡ i → get_or (set xs i None) j None ≡ None
 unset_at xs i j here = ap (λ k. get_or (set xs i None) k None) here ∙ elim (cases_lt i (length xs)) [
   | inl known ↦ get_or-set_same xs i None None known
   | inr past ↦ ap (λ ys. get_or ys i None) (set_past xs i None past) ∙ get_or_past xs i None past
@@ -84,12 +84,12 @@ pub record Takes (before : FrameState) (space page : ℕ) (t : Taking) : Type 0 
   pub entries : t.state.entries ≡ before.entries
 
 -- a taking is one at a place that was found
-taking_from : (st : FrameState) (want : Want) (o : Option Placing) (t : Taking) → option_map (taking st want) o ≡ Some t → (place : Placing) × (o ≡ Some place) × (taking st want place ≡ t)
+pub taking_from : (st : FrameState) (want : Want) (o : Option Placing) (t : Taking) → option_map (taking st want) o ≡ Some t → (place : Placing) × (o ≡ Some place) × (taking st want place ≡ t)
 taking_from st want None t takes = absurd (None-not_Some t takes)
 taking_from st want (Some place) t takes = (place, refl, Some-same (taking st want place) t takes)
 
 -- the layout after a taking at a place is that of the place
-layout_of-taken : (st : FrameState) (space page : ℕ) (want : Want) (place : Placing) → Places (layout_of st) place.layout space page place.frame → layout_of (taken st want place) ≡ place.layout
+pub layout_of-taken : (st : FrameState) (space page : ℕ) (want : Want) (place : Placing) → Places (layout_of st) place.layout space page place.frame → layout_of (taken st want place) ≡ place.layout
 layout_of-taken st space page want place places =
     let note : Option Used = Some (record { age = st.entries; wired = want.wired; claim = None }) in
     same_used place.layout (map is_some (set st.used place.frame note)) (map-set is_some st.used place.frame note ∙ sym places.used)
@@ -118,7 +118,7 @@ IsSound-counted frames processors st sound = record {
 }
 
 -- a frame that was taken is claimed by nobody, and the claims of the others stay
-claim_taken : (st : FrameState) (want : Want) (place : Placing) (f c : ℕ) → claim_in (used_at (taken st want place) f) ≡ Some c → claim_in (used_at st f) ≡ Some c
+pub claim_taken : (st : FrameState) (want : Want) (place : Placing) (f c : ℕ) → claim_in (used_at (taken st want place) f) ≡ Some c → claim_in (used_at st f) ≡ Some c
 claim_taken st want place f c claims =
     let note : Used = record { age = st.entries; wired = want.wired; claim = None } in
     let noted = claim_from (used_at (taken st want place) f) c claims in
@@ -178,14 +178,14 @@ given_by claim st frame r =
     }
 
 -- what was given up has no claim, and the claims of the others stay
-claim_given : (st : FrameState) (frame f c : ℕ) → claim_in (get_or (set st.used frame None) f None) ≡ Some c → (f ≢ frame) × (claim_in (used_at st f) ≡ Some c)
+pub claim_given : (st : FrameState) (frame f c : ℕ) → claim_in (get_or (set st.used frame None) f None) ≡ Some c → (f ≢ frame) × (claim_in (used_at st f) ≡ Some c)
 claim_given st frame f c claims =
     let noted = claim_from (get_or (set st.used frame None) f None) c claims in
     let before = unset_cases st.used frame f noted.0 noted.1 in
     (before.0, ap claim_in before.1 ∙ noted.2)
 
 -- the layout after a frame was given up is the one that the giving makes
-layout_of-given : (l : Layout) (st : FrameState) (frame : ℕ) (in_after : ℕ → Type 0) → Gives (layout_of st) l frame in_after → record { free = l.free; records = l.records; used = map is_some (set st.used frame None) } ≡ l
+pub layout_of-given : (l : Layout) (st : FrameState) (frame : ℕ) (in_after : ℕ → Type 0) → Gives (layout_of st) l frame in_after → record { free = l.free; records = l.records; used = map is_some (set st.used frame None) } ≡ l
 layout_of-given l st frame in_after gives = same_used l (map is_some (set st.used frame None)) (map-set is_some st.used frame None ∙ sym gives.used)
 
 module _ (frames processors : ℕ) (st : FrameState) (id frame : ℕ) (r : Reservation) (sound : IsSound frames processors st) (is : record_at (layout_of st) id ≡ Some r) (has : has_frame frame (Some r) ≡ true) (noted : used_at st frame ≢ None) where
@@ -282,7 +282,7 @@ IsSound-give_page frames processors st space page frame sound is =
 -- Claiming.
 
 -- a claim doesn't change the layout
-layout_of-claimed : (st : FrameState) (frame : ℕ) (claim : Option ℕ) → layout_of (claimed st frame claim) ≡ layout_of st
+pub layout_of-claimed : (st : FrameState) (frame : ℕ) (claim : Option ℕ) → layout_of (claimed st frame claim) ≡ layout_of st
 layout_of-claimed st frame claim =
     same_used (layout_of st) (map is_some (set st.used frame (with_claim claim (used_at st frame))))
     (map-set_same is_some st.used frame (with_claim claim (used_at st frame)) None (still (used_at st frame)))
@@ -309,7 +309,7 @@ age_claimed st frame claim f u is = elim (set_cases st.used frame f (with_claim 
 ]
 
 -- what is claimed then is the frame, with this claim, or was claimed before
-claim_claimed : (st : FrameState) (frame : ℕ) (claim : Option ℕ) (f c : ℕ) → claim_in (used_at (claimed st frame claim) f) ≡ Some c → ((f ≡ frame) × (claim ≡ Some c)) ⊎ ((f ≢ frame) × (claim_in (used_at st f) ≡ Some c))
+pub claim_claimed : (st : FrameState) (frame : ℕ) (claim : Option ℕ) (f c : ℕ) → claim_in (used_at (claimed st frame claim) f) ≡ Some c → ((f ≡ frame) × (claim ≡ Some c)) ⊎ ((f ≢ frame) × (claim_in (used_at st f) ≡ Some c))
 claim_claimed st frame claim f c claims =
     let noted = claim_from (used_at (claimed st frame claim) f) c claims in
     elim (set_cases st.used frame f (with_claim claim (used_at st frame)) noted.0 noted.1) [
@@ -415,7 +415,7 @@ frame_of-dropped frames processors st c space page sound =
 -- Moving.
 
 -- a page that has a frame gives it up
-IsSound-give_if_used : (frames processors : ℕ) (st : FrameState) (space page : ℕ) → IsSound frames processors st → IsSound frames processors (give_if_used space st page)
+pub IsSound-give_if_used : (frames processors : ℕ) (st : FrameState) (space page : ℕ) → IsSound frames processors st → IsSound frames processors (give_if_used space st page)
 IsSound-give_if_used frames processors st space page sound = by_place (frame_of st space page) refl
   where
     by_place : (o : Option ℕ) → frame_of st space page ≡ o → IsSound frames processors (give_if_used space st page)
@@ -423,7 +423,7 @@ IsSound-give_if_used frames processors st space page sound = by_place (frame_of 
     by_place (Some frame) is = subst (λ o. IsSound frames processors (cond (is_some o) (give_page st space page) st)) (sym is) (IsSound-give_page frames processors st space page frame sound is)
 
 -- and so does each of a list of pages
-IsSound-give_each : (frames processors : ℕ) (space : ℕ) (pages : List ℕ) (st : FrameState) → IsSound frames processors st → IsSound frames processors (fold (give_if_used space) st pages)
+pub IsSound-give_each : (frames processors : ℕ) (space : ℕ) (pages : List ℕ) (st : FrameState) → IsSound frames processors st → IsSound frames processors (fold (give_if_used space) st pages)
 IsSound-give_each frames processors space [] st sound = sound
 IsSound-give_each frames processors space (page ∷ pages) st sound =
     IsSound-give_each frames processors space pages (give_if_used space st page) (IsSound-give_if_used frames processors st space page sound)
@@ -448,25 +448,25 @@ IsSound-answer frames processors st space (Store s address word) sound allowed =
 IsSound-answer frames processors st space (Sync s page) sound allowed = absurd allowed
 
 -- Whatever the frames allow keeps them sound.
-pub IsSound-moved : (frames processors : ℕ) (st : FrameState) (mark c : ℕ) (space : Option ℕ) (what : What) → IsSound frames processors st → c < processors → FramesAllow st mark c space what → IsSound frames processors (counted (moved st c space what))
-IsSound-moved frames processors st mark c space (Answer number call answered) sound known allowed = IsSound-answer frames processors st (named_space space) call sound allowed
-IsSound-moved frames processors st mark c space (Out page written) sound known allowed = absurd allowed
-IsSound-moved frames processors st mark c space (Failed page writing count) sound known allowed = absurd allowed
-IsSound-moved frames processors st mark c space (Take page frame want) sound known allowed =
+pub IsSound-moved : (frames processors : ℕ) (evicts : Bool) (st : FrameState) (mark c : ℕ) (space : Option ℕ) (what : What) → IsSound frames processors st → c < processors → FramesAllow evicts st mark c space what → IsSound frames processors (counted (moved st c space what))
+IsSound-moved frames processors evicts st mark c space (Answer number call answered) sound known allowed = IsSound-answer frames processors st (named_space space) call sound allowed
+IsSound-moved frames processors evicts st mark c space (Out page written) sound known allowed = absurd allowed
+IsSound-moved frames processors evicts st mark c space (Failed page writing count) sound known allowed = absurd allowed
+IsSound-moved frames processors evicts st mark c space (Take page frame want) sound known allowed =
     IsSound-take_some frames processors st (named_space space) page want (λ t. t.frame ≡ frame) sound allowed.0 allowed.2
-IsSound-moved frames processors st mark c space (Give page frame) sound known allowed =
+IsSound-moved frames processors evicts st mark c space (Give page frame) sound known allowed =
     IsSound-counted frames processors _ (IsSound-give_page frames processors st (named_space space) page frame sound allowed)
-IsSound-moved frames processors st mark c space (Clear first len) sound known allowed =
+IsSound-moved frames processors evicts st mark c space (Clear first len) sound known allowed =
     IsSound-counted frames processors _ (IsSound-give_each frames processors (named_space space) (range_with_len first len) st sound)
-IsSound-moved frames processors st mark c space (Claim victim page frame need) sound known allowed =
-    IsSound-counted frames processors _ (IsSound-claimed frames processors st frame c sound known allowed.0)
-IsSound-moved frames processors st mark c space (UseHeld page frame want) sound known allowed =
+IsSound-moved frames processors evicts st mark c space (Claim victim page frame need) sound known allowed =
+    IsSound-counted frames processors _ (IsSound-claimed frames processors st frame c sound known allowed.1)
+IsSound-moved frames processors evicts st mark c space (UseHeld page frame want) sound known allowed =
     let none = frame_of-dropped frames processors st c (named_space space) page sound ∙ allowed.0 in
     IsSound-take_some frames processors (dropped st c) (named_space space) page want (λ t. t.frame ≡ frame) (IsSound-dropped frames processors st c sound) none allowed.2
-IsSound-moved frames processors st mark c space (DropHeld frame) sound known allowed =
+IsSound-moved frames processors evicts st mark c space (DropHeld frame) sound known allowed =
     IsSound-counted frames processors _ (IsSound-dropped frames processors st c sound)
-IsSound-moved frames processors st mark c space (Got frame) sound known allowed = IsSound-counted frames processors st sound
-IsSound-moved frames processors st mark c space (Unclaim frame) sound known allowed =
+IsSound-moved frames processors evicts st mark c space (Got frame) sound known allowed = IsSound-counted frames processors st sound
+IsSound-moved frames processors evicts st mark c space (Unclaim frame) sound known allowed =
     IsSound-counted frames processors _ (IsSound-unclaimed frames processors st frame sound)
-IsSound-moved frames processors st mark c space (Refused wired claims held) sound known allowed = IsSound-counted frames processors st sound
-IsSound-moved frames processors st mark c space (Rest short) sound known allowed = IsSound-counted frames processors st sound
+IsSound-moved frames processors evicts st mark c space (Refused wired claims held) sound known allowed = IsSound-counted frames processors st sound
+IsSound-moved frames processors evicts st mark c space (Rest short) sound known allowed = IsSound-counted frames processors st sound

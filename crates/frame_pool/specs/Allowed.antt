@@ -1,21 +1,15 @@
 -- Lists of entries that the frames allow, one after another.
-use Rattle.std.specs.Prelude.{ℕ, ◌<◌, ◌≡◌, List, [], ◌∷◌, length, None}
+use Rattle.std.specs.Prelude.{◌<◌, List, [], ◌∷◌, length}
 use Rattle.pager_model.specs.declared.entry.Entry.{Entry}
-use Rattle.pager_model.specs.FrameStates.{FrameState, start_frames, used_at, held_by, claim_in, frames_after, FramesAllow}
-use Rattle.pager_model.specs.Legal.{mark_of}
-use Rattle.pager_model.specs.Settings.{Given}
+use Rattle.pager_model.specs.FrameStates.{FrameState, start_frames, frames_after, FramesAllow}
+use Rattle.pager_model.specs.Settings.{Given, mark_of}
 
 -- each of the entries is of a known processor, and the frames allow it after the state and the entries before it
 abbrev pub AreAllowed : Given → FrameState → List Entry → Type 0
 AreAllowed g st [] = Unit {0}
 AreAllowed g st (e ∷ es) =
-    (e.processor < length g.marks) × FramesAllow st (mark_of g e.processor) e.processor e.space e.what × AreAllowed g (frames_after st e) es
+    (e.processor < length g.marks) × FramesAllow g.evicts st (mark_of g e.processor) e.processor e.space e.what × AreAllowed g (frames_after st e) es
 
 -- the entries are allowed from the beginning on
 abbrev pub AreFrameEntries : Given → List Entry → Type 0
 AreFrameEntries g entries = AreAllowed g (start_frames g.frames (length g.marks)) entries
-
--- nobody claims or holds a frame
-pub record IsQuiet (st : FrameState) : Type 0 where
-  pub none_held : (c : ℕ) → held_by st c ≡ None
-  pub none_claimed : (frame : ℕ) → claim_in (used_at st frame) ≡ None

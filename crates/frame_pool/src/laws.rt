@@ -1,14 +1,15 @@
 //! Laws over the frames' state: each is a clause of a function that does nothing.
 
-ghost use Rattle.std.specs.Prelude.{◌≡◌, ℕ, ◌≤◌, List, Some, None, true};
-ghost use Rattle.pager_model.specs.Agreement.{Agrees, IsPartition, NothingHeld, has_frame};
+ghost use Rattle.std.specs.Prelude.{◌≡◌, ℕ, ◌<◌, List, Some, None, true, length};
+ghost use Rattle.pager_model.specs.Agreement.{Agrees, IsPartition, NothingHeld, OwnsBy, has_frame};
 ghost use Rattle.pager_model.specs.declared.entry.Entry.{Entry};
 ghost use Rattle.pager_model.specs.declared.entry.Want.{Want};
 ghost use Rattle.pager_model.specs.declared.reservation.Reservation.{Reservation};
 ghost use Rattle.pager_model.specs.declared.reservation.Used.{Used};
 ghost use Rattle.pager_model.specs.FrameStates.{frame_of, layout_of, used_at, held_by, claim_in, take_frame, IsFull};
 ghost use Rattle.pager_model.specs.Layouts.{covers};
-ghost use Rattle.pager_model.specs.Legal.{IsLegal, frames_at, frames_state};
+ghost use Rattle.pager_model.specs.Legal.{AllWhole, IsLegal, frames_at, frames_state, progress_at};
+ghost use Rattle.pager_model.specs.Order.{Progress};
 ghost use Rattle.pager_model.specs.Records.{is_used};
 ghost use Rattle.pager_model.specs.Settings.{Given};
 ghost use Rattle.frame_pool.specs.Allowed.{AreFrameEntries};
@@ -53,9 +54,13 @@ pub fn taking_fails_only_when_full()
         → take_frame (frames_state g entries) space page want ≡ None }
 {}
 
-/// After every legal history each frame is in one role, nobody holds one, and spaces and frames agree on the resident pages.
+/// After every legal history each frame is in one role, and spaces and frames agree on the resident pages. Where a processor's
+/// place in its order says that it claims or holds a frame it does, and elsewhere it claims and holds nothing; so nothing is
+/// claimed or held where each processor's list is whole.
 pub fn frames_have_one_role()
     ensures partition { (g : Given) (history : List Entry) → IsLegal g history → IsPartition g.frames (frames_at g history) }
-    ensures held { (g : Given) (history : List Entry) → IsLegal g history → NothingHeld (frames_at g history) }
     ensures agrees { (g : Given) (history : List Entry) → IsLegal g history → Agrees g history }
+    ensures owns { (g : Given) (history : List Entry) → IsLegal g history → (c : ℕ) (p : Progress) → c < length g.marks
+        → progress_at g history c ≡ Some p → OwnsBy (frames_at g history) c p.doing }
+    ensures held { (g : Given) (history : List Entry) → IsLegal g history → AllWhole g history → NothingHeld (frames_at g history) }
 {}

@@ -1,4 +1,0 @@
-pub mod Moves
-pub mod Rows
-pub mod Landing
-pub mod Loading

@@ -6,10 +6,10 @@ use Rattle.std.proofs.lemmas.List.Sums.{fold-append}
 use Rattle.pager_model.specs.declared.entry.Entry.{Entry}
 use Rattle.pager_model.specs.Entries.{names_space, names_frames, is_of, space_part, frames_part, entries_of}
 use Rattle.pager_model.specs.FrameStates.{frames_after, start_frames}
-use Rattle.pager_model.specs.Legal.{frames_state, space_at, frames_at, progress_at, MayFollow, AllFollow, IsLegal}
-use Rattle.pager_model.specs.Order.{Progress, progress_from, progress_by, progress_of}
-use Rattle.pager_model.specs.Settings.{Given}
-use Rattle.pager_model.specs.SpaceStates.{space_after, space_state, empty_state}
+use Rattle.pager_model.specs.Legal.{state_of_space, frames_state, progress_in, space_at, frames_at, progress_at, MayFollow, AllFollow, IsLegal}
+use Rattle.pager_model.specs.Order.{Progress, progress_from, progress_by}
+use Rattle.pager_model.specs.Settings.{Given, is_told, faults_at_entry}
+use Rattle.pager_model.specs.SpaceStates.{space_after, empty_state}
 
 -- an entry that passes is added at the end, and one that doesn't changes nothing
 pub filter-push_in : {X : Type 0} (p : X → Bool) (xs : List X) (x : X) → p x ≡ true → filter p (xs ++ x ∷ []) ≡ filter p xs ++ x ∷ []
@@ -23,11 +23,13 @@ progress_from-append p [] ys = refl
 progress_from-append p (x ∷ xs) ys = progress_from-append (progress_by p x) xs ys
 
 -- what the entry does to the state of a space that it names, and of one that it doesn't
-pub space_at-named : (history : List Entry) (e : Entry) (s : ℕ) → names_space s e ≡ true → space_at (history ++ e ∷ []) s ≡ space_after (space_at history s) e
-space_at-named history e s h = ap space_state (filter-push_in (names_space s) history e h) ∙ fold-append space_after empty_state (space_part s history) (e ∷ [])
+pub space_at-named : (g : Given) (history : List Entry) (e : Entry) (s : ℕ) → names_space s e ≡ true → space_at g (history ++ e ∷ []) s ≡ space_after (space_at g history s) e
+space_at-named g history e s h =
+    ap (state_of_space g s) (filter-push_in (names_space s) history e h)
+    ∙ fold-append space_after (empty_state (is_told g s) (faults_at_entry g s)) (space_part s history) (e ∷ [])
 
-pub space_at-other : (history : List Entry) (e : Entry) (s : ℕ) → names_space s e ≡ false → space_at (history ++ e ∷ []) s ≡ space_at history s
-space_at-other history e s h = ap space_state (filter-push_out (names_space s) history e h)
+pub space_at-other : (g : Given) (history : List Entry) (e : Entry) (s : ℕ) → names_space s e ≡ false → space_at g (history ++ e ∷ []) s ≡ space_at g history s
+space_at-other g history e s h = ap (state_of_space g s) (filter-push_out (names_space s) history e h)
 
 -- and to the state of the frames
 pub frames_at-named : (g : Given) (history : List Entry) (e : Entry) → e.frames ≡ true → frames_at g (history ++ e ∷ []) ≡ frames_after (frames_at g history) e
@@ -37,11 +39,11 @@ pub frames_at-other : (g : Given) (history : List Entry) (e : Entry) → e.frame
 frames_at-other g history e h = ap (frames_state g) (filter-push_out names_frames history e h)
 
 -- and to the progress of its processor, and of another
-pub progress_at-own : (history : List Entry) (e : Entry) (c : ℕ) → is_of c e ≡ true → progress_at (history ++ e ∷ []) c ≡ progress_by (progress_at history c) e
-progress_at-own history e c h = ap progress_of (filter-push_in (is_of c) history e h) ∙ progress_from-append _ (entries_of c history) (e ∷ [])
+pub progress_at-own : (g : Given) (history : List Entry) (e : Entry) (c : ℕ) → is_of c e ≡ true → progress_at g (history ++ e ∷ []) c ≡ progress_by (progress_at g history c) e
+progress_at-own g history e c h = ap (progress_in g c) (filter-push_in (is_of c) history e h) ∙ progress_from-append _ (entries_of c history) (e ∷ [])
 
-pub progress_at-other : (history : List Entry) (e : Entry) (c : ℕ) → is_of c e ≡ false → progress_at (history ++ e ∷ []) c ≡ progress_at history c
-progress_at-other history e c h = ap progress_of (filter-push_out (is_of c) history e h)
+pub progress_at-other : (g : Given) (history : List Entry) (e : Entry) (c : ℕ) → is_of c e ≡ false → progress_at g (history ++ e ∷ []) c ≡ progress_at g history c
+progress_at-other g history e c h = ap (progress_in g c) (filter-push_out (is_of c) history e h)
 
 AllFollow-push : (g : Given) (before es : List Entry) (e : Entry) → AllFollow g before es → MayFollow g (before ++ es) e → AllFollow g before (es ++ e ∷ [])
 AllFollow-push g before [] e all may = (subst (λ l. MayFollow g l e) (append-nil before) may, tt)

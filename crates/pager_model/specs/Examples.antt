@@ -1,19 +1,21 @@
 -- Small values on which the definitions are computed.
-use Rattle.std.specs.Prelude.{ℕ, true, false, List, [], ◌∷◌, Some, None}
+use Rattle.std.specs.Prelude.{ℕ, true, false, List, [], ◌∷◌, fold, Option, Some, None}
 use Rattle.pager_model.specs.declared.call.Call.{Call}
 use Rattle.pager_model.specs.declared.call.Call.TheVariants.{Map, Load, Store}
 use Rattle.pager_model.specs.declared.entry.Entry.{Entry}
 use Rattle.pager_model.specs.declared.entry.Want.{Want}
-use Rattle.pager_model.specs.declared.entry.What.TheVariants.{Answer, Take}
+use Rattle.pager_model.specs.declared.entry.What.{What}
+use Rattle.pager_model.specs.declared.entry.What.TheVariants.{Answer, Out, Failed, Take, Give, Claim, DropHeld, Unclaim, Rest}
 use Rattle.pager_model.specs.declared.region.Kind.TheVariants.{Fixed}
 use Rattle.pager_model.specs.declared.region.Rights.TheVariants.{Write}
 use Rattle.pager_model.specs.declared.reply.Reply.{Reply}
-use Rattle.pager_model.specs.declared.reply.Reply.TheVariants.{Done, Unmapped}
+use Rattle.pager_model.specs.declared.reply.Reply.TheVariants.{Done, Value, Unmapped, StoreFault}
 use Rattle.pager_model.specs.declared.reservation.Reservation.{Reservation}
 use Rattle.pager_model.specs.Flat.{Flat, empty_space, after_call}
 use Rattle.pager_model.specs.FrameStates.{FrameState, start_frames, take_frame, state_taken, give_page, claimed, counted}
 use Rattle.pager_model.specs.Plans.{Plan}
 use Rattle.pager_model.specs.Settings.{Given}
+use Rattle.pager_model.specs.SpaceStates.{SpaceState, empty_state, space_after}
 
 -- eight pages that may be written, from page 0 on
 abbrev pub map_eight : Call
@@ -55,7 +57,7 @@ abbrev pub both_taken : FrameState
 both_taken = after_taking (after_taking two_frames 0 3) 0 5
 
 abbrev pub small_setting : Given
-small_setting = record { frames = 2; marks = 0 ∷ []; told = true ∷ []; faults = 0 ∷ [] }
+small_setting = record { frames = 2; marks = 0 ∷ []; told = true ∷ []; faults = 0 ∷ []; evicts = true }
 
 abbrev pub answer : ℕ → Call → Reply → Entry
 answer number call reply =
@@ -86,3 +88,50 @@ small_plan =
 -- a reservation of eight places at page 8 and frame 16, of an age of 7
 abbrev pub eight_places : Reservation
 eight_places = record { space = 0; first = 8; size = 1; frame = 16; stamp = 7 }
+
+-- sixty-four frames, of which the first taking reserves all; and each further page of that extent is in another of its eight parts
+abbrev pub want_all : Want
+want_all = record { low = 0; high = 64; cap = 64; wired = false }
+
+abbrev pub after_taking_all : FrameState → ℕ → FrameState
+after_taking_all st page = counted (state_taken st (take_frame st 0 page want_all))
+
+abbrev pub eight_parts_used : FrameState
+eight_parts_used = fold after_taking_all (start_frames 64 1) (0 ∷ 8 ∷ 16 ∷ 24 ∷ 32 ∷ 40 ∷ 48 ∷ 56 ∷ [])
+
+-- an entry on the frames alone, on a space alone, and on both
+abbrev pub on_frames : What → Entry
+on_frames what = record { processor = 0; space = None; frames = true; what = what }
+
+abbrev pub on_space : ℕ → What → Entry
+on_space s what = record { processor = 0; space = Some s; frames = false; what = what }
+
+abbrev pub on_both : ℕ → What → Entry
+on_both s what = record { processor = 0; space = Some s; frames = true; what = what }
+
+-- a daemon's turn that evicts one page, of space 1, and rests
+abbrev pub one_turn : List Entry
+one_turn =
+    on_frames (Claim 1 6 2 None) ∷ on_space 1 (Out 6 true) ∷ on_both 1 (Give 6 2) ∷ on_frames (DropHeld 2) ∷ on_frames (Rest false) ∷ []
+
+-- a load of page 1 of space 0 that claims a frame of space 1, whose write fails
+abbrev pub failing_load : List Entry
+failing_load =
+    on_both 0 (Claim 1 6 2 (Some (record { page = 1; writing = false })))
+    ∷ on_space 1 (Failed 6 true 3)
+    ∷ on_both 1 (Unclaim 2)
+    ∷ answer 0 (Load 0 8192) (StoreFault 1 3)
+    ∷ []
+
+-- the same with another count in the answer
+abbrev pub made_up_fault : List Entry
+made_up_fault =
+    on_both 0 (Claim 1 6 2 (Some (record { page = 1; writing = false })))
+    ∷ on_space 1 (Failed 6 true 3)
+    ∷ on_both 1 (Unclaim 2)
+    ∷ answer 0 (Load 0 8192) (StoreFault 1 4)
+    ∷ []
+
+-- a space whose store tells nothing, with a page that was stored to after it was filled
+abbrev pub untold_space : SpaceState
+untold_space = fold space_after (empty_state false 0) (answer 0 map_eight Done ∷ take_page_one ∷ answer 1 (Store 0 8192 5) Done ∷ [])

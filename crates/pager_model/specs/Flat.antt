@@ -11,7 +11,8 @@ use Rattle.pager_model.specs.declared.reply.Reply.TheVariants.{Done, Value, Clea
 use Rattle.pager_model.specs.Regions.{in_range, end_of, region_at, with_region, without_region, grown_regions, map_reply, grow_reply, unmap_reply, range_in, is_wired}
 
 -- A page has 1,024 words of 8 bytes. Where no region has it, its words and its copy are zero and it isn't dirty, so the
--- pages of a new region are as they should be.
+-- pages of a new region are as they should be. Its rights are then of no meaning, and what an unmapped region left there stays: no
+-- call looks at the rights of a page without a region, and a map or a growth sets those of its pages.
 pub record Flat : Type 0 where
   pub regions : List Region
   -- of each page

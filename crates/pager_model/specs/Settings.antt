@@ -1,5 +1,5 @@
 -- What a history is legal for.
-use Rattle.std.specs.Prelude.{ℕ, Bool, List}
+use Rattle.std.specs.Prelude.{ℕ, Bool, false, List, slice_index_or}
 
 pub record Given : Type 0 where
   -- how many frames there are
@@ -10,3 +10,18 @@ pub record Given : Type 0 where
   pub told : List Bool
   -- for each space its store's count of faults at entry
   pub faults : List ℕ
+  -- Whether a used frame may be claimed and its page paged out. The program pages nothing out yet, and this is how its histories
+  -- say so; with the claims it goes.
+  pub evicts : Bool
+
+-- the mark of a processor
+abbrev pub mark_of : Given → ℕ → ℕ
+mark_of g c = slice_index_or g.marks c 0
+
+-- whether the words of a space are told
+abbrev pub is_told : Given → ℕ → Bool
+is_told g s = slice_index_or g.told s false
+
+-- the count of faults of a space's store at entry
+abbrev pub faults_at_entry : Given → ℕ → ℕ
+faults_at_entry g s = slice_index_or g.faults s 0

@@ -1,24 +1,45 @@
--- What a space's list of entries leads to: its flat memory, its resident pages, and who must go on there.
-use Rattle.std.specs.Prelude.{ℕ, ◌≡◌, Bool, true, false, ◌&&◌, ◌==◌, if◌then◌else◌, Option, Some, None, fold, List}
+-- What a space's list of entries leads to, and which entries a space in that state allows.
+use Rattle.std.specs.Prelude.{ℕ, ◌≡◌, ◌-◌, ◌^◌, ◌<◌, ◌⊎◌, Bool, true, false, ◌&&◌, ◌==◌, if◌then◌else◌, Option, Some, None, is_some, nat_lt, fold, List}
 use Rattle.pager_model.specs.declared.call.Call.{Call}
-use Rattle.pager_model.specs.declared.call.Call.TheVariants.{Load, Store, Evict}
+use Rattle.pager_model.specs.declared.call.Call.TheVariants.{Unmap, Load, Store, Sync, Evict}
 use Rattle.pager_model.specs.declared.entry.Entry.{Entry}
+use Rattle.pager_model.specs.declared.entry.Need.{Need}
+use Rattle.pager_model.specs.declared.entry.Want.{Want}
 use Rattle.pager_model.specs.declared.entry.What.{What}
-use Rattle.pager_model.specs.declared.entry.What.TheVariants.{Answer, Out, Failed, Take, Give, Clear, UseHeld}
+use Rattle.pager_model.specs.declared.entry.What.TheVariants.{Answer, Out, Failed, Take, Give, Clear, Claim, UseHeld, Unclaim}
+use Rattle.pager_model.specs.declared.region.Region.{Region}
+use Rattle.pager_model.specs.declared.region.Rights.{Rights}
+use Rattle.pager_model.specs.declared.reply.Answered.{Answered}
 use Rattle.pager_model.specs.declared.reply.Reply.{Reply}
-use Rattle.pager_model.specs.declared.reply.Reply.TheVariants.{Done, Value, Unmapped, Denied, NoFrames, StoreFault, NoMemory}
-use Rattle.pager_model.specs.Flat.{Flat, empty_space, after_call, reply_of, is_lawful, out, lost, page_of}
-use Rattle.pager_model.specs.Regions.{in_range, wanted}
+use Rattle.pager_model.specs.declared.reply.Reply.TheVariants.{Done, Value, Written, NoFrames, StoreFault, NoMemory}
+use Rattle.pager_model.specs.Flat.{Flat, empty_space, after_call, reply_of, is_lawful, out, lost, page_of, word_of, can_read, can_write}
+use Rattle.pager_model.specs.Regions.{in_range, region_at, wanted}
+
+-- Who makes the next entry of a space: anyone; where an entry left the space in the middle of a sequence, its processor; and after
+-- the pages of a range gave their frames up, the unmap of that range, which is done.
+pub data Next : Type 0 where
+  Anyone : Next
+  Only : (processor : ℕ) → Next
+  Unmaps : (processor first len : ℕ) → Next
 
 pub record SpaceState : Type 0 where
   pub flat : Flat
   -- of each page its frame, where it is resident
   pub base : ℕ → Option ℕ
-  -- the processor whose entry must come next, where the last entry leaves the space in the middle of a step
-  pub pending : Option ℕ
+  pub next : Next
+  -- whether the space's store tells its copies, and so the flat memory its words
+  pub told : Bool
+  -- of each page, each word: what the latest answer on it said since the page was filled, where one did
+  pub tied : ℕ → ℕ → Option ℕ
+  -- the highest count of faults so far, from that at entry on
+  pub highest : ℕ
 
-abbrev pub empty_state : SpaceState
-empty_state = record { flat = empty_space; base = λ p. None; pending = None }
+-- a space begins empty, with a store that tells its copies or doesn't, and that failed so often
+abbrev pub empty_state : Bool → ℕ → SpaceState
+empty_state told faults =
+    record { flat = empty_space; base = λ p. None; next = Anyone; told = told; tied = λ p i. None; highest = faults }
+
+-- What entries do.
 
 -- an answer for want of a frame, of a store or of memory changes nothing, and any other does what its call does
 abbrev pub answered_flat : Flat → Call → Reply → Flat
@@ -46,26 +67,67 @@ base_after base frames (Give page frame) p = if p == page then None else base p
 base_after base frames (Clear first len) p = if in_range first len p then None else base p
 base_after base frames what p = base p
 
--- after a taking, a clearing, a paging out and a failed read the same processor goes on
-abbrev pub pending_after : ℕ → What → Option ℕ
-pending_after c (Take page frame want) = Some c
-pending_after c (UseHeld page frame want) = Some c
-pending_after c (Clear first len) = Some c
-pending_after c (Out page written) = Some c
-pending_after c (Failed page writing count) = if writing then None else Some c
-pending_after c what = None
+-- after a taking, a paging out and a failed read the same processor goes on, and after a clearing with the unmap of its range
+abbrev pub next_after : ℕ → What → Next
+next_after c (Take page frame want) = Only c
+next_after c (UseHeld page frame want) = Only c
+next_after c (Out page written) = Only c
+next_after c (Failed page writing count) = if writing then Anyone else Only c
+next_after c (Clear first len) = Unmaps c first len
+next_after c what = Anyone
+
+-- the word of an answer that says one: that which was loaded, or stored
+abbrev pub said_at : ℕ → ℕ → Call → Reply → Option ℕ → Option ℕ
+said_at p i (Load space address) (Value word) before = if (p == page_of address) && (i == word_of address) then Some word else before
+said_at p i (Store space address word) Done before = if (p == page_of address) && (i == word_of address) then Some word else before
+said_at p i call reply before = before
+
+abbrev pub tied_after : (ℕ → ℕ → Option ℕ) → What → ℕ → ℕ → Option ℕ
+tied_after tied (Answer number call answered) p i = said_at p i call answered.reply (tied p i)
+tied_after tied (Take page frame want) p i = if p == page then None else tied p i
+tied_after tied (UseHeld page frame want) p i = if p == page then None else tied p i
+tied_after tied what p i = tied p i
+
+abbrev pub highest_after : ℕ → What → ℕ
+highest_after highest (Failed page writing count) = if nat_lt highest count then count else highest
+highest_after highest what = highest
 
 abbrev pub space_after : SpaceState → Entry → SpaceState
 space_after st e =
-    record { flat = flat_after st.flat e.what; base = base_after st.base e.frames e.what; pending = pending_after e.processor e.what }
+    record {
+      flat = flat_after st.flat e.what;
+      base = base_after st.base e.frames e.what;
+      next = next_after e.processor e.what;
+      told = st.told;
+      tied = tied_after st.tied e.what;
+      highest = highest_after st.highest e.what;
+    }
 
--- what a space's list leads to
-abbrev pub space_state : List Entry → SpaceState
-space_state entries = fold space_after empty_state entries
+-- what a space's list leads to, from a store that tells its copies or doesn't, and that failed so often at entry
+abbrev pub space_state : Bool → ℕ → List Entry → SpaceState
+space_state told faults entries = fold space_after (empty_state told faults) entries
 
-abbrev pub MayGoOn : Option ℕ → ℕ → Type 0
-MayGoOn None c = Unit {0}
-MayGoOn (Some d) c = d ≡ c
+-- Who may go on.
+
+-- an unmap of a page of the range, which is answered done
+abbrev pub IsUnmapOf : ℕ → ℕ → Call → Reply → Type 0
+IsUnmapOf first len (Unmap space page) Done = in_range first len page ≡ true
+IsUnmapOf first len call reply = ⊥
+
+abbrev pub IsUnmapAnswer : ℕ → ℕ → What → Type 0
+IsUnmapAnswer first len (Answer number call answered) = IsUnmapOf first len call answered.reply
+IsUnmapAnswer first len what = ⊥
+
+abbrev pub MayGoOn : Next → ℕ → What → Type 0
+MayGoOn Anyone c what = Unit {0}
+MayGoOn (Only d) c what = d ≡ c
+MayGoOn (Unmaps d first len) c what = (d ≡ c) × IsUnmapAnswer first len what
+
+-- Replies.
+
+-- the page is resident
+abbrev pub IsResident : (ℕ → Option ℕ) → ℕ → Type 0
+IsResident base page = (frame : ℕ) × (base page ≡ Some frame)
 
 -- the page that a load or a store is of
 abbrev pub access_page : Call → Option ℕ
@@ -73,33 +135,122 @@ access_page (Load space address) = Some (page_of address)
 access_page (Store space address word) = Some (page_of address)
 access_page call = None
 
--- the page of an access is resident
-abbrev pub HasItsPage : (ℕ → Option ℕ) → Option ℕ → Type 0
-HasItsPage base None = Unit {0}
-HasItsPage base (Some page) = (frame : ℕ) × (base page ≡ Some frame)
-
 -- an access whose page isn't resident
 abbrev pub LacksItsPage : (ℕ → Option ℕ) → Option ℕ → Type 0
 LacksItsPage base None = ⊥
 LacksItsPage base (Some page) = base page ≡ None
 
--- Which reply a space allows: the flat memory's, where the page of a lawful access is resident; and that there is no
--- frame, where the access is lawful and its page isn't resident. Other replies don't come yet.
-abbrev pub ReplyAllowed : SpaceState → Call → Reply → Type 0
-ReplyAllowed st call Done = (reply_of st.flat call ≡ Done) × HasItsPage st.base (access_page call)
-ReplyAllowed st call (Value word) = (reply_of st.flat call ≡ Value word) × HasItsPage st.base (access_page call)
-ReplyAllowed st call Unmapped = reply_of st.flat call ≡ Unmapped
-ReplyAllowed st call Denied = reply_of st.flat call ≡ Denied
-ReplyAllowed st call (NoFrames wired claimed held) = (is_lawful (reply_of st.flat call) ≡ true) × LacksItsPage st.base (access_page call)
-ReplyAllowed st call reply = ⊥
+-- A store's fault, and want of memory for it: a sync or an evict meets it where its page is dirty. Where a load or a store may meet
+-- it is for its processor's order to say.
+abbrev pub MayFail : SpaceState → Call → Type 0
+MayFail st (Load space address) = Unit {0}
+MayFail st (Store space address word) = Unit {0}
+MayFail st (Sync space page) = reply_of st.flat (Sync space page) ≡ Written
+MayFail st (Evict space page) = reply_of st.flat (Evict space page) ≡ Written
+MayFail st call = ⊥
 
--- Which entries a space allows, where the processor may go on: a taking for a page with a region that isn't resident, with
--- its region's want, and an answer. Other entries don't come yet. No answer has a size, and none names the frames.
-abbrev pub WhatAllowed : SpaceState → Bool → What → Type 0
-WhatAllowed st frames (Answer number call answered) =
-    ReplyAllowed st call answered.reply × ((answered.hit ≡ false) × (answered.size ≡ None)) × (frames ≡ false)
-WhatAllowed st frames (Take page frame want) = (wanted st.flat.regions page ≡ Some want) × (st.base page ≡ None)
-WhatAllowed st frames what = ⊥
+-- no page of the region is resident, and the processor cleared the region just before
+pub record IsCleared (st : SpaceState) (c : ℕ) (r : Region) : Type 0 where
+  pub next : st.next ≡ Unmaps c r.first r.length
+  pub none : (p : ℕ) → in_range r.first r.length p ≡ true → st.base p ≡ None
+
+abbrev pub IsClearedAt : SpaceState → ℕ → Option Region → Type 0
+IsClearedAt st c None = ⊥
+IsClearedAt st c (Some r) = IsCleared st c r
+
+-- what stands where a call of a processor is answered as the flat memory does, and lawfully: the page of an access is resident, and
+-- the region of an unmap is cleared
+abbrev pub HasItsPages : SpaceState → ℕ → Call → Type 0
+HasItsPages st c (Load space address) = IsResident st.base (page_of address)
+HasItsPages st c (Store space address word) = IsResident st.base (page_of address)
+HasItsPages st c (Unmap space page) = IsClearedAt st c (region_at st.flat.regions page)
+HasItsPages st c call = Unit {0}
+
+abbrev pub IsValue : Reply → Type 0
+IsValue reply = (word : ℕ) × (reply ≡ Value word)
+
+-- the word is the tied one, where one is
+abbrev pub IsTied : Option ℕ → ℕ → Type 0
+IsTied None word = Unit {0}
+IsTied (Some w) word = w ≡ word
+
+-- A loaded word is the flat memory's. In a space that isn't told it is the one that the latest answer on it said since the page was
+-- filled, and any word where none did.
+abbrev pub IsWord : Bool → Reply → Option ℕ → ℕ → Type 0
+IsWord true asked tied word = asked ≡ Value word
+IsWord false asked tied word = IsValue asked × IsTied tied word
+
+-- the word of a load that was tied
+abbrev pub tied_word : SpaceState → Call → Option ℕ
+tied_word st (Load space address) = st.tied (page_of address) (word_of address)
+tied_word st call = None
+
+-- the reply is the flat memory's, but for the words of a space that isn't told
+abbrev pub IsAsked : SpaceState → Call → Reply → Type 0
+IsAsked st call (Value word) = IsWord st.told (reply_of st.flat call) (tied_word st call) word
+IsAsked st call reply = reply_of st.flat call ≡ reply
+
+-- Which reply a space allows to a processor: that no frame can be had, where the access is lawful and its page isn't resident; a
+-- fault or want of memory, where it may come; and any other where the flat memory gives it and finds its pages.
+abbrev pub ReplyAllowed : SpaceState → ℕ → Call → Reply → Type 0
+ReplyAllowed st c call (NoFrames wired claimed held) = (is_lawful (reply_of st.flat call) ≡ true) × LacksItsPage st.base (access_page call)
+ReplyAllowed st c call (StoreFault space count) = MayFail st call
+ReplyAllowed st c call NoMemory = MayFail st call
+ReplyAllowed st c call reply = IsAsked st call reply × (is_lawful reply ≡ true → HasItsPages st c call)
+
+-- an answer names the frames exactly where the resident page of a lawful evict goes with it
+abbrev pub frees_its_page : SpaceState → Call → Reply → Bool
+frees_its_page st (Evict space page) reply = is_lawful reply && is_some (st.base page)
+frees_its_page st call reply = false
+
+-- no superpages and no translations are kept yet, so no answer has a size or is a hit
+pub record AnswerAllowed (st : SpaceState) (frames : Bool) (c : ℕ) (call : Call) (answered : Answered) : Type 0 where
+  pub reply : ReplyAllowed st c call answered.reply
+  pub parts : frames ≡ frees_its_page st call answered.reply
+  pub hit : answered.hit ≡ false
+  pub size : answered.size ≡ None
+
+-- Other entries.
+
+-- a page with a region that isn't resident, with its region's want
+abbrev pub IsWantedFor : SpaceState → ℕ → Want → Type 0
+IsWantedFor st page want = (wanted st.flat.regions page ≡ Some want) × (st.base page ≡ None)
+
+-- the range is that of a region
+abbrev pub IsRegionOf : Option Region → ℕ → ℕ → Type 0
+IsRegionOf None first len = ⊥
+IsRegionOf (Some r) first len = (r.first ≡ first) × (r.length ≡ len)
+
+-- the highest count that a store's faults reach, at which they stand still
+abbrev pub last_count : ℕ
+last_count = 2 ^ 64 - 1
+
+-- the count of a fault is above all before it and that at entry, or stands at its type's end
+abbrev pub Rises : ℕ → ℕ → Type 0
+Rises before count = (before < count) ⊎ (count ≡ last_count)
+
+-- the rights allow the load, or the store
+abbrev pub has_right : Bool → Rights → Bool
+has_right writing rights = if writing then can_write rights else can_read rights
+
+-- the access that needs a frame has the right, and its page isn't resident
+abbrev pub IsNeeded : SpaceState → Option Need → Type 0
+IsNeeded st None = ⊥
+IsNeeded st (Some need) =
+    (is_some (region_at st.flat.regions need.page) ≡ true) × (has_right need.writing (st.flat.rights need.page) ≡ true) × (st.base need.page ≡ None)
+
+-- Which entries of a processor a space allows, where it may go on. Where the frames are named the entry's frame is theirs to allow.
+abbrev pub WhatAllowed : SpaceState → Bool → ℕ → What → Type 0
+WhatAllowed st frames c (Answer number call answered) = AnswerAllowed st frames c call answered
+WhatAllowed st frames c (Out page written) = IsResident st.base page × (st.flat.dirty page ≡ written)
+WhatAllowed st frames c (Failed page writing count) = IsResident st.base page × (st.flat.dirty page ≡ writing) × Rises st.highest count
+WhatAllowed st frames c (Take page frame want) = IsWantedFor st page want
+WhatAllowed st frames c (Give page frame) = (st.base page ≡ Some frame) × (st.flat.dirty page ≡ false)
+WhatAllowed st frames c (Clear first len) = IsRegionOf (region_at st.flat.regions first) first len
+WhatAllowed st frames c (Claim victim page frame need) = IsNeeded st need
+WhatAllowed st frames c (UseHeld page frame want) = IsWantedFor st page want
+WhatAllowed st frames c (Unclaim frame) = (page : ℕ) × (st.base page ≡ Some frame) × (st.flat.dirty page ≡ true)
+WhatAllowed st frames c what = ⊥
 
 abbrev pub SpaceAllows : SpaceState → Entry → Type 0
-SpaceAllows st e = MayGoOn st.pending e.processor × WhatAllowed st e.frames e.what
+SpaceAllows st e = MayGoOn st.next e.processor e.what × WhatAllowed st e.frames e.processor e.what

@@ -6,7 +6,9 @@ ghost use Rattle.pager_model.specs.declared.call.Call.TheVariants.{Load, Store};
 ghost use Rattle.pager_model.specs.declared.region.Rights.TheVariants.{Read};
 ghost use Rattle.pager_model.specs.declared.reply.Reply.TheVariants.{Done, Value, Denied, Unmapped};
 ghost use Rattle.pager_model.specs.Ages.{with_member, oldest_in};
-ghost use Rattle.pager_model.specs.Examples.{eight_pages, two_frames, one_taken, one_broken, one_given, one_carved, both_taken, want_eight, small_setting, legal_history, exchanged_history, small_plan, eight_places};
+ghost use Rattle.pager_model.specs.Examples.{eight_pages, two_frames, one_taken, one_broken, one_given, one_carved, both_taken, want_eight, small_setting, legal_history, exchanged_history, small_plan, eight_places, eight_parts_used, one_turn, failing_load, made_up_fault, untold_space};
+ghost use Rattle.pager_model.specs.Order.{progress_of, at_rest};
+ghost use Rattle.pager_model.specs.SpaceStates.{IsAsked};
 ghost use Rattle.pager_model.specs.Flat.{after_call, reply_of};
 ghost use Rattle.pager_model.specs.FrameStates.{take_frame, frame_of, held_by, dropped, free_count, reserved_count};
 ghost use Rattle.pager_model.specs.FreeBlocks.{choice};
@@ -73,6 +75,35 @@ pub fn smaller_sizes_are_tried()
     ensures first { option_map (λ t. t.frame) (take_frame two_frames 0 3 want_eight) ≡ Some 0 }
     ensures third { take_frame both_taken 0 7 want_eight ≡ None }
     ensures place { frame_of both_taken 0 5 ≡ Some 1 }
+{}
+
+/// A reservation each of whose eight parts has a used place yields one frame: it is broken, and as no part was empty, so is its
+/// lowest part. A page of another space then has the frame beside the first.
+pub fn a_break_goes_on_where_no_part_is_empty()
+    ensures none_free { free_count eight_parts_used ≡ 0 }
+    ensures frame { option_map (λ t. t.frame) (take_frame eight_parts_used 1 0 want_eight) ≡ Some 1 }
+    ensures free { option_map (λ t. free_count t.state) (take_frame eight_parts_used 1 0 want_eight) ≡ Some 6 }
+    ensures reserved { option_map (λ t. reserved_count t.state) (take_frame eight_parts_used 1 0 want_eight) ≡ Some 49 }
+    ensures counted { option_map (λ t. t.state.preemptions) (take_frame eight_parts_used 1 0 want_eight) ≡ Some 1 }
+{}
+
+/// A turn of a daemon with a low mark of 2 that evicts one page is a whole turn, and no sequence of a processor that makes calls.
+pub fn a_turn_ends_with_a_rest()
+    ensures whole { progress_of 2 one_turn ≡ Some (at_rest 2 1) }
+    ensures no_call { progress_of 0 one_turn ≡ None }
+{}
+
+/// A load whose victim could not be written is answered with the fault of the victim's store, and with no other.
+pub fn a_fault_is_answered_as_it_was()
+    ensures told { progress_of 0 failing_load ≡ Some (at_rest 0 1) }
+    ensures made_up { progress_of 0 made_up_fault ≡ None }
+{}
+
+/// In a space whose store tells nothing a loaded word is the one that was stored last, and where none was it may be any.
+pub fn an_untold_word_is_tied_to_its_latest_answer()
+    ensures stored { IsAsked untold_space (Load 0 8192) (Value 5) }
+    ensures other_word { IsAsked untold_space (Load 0 8200) (Value 77) }
+    ensures not_another { IsAsked untold_space (Load 0 8192) (Value 6) → ⊥ }
 {}
 
 /// A page that was never taken has no answer: the history is legal as it is, and isn't with two entries exchanged.

@@ -1,4 +1,4 @@
-ghost use Rattle.std.specs.Prelude.{◌≡◌, ◌≤◌, ◌<◌, vec_len, length};
+ghost use Rattle.std.specs.Prelude.{◌≡◌, ◌≤◌, ◌<◌, true, vec_len, length};
 
 use std::marker::Model;
 
@@ -16,7 +16,9 @@ impl Model for Setting {
 
     ghost Value = { Given };
 
-    ghost view = { λ s. record { frames = s.frames; marks = s.marks.items; told = s.told.items; faults = s.faults.items } };
+    ghost use Rattle.std.specs.Prelude.{true};
+
+    ghost view = { λ s. record { frames = s.frames; marks = s.marks.items; told = s.told.items; faults = s.faults.items; evicts = true } };
 }
 
 impl Setting {
@@ -26,7 +28,7 @@ impl Setting {
         requires spaces { (1 ≤ vec_len told) × (vec_len told ≤ 16) }
         requires counts { vec_len faults ≡ vec_len told }
         requires processors { (1 ≤ vec_len marks) × (vec_len marks ≤ 17) }
-        ensures { result ≡ record { frames = frames; marks = marks.items; told = told.items; faults = faults.items } }
+        ensures { result ≡ record { frames = frames; marks = marks.items; told = told.items; faults = faults.items; evicts = true } }
     {
         Setting {
             frames,

@@ -1,4 +1,4 @@
-use Rattle.frame_pool.proofs.Agreeing.{IsSound-allowed}
+use Rattle.frame_pool.proofs.AllowedEntries.{IsSound-allowed}
 use Rattle.frame_pool.proofs.Partition.{IsPartition-sound}
 use Rattle.frame_pool.proofs.laws.frames_keep.Goals as goal
 

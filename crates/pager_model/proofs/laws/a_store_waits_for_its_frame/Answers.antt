@@ -1,4 +1,4 @@
-use Rattle.std.proofs.Common.{◌≡◌, true, false, [], ◌∷◌, refl, lit<}
+use Rattle.std.proofs.Common.{◌≡◌, true, false, [], ◌∷◌, None, refl, lit<}
 use Rattle.pager_model.specs.declared.call.Call.TheVariants.{Load, Store}
 use Rattle.pager_model.specs.declared.reply.Reply.TheVariants.{Done, Unmapped}
 use Rattle.pager_model.specs.Examples.{answer, map_eight, take_page_one, small_setting}
@@ -13,9 +13,9 @@ first =
       parts = refl;
       processor = lit< tt;
       space = lit< tt;
-      by_space = (tt, ((refl, tt), (refl, refl), refl));
+      by_space = (tt, record { reply = (refl, λ lawful. tt); parts = refl; hit = refl; size = refl });
       by_frames = λ e. (let h : false ≡ true = e in cc);
-      ordered = (record { answered = 1; doing = Idle }, refl);
+      ordered = (record { made = 1; doing = Idle }, refl);
     }
 
 second : MayFollow small_setting (answer 0 map_eight Done ∷ []) take_page_one
@@ -26,7 +26,7 @@ second =
       space = lit< tt;
       by_space = (tt, (refl, refl));
       by_frames = λ e. (refl, HasNothing-start 2 1 0, refl);
-      ordered = (record { answered = 1; doing = Filling 0 1 }, refl);
+      ordered = (record { made = 1; doing = Filling (record { space = 0; page = 1; writing = None }) 0 }, refl);
     }
 
 third : MayFollow small_setting (answer 0 map_eight Done ∷ take_page_one ∷ []) (answer 1 (Store 0 8192 5) Done)
@@ -35,9 +35,9 @@ third =
       parts = refl;
       processor = lit< tt;
       space = lit< tt;
-      by_space = (refl, ((refl, (0, refl)), (refl, refl), refl));
+      by_space = (refl, record { reply = (refl, λ lawful. (0, refl)); parts = refl; hit = refl; size = refl });
       by_frames = λ e. (let h : false ≡ true = e in cc);
-      ordered = (record { answered = 2; doing = Idle }, refl);
+      ordered = (record { made = 2; doing = Idle }, refl);
     }
 
 fourth : MayFollow small_setting (answer 0 map_eight Done ∷ take_page_one ∷ answer 1 (Store 0 8192 5) Done ∷ []) (answer 2 (Load 0 65536) Unmapped)
@@ -46,9 +46,9 @@ fourth =
       parts = refl;
       processor = lit< tt;
       space = lit< tt;
-      by_space = (tt, (refl, (refl, refl), refl));
+      by_space = (tt, record { reply = (refl, λ lawful. absurd (let h : false ≡ true = lawful in cc)); parts = refl; hit = refl; size = refl });
       by_frames = λ e. (let h : false ≡ true = e in cc);
-      ordered = (record { answered = 3; doing = Idle }, refl);
+      ordered = (record { made = 3; doing = Idle }, refl);
     }
 
 pub returns-clause-legal : goal.returns-clause-legal

@@ -1,0 +1,6 @@
+//! Replays of a trace: which processor's turn it is, and when.
+#![tactic(auto)]
+
+mod file_order;
+
+pub use file_order::replay_file_order;
