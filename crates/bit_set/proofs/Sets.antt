@@ -1,9 +1,9 @@
 -- Words as sets of numbers: what is in, after a word is written too.
-use Rattle.std.proofs.Common.{◌≡◌, ◌≢◌, ℕ, zero, suc, ◌+◌, ◌*◌, ◌/◌, ◌%◌, ◌^◌, ◌<◌, ◌≤◌, Bool, true, false, cond, eqb, List, [], ◌∷◌, length, get_or, map, replicate, inl, inr, refl, sym, ap, subst, ◌∙◌, zero-add, Option, Some, None, arith, get_or-set_other, get_or-set_same}
+use Rattle.std.proofs.Common.{◌≡◌, ◌≢◌, ℕ, zero, suc, ◌+◌, ◌*◌, ◌/◌, ◌%◌, ◌^◌, ◌<◌, ◌≤◌, Bool, true, false, cond, eqb, not, List, length, get_or, map, replicate, inl, inr, refl, sym, ap, subst, ◌∙◌, zero-add, Some, None, arith, get_or-set_other, get_or-set_same}
 use Rattle.std.proofs.Math.ListN.{set, length-set}
 use Rattle.std.specs.Int.{bit_at, trailing_zeros, w64}
 use Rattle.std.specs.List.{range_with_len}
-use Rattle.std.proofs.lemmas.Bool.{cases_lt, cases_eq}
+use Rattle.std.proofs.lemmas.Bool.{cases_lt, cases_eq, false≢true}
 use Rattle.std.proofs.lemmas.List.{ext_get_or, get_or_past, length-replicate, get_or-replicate}
 use Rattle.std.proofs.lemmas.List.FromFn.{length-map-range_with_len, get_or-map-range_with_len}
 use Rattle.std.proofs.lemmas.Nat.Bits.{bit_at-zero, bit_at-trailing_zeros}
@@ -119,3 +119,16 @@ has_by_word words word bits at some fits =
 pub lacks_by_word : (words : List ℕ) (word : ℕ) → get_or words word 0 ≡ 0 → LacksWord (bits_of words) word
 lacks_by_word words word at n same =
     get_or-bits_of words n ∙ not_in_zero words n (ap (λ w. get_or words w 0) same ∙ at)
+
+-- ---- a word as it is written
+
+pub word_of_bit : (words : List ℕ) (set : List Bool) (n : ℕ) → bits_of words ≡ set → n < length set → n / 64 < length words
+word_of_bit words set n is inside = omega (arith, length-bits_of words, ap length is)
+
+pub word_written : (words after : List ℕ) (set_before : List Bool) (n bits : ℕ) → bits_of words ≡ set_before → n < length set_before → after ≡ set words (n / 64) bits → get_or after (n / 64) 0 ≡ bits
+word_written words after set_before n bits is inside written =
+    ap (λ ws. get_or ws (n / 64) 0) written ∙ get_or-set_same words (n / 64) bits 0 (word_of_bit words set_before n is inside)
+
+pub not_zero : (bits : ℕ) → not (eqb bits 0) ≡ true → 0 < bits
+not_zero zero is = absurd (false≢true is)
+not_zero (suc n) is = omega arith

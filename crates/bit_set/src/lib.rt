@@ -1,10 +1,10 @@
 //! A set of numbers below a fixed bound. To look for a number, to put one in or out, and to find the next one are a few looks at
-//! words of 64 bits, however many numbers are in.
+//! words of 64 bits, however many numbers are in. Each look at a word and each write of one counts as a step.
 //!
 //! Each number has a bit. Two levels of summaries stand above: a bit there says whether a word below has a bit that is set.
 #![tactic(auto)]
 
-ghost use Rattle.std.specs.Prelude.{◌≡◌, ◌%◌, ◌<◌, ◌≤◌, true, false, length, replicate, slice_index_or, slice_set, IfOk};
+ghost use Rattle.std.specs.Prelude.{◌≡◌, ◌+◌, ◌%◌, ◌<◌, ◌≤◌, true, false, length, replicate, slice_index_or, slice_set, IfOk};
 ghost use Rattle.bit_set.specs.Bits.{IsFirstFrom};
 ghost use Rattle.bit_set.specs.Summaries.{Sums};
 
@@ -13,8 +13,10 @@ mod store;
 mod word;
 
 use level::Level;
+use pager_model::Steps;
 use std::alloc::{AllocError, Global};
 use std::marker::Model;
+use std::sync::ledger::Ledger;
 
 /// A set of numbers below a bound.
 ///
@@ -54,63 +56,74 @@ impl BitSet {
     }
 
     /// Whether the number is in the set.
-    pub fn has(&self, number: u32) -> bool
-        ensures { result ≡ slice_index_or self.now number false }
+    pub fn has<L: Ledger>(&self, number: u32, steps: &mut Steps<L>) -> bool
+        ensures has { result ≡ slice_index_or self.now number false }
+        ensures cost { steps.new ≡ steps.old + 1 }
     {
-        self.bits.has(number)
+        self.bits.has(number, steps)
     }
 
     /// Puts a number into the set.
-    pub fn insert(&mut self, number: u32)
+    pub fn insert<L: Ledger>(&mut self, number: u32, steps: &mut Steps<L>)
         requires { number < length self.old }
-        ensures { self.new ≡ slice_set self.old number true }
+        ensures set { self.new ≡ slice_set self.old number true }
+        ensures cost { steps.new ≡ steps.old + 6 }
     {
-        self.put(number, true);
+        self.put(number, true, steps);
     }
 
     /// Takes a number out of the set.
-    pub fn remove(&mut self, number: u32)
+    pub fn remove<L: Ledger>(&mut self, number: u32, steps: &mut Steps<L>)
         requires { number < length self.old }
-        ensures { self.new ≡ slice_set self.old number false }
+        ensures set { self.new ≡ slice_set self.old number false }
+        ensures cost { steps.new ≡ steps.old + 6 }
     {
-        self.put(number, false);
+        self.put(number, false, steps);
     }
 
     /// Puts a number into the set or out of it, and writes the summaries above it.
-    fn put(&mut self, number: u32, is_in: bool)
+    fn put<L: Ledger>(&mut self, number: u32, is_in: bool, steps: &mut Steps<L>)
         requires { number < length self.old }
-        ensures { self.new ≡ slice_set self.old number is_in }
+        ensures set { self.new ≡ slice_set self.old number is_in }
+        ensures cost { steps.new ≡ steps.old + 6 }
     {
-        let word = self.bits.put(number, is_in);
-        let group = self.words.put(number / 64, word);
-        self.groups.put(number / 64 / 64, group);
+        let word = self.bits.put(number, is_in, steps);
+        let group = self.words.put(number / 64, word, steps);
+        self.groups.put(number / 64 / 64, group, steps);
     }
 
     /// The first number of the set from this one on.
-    pub fn first_from(&self, number: u32) -> Option<u32>
-        ensures { IsFirstFrom self.now number result }
+    pub fn first_from<L: Ledger>(&self, number: u32, steps: &mut Steps<L>) -> Option<u32>
+        ensures first { IsFirstFrom self.now number result }
+        ensures cost { steps.new ≤ steps.old + 5 }
     {
-        let next = self.bits.next_in_word(number);
+        let next = self.bits.next_in_word(number, steps);
         if next.is_some() {
             return next;
         }
-        let word = first_word_from(&self.words, &self.groups, number / 64 + 1)?;
-        self.bits.next_in_word(word * 64)
+        let word = first_word_from(&self.words, &self.groups, number / 64 + 1, steps)?;
+        self.bits.next_in_word(word * 64, steps)
     }
 }
 
 /// The first word from this one on that has a bit, by the bits of the words and those of their groups.
-fn first_word_from(words: &Level, groups: &Level, word: u32) -> Option<u32>
+fn first_word_from<L: Ledger>(
+    words: &Level,
+    groups: &Level,
+    word: u32,
+    steps: &mut Steps<L>,
+) -> Option<u32>
     requires summed { Sums words.now groups.now }
     requires one_word { length groups.now ≤ 64 }
-    ensures { IsFirstFrom words.now word result }
+    ensures first { IsFirstFrom words.now word result }
+    ensures cost { steps.new ≤ steps.old + 3 }
 {
-    let next = words.next_in_word(word);
+    let next = words.next_in_word(word, steps);
     if next.is_some() {
         return next;
     }
-    let group = groups.next_in_word(word / 64 + 1)?;
-    words.next_in_word(group * 64)
+    let group = groups.next_in_word(word / 64 + 1, steps)?;
+    words.next_in_word(group * 64, steps)
 }
 
 #[cfg(test)]

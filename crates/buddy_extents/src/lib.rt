@@ -16,13 +16,15 @@ mod nodes;
 use bit_set::BitSet;
 use hand::{cut, put_all_in, put_in};
 use nodes::{NODES, first_frame, first_node, order_of};
-use pager_model::{Extent, NoMemory, Size};
+use pager_model::{Extent, NoMemory, Size, Steps};
 use std::alloc::Global;
-use std::marker::Model;
+use std::marker::{Brand, Model};
+use std::sync::ledger::{Blank, Ledger};
 
 /// A set of frames: those that are free. Frames are counted from 0.
 ///
-/// Contracts see it as a list that says of each frame whether it is free.
+/// Contracts see it as a list that says of each frame whether it is free. A step of a call is a look at one word of the set, or a
+/// write of one.
 #[derive(Debug, Drop)]
 pub struct Free {
     nodes: BitSet,
@@ -57,7 +59,7 @@ impl Free {
         ensures { IfOk result (λ free. free ≡ replicate frames true) }
     {
         let mut nodes = BitSet::create(alloc, NODES)?;
-        put_all_in(&mut nodes, frames);
+        put_all_in::<Brand>(&mut nodes, frames, Blank::new(1));
         Ok(Free {
             nodes,
             frames,
@@ -69,40 +71,46 @@ impl Free {
     ///
     /// The choice is the lowest frames of the lowest block of the least order that has one and holds the size. There is none where
     /// no extent of the size is free.
-    pub fn take(&mut self, size: Size) -> Option<u32>
+    pub fn take<L: Ledger>(&mut self, size: Size, steps: &mut Steps<L>) -> Option<u32>
+        requires steps { steps.old < 2 ^ 32 }
         ensures chosen { result ≡ choice self.old size }
         ensures taken { MatchOption result (self.new ≡ self.old)
             (λ first. self.new ≡ with_range self.old first (8 ^ size) false) }
+        ensures cost { steps.new ≤ steps.old + 128 }
     {
         let order = order_of_size(size);
-        let node = self.nodes.first_from(first_node(order))?;
+        let node = self.nodes.first_from(first_node(order), steps)?;
         let whole = order_of(node);
         let first = first_frame(whole, node);
-        self.nodes.remove(node);
-        cut(&mut self.nodes, first, whole, order);
+        self.nodes.remove(node, steps);
+        cut(&mut self.nodes, first, whole, order, steps);
         self.count -= size.pages();
         Some(first)
     }
 
     /// Puts an extent of frames into the set, of which none is in.
-    pub fn give(&mut self, extent: Extent)
+    pub fn give<L: Ledger>(&mut self, extent: Extent, steps: &mut Steps<L>)
         requires aligned { IsExtent extent.size extent.first }
         requires within { extent.first + 8 ^ extent.size ≤ length self.old }
         requires taken { (frame : ℕ) → extent.first ≤ frame → frame < extent.first + 8 ^ extent.size
             → slice_index_or self.old frame false ≡ false }
-        ensures { self.new ≡ with_range self.old extent.first (8 ^ extent.size) true }
+        requires steps { steps.old < 2 ^ 32 }
+        ensures given { self.new ≡ with_range self.old extent.first (8 ^ extent.size) true }
+        ensures cost { steps.new ≤ steps.old + 128 }
     {
-        put_in(&mut self.nodes, order_of_size(extent.size), extent.first);
+        let order = order_of_size(extent.size);
+        put_in(&mut self.nodes, order, extent.first, steps);
         self.count += extent.size.pages();
     }
 
     /// Whether a taking of this size finds an extent.
-    pub fn has(&self, size: Size) -> bool
-        ensures { result ≡ is_some (choice self.now size) }
+    pub fn has<L: Ledger>(&self, size: Size, steps: &mut Steps<L>) -> bool
+        requires { steps.old < 2 ^ 32 }
+        ensures has { result ≡ is_some (choice self.now size) }
+        ensures cost { steps.new ≤ steps.old + 16 }
     {
-        self.nodes
-            .first_from(first_node(order_of_size(size)))
-            .is_some()
+        let order = order_of_size(size);
+        self.nodes.first_from(first_node(order), steps).is_some()
     }
 
     /// How many frames are free.

@@ -4,9 +4,11 @@ ghost use Rattle.std.specs.Bool.{OnTrue};
 mod plain;
 
 use crate::{Free, laws};
-use pager_model::{Extent, NoMemory, Size};
+use pager_model::{Extent, NoMemory, Size, Steps};
 use std::alloc::Global;
+use std::marker::Brand;
 use std::process::Abort;
+use std::sync::ledger::{Blank, Ledger};
 use std::test::Fail;
 
 /// The set beside a plain list of flags that says the same.
@@ -48,15 +50,33 @@ impl Beside {
         plain::choice(self.flags.as_slice(), size)
     }
 
-    fn take(&mut self, size: Size) -> Option<u32> {
+    fn take<L: Ledger>(&mut self, size: Size, blank: Blank) -> Option<u32>
+        requires name { blank.name ≡ L.name }
+        requires parts { blank.parts ≡ L.parts }
+        requires share { 0 < blank.parts }
+    {
         laws::choice_is_a_free_extent();
-        let first = self.free.take(size)?;
+        let (book, share) = blank.open::<L>();
+        let first = self.free.take(size, &mut Steps::begin(book, share))?;
         plain::set_range(self.flags.as_mut_slice(), first, size.pages(), false);
         Some(first)
     }
 
+    fn has<L: Ledger>(&self, size: Size, blank: Blank) -> bool
+        requires name { blank.name ≡ L.name }
+        requires parts { blank.parts ≡ L.parts }
+        requires share { 0 < blank.parts }
+    {
+        let (book, share) = blank.open::<L>();
+        self.free.has(size, &mut Steps::begin(book, share))
+    }
+
     /// Gives an extent back where none of its frames is free.
-    fn give(&mut self, extent: Extent) -> bool {
+    fn give<L: Ledger>(&mut self, extent: Extent, blank: Blank) -> bool
+        requires name { blank.name ≡ L.name }
+        requires parts { blank.parts ≡ L.parts }
+        requires share { 0 < blank.parts }
+    {
         let pages = extent.size.pages();
         let first = extent.first;
         if pages == 0 || pages > 512 || first % pages != 0 || first > 32_768 {
@@ -67,7 +87,8 @@ impl Beside {
         {
             return false;
         }
-        self.free.give(extent);
+        let (book, share) = blank.open::<L>();
+        self.free.give(extent, &mut Steps::begin(book, share));
         plain::set_range(self.flags.as_mut_slice(), first, pages, true);
         true
     }
@@ -123,15 +144,18 @@ fn takes_from_the_least_block_that_holds_the_size(rt: HostRuntime) -> Result<(),
         match *step {
             Step::Take(level, first) => {
                 let size = Size::of(level).ok_or("level")?;
-                assert_eq!(rt; both.take(size), first, "step {i}");
+                assert_eq!(rt; both.take::<Brand>(size, Blank::new(1)), first, "step {i}");
             }
             Step::Give(level, first) => {
                 let size = Size::of(level).ok_or("level")?;
-                assert!(rt; both.give(Extent { size, first }), "step {i}");
+                assert!(rt;
+                    both.give::<Brand>(Extent { size, first }, Blank::new(1)),
+                    "step {i}"
+                );
             }
             Step::Has(level, has) => {
                 let size = Size::of(level).ok_or("level")?;
-                assert_eq!(rt; both.free.has(size), has, "step {i}");
+                assert_eq!(rt; both.has::<Brand>(size, Blank::new(1)), has, "step {i}");
             }
             Step::Count(count) => assert_eq!(rt; both.free.count(), count, "step {i}"),
         }
@@ -152,12 +176,20 @@ fn chooses_alike(rt: &impl Abort, both: &mut Beside, frames: u32, steps: u32) ->
         let size = Size::of((draw % 4) as u8).ok_or("level")?;
         if draw / 4 % 2 == 0 {
             let chosen = both.choice(size);
-            assert_eq!(rt; both.free.has(size), chosen.is_some(), "step {step}");
-            assert_eq!(rt; both.take(size), chosen, "step {step}");
+            assert_eq!(rt;
+                both.has::<Brand>(size, Blank::new(1)),
+                chosen.is_some(),
+                "step {step}"
+            );
+            assert_eq!(rt;
+                both.take::<Brand>(size, Blank::new(1)),
+                chosen,
+                "step {step}"
+            );
         } else {
             let pages = size.pages().max(1);
             let first = draw / 8 % frames / pages * pages;
-            both.give(Extent { size, first });
+            both.give::<Brand>(Extent { size, first }, Blank::new(1));
         }
     }
     let free = both.flags.iter().filter(|free| **free).count();
@@ -177,21 +209,24 @@ fn hands_out_and_joins_32_768_single_frames(rt: HostRuntime) -> Result<(), Fail>
     let single = Size::of(0).ok_or("level")?;
     let huge = Size::of(3).ok_or("level")?;
     for first in 0..32_768 {
-        assert_eq!(rt; both.take(single), Some(first));
+        assert_eq!(rt; both.take::<Brand>(single, Blank::new(1)), Some(first));
     }
-    assert_eq!(rt; both.take(single), None);
+    assert_eq!(rt; both.take::<Brand>(single, Blank::new(1)), None);
     for i in 0..32_768u32 {
         let first = i * 5 % 32_768;
         assert!(rt;
-            both.give(Extent {
-                size: single,
-                first
-            })
+            both.give::<Brand>(
+                Extent {
+                    size: single,
+                    first
+                },
+                Blank::new(1)
+            )
         );
     }
     assert_eq!(rt; both.free.count(), 32_768);
     for block in 0..64 {
-        assert_eq!(rt; both.take(huge), Some(512 * block));
+        assert_eq!(rt; both.take::<Brand>(huge, Blank::new(1)), Some(512 * block));
     }
     Ok(())
 }

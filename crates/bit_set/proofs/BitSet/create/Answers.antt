@@ -1,4 +1,4 @@
-use Rattle.std.proofs.Common.{◌≡◌, ◌≤◌, ◌*◌, ◌/◌, false, length, replicate, arith}
+use Rattle.std.proofs.Common.{◌*◌, ◌/◌, false, arith}
 use Rattle.std.proofs.lemmas.List.{length-replicate}
 use Rattle.bit_set.proofs.Levels.{Sums-none}
 use Rattle.bit_set.proofs.BitSet.create.Goals as goal
