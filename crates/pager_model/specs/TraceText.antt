@@ -37,11 +37,18 @@ call_words (Evict space page) = codes "evict" ∷ decimal space ∷ decimal page
 abbrev pub line_of_words : List (List ℕ) → List ℕ
 line_of_words words = join_with_byte 32 words ++ 10 ∷ []
 
+abbrev pub line_words : Line → List (List ℕ)
+line_words line = decimal line.processor ∷ call_words line.call
+
 abbrev pub call_line : Line → List ℕ
-call_line line = line_of_words (decimal line.processor ∷ call_words line.call)
+call_line line = line_of_words (line_words line)
+
+-- the words of a first line, of version 1, for so many frames, processors and spaces
+abbrev pub first_words : ℕ → ℕ → ℕ → List (List ℕ)
+first_words frames processors spaces = codes "trace" ∷ codes "1" ∷ decimal frames ∷ decimal processors ∷ decimal spaces ∷ []
 
 abbrev pub first_line : Plan → List ℕ
-first_line plan = line_of_words (codes "trace" ∷ codes "1" ∷ decimal plan.frames ∷ decimal plan.processors ∷ decimal plan.spaces ∷ [])
+first_line plan = line_of_words (first_words plan.frames plan.processors plan.spaces)
 
 -- the whole text: the first line, a line for each call, and the line end
 abbrev pub text_of : Plan → List ℕ
