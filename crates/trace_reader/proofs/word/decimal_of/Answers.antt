@@ -1,8 +1,8 @@
 use Rattle.std.proofs.Common.{◌≡◌, arith, sym}
 use Rattle.std.proofs.lemmas.Grind.{common_steps}
-use Rattle.trace_reader.specs.Reading.{IsPlain}
+use Rattle.trace_reader.specs.Words.{IsPlain}
 use Rattle.trace_reader.proofs.Numbers.{is_plain, is_text, no_number, parsed}
-use Rattle.trace_reader.proofs.word.decimal.Goals as goal
+use Rattle.trace_reader.proofs.word.decimal_of.Goals as goal
 
 pub returns-then-not-is_plain : goal.returns-then-not-is_plain
 returns-then-not-is_plain c = sym (no_number c.args.word.now (λ n small e. let plain : IsPlain c.args.word.now = is_plain n c.args.word.now small e in grind (arith, common_steps)))
