@@ -1,16 +1,16 @@
 -- What becomes of a table of pages when a page gets a frame, loses it, or has its words written, and when a range gets rights.
-use Rattle.std.proofs.Common.{◌≡◌, ◌≢◌, ℕ, ◌+◌, ◌<◌, ◌≤◌, Bool, true, false, ◌&&◌, ◌==◌, if◌then◌else◌, List, Option, Some, None, length, replicate, slice_index_or, slice_set, refl, sym, ap, inl, inr, ◌∙◌, arith, subst}
+use Rattle.std.proofs.Common.{◌≡◌, ◌≢◌, ℕ, ◌+◌, ◌-◌, ◌<◌, ◌≤◌, Bool, true, false, ◌&&◌, ◌==◌, if◌then◌else◌, List, ◌++◌, Option, Some, None, is_some, length, replicate, take, drop, slice_index_or, slice_set, refl, sym, ap, inl, inr, ◌∙◌, arith, subst}
 use Rattle.std.specs.Option.{option_and_then}
 use Rattle.std.proofs.lemmas.Bool.{cases_eq, cases_lt}
 use Rattle.std.proofs.lemmas.Bool.Decides.{nat_tests}
 use Rattle.std.proofs.lemmas.Grind.{common_steps}
 use borrow.Rule.Slice.PartMut.{put_mid}
 use Rattle.pager_model.specs.Regions.{in_range}
-use Rattle.std.proofs.lemmas.List.{get_or-set_other, get_or-set_same, length-set, get_or_past, get_or_read, set-get_or, get_or-replicate, length-replicate}
+use Rattle.std.proofs.lemmas.List.{get_or-set_other, get_or-set_same, length-set, get_or_past, get_or_read, set-get_or, get_or-replicate, length-replicate, length-take, get_or_append_left, get_or-append_right, get_or-take, take_at, get_or-drop, length-append, length-drop}
 use Rattle.std.proofs.lemmas.Option.{none-some, same_Some}
 use Rattle.pager_model.specs.declared.region.Rights.{Rights}
 use Rattle.pager_model.specs.Frame.{Framed}
-use Rattle.space_core.specs.Pages.{IsFrameAt, IsPaged, SameOwn, Moves, Clears, Writes}
+use Rattle.space_core.specs.Pages.{IsFrameAt, IsPaged, SameOwn, IsFresh, Moves, Clears, Writes, Protects}
 use Rattle.space_core.specs.Tables.{Table, frame_in, word_in, word_in_frame, own_in}
 
 pub frame_in-is : (t : Table) (p : ℕ) → frame_in t p ≡ slice_index_or t.numbers p None
@@ -240,4 +240,87 @@ clears_none t page none =
 
 -- a part of a list is filled: within it each place has the value, and elsewhere it is as before
 pub filled-at : {X : Type 0} (xs : List X) (a k : ℕ) (v d : X) (p : ℕ) → a + k ≤ length xs → slice_index_or (put_mid a k xs (replicate k v)) p d ≡ (if in_range a k p then v else slice_index_or xs p d)
-filled-at xs a k v d p h = ?
+filled-at xs a k v d p h =
+    let front : length (take a xs) ≡ a = omega (arith, length-take a xs) in
+    let part = length-replicate k v in
+    elim (cases_lt p a) [
+      | inl below ↦ get_or_append_left (take a xs) _ d p (omega arith) ∙ get_or-take a xs p d below ∙ grind (arith, nat_tests)
+      | inr from ↦ elim (cases_lt p (a + k)) [
+          | inl inside ↦ get_or-append_right (take a xs) _ a p d front from ∙ get_or_append_left (replicate k v) _ d _ (omega arith) ∙ get_or-replicate k _ v d (omega arith) ∙ grind (arith, nat_tests)
+          | inr past ↦ get_or-append_right (take a xs) _ a p d front from ∙ get_or-append_right (replicate k v) _ k _ d part (omega arith) ∙ get_or-drop k (drop a xs) _ d ∙ get_or-drop a xs _ d ∙ ap (λ i. slice_index_or xs i d) {y = p} (omega arith) ∙ grind (arith, nat_tests)
+        ]
+    ]
+
+length-put_mid : {X : Type 0} (a k : ℕ) (xs ys : List X) → length ys ≡ k → a + k ≤ length xs → length (put_mid a k xs ys) ≡ length xs
+length-put_mid {X} a k xs ys e h =
+    omega (arith, length-append {A = X} (take a xs) (ys ++ drop k (drop a xs)), length-append {A = X} ys (drop k (drop a xs)), length-take {A = X} a xs, length-drop {A = X} k (drop a xs), length-drop {A = X} a xs)
+
+-- a table of empty places
+empty_place : {X : Type 0} (n p : ℕ) → ◌≡◌ {A = Option X} (slice_index_or (replicate n None) p None) None
+empty_place {X} n p =
+    elim (cases_lt p n) [ inl l ↦ get_or-replicate n p None None l | inr past ↦ get_or_past (replicate n None) p None (omega (arith, length-replicate {A = Option X} n None)) ]
+
+module _ (t : Table) (pages frames : ℕ) (numbers : t.numbers ≡ replicate pages None) (own : t.own ≡ replicate pages None) (places : t.frames ≡ replicate frames None) where
+  none_resident : (p : ℕ) → frame_in t p ≡ None
+  none_resident p = frame_in-is t p ∙ ap (λ (ns : List (Option ℕ)). slice_index_or ns p None) numbers ∙ empty_place pages p
+
+  pub fresh : IsFresh frames t
+  fresh =
+      record {
+        count = ap length places ∙ length-replicate {A = Option Framed} frames None;
+        none_resident = none_resident;
+        none_own = λ p. own_in-is t p ∙ ap (λ (rs : List (Option Rights)). slice_index_or rs p None) own ∙ empty_place pages p;
+      }
+
+  pub fresh_paged : pages ≡ 1048576 → frames ≤ 32768 → IsPaged t
+  fresh_paged whole few =
+      record {
+        numbers = ap length numbers ∙ length-replicate {A = Option ℕ} pages None ∙ whole;
+        own = ap length own ∙ length-replicate {A = Option Rights} pages None ∙ whole;
+        few = omega (arith, ap length places, length-replicate {A = Option Framed} frames None);
+        found = λ p n h. absurd (none-some n (sym (none_resident p) ∙ h));
+        apart = λ p q n h _. absurd (none-some n (sym (none_resident p) ∙ h));
+      }
+
+-- what a fill of a part leaves of the whole
+pub part_filled : {X : Type 0} (own row part : List X) (len first n : ℕ) (v : X) → row ≡ own → part ≡ replicate (length (take (first + n - first) (drop first row))) v → len ≡ length own → first + n ≤ length own → take len (put_mid first (first + n - first) row part ++ drop (length (put_mid first (first + n - first) row part)) own) ≡ put_mid first n own (replicate n v)
+part_filled {X} own row part len first n v rows parts lens h =
+    let k : first + n - first ≡ n = omega arith in
+    let count : length (take (first + n - first) (drop first row)) ≡ n = omega (arith, length-take {A = X} (first + n - first) (drop first row), length-drop {A = X} first row, ap length rows) in
+    let filled : part ≡ replicate n v = parts ∙ ap (λ (m : ℕ). replicate m v) count in
+    rw (rows, filled, k) (take_at _ _ len (length-put_mid first n own (replicate n v) (length-replicate {A = X} n v) h ∙ sym lens))
+
+-- the pages of a range get these rights
+module _ (t : Table) (paged : IsPaged t) (first len : ℕ) (rights : Option Rights) (in_space : first + len ≤ 1048576) where
+  abbrev pub protected : Table
+  protected = record { numbers = t.numbers; own = put_mid first len t.own (replicate len rights); frames = t.frames }
+
+  frame_protected : (p : ℕ) → frame_in protected p ≡ frame_in t p
+  frame_protected p = frame_in-is protected p ∙ sym (frame_in-is t p)
+
+  pub protects : Protects first len rights t protected
+  protects =
+      record {
+        count = refl;
+        frame = frame_protected;
+        word = λ p i. word_in-is protected p i ∙ ap (λ o. word_in_frame (frame_of t.frames o) i) (frame_protected p) ∙ sym (word_in-is t p i);
+        own = λ p. own_in-is protected p ∙ filled-at t.own first len rights None p (omega (arith, paged.own)) ∙ ap (λ o. if in_range first len p then rights else o) (sym (own_in-is t p));
+      }
+
+  pub protected_paged : IsPaged protected
+  protected_paged =
+      record {
+        numbers = paged.numbers;
+        own = length-put_mid first len t.own (replicate len rights) (length-replicate {A = Option Rights} len rights) (omega (arith, paged.own)) ∙ paged.own;
+        few = paged.few;
+        found = λ p n h. let at = paged.found p n (sym (frame_protected p) ∙ h) in record { frame = at.frame; is = at.is; number_is = at.number_is };
+        apart = λ p q n hp hq. paged.apart p q n (sym (frame_protected p) ∙ hp) (sym (frame_protected q) ∙ hq);
+      }
+
+pub none-is : (o : Option ℕ) → false ≡ is_some o → o ≡ None
+none-is None h = refl
+none-is (Some x) h = cc
+
+pub some-isnt : (o : Option ℕ) → true ≡ is_some o → o ≢ None
+some-isnt None h e = cc
+some-isnt (Some x) h e = none-some x (sym e)

@@ -1,6 +1,6 @@
 //! What a space keeps of its pages: which are resident, in which frames, and which rights a protect gave them.
 
-ghost use Rattle.std.specs.Prelude.{◌≡◌, ◌≢◌, ◌+◌, ◌<◌, ◌≤◌, ℕ, length, None, Some, IfOk, IfSome, IfNone};
+ghost use Rattle.std.specs.Prelude.{◌≡◌, ◌≢◌, ◌+◌, ◌<◌, ◌≤◌, ℕ, length, replicate, None, Some, IfOk, IfSome, IfNone};
 ghost use Rattle.space_core.specs.Tables.{frame_in, word_in, own_in};
 ghost use Rattle.space_core.specs.Pages.{IsFresh, Moves, Clears, Writes, Protects, IsFirstResident, NoneFrom};
 
@@ -47,9 +47,9 @@ impl PageTable {
         ensures { IfOk result (IsFresh frames) }
     {
         Ok(PageTable {
-            numbers: vec![in alloc; None; PAGES as usize]?,
-            own: vec![in alloc; None; PAGES as usize]?,
-            frames: no_frames(alloc, frames as usize)?,
+            numbers: empty_places(alloc, PAGES)?,
+            own: empty_places(alloc, PAGES)?,
+            frames: empty_places(alloc, frames)?,
         })
     }
 
@@ -157,17 +157,29 @@ impl PageTable {
         requires { first + length ≤ 1048576 }
         ensures { Protects first length rights self.old self.new }
     {
-        self.own[first as usize..(first + length) as usize].fill(rights);
+        fill(
+            &mut self.own[first as usize..(first + length) as usize],
+            rights,
+        );
     }
 }
 
-/// So many places without a frame.
-fn no_frames(alloc: Global, count: usize) -> Result<Vec<Option<Frame>>, NoMemory>
-    ensures { IfOk result (λ frames. length frames.items ≡ count) }
+/// So many places with nothing in them.
+fn empty_places<T: Drop>(alloc: Global, count: u32) -> Result<Vec<Option<T>>, NoMemory>
+    ensures { IfOk result (λ places. places.items ≡ replicate count None) }
 {
-    let mut frames = Vec::with_capacity(alloc, count)?;
+    let mut places = Vec::with_capacity(alloc, count as usize)?;
     for _ in 0..count {
-        frames.push(None)?;
+        places.push(None)?;
     }
-    Ok(frames)
+    Ok(places)
+}
+
+/// Gives every page of a part the same rights of its own, or none.
+fn fill(own: &mut [Option<Rights>], rights: Option<Rights>)
+    ensures { own.new ≡ replicate (length own.old) rights }
+{
+    for page in own.iter_mut() {
+        *page = rights;
+    }
 }
