@@ -1,1 +1,4 @@
 pub mod TableLemmas
+pub mod Serving
+pub mod Refusing
+pub mod Finding

@@ -1,0 +1,1 @@
+-- Which region has a page after a map, a growth and an unmap.
