@@ -2,3 +2,4 @@ pub mod TableLemmas
 pub mod Serving
 pub mod Refusing
 pub mod Finding
+pub mod Changing
