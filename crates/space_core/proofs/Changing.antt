@@ -1,7 +1,7 @@
 -- What becomes of a space when a region is mapped, grows, or gets new rights, and what an unmap and an access need first.
 use Rattle.std.proofs.Common.{◌≡◌, ◌≢◌, ℕ, ◌+◌, ◌<◌, ◌≤◌, Bool, true, false, ◌&&◌, ◌==◌, if◌then◌else◌, List, Option, Some, None, is_some, length, refl, sym, ap, inl, inr, ◌∙◌, arith, subst, nat_le}
 use Rattle.std.specs.List.{list_any}
-use Rattle.std.proofs.lemmas.Bool.{cases_Bool, cases_lt, cond-true, cond-false, and_parts, leb-true, le-leb, true≢false}
+use Rattle.std.proofs.lemmas.Bool.{cases_Bool, cases_lt, cond-true, cond-false, and_parts, leb-true, le-leb, lt-leb, true≢false}
 use Rattle.std.proofs.lemmas.Option.{none-some, same_Some}
 use Rattle.pager_model.specs.declared.call.Call.{Call}
 use Rattle.pager_model.specs.declared.call.Call.TheVariants.{Map, Grow, Unmap, Protect}
@@ -18,10 +18,11 @@ use Rattle.region_table.specs.Table.{IsTable, region_of}
 use Rattle.space_core.specs.Beginning.{BeginsAnswered, BeginsClearing, IsUnmapping, Answers, SameRegions, Unmapped as IsUnmapped}
 use Rattle.space_core.specs.Keeping.{IsKept, IsClearing}
 use Rattle.space_core.specs.Pages.{Protects}
-use Rattle.space_core.specs.Standing.{Kept, StandsFor, IsResting, rights_by, rights_at, is_in, word_at, is_page}
+use Rattle.space_core.specs.Standing.{Kept, StandsFor, IsResting, CanBegin, rights_by, rights_at, is_in, word_at, is_page}
 use Rattle.space_core.specs.Tables.{Table, frame_in, word_in, own_in}
 use Rattle.space_core.proofs.Finding.{in_bounds, bounds_in, none_in, found_has, found_from, found_same, found_with, found_without, found_grown, grown}
 use Rattle.space_core.proofs.Serving.{kept}
+use Rattle.space_core.proofs.Refusing.{begins_refused}
 use Rattle.space_core.proofs.TableLemmas.{word_in-absent}
 
 -- an unmap of a region that is there
@@ -226,3 +227,18 @@ protect_own regions t u page len given ordered r at within protects own p none =
         absurd (none-some r (sym none ∙ found_same 0 regions ordered.in_order page r at p has))
       | inr out ↦ protects.own p ∙ cond-false _ _ _ out ∙ own p none
     ]
+
+pub range_within : (page len : ℕ) (o : Option Region) (r : Region) → o ≡ Some r → page + len ≤ end_of r → range_in page len o ≡ true
+range_within page len o r e h = ap (range_in page len) e ∙ le-leb _ _ h
+
+pub range_outside : (page len : ℕ) (o : Option Region) (r : Region) → o ≡ Some r → end_of r < page + len → range_in page len o ≡ false
+range_outside page len o r e h = ap (range_in page len) e ∙ lt-leb _ _ h
+
+pub range_nowhere : (page len : ℕ) (o : Option Region) → o ≡ None → range_in page len o ≡ false
+range_nowhere page len o e = ap (range_in page len) e
+
+-- a range that lies in no region is refused
+pub protect_refused : (old : Kept) (page len : ℕ) (rights : Rights) → CanBegin (Protect old.number page len rights) → IsResting old → range_in page len (region_at old.regions page) ≡ false → BeginsAnswered old old (Protect old.number page len rights) (record { reply = Unmapped; hit = false; size = None })
+protect_refused old page len rights can resting out =
+    begins_refused old (Protect old.number page len rights) Unmapped can resting refl tt
+    (λ st s. ap (λ rs. if range_in page len (region_at rs page) then Done else Unmapped) s.regions ∙ cond-false _ _ _ out)

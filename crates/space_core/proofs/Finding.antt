@@ -160,3 +160,14 @@ next_above low (r ∷ rs) l page h =
         let f = next_above (end_of r) rs l.2 page h in
         (omega (arith, e, f.0), omega (arith, e, f.1))
     ]
+
+-- what is known of a region that has a page
+pub record HasPage (page : ℕ) (r : Region) : Type 0 where
+  pub from_on : r.first ≤ page
+  pub before_end : page < end_of r
+  pub in_space : end_of r ≤ 1048576
+
+pub found_page : (rs : List Region) → LieFrom 0 rs → (page : ℕ) (r : Region) → region_at rs page ≡ Some r → HasPage page r
+found_page rs l page r h =
+    let b = in_bounds r.first r.length page (found_has rs page r h) in
+    record { from_on = b.0; before_end = b.1; in_space = (found_from 0 rs l page r h).in_space }

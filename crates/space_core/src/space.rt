@@ -233,13 +233,14 @@ impl Space {
         requires can { CanBegin (Call.Protect self.old.number page length rights) }
         ensures { Begins self.old self.new (Call.Protect self.old.number page length rights) result }
     {
-        match self.regions.find(page) {
-            Some(region) if page + length <= region.first + region.length => {
-                self.table.set_own(page, length, Some(rights));
-                Begun::Answered(answered(Reply::Done))
-            }
-            _ => Begun::Answered(answered(Reply::Unmapped)),
+        let Some(region) = self.regions.find(page) else {
+            return Begun::Answered(answered(Reply::Unmapped));
+        };
+        if page + length > region.first + region.length {
+            return Begun::Answered(answered(Reply::Unmapped));
         }
+        self.table.set_own(page, length, Some(rights));
+        Begun::Answered(answered(Reply::Done))
     }
 
     /// Begins a load or a store at this page.
