@@ -3,3 +3,4 @@ pub mod Serving
 pub mod Refusing
 pub mod Finding
 pub mod Changing
+pub mod Clearing

@@ -161,13 +161,11 @@ impl Space {
         ensures none { IfNone result (ClearsNone self.old self.new first length) }
         ensures none_left { NoneResident self.old first length → result ≡ None }
     {
-        let from = match self.clearing {
-            Some(region) if region.first == first => self.scan,
-            _ => first,
-        };
+        let from = self.scan_start(first);
+        let end = first + length;
         self.clearing = self.regions.find(first);
-        let Some(page) = self.table.first_resident(from, first + length) else {
-            self.scan = first + length;
+        let Some(page) = self.table.first_resident(from, end) else {
+            self.scan = end;
             return None;
         };
         self.scan = page + 1;
@@ -181,11 +179,23 @@ impl Space {
         requires cleared { (r : Item) × (region_at self.old.regions page ≡ Some r) × (self.old.clearing ≡ Some r) × NoneResident self.old r.first r.length }
         ensures { Unmapped self.old self.new page result }
     {
-        if let Ok(region) = self.regions.unmap(page) {
-            self.table.set_own(region.first, region.length, None);
-        }
+        let Ok(region) = self.regions.unmap(page) else {
+            unreachable!();
+        };
+        self.table.set_own(region.first, region.length, None);
         self.clearing = None;
         answered(Reply::Done)
+    }
+
+    /// The page at which the scan of a region's range begins or goes on: none of the range's pages before it is resident.
+    fn scan_start(&self, first: u32) -> u32
+        ensures begun { first ≤ result }
+        ensures done { (p : ℕ) → first ≤ p → p < result → frame_at self.now p ≡ None }
+    {
+        match self.clearing {
+            Some(region) if region.first == first => self.scan,
+            _ => first,
+        }
     }
 
     /// Maps a region, or refuses to.

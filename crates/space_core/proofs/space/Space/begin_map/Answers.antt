@@ -13,7 +13,7 @@ invariant_of-self c =
     elim c.match-map.branch [
       | in-Ok w ↦
         rw w.in-Ok.ensures.after
-        (changed_kept _ _ _ _ _ _ _ _ c.self.invariant (rw w.in-Ok.ensures.after at c.map.ensures.ordered)
+        (changed_kept _ _ _ _ _ _ _ _ _ c.self.invariant (rw w.in-Ok.ensures.after at c.map.ensures.ordered)
         (map_own c.self.inside.number c.self.inside.regions _ _ _ _ _ w.in-Ok.ensures.reply c.self.invariant.own) clearing)
       | in-Err w ↦ rw w.in-Err.ensures.unchanged c.self.invariant
     ]

@@ -17,5 +17,5 @@ set_own-requires c = omega (arith, found_page c.self.inside.regions c.self.invar
 pub invariant_of-self : goal.invariant_of-self
 invariant_of-self c =
     let clearing : c.self.inside.clearing ≡ None = ap (λ (k : Kept). k.clearing) c.self.view_is ∙ c.requires.resting.none_clearing in
-    changed_kept _ _ _ _ _ _ _ _ c.self.invariant c.self.invariant.ordered
+    changed_kept _ _ _ _ _ _ _ _ _ c.self.invariant c.self.invariant.ordered
     (protect_own c.self.inside.regions _ _ _ _ _ c.self.invariant.ordered c.in-Some.region (sym c.in-Some.ensures.value) (omega arith) c.set_own.ensures c.self.invariant.own) clearing
