@@ -19,13 +19,14 @@ use Rattle.space_core.proofs.Finding.{in_bounds, bounds_in, found_from, found_sa
 use Rattle.space_core.proofs.Serving.{kept}
 use Rattle.space_core.proofs.TableLemmas.{word_in-absent}
 
+pub range_in_space : (old : Kept) (first len : ℕ) → IsTable old.regions → IsRange old first len → first + len ≤ 1048576
+range_in_space old first len ordered range =
+    omega (arith, (found_from 0 old.regions ordered.in_order first range.region range.at).in_space, range.first_is, range.length_is)
+
 -- The scan of a region's range, from a page on before which none of its pages is resident.
 module _ (number : ℕ) (regions : List Region) (t : Table) (pending : Option ℕ) (was : Option Region) (scan first len : ℕ) (r : Region)
     (k : IsKept regions t pending was scan) (at : region_at regions first ≡ Some r) (first_is : r.first ≡ first) (length_is : r.length ≡ len)
     (from : ℕ) (begun : first ≤ from) (scanned : (p : ℕ) → first ≤ p → p < from → frame_in t p ≡ None) where
-  pub range_in_space : first + len ≤ 1048576
-  range_in_space = omega (arith, (found_from 0 regions k.ordered.in_order first r at).in_space)
-
   its_own : region_at regions r.first ≡ Some r
   its_own = ap (region_at regions) first_is ∙ at
 

@@ -1,18 +1,26 @@
 use Rattle.std.proofs.Common.{◌≡◌, ◌<◌, ◌≤◌, ◌+◌, ◌∙◌, ap, sym, Some, None, arith, refl}
+use Rattle.space_core.specs.Beginning.{IsRange}
 use Rattle.space_core.specs.Standing.{Kept}
+use Rattle.space_core.specs.contracts.space.Space.{the_view}
 use Rattle.space_core.proofs.Clearing.{range_in_space, none_kept, one_kept, clears_none, clears_one}
 use Rattle.space_core.proofs.space.Space.clear_next.Goals as goal
 
 pub overflow_add-end : goal.overflow_add-end
 overflow_add-end c =
-    let range = rw (← c.self.view_is) at c.requires.range in
-    omega (arith, range_in_space c.self.inside.number _ _ _ _ _ _ _ _ c.self.invariant range.at range.first_is range.length_is)
+    let range : IsRange (the_view c.self.inside) c.args.first c.args.length = rw (c.self.view_is) c.requires.range in
+    omega (arith, range_in_space (the_view c.self.inside) _ _ c.self.invariant.ordered range)
 
 pub first_resident-requires : goal.first_resident-requires
-first_resident-requires c = ?
+first_resident-requires c =
+    let range : IsRange (the_view c.self.inside) c.args.first c.args.length = rw (c.self.view_is) c.requires.range in
+    range_in_space (the_view c.self.inside) _ _ c.self.invariant.ordered range
 
 pub overflow_add-self : goal.overflow_add-self
-overflow_add-self c = ?
+overflow_add-self c =
+    let range : IsRange (the_view c.self.inside) c.args.first c.args.length = rw (c.self.view_is) c.requires.range in
+    omega (arith, range_in_space (the_view c.self.inside) _ _ c.self.invariant.ordered range, c.in-Some.ensures.some.before_end)
 
 pub take-requires : goal.take-requires
-take-requires c = ?
+take-requires c =
+    let range : IsRange (the_view c.self.inside) c.args.first c.args.length = rw (c.self.view_is) c.requires.range in
+    omega (arith, range_in_space (the_view c.self.inside) _ _ c.self.invariant.ordered range, c.in-Some.ensures.some.before_end)
