@@ -1,29 +1,25 @@
 -- What becomes of a space when a region is mapped, grows, or gets new rights, and what an unmap and an access need first.
-use Rattle.std.proofs.Common.{◌≡◌, ◌≢◌, ℕ, ◌+◌, ◌<◌, ◌≤◌, Bool, true, false, ◌&&◌, ◌==◌, if◌then◌else◌, List, Option, Some, None, is_some, length, refl, sym, ap, inl, inr, ◌∙◌, arith, subst, nat_le}
+use Rattle.std.proofs.Common.{◌≡◌, ◌≢◌, ℕ, ◌+◌, ◌<◌, ◌≤◌, Bool, true, false, ◌&&◌, if◌then◌else◌, List, Option, Some, None, is_some, refl, sym, ap, inl, inr, ◌∙◌, arith}
 use Rattle.std.specs.List.{list_any}
-use Rattle.std.proofs.lemmas.Bool.{cases_Bool, cases_lt, cond-true, cond-false, and_parts, leb-true, le-leb, lt-leb, true≢false}
-use Rattle.std.proofs.lemmas.Option.{none-some, same_Some}
-use Rattle.pager_model.specs.declared.call.Call.{Call}
+use Rattle.std.proofs.lemmas.Bool.{cases_Bool, cases_lt, cond-true, cond-false, le-leb, lt-leb, true≢false}
+use Rattle.std.proofs.lemmas.Option.{none-some}
 use Rattle.pager_model.specs.declared.call.Call.TheVariants.{Map, Grow, Unmap, Protect}
 use Rattle.pager_model.specs.declared.region.Kind.{Kind}
 use Rattle.pager_model.specs.declared.region.Region.{Region}
 use Rattle.pager_model.specs.declared.region.Rights.{Rights}
 use Rattle.pager_model.specs.declared.reply.Reply.{Reply}
-use Rattle.pager_model.specs.declared.reply.Reply.TheVariants.{Done, Unmapped, OutOfSpace, Overlap, RegionsFull, NotGrowing}
-use Rattle.pager_model.specs.Flat.{Flat, reply_of, is_lawful, grown_rights}
-use Rattle.pager_model.specs.Order.{is_answered_alone}
-use Rattle.pager_model.specs.Regions.{end_of, has_page, in_range, meets_range, region_at, with_region, without_region, grown_region, grown_regions, map_reply, grow_reply, grow_reply_at, grows, range_in}
-use Rattle.pager_model.specs.SpaceStates.{SpaceState, HasItsPages}
+use Rattle.pager_model.specs.declared.reply.Reply.TheVariants.{Done, Unmapped, OutOfSpace, Overlap, NotGrowing}
+use Rattle.pager_model.specs.Flat.{is_lawful}
+use Rattle.pager_model.specs.Regions.{end_of, has_page, in_range, meets_range, region_at, with_region, grown_regions, map_reply, grow_reply, grow_reply_at, range_in}
 use Rattle.region_table.specs.Table.{IsTable, region_of}
-use Rattle.space_core.specs.Beginning.{BeginsAnswered, BeginsClearing, IsUnmapping, Answers, SameRegions, Unmapped as IsUnmapped}
-use Rattle.space_core.specs.Keeping.{IsKept, IsClearing}
+use Rattle.space_core.specs.Beginning.{BeginsAnswered, BeginsClearing}
+use Rattle.space_core.specs.Keeping.{IsKept}
 use Rattle.space_core.specs.Pages.{Protects}
-use Rattle.space_core.specs.Standing.{Kept, StandsFor, IsResting, CanBegin, rights_by, rights_at, is_in, word_at, is_page}
-use Rattle.space_core.specs.Tables.{Table, frame_in, word_in, own_in}
-use Rattle.space_core.proofs.Finding.{in_bounds, bounds_in, none_in, found_has, found_from, found_same, found_with, found_without, found_grown, grown}
+use Rattle.space_core.specs.Standing.{Kept, IsResting, CanBegin, rights_by}
+use Rattle.space_core.specs.Tables.{Table, own_in}
+use Rattle.space_core.proofs.Finding.{in_bounds, bounds_in, none_in, found_has, found_from, found_same, found_with, found_grown, grown}
 use Rattle.space_core.proofs.Serving.{kept}
 use Rattle.space_core.proofs.Refusing.{begins_refused}
-use Rattle.space_core.proofs.TableLemmas.{word_in-absent}
 
 -- an unmap of a region that is there
 pub begins_clearing : (old : Kept) (page : ℕ) (r : Region) → IsTable old.regions → region_at old.regions page ≡ Some r → BeginsClearing old old (Unmap old.number page) r.first r.length
@@ -76,11 +72,11 @@ module _ (number : ℕ) (regions : List Region) (t : Table) (page len : ℕ) (ki
   rights_mapped f before p is =
       elim (cases_Bool (has_page p new)) [
         | inl has ↦
-          let none = own p (none_in page len p regions (none_meets regions page len done) has) in
-          rw (done, has, none, at_mapped p, has) refl
+            let none = own p (none_in page len p regions (none_meets regions page len done) has) in
+            rw (done, has, none, at_mapped p, has) refl
         | inr hasnt ↦
-          let at = at_mapped p ∙ cond-false _ _ _ hasnt in
-          rw (done, hasnt, at) (before p (sym (ap is_some at) ∙ is))
+            let at = at_mapped p ∙ cond-false _ _ _ hasnt in
+            rw (done, hasnt, at) (before p (sym (ap is_some at) ∙ is))
       ]
 
   pub maps : BeginsAnswered (kept number regions t None None) (kept number mapped t None None) (Map number page len kind rights) (record { reply = Done; hit = false; size = None })
@@ -145,16 +141,16 @@ module _ (number : ℕ) (regions : List Region) (t : Table) (page by : ℕ) (ord
   rights_grown f before p is =
       elim (cases_Bool (in_range (end_of r) by p)) [
         | inl new ↦
-          let none = own p (none_in (end_of r) by p regions free_behind new) in
-          cond-true _ _ _ new ∙ sym (rw (at_larger p ∙ cond-true _ _ _ (new_in p new), none) refl)
+            let none = own p (none_in (end_of r) by p regions free_behind new) in
+            cond-true _ _ _ new ∙ sym (rw (at_larger p ∙ cond-true _ _ _ (new_in p new), none) refl)
         | inr old ↦ cond-false _ _ _ old ∙ elim (cases_Bool (has_page p (grown by r))) [
-            | inl has ↦
+          | inl has ↦
               let found = found_same 0 regions ordered.in_order page r at p (old_or_new p has old) in
               before p (ap is_some found) ∙ ap (rights_by (own_in t p)) found ∙ same_first (own_in t p) ∙ sym (ap (rights_by (own_in t p)) (at_larger p ∙ cond-true _ _ _ has))
-            | inr hasnt ↦
+          | inr hasnt ↦
               let same = at_larger p ∙ cond-false _ _ _ hasnt in
               before p (sym (ap is_some same) ∙ is) ∙ sym (ap (rights_by (own_in t p)) same)
-          ]
+        ]
       ]
     where
       same_first : (o : Option Rights) → rights_by o (Some r) ≡ rights_by o (Some (grown by r))
@@ -222,9 +218,9 @@ pub protect_own : (regions : List Region) (t u : Table) (page len : ℕ) (given 
 protect_own regions t u page len given ordered r at within protects own p none =
     elim (cases_Bool (in_range page len p)) [
       | inl ins ↦
-        let b = in_bounds page len p ins in
-        let has = bounds_in r.first r.length p (omega (arith, (in_bounds r.first r.length page (found_has regions page r at)).0)) (omega arith) in
-        absurd (none-some r (sym none ∙ found_same 0 regions ordered.in_order page r at p has))
+          let b = in_bounds page len p ins in
+          let has = bounds_in r.first r.length p (omega (arith, (in_bounds r.first r.length page (found_has regions page r at)).0)) (omega arith) in
+          absurd (none-some r (sym none ∙ found_same 0 regions ordered.in_order page r at p has))
       | inr out ↦ protects.own p ∙ cond-false _ _ _ out ∙ own p none
     ]
 

@@ -1,21 +1,20 @@
 -- What becomes of a space when the pages of a region give their frames up, and when the region then goes.
-use Rattle.std.proofs.Common.{◌≡◌, ◌≢◌, ℕ, ◌+◌, ◌<◌, ◌≤◌, Bool, true, false, ◌==◌, if◌then◌else◌, List, Option, Some, None, is_some, length, refl, sym, ap, inl, inr, ◌∙◌, arith, subst}
+use Rattle.std.proofs.Common.{◌≡◌, ◌≢◌, ℕ, ◌+◌, ◌<◌, ◌≤◌, true, false, if◌then◌else◌, List, Option, Some, None, is_some, refl, sym, ap, inl, inr, ◌∙◌, arith, subst}
 use Rattle.std.proofs.lemmas.Bool.{cases_Bool, cases_eq, cases_lt, cond-true, cond-false, true≢false}
 use Rattle.std.proofs.lemmas.Bool.Decides.{nat_tests}
-use Rattle.std.proofs.lemmas.Option.{none-some, same_Some}
-use Rattle.pager_model.specs.declared.call.Call.TheVariants.{Unmap}
+use Rattle.std.proofs.lemmas.Option.{same_Some}
 use Rattle.pager_model.specs.declared.region.Region.{Region}
 use Rattle.pager_model.specs.declared.reply.Reply.TheVariants.{Done}
 use Rattle.pager_model.specs.Flat.{goes}
-use Rattle.pager_model.specs.Regions.{end_of, has_page, in_range, region_at, without_region, unmap_reply_at}
-use Rattle.pager_model.specs.SpaceStates.{SpaceState, IsClearedAt}
+use Rattle.pager_model.specs.Regions.{has_page, in_range, region_at, without_region, unmap_reply_at}
+use Rattle.pager_model.specs.SpaceStates.{IsClearedAt}
 use Rattle.region_table.specs.Table.{IsTable}
-use Rattle.space_core.specs.Beginning.{ClearsOne, ClearsNone, IsRange, NoneResident, SameRegions, Unmapped as IsUnmapped}
+use Rattle.space_core.specs.Beginning.{ClearsOne, ClearsNone, IsRange, SameRegions, Unmapped as IsUnmapped}
 use Rattle.space_core.specs.Keeping.{IsKept, IsClearing}
 use Rattle.space_core.specs.Pages.{Moves, Protects, IsFirstResident, NoneFrom}
-use Rattle.space_core.specs.Standing.{Kept, StandsFor, StandsBut, rights_by, is_in, is_page}
+use Rattle.space_core.specs.Standing.{Kept, rights_by, is_page}
 use Rattle.space_core.specs.Tables.{Table, frame_in, word_in, own_in}
-use Rattle.space_core.proofs.Finding.{in_bounds, bounds_in, found_from, found_same, found_without}
+use Rattle.space_core.proofs.Finding.{in_bounds, bounds_in, found_from, found_without}
 use Rattle.space_core.proofs.Serving.{kept}
 use Rattle.space_core.proofs.TableLemmas.{word_in-absent}
 
@@ -44,7 +43,7 @@ module _ (number : ℕ) (regions : List Region) (t : Table) (pending : Option �
           own = k.own;
           pending_in = k.pending_in;
           clearing_in = λ s h. subst (λ (x : Region). IsClearing regions t (first + len) x) (same_Some _ _ h)
-            (record { is_region = its_own; begun = omega arith; done = λ p a b. none_below p (omega arith) b });
+              (record { is_region = its_own; begun = omega arith; done = λ p a b. none_below p (omega arith) b });
         }
 
     none_resident : (p : ℕ) → in_range first len p ≡ true → frame_in t p ≡ None
@@ -87,14 +86,14 @@ module _ (number : ℕ) (regions : List Region) (t : Table) (pending : Option �
           own = λ p h. moves.same.own p ∙ k.own p h;
           pending_in = k.pending_in;
           clearing_in = λ s h. subst (λ (x : Region). IsClearing regions u (page + 1) x) (same_Some _ _ h)
-            (record {
-              is_region = its_own;
-              begun = omega (arith, is.from_on);
-              done = λ p a b. elim (cases_eq p page) [
-                | inl e ↦ ap (frame_in u) e ∙ frame_gone
-                | inr n ↦ frame_moved p n ∙ lowest p (omega arith) (omega arith)
-              ];
-            });
+              (record {
+                is_region = its_own;
+                begun = omega (arith, is.from_on);
+                done = λ p a b. elim (cases_eq p page) [
+                  | inl e ↦ ap (frame_in u) e ∙ frame_gone
+                  | inr n ↦ frame_moved p n ∙ lowest p (omega arith) (omega arith)
+                ];
+              });
         }
 
     within : in_range first len page ≡ true
@@ -106,7 +105,7 @@ module _ (number : ℕ) (regions : List Region) (t : Table) (pending : Option �
     pub clears_one : frame_in t page ≡ Some frame → ClearsOne (kept number regions t pending was) (kept number regions u pending (Some r)) first len page frame
     clears_one had =
         let same : SameRegions (kept number regions t pending was) (kept number regions u pending (Some r)) =
-            record { number = refl; frames = moves.same.count; regions = refl; rights = λ p. ap (λ o. rights_by o (region_at regions p)) (moves.same.own p) } in
+        record { number = refl; frames = moves.same.count; regions = refl; rights = λ p. ap (λ o. rights_by o (region_at regions p)) (moves.same.own p) } in
         record {
           within = within;
           had = had;
@@ -146,9 +145,9 @@ module _ (number : ℕ) (regions : List Region) (t u : Table) (page : ℕ) (r : 
       elim (cases_Bool (has_page p r)) [
         | inl has ↦ absurd (true≢false (sym is ∙ ap is_some (at_rest p ∙ cond-true _ _ _ has)))
         | inr hasnt ↦
-          let same = at_rest p ∙ cond-false _ _ _ hasnt in
-          let mine = protects.own p ∙ cond-false _ _ _ hasnt in
-          (sym (ap is_some same) ∙ is, rw (same, mine) refl)
+            let same = at_rest p ∙ cond-false _ _ _ hasnt in
+            let mine = protects.own p ∙ cond-false _ _ _ hasnt in
+            (sym (ap is_some same) ∙ is, rw (same, mine) refl)
       ]
 
   word_rest : (w : ℕ → ℕ → ℕ) → ((p i : ℕ) → has_page p r ≡ false → w p i ≡ word_in t p i) → (p i : ℕ) → (if has_page p r then 0 else w p i) ≡ word_in u p i

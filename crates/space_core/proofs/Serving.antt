@@ -1,12 +1,9 @@
 -- What becomes of a space when a page gets a frame and is read in, and when a load or a store is served.
-use Rattle.std.proofs.Common.{◌≡◌, ◌≢◌, ℕ, ◌<◌, ◌≤◌, Bool, true, false, ◌&&◌, ◌==◌, if◌then◌else◌, List, [], Option, Some, None, is_some, length, refl, sym, ap, inl, inr, ◌∙◌, arith, subst}
+use Rattle.std.proofs.Common.{◌≡◌, ◌≢◌, ℕ, ◌<◌, Bool, true, false, ◌&&◌, ◌==◌, if◌then◌else◌, List, [], Option, Some, None, is_some, length, refl, sym, ap, inl, inr, ◌∙◌, arith}
 use Rattle.std.proofs.lemmas.Bool.{cases_eq, and_parts}
 use Rattle.std.proofs.lemmas.Bool.Decides.{nat_tests}
-use Rattle.std.proofs.lemmas.Grind.{common_steps}
 use Rattle.std.proofs.lemmas.Option.{none-some, same_Some}
-use Rattle.pager_model.specs.declared.call.Call.{Call}
 use Rattle.pager_model.specs.declared.call.Call.TheVariants.{Load, Store}
-use Rattle.pager_model.specs.declared.entry.Want.{Want}
 use Rattle.pager_model.specs.declared.region.Region.{Region}
 use Rattle.pager_model.specs.declared.reply.Reply.{Reply}
 use Rattle.pager_model.specs.declared.reply.Reply.TheVariants.{Done, Value}
@@ -14,10 +11,10 @@ use Rattle.pager_model.specs.Flat.{page_of, word_of, access_reply, reply_of, is_
 use Rattle.pager_model.specs.Regions.{region_at}
 use Rattle.pager_model.specs.SpaceStates.{SpaceState, IsResident, empty_state}
 use Rattle.space_core.specs.Beginning.{Places, ReadsIn, Finishes, SameRegions}
-use Rattle.space_core.specs.Keeping.{IsKept, IsClearing}
+use Rattle.space_core.specs.Keeping.{IsKept}
 use Rattle.space_core.specs.Pages.{SameOwn, IsFresh, Moves, Clears, Writes}
-use Rattle.space_core.specs.Standing.{Kept, StandsFor, IsResting, rights_by, rights_at, word_at, is_page, is_in, is_allowed}
-use Rattle.space_core.specs.Tables.{Table, frame_in, word_in, own_in}
+use Rattle.space_core.specs.Standing.{Kept, StandsFor, IsResting, rights_by, word_at, is_page, is_in, is_allowed}
+use Rattle.space_core.specs.Tables.{Table, frame_in, word_in}
 use Rattle.space_core.proofs.TableLemmas.{word_in-absent}
 
 abbrev pub kept : ℕ → List Region → Table → Option ℕ → Option Region → Kept
@@ -121,8 +118,8 @@ module _ (old : Kept) (address : ℕ) (resting : IsResting old) (resident : fram
   loads word may read =
       let parts = and_parts _ _ may in
       let asked : (st : SpaceState) → StandsFor old st → reply_of st.flat (Load old.number address) ≡ Value word = λ st s.
-          access_served _ _ _ (ap (λ rs. is_some (region_at rs (page_of address))) s.regions ∙ parts.0) (ap can_read (s.rights (page_of address) parts.0) ∙ parts.1)
-          ∙ ap Value (s.words (page_of address) (word_of address) (none_in (page_of address)) ∙ word_resting (page_of address) (word_of address) ∙ sym read) in
+      access_served _ _ _ (ap (λ rs. is_some (region_at rs (page_of address))) s.regions ∙ parts.0) (ap can_read (s.rights (page_of address) parts.0) ∙ parts.1)
+      ∙ ap Value (s.words (page_of address) (word_of address) (none_in (page_of address)) ∙ word_resting (page_of address) (word_of address) ∙ sym read) in
       record {
         served = refl;
         resting = resting;
@@ -150,7 +147,7 @@ module _ (number : ℕ) (regions : List Region) (t u : Table) (address word : �
       let same = same_regions number regions t u None None None writes.same in
       let parts = and_parts _ _ may in
       let asked : (st : SpaceState) → StandsFor before st → reply_of st.flat (Store number address word) ≡ Done = λ st s.
-          access_served _ _ _ (ap (λ rs. is_some (region_at rs (page_of address))) s.regions ∙ parts.0) (ap can_write (s.rights (page_of address) parts.0) ∙ parts.1) in
+      access_served _ _ _ (ap (λ rs. is_some (region_at rs (page_of address))) s.regions ∙ parts.0) (ap can_write (s.rights (page_of address) parts.0) ∙ parts.1) in
       record {
         served = refl;
         resting = record { none_pending = refl; none_clearing = refl };
@@ -169,7 +166,7 @@ module _ (number : ℕ) (regions : List Region) (t u : Table) (address word : �
             rights = λ p has. s.rights p has ∙ sym (same.rights p);
             base = λ p. s.base p ∙ sym (writes.frame p);
             words = λ p i out. ap (λ r. if is_lawful r && ((p == page_of address) && (i == word_of address)) then word else st.flat.words p i) (asked st s)
-              ∙ ap (λ w. if (p == page_of address) && (i == word_of address) then word else w) (s.words p i out) ∙ sym (writes.word p i);
+                ∙ ap (λ w. if (p == page_of address) && (i == word_of address) then word else w) (s.words p i out) ∙ sym (writes.word p i);
           };
         };
       }

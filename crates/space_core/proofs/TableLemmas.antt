@@ -1,5 +1,5 @@
 -- What becomes of a table of pages when a page gets a frame, loses it, or has its words written, and when a range gets rights.
-use Rattle.std.proofs.Common.{◌≡◌, ◌≢◌, ℕ, ◌+◌, ◌-◌, ◌<◌, ◌≤◌, Bool, true, false, ◌&&◌, ◌==◌, if◌then◌else◌, List, ◌++◌, Option, Some, None, is_some, length, replicate, take, drop, slice_index_or, slice_set, refl, sym, ap, inl, inr, ◌∙◌, arith, subst}
+use Rattle.std.proofs.Common.{◌≡◌, ◌≢◌, ℕ, ◌+◌, ◌-◌, ◌<◌, ◌≤◌, true, false, ◌==◌, if◌then◌else◌, List, ◌++◌, Option, Some, None, is_some, length, replicate, take, drop, slice_index_or, slice_set, refl, sym, ap, inl, inr, ◌∙◌, arith, subst}
 use Rattle.std.specs.Option.{option_and_then}
 use Rattle.std.proofs.lemmas.Bool.{cases_eq, cases_lt}
 use Rattle.std.proofs.lemmas.Bool.Decides.{nat_tests}
@@ -106,27 +106,27 @@ module _ (t : Table) (paged : IsPaged t) (page k : ℕ) (given : Option ℕ) (f 
         found = λ p n h.
             elim (cases_eq p page) [
               | inl e ↦
-                let g : given ≡ Some n = sym frame_moved-same ∙ ap (λ q. frame_in moved q) (sym e) ∙ h in
-                let same = only n g in
-                subst (λ (m : ℕ). IsFrameAt moved m) (sym same) (there (g ∙ ap Some same))
+                  let g : given ≡ Some n = sym frame_moved-same ∙ ap (λ q. frame_in moved q) (sym e) ∙ h in
+                  let same = only n g in
+                  subst (λ (m : ℕ). IsFrameAt moved m) (sym same) (there (g ∙ ap Some same))
               | inr other ↦
-                let was : frame_in t p ≡ Some n = sym (frame_moved-other p other) ∙ h in
-                frame_at-other t moved k n f refl (λ e. others p other (was ∙ ap Some e)) (paged.found p n was)
+                  let was : frame_in t p ≡ Some n = sym (frame_moved-other p other) ∙ h in
+                  frame_at-other t moved k n f refl (λ e. others p other (was ∙ ap Some e)) (paged.found p n was)
             ];
         apart = λ p q n hp hq.
             elim (cases_eq p page) [
               | inl e ↦ elim (cases_eq q page) [
-                  | inl d ↦ e ∙ sym d
-                  | inr other ↦
+                | inl d ↦ e ∙ sym d
+                | inr other ↦
                     let g : given ≡ Some n = sym frame_moved-same ∙ ap (λ r. frame_in moved r) (sym e) ∙ hp in
                     absurd (others q other (sym (frame_moved-other q other) ∙ hq ∙ ap Some (only n g)))
-                ]
+              ]
               | inr other ↦ elim (cases_eq q page) [
-                  | inl d ↦
+                | inl d ↦
                     let g : given ≡ Some n = sym frame_moved-same ∙ ap (λ r. frame_in moved r) (sym d) ∙ hq in
                     absurd (others p other (sym (frame_moved-other p other) ∙ hp ∙ ap Some (only n g)))
-                  | inr other' ↦ paged.apart p q n (sym (frame_moved-other p other) ∙ hp) (sym (frame_moved-other q other') ∙ hq)
-                ]
+                | inr other' ↦ paged.apart p q n (sym (frame_moved-other p other) ∙ hp) (sym (frame_moved-other q other') ∙ hq)
+              ]
             ];
       }
 
@@ -200,8 +200,8 @@ module _ (t : Table) (paged : IsPaged t) (page k : ℕ) (f : Framed) (has : fram
         frame = frame_rewritten;
         word = λ p i. elim (cases_eq p page) [
           | inl e ↦
-            let old : word_in t page i ≡ slice_index_or g.words i 0 = word_in-found t page i k has ∙ ap (λ x. word_in_frame x i) was in
-            rw e (word_rewritten-same i ∙ ap (λ (ws : List ℕ). slice_index_or ws i 0) set ∙ grind (arith, common_steps, nat_tests, cases_eq i index))
+              let old : word_in t page i ≡ slice_index_or g.words i 0 = word_in-found t page i k has ∙ ap (λ x. word_in_frame x i) was in
+              rw e (word_rewritten-same i ∙ ap (λ (ws : List ℕ). slice_index_or ws i 0) set ∙ grind (arith, common_steps, nat_tests, cases_eq i index))
           | inr n ↦ word_rewritten-other p i n ∙ grind (arith, nat_tests)
         ];
       }
@@ -211,7 +211,7 @@ pub stays : (t : Table) → IsPaged t → (page : ℕ) → frame_in t page ≡ N
 stays t paged page none =
     let u : Table = record { numbers = slice_set t.numbers page None; own = t.own; frames = t.frames } in
     let frame : (p : ℕ) → frame_in u p ≡ frame_in t p = λ p.
-        frame_in-is u p ∙ ap (λ (ns : List (Option ℕ)). slice_index_or ns p None) (set-none t.numbers page (sym (frame_in-is t page) ∙ none)) ∙ sym (frame_in-is t p) in
+    frame_in-is u p ∙ ap (λ (ns : List (Option ℕ)). slice_index_or ns p None) (set-none t.numbers page (sym (frame_in-is t page) ∙ none)) ∙ sym (frame_in-is t p) in
     record {
       same = record { count = refl; own = λ p. own_in-is u p ∙ sym (own_in-is t p) };
       frame = λ p. elim (cases_eq p page) [
@@ -246,9 +246,9 @@ filled-at xs a k v d p h =
     elim (cases_lt p a) [
       | inl below ↦ get_or_append_left (take a xs) _ d p (omega arith) ∙ get_or-take a xs p d below ∙ grind (arith, nat_tests)
       | inr from ↦ elim (cases_lt p (a + k)) [
-          | inl inside ↦ get_or-append_right (take a xs) _ a p d front from ∙ get_or_append_left (replicate k v) _ d _ (omega arith) ∙ get_or-replicate k _ v d (omega arith) ∙ grind (arith, nat_tests)
-          | inr past ↦ get_or-append_right (take a xs) _ a p d front from ∙ get_or-append_right (replicate k v) _ k _ d part (omega arith) ∙ get_or-drop k (drop a xs) _ d ∙ get_or-drop a xs _ d ∙ ap (λ i. slice_index_or xs i d) {y = p} (omega arith) ∙ grind (arith, nat_tests)
-        ]
+        | inl inside ↦ get_or-append_right (take a xs) _ a p d front from ∙ get_or_append_left (replicate k v) _ d _ (omega arith) ∙ get_or-replicate k _ v d (omega arith) ∙ grind (arith, nat_tests)
+        | inr past ↦ get_or-append_right (take a xs) _ a p d front from ∙ get_or-append_right (replicate k v) _ k _ d part (omega arith) ∙ get_or-drop k (drop a xs) _ d ∙ get_or-drop a xs _ d ∙ ap (λ i. slice_index_or xs i d) {y = p} (omega arith) ∙ grind (arith, nat_tests)
+      ]
     ]
 
 length-put_mid : {X : Type 0} (a k : ℕ) (xs ys : List X) → length ys ≡ k → a + k ≤ length xs → length (put_mid a k xs ys) ≡ length xs

@@ -1,8 +1,8 @@
 -- What the fields of a space keep true.
-use Rattle.std.specs.Prelude.{ℕ, ◌≡◌, ◌<◌, ◌≤◌, true, List, Option, Some, None}
+use Rattle.std.specs.Prelude.{ℕ, ◌≡◌, ◌<◌, ◌≤◌, List, Option, Some, None}
 use Rattle.std.specs.Option.{ForSome}
 use Rattle.pager_model.specs.declared.region.Region.{Region}
-use Rattle.pager_model.specs.Regions.{in_range, region_at}
+use Rattle.pager_model.specs.Regions.{region_at}
 use Rattle.region_table.specs.Table.{IsTable}
 use Rattle.space_core.specs.Tables.{Table, frame_in, own_in}
 

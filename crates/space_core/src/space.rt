@@ -303,7 +303,8 @@ impl Space {
         requires resident { frame_at self.old (page_of address) ≢ None }
         ensures { Finishes self.old self.new (Call.Store self.old.number address word) result }
     {
-        self.table.set_word(page_of(address), word_of(address), word);
+        self.table
+            .set_word(page_of(address), word_of(address), word);
         answered(Reply::Done)
     }
 

@@ -1,5 +1,4 @@
-use Rattle.std.proofs.Common.{◌≡◌, ◌<◌, ◌≤◌, ◌∙◌, ap, sym, refl, None, Some, arith}
-use Rattle.space_core.specs.Standing.{Kept}
+use Rattle.std.proofs.Common.{sym, arith}
 use Rattle.space_core.proofs.Finding.{found_page, next_above}
 use Rattle.space_core.proofs.space.Space.begin_access.Goals as goal
 

@@ -1,4 +1,4 @@
-use Rattle.std.proofs.Common.{◌≡◌, ◌∙◌, ap, sym, refl, None}
+use Rattle.std.proofs.Common.{◌≡◌, ◌∙◌, ap, sym, None}
 use Rattle.pager_model.specs.declared.call.Call.TheVariants.{Grow}
 use Rattle.pager_model.specs.Regions.{grow_reply}
 use Rattle.space_core.specs.Standing.{Kept}
@@ -12,10 +12,10 @@ invariant_of-self c =
     let clearing : c.self.inside.clearing ≡ None = ap (λ (k : Kept). k.clearing) c.self.view_is ∙ c.requires.resting.none_clearing in
     elim c.match-grow.branch [
       | in-Ok w ↦
-        let at = grow_found c.self.inside.regions c.args.page c.args.by w.in-Ok.ensures.reply in
-        rw w.in-Ok.ensures.after
-        (changed_kept _ _ _ _ _ _ _ _ _ c.self.invariant (rw w.in-Ok.ensures.after at c.grow.ensures.ordered)
-        (grow_own c.self.inside.number c.self.inside.regions _ _ _ c.self.invariant.ordered w.in-Ok.ensures.reply c.self.invariant.own at.0 at.1) clearing)
+          let at = grow_found c.self.inside.regions c.args.page c.args.by w.in-Ok.ensures.reply in
+          rw w.in-Ok.ensures.after
+          (changed_kept _ _ _ _ _ _ _ _ _ c.self.invariant (rw w.in-Ok.ensures.after at c.grow.ensures.ordered)
+          (grow_own c.self.inside.number c.self.inside.regions _ _ _ c.self.invariant.ordered w.in-Ok.ensures.reply c.self.invariant.own at.0 at.1) clearing)
       | in-Err w ↦ rw w.in-Err.ensures.unchanged c.self.invariant
     ]
 
@@ -25,14 +25,14 @@ returns c =
     let clearing : c.self.inside.clearing ≡ None = ap (λ (k : Kept). k.clearing) c.self.view_is ∙ c.requires.resting.none_clearing in
     elim c.match-grow.branch [
       | in-Ok w ↦
-        let at = grow_found c.self.inside.regions c.args.page c.args.by w.in-Ok.ensures.reply in
-        rw (w.result-is, w.answered.ensures, w.in-Ok.ensures.after, ← c.self.view_is, pending, clearing)
-        (grows_region c.self.inside.number c.self.inside.regions c.self.inside.table c.args.page c.args.by c.self.invariant.ordered w.in-Ok.ensures.reply c.self.invariant.own at.0 at.1)
+          let at = grow_found c.self.inside.regions c.args.page c.args.by w.in-Ok.ensures.reply in
+          rw (w.result-is, w.answered.ensures, w.in-Ok.ensures.after, ← c.self.view_is, pending, clearing)
+          (grows_region c.self.inside.number c.self.inside.regions c.self.inside.table c.args.page c.args.by c.self.invariant.ordered w.in-Ok.ensures.reply c.self.invariant.own at.0 at.1)
       | in-Err w ↦
-        let e = w.in-Err.ensures in
-        let refused = rw e.reply at (grow_refused c.self.inside.regions c.args.page c.args.by (λ done. e.refusal (sym e.reply ∙ done))) in
-        let asked = ap (λ (k : Kept). grow_reply k.regions c.args.page c.args.by) (sym c.self.view_is) ∙ e.reply in
-        rw (w.result-is, w.answered-in-Err.ensures, e.unchanged, c.self.view_is)
-        (begins_refused c.args.self.now (Grow c.args.self.now.number c.args.page c.args.by) w.in-Err.refusal c.requires.can c.requires.resting refused tt
-        (λ st s. ap (λ rs. grow_reply rs c.args.page c.args.by) s.regions ∙ asked))
+          let e = w.in-Err.ensures in
+          let refused = rw e.reply at (grow_refused c.self.inside.regions c.args.page c.args.by (λ done. e.refusal (sym e.reply ∙ done))) in
+          let asked = ap (λ (k : Kept). grow_reply k.regions c.args.page c.args.by) (sym c.self.view_is) ∙ e.reply in
+          rw (w.result-is, w.answered-in-Err.ensures, e.unchanged, c.self.view_is)
+          (begins_refused c.args.self.now (Grow c.args.self.now.number c.args.page c.args.by) w.in-Err.refusal c.requires.can c.requires.resting refused tt
+          (λ st s. ap (λ rs. grow_reply rs c.args.page c.args.by) s.regions ∙ asked))
     ]

@@ -1,11 +1,7 @@
-use Rattle.std.proofs.Common.{◌≡◌, ◌<◌, ◌≤◌, ◌∙◌, ap, sym, refl, None, Some, true, false, arith}
-use Rattle.pager_model.specs.declared.call.Call.TheVariants.{Protect}
-use Rattle.pager_model.specs.declared.reply.Reply.TheVariants.{Done, Unmapped}
-use Rattle.pager_model.specs.Regions.{region_at, range_in}
+use Rattle.std.proofs.Common.{◌≡◌, ◌∙◌, ap, sym, None, arith}
 use Rattle.space_core.specs.Standing.{Kept}
 use Rattle.space_core.proofs.Finding.{found_page}
-use Rattle.space_core.proofs.Refusing.{begins_refused}
-use Rattle.space_core.proofs.Changing.{protects_range, protect_own, changed_kept, protect_refused, range_within, range_outside, range_nowhere}
+use Rattle.space_core.proofs.Changing.{protect_own, changed_kept}
 use Rattle.space_core.proofs.space.Space.begin_protect.Goals as goal
 
 pub overflow_add-region : goal.overflow_add-region

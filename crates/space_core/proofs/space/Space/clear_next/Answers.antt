@@ -1,8 +1,7 @@
-use Rattle.std.proofs.Common.{◌≡◌, ◌<◌, ◌≤◌, ◌+◌, ◌∙◌, ap, sym, Some, None, arith, refl}
+use Rattle.std.proofs.Common.{arith}
 use Rattle.space_core.specs.Beginning.{IsRange}
-use Rattle.space_core.specs.Standing.{Kept}
 use Rattle.space_core.specs.contracts.space.Space.{the_view}
-use Rattle.space_core.proofs.Clearing.{range_in_space, none_kept, one_kept, clears_none, clears_one}
+use Rattle.space_core.proofs.Clearing.{range_in_space}
 use Rattle.space_core.proofs.space.Space.clear_next.Goals as goal
 
 pub overflow_add-end : goal.overflow_add-end

@@ -1,6 +1,5 @@
-use Rattle.std.proofs.Common.{◌≡◌, ◌∙◌, ap}
+use Rattle.std.proofs.Common.{ap}
 use Rattle.space_core.specs.Standing.{Kept}
-use Rattle.space_core.specs.Tables.{word_in}
 use Rattle.space_core.proofs.Serving.{loads}
 use Rattle.space_core.proofs.space.Space.load.Goals as goal
 

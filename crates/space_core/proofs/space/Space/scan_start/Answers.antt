@@ -1,4 +1,4 @@
-use Rattle.std.proofs.Common.{◌≡◌, ◌≤◌, arith}
+use Rattle.std.proofs.Common.{arith}
 use Rattle.space_core.proofs.space.Space.scan_start.Goals as goal
 
 pub returns-in-Some-clause-begun : goal.returns-in-Some-clause-begun

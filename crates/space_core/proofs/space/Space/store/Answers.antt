@@ -1,7 +1,5 @@
-use Rattle.std.proofs.Common.{◌≡◌, ◌≢◌, ◌∙◌, ap, None, true}
-use Rattle.pager_model.specs.Flat.{page_of}
+use Rattle.std.proofs.Common.{◌≡◌, ◌∙◌, ap, None}
 use Rattle.space_core.specs.Standing.{Kept}
-use Rattle.space_core.specs.Tables.{frame_in}
 use Rattle.space_core.proofs.Serving.{stores, same_kept}
 use Rattle.space_core.proofs.space.Space.store.Goals as goal
 

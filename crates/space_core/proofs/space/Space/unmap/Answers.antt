@@ -1,9 +1,6 @@
 use Rattle.std.proofs.Common.{◌≡◌, ◌∙◌, ap, sym, Some, None, arith, refl}
 use Rattle.std.proofs.lemmas.Option.{same_Some}
-use Rattle.pager_model.specs.declared.region.Region.{Region}
-use Rattle.pager_model.specs.Regions.{region_at, in_range}
 use Rattle.space_core.specs.Standing.{Kept}
-use Rattle.space_core.specs.Tables.{frame_in}
 use Rattle.space_core.proofs.Clearing.{unmaps, unmap_own}
 use Rattle.space_core.proofs.Changing.{changed_kept}
 use Rattle.space_core.proofs.Finding.{found_page}

@@ -1,4 +1,4 @@
-use Rattle.std.proofs.Common.{◌≡◌, ◌∙◌, sym, ap, Some, None, length, arith}
+use Rattle.std.proofs.Common.{◌∙◌, sym, ap, Some, arith}
 use Rattle.std.proofs.lemmas.Option.{none-some, same_Some}
 use Rattle.pager_model.specs.Frame.{Framed}
 use Rattle.space_core.specs.contracts.table.PageTable.{the_view}
@@ -24,8 +24,8 @@ invariant_of-self c =
     let is = sym at.is ∙ frame-read t _ _ (found_within _ c.self.invariant _ _ has) c.index_mut.ensures.value in
     elim c.match-index_mut.branch [
       | in-Some-index_mut w ↦
-        let same = same_Some _ _ (is ∙ w.in-Some-index_mut.is) in
-        rw (w.self-inside-is, w.clear.ensures) (rewritten_paged t c.self.invariant _ _ _ has (ap (λ (f : Framed). f.number) (sym same) ∙ at.number_is))
+          let same = same_Some _ _ (is ∙ w.in-Some-index_mut.is) in
+          rw (w.self-inside-is, w.clear.ensures) (rewritten_paged t c.self.invariant _ _ _ has (ap (λ (f : Framed). f.number) (sym same) ∙ at.number_is))
       | in_default-index_mut w ↦ absurd (none-some _ (sym (is ∙ w.in_default-index_mut.is)))
     ]
 
@@ -37,7 +37,7 @@ returns c =
     let is = sym at.is ∙ frame-read t _ _ (found_within _ c.self.invariant _ _ has) c.index_mut.ensures.value in
     elim c.match-index_mut.branch [
       | in-Some-index_mut w ↦
-        let same = same_Some _ _ (is ∙ w.in-Some-index_mut.is) in
-        rw (w.self-inside-is, ← c.self.view_is, w.clear.ensures) (clears t c.self.invariant _ _ _ has (ap (λ (f : Framed). f.number) (sym same) ∙ at.number_is) (zero_word 1024))
+          let same = same_Some _ _ (is ∙ w.in-Some-index_mut.is) in
+          rw (w.self-inside-is, ← c.self.view_is, w.clear.ensures) (clears t c.self.invariant _ _ _ has (ap (λ (f : Framed). f.number) (sym same) ∙ at.number_is) (zero_word 1024))
       | in_default-index_mut w ↦ absurd (none-some _ (sym (is ∙ w.in_default-index_mut.is)))
     ]

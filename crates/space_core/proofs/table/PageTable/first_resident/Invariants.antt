@@ -1,4 +1,3 @@
-use Rattle.std.proofs.Common.{◌≡◌}
 use Rattle.space_core.specs.Pages.{NoneFrom}
 use Rattle.space_core.proofs.table.PageTable.first_resident.Given as goal
 

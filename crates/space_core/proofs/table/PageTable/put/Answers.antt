@@ -1,4 +1,4 @@
-use Rattle.std.proofs.Common.{◌≡◌, ◌<◌, length, Some, arith}
+use Rattle.std.proofs.Common.{Some, arith}
 use Rattle.space_core.proofs.TableLemmas.{put_paged, moves}
 use Rattle.space_core.proofs.table.PageTable.put.Goals as goal
 

@@ -1,5 +1,4 @@
-use Rattle.std.proofs.Common.{◌≡◌, ◌≤◌, ◌+◌, ap, sym, arith, List, Option, length}
-use Rattle.pager_model.specs.declared.region.Rights.{Rights}
+use Rattle.std.proofs.Common.{ap, arith, length}
 use Rattle.space_core.specs.contracts.table.PageTable.{the_view}
 use Rattle.space_core.proofs.TableLemmas.{protects, protected_paged, part_filled}
 use Rattle.space_core.proofs.table.PageTable.set_own.Goals as goal

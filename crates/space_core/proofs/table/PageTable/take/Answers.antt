@@ -1,6 +1,4 @@
-use Rattle.std.proofs.Common.{◌≡◌, ◌∙◌, sym, ap, Some, None, Option, arith, refl}
-use Rattle.pager_model.specs.Frame.{Framed}
-use Rattle.space_core.specs.Pages.{Moves}
+use Rattle.std.proofs.Common.{◌∙◌, sym, ap, Some, None, arith}
 use Rattle.space_core.specs.contracts.table.PageTable.{the_view}
 use Rattle.space_core.proofs.TableLemmas.{frame_in-read, frame-read, found_within, moves, stays, take_paged, others_apart}
 use Rattle.space_core.proofs.table.PageTable.take.Goals as goal

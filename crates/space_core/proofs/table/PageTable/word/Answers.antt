@@ -1,4 +1,4 @@
-use Rattle.std.proofs.Common.{◌≡◌, ◌<◌, ◌∙◌, sym, ap, length, Some, Option, arith}
+use Rattle.std.proofs.Common.{◌∙◌, sym, ap, Some, Option, arith}
 use Rattle.pager_model.specs.Frame.{Framed}
 use Rattle.space_core.specs.Tables.{word_in_frame}
 use Rattle.space_core.specs.contracts.table.PageTable.{the_view}
