@@ -7,6 +7,9 @@ pub mod Relisting
 pub mod Reading
 pub mod Settling
 pub mod Breaking
+pub mod PartRecords
+pub mod PartYields
+pub mod BrokenLayout
 pub mod Putting
 pub mod Meeting
 pub mod Finding
