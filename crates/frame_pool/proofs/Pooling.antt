@@ -200,8 +200,11 @@ module _ (p : Inside) (space page : ℕ) (want : Want) (m : Layout) (frame broke
       let places = Places-placing (layout_of (state_of p)) p.entries space page want placed.place pool.sound.laid none placing_is in
       omega (arith, places.known, placed.same_frame, pool.frames_known)
 
-  was_unused : is_some (used_at (state_of p) frame) ≡ false
+  pub was_unused : is_some (used_at (state_of p) frame) ≡ false
   was_unused = sym (is_used-layout_of (state_of p) frame) ∙ ap (λ k. is_used k.used frame) (layout_of-pool p pool) ∙ placed.unused
+
+  pub frame_out : (frame < length (state_of p).free) × (is_some (used_at (state_of p) frame) ≡ false)
+  frame_out = (omega (arith, frame_known, pool.frames_known), was_unused)
 
   -- so it is there
   pub frame_there : (read : Option Framed) → read ≡ get_or p.frames.items frame read → number_in read ≡ Some frame

@@ -1,4 +1,4 @@
-ghost use Rattle.std.specs.Prelude.{◌≡◌, ℕ, ◌+◌, ◌%◌, ◌^◌, ◌<◌, ◌≤◌, ◌⊎◌, false, Some, None, IfOk, IfErr, IsErr, IsSome, length, map};
+ghost use Rattle.std.specs.Prelude.{◌≡◌, ℕ, ◌+◌, ◌%◌, ◌^◌, ◌<◌, ◌≤◌, ◌⊎◌, ◌==◌, ◌&&◌, if◌then◌else◌, false, Some, None, IfOk, IfErr, IsErr, IsSome, is_some, length, map};
 ghost use Rattle.std.specs.List.{range_with_len};
 ghost use Rattle.pager_model.specs.Frame.{zero_frame};
 ghost use Rattle.pager_model.specs.FrameStates.{FrameState, Taking, start_frames, used_at, held_by, frame_of, claim_in, HasNothing};
@@ -115,6 +115,8 @@ impl Pool {
         requires wanted { IsWanted want.now page }
         ensures taken { IfOk result
             (λ frame. (t : Taking) × (take_frame self.old space page want.now ≡ Some t) × (self.new ≡ counted t.state) × (frame.number ≡ t.frame)) }
+        // The frame is one of those that no page had.
+        ensures unused { IfOk result (λ frame. (frame.number < length self.old.free) × (is_some (used_at self.old frame.number) ≡ false)) }
         ensures full { IfErr result (λ _. IsFull self.old × (self.new ≡ self.old)) }
         ensures full_is_told { IsFull self.old → IsErr result }
     {
@@ -170,6 +172,7 @@ impl Pool {
         requires { frame_of self.old space page ≡ Some frame.number }
         ensures claimer { result ≡ claim_in (used_at self.old frame.number) }
         ensures given { self.new ≡ give_page self.old space page }
+        ensures places { (s p : ℕ) → frame_of self.new s p ≡ (if (space == s) && (p == page) then None else frame_of self.old s p) }
     {
         let number = frame.number();
         let at = number as usize;

@@ -2,10 +2,12 @@
 use Rattle.std.proofs.Common.{◌≡◌, ◌≢◌, ℕ, zero, suc, ◌+◌, ◌*◌, ◌<◌, ◌≤◌, Bool, true, false, cond, eqb, List, [], ◌∷◌, ◌++◌, length, refl, sym, ap, arith, eq-eqb, ne_eqb, suc-mul}
 use native.Mathlib.Decide.{ℕ_discrete}
 use Rattle.std.specs.List.{AllByRecursion}
+use Rattle.std.proofs.lemmas.Bool.Decides.{nat_tests}
 use Rattle.pager_model.specs.declared.entry.Entry.{Entry}
 use Rattle.pager_model.specs.Entries.{entries_of}
 use Rattle.pager_model.specs.Legal.{AllFollow, IsLegal}
 use Rattle.pager_model.specs.Settings.{Given}
+use Rattle.journal_core.specs.Views.{one_below}
 
 -- f of n numbers from a on, added up
 abbrev pub up_from : (ℕ → ℕ) → ℕ → ℕ → ℕ
@@ -32,6 +34,13 @@ hit-same x c is = ap (λ b. cond b 1 0) (eq-eqb x c is)
 
 pub hit-other : (x c : ℕ) → x ≢ c → hit x c ≡ 0
 hit-other x c apart = ap (λ b. cond b 1 0) (ne_eqb x c apart)
+
+-- one number more
+pub one_below-more : (n k : ℕ) → one_below (n + 1) k ≡ hit n k + one_below n k
+one_below-more n k = grind (arith, nat_tests)
+
+pub one_below-le : (n k : ℕ) → one_below n k ≤ 1
+one_below-le n k = grind (arith, nat_tests)
 
 up_from-past : (x a n : ℕ) → x < a → up_from (hit x) a n ≡ 0
 up_from-past x a zero past = refl

@@ -8,12 +8,9 @@ use Rattle.pager_model.specs.declared.entry.Need.{Need}
 use Rattle.pager_model.specs.declared.entry.What.{What}
 use Rattle.pager_model.specs.declared.entry.What.TheVariants.{Answer, Out, Failed, Take, Give, Clear, Claim, UseHeld, DropHeld, Got, Unclaim, Refused, Rest}
 use Rattle.pager_model.specs.Entries.{IsOn, ClaimIsOn, NamesItsParts, is_space, space_part, frames_part, entries_of}
-use Rattle.pager_model.specs.FrameStates.{FramesAllow}
-use Rattle.pager_model.specs.Legal.{frames_state, mark_of, space_at, progress_at, entries_in}
-use Rattle.pager_model.specs.Order.{Progress, progress_of, progress_by}
+use Rattle.pager_model.specs.Legal.{SpaceJudges, FramesJudge, KeepsOrder, entries_in}
 use Rattle.pager_model.specs.Settings.{Given}
-use Rattle.pager_model.specs.SpaceStates.{SpaceAllows, space_state}
-use Rattle.journal_core.specs.Clauses.{NamesOnly, AllowedAfter, KeepsOrder}
+use Rattle.journal_core.specs.Clauses.{NamesOnly, AllowedAfter}
 use Rattle.journal_core.specs.Journals.{AuthorState, PassState}
 use Rattle.journal_core.specs.Parts.{part_list, own_list}
 use Rattle.journal_core.specs.Seats.{author_view, pass_view}
@@ -70,20 +67,20 @@ part_list-space spaces part history below = let other : part ≡ spaces → ⊥ 
 pub part_list-frames : (spaces part : ℕ) (history : List Entry) → part ≡ spaces → part_list spaces part history ≡ frames_part history
 part_list-frames spaces part history is = rw (eq-eqb part spaces is)
 
-space_allows : (spaces part : ℕ) (entries history : List Entry) (e : Entry) (space : Option ℕ) → entries ≡ part_list spaces part history → IfSome space (λ s. (s ≡ part) × (s < spaces)) → IfSome space (λ s. SpaceAllows (space_state entries) e)
-    → IfSome space (λ s. SpaceAllows (space_at history s) e)
-space_allows spaces part entries history e None is only allows = tt
-space_allows spaces part entries history e (Some s) is only allows =
-    subst (λ l. SpaceAllows (space_state l) e) (is ∙ part_list-space spaces part history (omega (arith, only.0, only.1)) ∙ ap (λ k. space_part k history) (sym only.0)) allows
+space_allows : (g : Given) (spaces part : ℕ) (entries history : List Entry) (e : Entry) (space : Option ℕ) → entries ≡ part_list spaces part history → IfSome space (λ s. (s ≡ part) × (s < spaces)) → IfSome space (λ s. SpaceJudges g s entries e)
+    → IfSome space (λ s. SpaceJudges g s (space_part s history) e)
+space_allows g spaces part entries history e None is only allows = tt
+space_allows g spaces part entries history e (Some s) is only allows =
+    subst (λ l. SpaceJudges g s l e) (is ∙ part_list-space spaces part history (omega (arith, only.0, only.1)) ∙ ap (λ k. space_part k history) (sym only.0)) allows
 
 space_below : (spaces part : ℕ) (space : Option ℕ) → IfSome space (λ s. (s ≡ part) × (s < spaces)) → IfSome space (λ s. s < spaces)
 space_below spaces part None only = tt
 space_below spaces part (Some s) only = only.1
 
-pub ordered : (c : ℕ) (p : PassState) (history : List Entry) (e : Entry) → e.processor ≡ p.processor → p.entries ≡ own_list p.processor history → KeepsOrder p.entries e → (q : Progress) × (progress_by (progress_at history e.processor) e ≡ Some q)
-ordered c p history e own is order =
+pub ordered : (g : Given) (p : PassState) (history : List Entry) (e : Entry) → e.processor ≡ p.processor → p.entries ≡ own_list p.processor history → KeepsOrder g (entries_in p.entries) e → KeepsOrder g (entries_of e.processor history) e
+ordered g p history e own is order =
     let same = ap entries_in is ∙ own_entries p.processor history ∙ ap (λ d. entries_of d history) (sym own) in
-    (order.0, ap (λ l. progress_by (progress_of l) e) (sym same) ∙ order.1)
+    subst (λ l. KeepsOrder g l e) same order
 
 pub short_enough : (p : PassState) (history : List Entry) (e : Entry) → e.processor ≡ p.processor → p.entries ≡ own_list p.processor history → length p.entries < p.room → p.room ≤ most_entries → length (entries_of e.processor history) < most_entries
 short_enough p history e own is room most =
@@ -92,7 +89,7 @@ short_enough p history e own is room most =
 
 -- an author and a pass, under the pass's setting
 pub one_may : (a : AuthorState) (p : PassState) (e : Entry) → a.journal ≡ p.journal → NamesItsParts e → NamesOnly (length a.journal.setting.told) a.part e → e.processor ≡ p.processor
-    → AllowedAfter a.journal.setting a.entries e → KeepsOrder p.entries e → length p.entries < p.room → p.room ≤ most_entries → p.processor < length p.journal.setting.marks → MayGrow (joined (pass_view p) (author_view a)) e
+    → AllowedAfter a.journal.setting a.entries e → KeepsOrder p.journal.setting (entries_in p.entries) e → length p.entries < p.room → p.room ≤ most_entries → p.processor < length p.journal.setting.marks → MayGrow (joined (pass_view p) (author_view a)) e
 one_may a p e same parts only own allowed order room most processor = record {
   live = refl;
   named = (named_by spaces a.part e.space e.frames only' (on_something e.space e.frames e.what parts), tt);
@@ -103,9 +100,9 @@ one_may a p e same parts only own allowed order room most processor = record {
     parts = parts;
     processor = omega arith;
     space = space_below spaces a.part e.space only'.0;
-    by_space = space_allows spaces a.part a.entries history e e.space k.authors.0 only'.0 allowed'.0;
-    by_frames = λ f. subst (λ l. FramesAllow (frames_state g l) (mark_of g e.processor) e.processor e.space e.what) (k.authors.0 ∙ part_list-frames spaces a.part history (only'.1 f)) (allowed'.1 f);
-    ordered = ordered p.processor p history e own k.passes.0 order;
+    by_space = space_allows g spaces a.part a.entries history e e.space k.authors.0 only'.0 allowed'.0;
+    by_frames = λ f. subst (λ l. FramesJudge g l e) (k.authors.0 ∙ part_list-frames spaces a.part history (only'.1 f)) (allowed'.1 f);
+    ordered = ordered g p history e own k.passes.0 order;
   };
   room = λ history k. short_enough p history e own k.passes.0 room most;
 }

@@ -1,9 +1,9 @@
 -- The journal's start: the first seat has every author and every pass, and deals them out.
-use Rattle.std.proofs.Common.{◌≡◌, ℕ, zero, suc, ◌+◌, ◌-◌, ◌<◌, ◌≤◌, true, List, [], ◌∷◌, ◌++◌, map, length, take, drop, refl, sym, ap, subst, ◌∙◌, arith}
+use Rattle.std.proofs.Common.{◌≡◌, ℕ, zero, suc, ◌+◌, ◌-◌, ◌<◌, ◌≤◌, true, List, [], ◌∷◌, ◌++◌, map, length, take, drop, refl, sym, ap, subst, ◌∙◌, arith, true≢false}
 use mathlib.Core.Option.{some, some-injective, some-ne-none}
 use lib.ListN.{get_elem?}
-use native.Mathlib.Decide.{ℕ_discrete}
 use Rattle.std.specs.List.{sum_by, AllByRecursion, range_with_len}
+use Rattle.std.proofs.lemmas.Bool.Decides.{nat_tests}
 use Rattle.std.proofs.lemmas.List.Sums.{sum_by-cons}
 use Rattle.atomic_table.specs.Seated.{TableId}
 use Rattle.atomic_table.specs.Table.{Me}
@@ -15,26 +15,20 @@ use Rattle.journal_core.specs.declared.view.Own.{Own}
 use Rattle.journal_core.specs.Journals.{JournalName, new_author, new_pass, new_passes}
 use Rattle.journal_core.specs.Parts.{part_list, own_list}
 use Rattle.journal_core.specs.Seats.{author_view, pass_view, author_of, pass_of, IsAuthor, IsPass}
-use Rattle.journal_core.specs.Views.{most_entries, most_processors, blank_part, blank_own, Knows, Stands, opener, first_author, without_author, first_pass, without_pass}
-use Rattle.journal_core.proofs.Bounds.{hit, hit-same, hit-other}
+use Rattle.journal_core.specs.Views.{most_entries, most_processors, one_below, blank_part, blank_own, Knows, Stands, opener, first_author, without_author, first_pass, without_pass}
+use Rattle.journal_core.proofs.Bounds.{hit, one_below-more}
 use Rattle.journal_core.proofs.Histories.{part_list-nil}
 
 -- a list made from the numbers from a on, one by one
 module _ {X : Type 0} (f : X → ℕ) (make : ℕ → X) (is : (n : ℕ) → f (make n) ≡ n) where
-  counted_past : (k a n : ℕ) → k < a → sum_by (λ x. hit (f x) k) (map make (range_with_len a n)) ≡ 0
-  counted_past k a zero past = refl
-  counted_past k a (suc n) past =
-      let none = hit-other (f (make a)) k (λ (e : f (make a) ≡ k). omega (arith, is a)) in
-      omega (arith, sum_by-cons (λ x. hit (f x) k) (make a) (map make (range_with_len (a + 1) n)), counted_past k (a + 1) n (omega arith))
+  -- of each number from a to before b there is one
+  counted : (k a n b : ℕ) → a + n ≡ b → sum_by (λ x. hit (f x) k) (map make (range_with_len a n)) + one_below a k ≡ one_below b k
+  counted k a zero b end = let same : a ≡ b = omega arith in omega (arith, ap (λ m. one_below m k) same)
+  counted k a (suc n) b end =
+      omega (arith, sum_by-cons (λ x. hit (f x) k) (make a) (map make (range_with_len (a + 1) n)), counted k (a + 1) n b (omega arith), one_below-more a k, ap (λ x. hit x k) (is a))
 
-  counted_by : (k a n : ℕ) → sum_by (λ x. hit (f x) k) (map make (range_with_len (a + 1) n)) ≤ 1 → Dec (f (make a) ≡ k) → sum_by (λ x. hit (f x) k) (map make (range_with_len a (suc n))) ≤ 1
-  counted_by k a n rest (yes e) =
-      omega (arith, sum_by-cons (λ x. hit (f x) k) (make a) (map make (range_with_len (a + 1) n)), counted_past k (a + 1) n (omega (arith, is a)), hit-same (f (make a)) k e)
-  counted_by k a n rest (no apart) = omega (arith, sum_by-cons (λ x. hit (f x) k) (make a) (map make (range_with_len (a + 1) n)), hit-other (f (make a)) k apart)
-
-  counted_once : (k a n : ℕ) → sum_by (λ x. hit (f x) k) (map make (range_with_len a n)) ≤ 1
-  counted_once k a zero = omega arith
-  counted_once k a (suc n) = counted_by k a n (counted_once k (a + 1) n) (ℕ_discrete (f (make a)) k)
+  counted_once : (k n : ℕ) → sum_by (λ x. hit (f x) k) (map make (range_with_len 0 n)) ≡ one_below n k
+  counted_once k n = let none : one_below 0 k ≡ 0 = grind (arith, nat_tests) in omega (arith, counted k 0 n n (omega arith))
 
 blank_parts : (spaces a n : ℕ) → AllByRecursion (λ (p : Part). p.entries ≡ part_list spaces p.part []) (map blank_part (range_with_len a n))
 blank_parts spaces a zero = tt
@@ -45,7 +39,7 @@ blank_owns a zero = tt
 blank_owns a (suc n) = (refl, blank_owns (a + 1) n)
 
 opener_knows : (g : Given) → Knows g [] (opener g)
-opener_knows g = record { setting = λ live. refl; authors = blank_parts (length g.told) 0 (length g.told + 1); passes = blank_owns 0 (length g.marks) }
+opener_knows g = record { setting = λ live. refl; spent_has_none = λ spent. absurd (true≢false spent); authors = blank_parts (length g.told) 0 (length g.told + 1); passes = blank_owns 0 (length g.marks) }
 
 alone : (g : Given) (seat : ℕ) (v : View) → get_elem? (opener g ∷ []) seat ≡ some v → Knows g [] v
 alone g zero v is = subst (Knows g []) (some-injective _ _ is) (opener_knows g)
@@ -59,8 +53,8 @@ begins g few = record {
   legal = tt;
   few = few;
   short = λ c. omega arith;
-  one_author = λ part. omega (arith, counted_once (λ (p : Part). p.part) blank_part (λ n. refl) part 0 (length g.told + 1));
-  one_pass = λ c. omega (arith, counted_once (λ (o : Own). o.processor) blank_own (λ n. refl) c 0 (length g.marks));
+  one_author = λ part. omega (arith, counted_once (λ (p : Part). p.part) blank_part (λ n. refl) part (length g.told + 1));
+  one_pass = λ c. omega (arith, counted_once (λ (o : Own). o.processor) blank_own (λ n. refl) c (length g.marks));
   known = alone g;
 }
 

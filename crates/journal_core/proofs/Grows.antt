@@ -1,5 +1,5 @@
 -- A commit keeps the rule.
-use Rattle.std.proofs.Common.{◌≡◌, ◌≢◌, ℕ, ◌+◌, ◌*◌, ◌%◌, ◌^◌, ◌<◌, ◌≤◌, Bool, true, false, cond, eqb, List, [], ◌∷◌, ◌++◌, map, length, set, refl, sym, ap, subst, ◌∙◌, arith, ⊎_elim, mod-eq_of_lt, mul-le-mul_right, eq-eqb, eqb-true}
+use Rattle.std.proofs.Common.{◌≡◌, ◌≢◌, ℕ, ◌+◌, ◌*◌, ◌%◌, ◌^◌, ◌<◌, ◌≤◌, Bool, true, false, cond, eqb, List, [], ◌∷◌, ◌++◌, map, length, set, refl, sym, ap, subst, ◌∙◌, arith, ⊎_elim, mod-eq_of_lt, mul-le-mul_right, eq-eqb, eqb-true, true≢false}
 use Rattle.std.specs.Prelude.{slice_index, slice_set}
 use mathlib.Core.Option.{some}
 use lib.ListN.{get_elem?}
@@ -21,7 +21,7 @@ use Rattle.journal_core.specs.Views.{most_entries, is_part, is_own, authors_of, 
 use Rattle.journal_core.proofs.Lists.{total_set, total_two}
 use Rattle.pager_model.proofs.Histories.{IsLegal-push}
 use Rattle.journal_core.proofs.Histories.{part_list-push, part_list-same, own_list-push, own_list-same, entries_of-push, entries_of-same}
-use Rattle.journal_core.proofs.Bounds.{length_bound, hit-same}
+use Rattle.journal_core.proofs.Bounds.{length_bound, hit-same, one_below-le}
 use Rattle.journal_core.proofs.Moves.{found_is, meets}
 
 -- growing changes no count
@@ -95,6 +95,7 @@ module _ (words : List ℕ) (views : List View) (seat : ℕ) (v : View) (e : Ent
   grown_knows : Knows v.setting (s.history ++ e ∷ []) (grown (slice_index words 0) e v)
   grown_knows = record {
     setting = λ live. refl;
+    spent_has_none = λ spent. absurd (true≢false (sym may.live ∙ spent));
     authors = own_parts (length v.setting.told) s.history e v.authors may.named mine.authors;
     passes = own_owns (length v.setting.told) s.history e (slice_index words 0) (found_is v.setting words views s) v.passes may.own mine.passes;
   }
@@ -102,11 +103,12 @@ module _ (words : List ℕ) (views : List View) (seat : ℕ) (v : View) (e : Ent
   other_knows : (j : ℕ) (u : View) → j ≢ seat → get_elem? views j ≡ some u → Knows v.setting (s.history ++ e ∷ []) u
   other_knows j u apart there = let k = s.known j u there in record {
     setting = k.setting;
+    spent_has_none = k.spent_has_none;
     authors = other_parts (length v.setting.told) s.history e u.authors
-        (λ part h. false_from_ne_true _ (λ names. let m = may.has_parts part names in let t = total_two (authors_of part) views seat j v u apart at there in let o = s.one_author part in absurd (omega arith)))
+        (λ part h. false_from_ne_true _ (λ names. let m = may.has_parts part names in let t = total_two (authors_of part) views seat j v u apart at there in let o = s.one_author part in let one = one_below-le (length v.setting.told + 1) part in absurd (omega arith)))
         k.authors;
     passes = other_owns (length v.setting.told) s.history e u.passes
-        (λ c h. false_from_ne_true _ (λ own. let m = may.has_pass in let is = eqb-true e.processor c own in let same = ap (λ (d : ℕ). passes_of d v) is in let t = total_two (passes_of c) views seat j v u apart at there in let o = s.one_pass c in absurd (omega arith)))
+        (λ c h. false_from_ne_true _ (λ own. let m = may.has_pass in let is = eqb-true e.processor c own in let same = ap (λ (d : ℕ). passes_of d v) is in let t = total_two (passes_of c) views seat j v u apart at there in let o = s.one_pass c in let one = one_below-le (length v.setting.marks) c in absurd (omega arith)))
         k.passes;
   }
 

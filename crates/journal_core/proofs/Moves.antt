@@ -1,5 +1,5 @@
 -- Each step keeps the rule.
-use Rattle.std.proofs.Common.{◌≡◌, ◌≢◌, ℕ, ◌+◌, true, false, cond, eqb, List, [], ◌∷◌, ◌++◌, length, set, refl, sym, ap, subst, arith, ⊎_elim, true≢false}
+use Rattle.std.proofs.Common.{◌≡◌, ◌≢◌, ℕ, ◌+◌, true, false, cond, eqb, List, [], ◌∷◌, ◌++◌, take, drop, length, set, refl, sym, ap, subst, ◌∙◌, arith, ⊎_elim, true≢false}
 use Rattle.std.specs.Prelude.{slice_index, slice_set}
 use mathlib.Core.Option.{some}
 use lib.ListN.{get_elem?}
@@ -45,8 +45,13 @@ splits g words views seat v left right s at cut authors passes = record {
 pub author_splits : (g : Given) (seat : ℕ) (v : View) → Splits (Holds g) seat v (without_author v) (first_author v)
 author_splits g seat v st s at = splits g st.words st.views seat v (without_author v) (first_author v) s at
     (λ history k. (
-      record { setting = k.setting; authors = each_drop _ 1 v.authors k.authors; passes = k.passes },
-      record { setting = k.setting; authors = each_take _ 1 v.authors k.authors; passes = tt },
+      record {
+        setting = k.setting;
+        spent_has_none = λ spent. let none = k.spent_has_none spent in (ap (drop 1) none.0, none.1);
+        authors = each_drop _ 1 v.authors k.authors;
+        passes = k.passes;
+      },
+      record { setting = k.setting; spent_has_none = λ spent. (ap (take 1) (k.spent_has_none spent).0, refl); authors = each_take _ 1 v.authors k.authors; passes = tt },
     ))
     (λ part. omega (arith, count_take_drop (λ (p : Part). cond (eqb p.part part) 1 0) 1 v.authors))
     (λ c. omega arith)
@@ -54,15 +59,20 @@ author_splits g seat v st s at = splits g st.words st.views seat v (without_auth
 pub pass_splits : (g : Given) (seat : ℕ) (v : View) → Splits (Holds g) seat v (without_pass v) (first_pass v)
 pass_splits g seat v st s at = splits g st.words st.views seat v (without_pass v) (first_pass v) s at
     (λ history k. (
-      record { setting = k.setting; authors = k.authors; passes = each_drop _ 1 v.passes k.passes },
-      record { setting = k.setting; authors = tt; passes = each_take _ 1 v.passes k.passes },
+      record {
+        setting = k.setting;
+        spent_has_none = λ spent. let none = k.spent_has_none spent in (none.0, ap (drop 1) none.1);
+        authors = k.authors;
+        passes = each_drop _ 1 v.passes k.passes;
+      },
+      record { setting = k.setting; spent_has_none = λ spent. (refl, ap (take 1) (k.spent_has_none spent).1); authors = tt; passes = each_take _ 1 v.passes k.passes },
     ))
     (λ part. omega arith)
     (λ c. omega (arith, count_take_drop (λ (o : Own). cond (eqb o.processor c) 1 0) 1 v.passes))
 
 -- a seat takes in another's view
-pub joins : (g : Given) (seat : ℕ) (v : View) (other : ℕ) (w : View) → Joins (Holds g) seat v other w (joined v w) spent
-joins g seat v other w st s at apart there = record {
+pub joins : (g : Given) (seat : ℕ) (v : View) (other : ℕ) (w : View) → v.live ≡ true → Joins (Holds g) seat v other w (joined v w) spent
+joins g seat v other w live st s at apart there = record {
   history = s.history;
   word = s.word;
   legal = s.legal;
@@ -71,7 +81,7 @@ joins g seat v other w st s at apart there = record {
   one_author = λ part. omega (arith, total_set (authors_of part) (set st.views seat (joined v w)) other w spent there, total_set (authors_of part) st.views seat v (joined v w) at, sum_by-append (λ (p : Part). cond (eqb p.part part) 1 0) v.authors w.authors, s.one_author part);
   one_pass = λ c. omega (arith, total_set (passes_of c) (set st.views seat (joined v w)) other w spent there, total_set (passes_of c) st.views seat v (joined v w) at, sum_by-append (λ (o : Own). cond (eqb o.processor c) 1 0) v.passes w.passes, s.one_pass c);
   known = λ j u is. ⊎_elim
-      (λ (t : (j ≡ other) × (spent ≡ u)). subst (Knows g s.history) t.1 (record { setting = λ live. absurd (off live); authors = tt; passes = tt }))
+      (λ (t : (j ≡ other) × (spent ≡ u)). subst (Knows g s.history) t.1 (record { setting = λ on. absurd (off on); spent_has_none = λ _. (refl, refl); authors = tt; passes = tt }))
       (λ (t : (j ≢ other) × (get_elem? (set st.views seat (joined v w)) j ≡ some u)). ⊎_elim
       (λ (r : (j ≡ seat) × (joined v w ≡ u)). subst (Knows g s.history) r.1 both)
       (λ (r : (j ≢ seat) × (get_elem? st.views j ≡ some u)). s.known j u r.1)
@@ -88,6 +98,7 @@ joins g seat v other w st s at apart there = record {
     both : Knows g s.history (joined v w)
     both = let mine = s.known seat v at in record {
       setting = mine.setting;
+      spent_has_none = λ spent. absurd (true≢false (sym live ∙ spent));
       authors = each_append _ v.authors w.authors mine.authors theirs.authors;
       passes = each_append _ v.passes w.passes mine.passes theirs.passes;
     }
@@ -105,7 +116,7 @@ enters_keep g slots st x s wide _ = (
     one_author = λ part. omega (arith, sum_by_push (authors_of part) x.views (rest_view g), s.one_author part);
     one_pass = λ c. omega (arith, sum_by_push (passes_of c) x.views (rest_view g), s.one_pass c);
     known = λ j u is. ⊎_elim (λ (old : get_elem? x.views j ≡ some u). s.known j u old)
-        (λ (new : rest_view g ≡ u). subst (Knows g s.history) new (record { setting = λ _. refl; authors = tt; passes = tt }))
+        (λ (new : rest_view g ≡ u). subst (Knows g s.history) new (record { setting = λ _. refl; spent_has_none = λ spent. (refl, refl); authors = tt; passes = tt }))
         (at_snoc x.views (rest_view g) u j is);
   },
   refl,

@@ -3,12 +3,11 @@ use Rattle.std.proofs.Common.{◌≡◌, ℕ, ◌+◌, ◌<◌, ◌≤◌, Bool,
 use Rattle.std.specs.Prelude.{Some, IfSome}
 use Rattle.atomic_table.specs.Table.{Me}
 use Rattle.pager_model.specs.declared.entry.Entry.{Entry}
-use Rattle.pager_model.specs.Entries.{NamesItsParts, is_space}
-use Rattle.pager_model.specs.FrameStates.{FramesAllow}
-use Rattle.pager_model.specs.Legal.{frames_state, mark_of, space_at, entries_in}
-use Rattle.pager_model.specs.SpaceStates.{SpaceAllows, space_state}
+use Rattle.pager_model.specs.Entries.{NamesItsParts, is_space, space_part}
+use Rattle.pager_model.specs.Legal.{SpaceJudges, FramesJudge, KeepsOrder, entries_in}
+use Rattle.pager_model.specs.Settings.{Given}
 use Rattle.journal_core.specs.declared.view.View.{View}
-use Rattle.journal_core.specs.Clauses.{IsHistory, KeepsOrder, AreOf, AreOfTwo, AreSpaceAndFrames}
+use Rattle.journal_core.specs.Clauses.{IsHistory, AreOf, AreOfTwo, AreSpaceAndFrames}
 use Rattle.journal_core.specs.Journals.{AuthorState, PassState}
 use Rattle.journal_core.specs.Parts.{part_list, names_part}
 use Rattle.journal_core.specs.Seats.{author_view, pass_view}
@@ -76,7 +75,7 @@ two_counted space frames part (inr is) = omega (arith, hit-same frames part is)
 
 -- the authors of a space and of the frames, and a pass, under the pass's setting
 pub two_may : (s f : AuthorState) (p : PassState) (e : Entry) → s.journal ≡ p.journal → f.journal ≡ p.journal → NamesItsParts e → AreSpaceAndFrames s f × (e.space ≡ Some s.part) × (e.frames ≡ true) → e.processor ≡ p.processor
-    → SpaceAllows (space_state s.entries) e → FramesAllow (frames_state f.journal.setting f.entries) (mark_of f.journal.setting e.processor) e.processor e.space e.what → KeepsOrder p.entries e → length p.entries < p.room → p.room ≤ most_entries
+    → SpaceJudges s.journal.setting s.part s.entries e → FramesJudge f.journal.setting f.entries e → KeepsOrder p.journal.setting (entries_in p.entries) e → length p.entries < p.room → p.room ≤ most_entries
     → p.processor < length p.journal.setting.marks → MayGrow (joined (joined (pass_view p) (author_view s)) (author_view f)) e
 two_may s f p e same other parts names own by_space by_frames order room most processor = record {
   live = refl;
@@ -88,14 +87,17 @@ two_may s f p e same other parts names own by_space by_frames order room most pr
     parts = parts;
     processor = omega arith;
     space = subst (λ o. IfSome o (λ t. t < length p.journal.setting.told)) (sym names.1) below;
-    by_space = subst (λ o. IfSome o (λ t. SpaceAllows (space_at history t) e)) (sym names.1) (subst (λ l. SpaceAllows (space_state l) e) (k.authors.0 ∙ part_list-space spaces s.part history below) by_space);
-    by_frames = λ _. subst (λ l. FramesAllow (frames_state p.journal.setting l) (mark_of p.journal.setting e.processor) e.processor e.space e.what) (k.authors.1.0 ∙ part_list-frames spaces f.part history all)
-        (subst (λ j. FramesAllow (frames_state j.setting f.entries) (mark_of j.setting e.processor) e.processor e.space e.what) other by_frames);
-    ordered = ordered p.processor p history e own k.passes.0 order;
+    by_space = subst (λ o. IfSome o (λ t. SpaceJudges g t (space_part t history) e)) (sym names.1)
+        (subst (λ l. SpaceJudges g s.part l e) (k.authors.0 ∙ part_list-space spaces s.part history below) (subst (λ j. SpaceJudges j.setting s.part s.entries e) same by_space));
+    by_frames = λ _. subst (λ l. FramesJudge g l e) (k.authors.1.0 ∙ part_list-frames spaces f.part history all) (subst (λ j. FramesJudge j.setting f.entries e) other by_frames);
+    ordered = ordered g p history e own k.passes.0 order;
   };
   room = λ history k. short_enough p history e own k.passes.0 room most;
 }
   where
+    g : Given
+    g = p.journal.setting
+
     spaces : ℕ
     spaces = length p.journal.setting.told
 

@@ -1,13 +1,9 @@
 -- What a commit needs, and what commits, meetings and closing tell.
-use Rattle.std.specs.Prelude.{ℕ, ◌≡◌, ◌≤◌, ◌<◌, true, List, length, Some, IfSome}
+use Rattle.std.specs.Prelude.{ℕ, ◌≡◌, ◌≤◌, ◌<◌, true, List, length, IfSome}
 use Rattle.pager_model.specs.declared.entry.Entry.{Entry}
-use Rattle.pager_model.specs.declared.entry.Numbered.{Numbered}
 use Rattle.pager_model.specs.Entries.{space_part, frames_part, entries_of}
-use Rattle.pager_model.specs.FrameStates.{FramesAllow}
-use Rattle.pager_model.specs.Legal.{IsLegal, frames_state, mark_of, entries_in}
-use Rattle.pager_model.specs.Order.{Progress, progress_of, progress_by}
+use Rattle.pager_model.specs.Legal.{IsLegal, SpaceJudges, FramesJudge, entries_in}
 use Rattle.pager_model.specs.Settings.{Given}
-use Rattle.pager_model.specs.SpaceStates.{SpaceAllows, space_state}
 use Rattle.journal_core.specs.Journals.{AuthorState, PassState}
 use Rattle.journal_core.specs.Parts.{part_list, own_list}
 use Rattle.journal_core.specs.Views.{most_processors, most_entries}
@@ -16,13 +12,9 @@ use Rattle.journal_core.specs.Views.{most_processors, most_entries}
 abbrev pub NamesOnly : ℕ → ℕ → Entry → Type 0
 NamesOnly spaces part e = IfSome e.space (λ s. (s ≡ part) × (s < spaces)) × (e.frames ≡ true → part ≡ spaces)
 
--- the part that the entry names allows it after these entries
+-- the part that the entry names, which is a space or the frames, allows it after these entries
 abbrev pub AllowedAfter : Given → List Entry → Entry → Type 0
-AllowedAfter g entries e = IfSome e.space (λ s. SpaceAllows (space_state entries) e) × (e.frames ≡ true → FramesAllow (frames_state g entries) (mark_of g e.processor) e.processor e.space e.what)
-
--- with the entry the processor's list stays ordered
-abbrev pub KeepsOrder : List Numbered → Entry → Type 0
-KeepsOrder entries e = (p : Progress) × (progress_by (progress_of (entries_in entries)) e ≡ Some p)
+AllowedAfter g entries e = IfSome e.space (λ s. SpaceJudges g s entries e) × (e.frames ≡ true → FramesJudge g entries e)
 
 -- the history is legal, of at most 17 processors, each of which has at most 2^31 entries
 pub record IsHistory (g : Given) (history : List Entry) : Type 0 where

@@ -3,13 +3,12 @@ use Rattle.std.specs.Prelude.{ℕ, ◌≡◌, true, false, length, Some, None, [
 use Rattle.pager_model.specs.Settings.{Given}
 use Rattle.pager_model.specs.declared.call.Call.TheVariants.{Load, Map}
 use Rattle.pager_model.specs.declared.entry.Entry.{Entry}
-use Rattle.pager_model.specs.declared.entry.What.TheVariants.{Answer, Take}
+use Rattle.pager_model.specs.declared.entry.What.TheVariants.{Answer, Take, Rest}
 use Rattle.pager_model.specs.declared.reply.Reply.TheVariants.{Unmapped, Done}
 use Rattle.pager_model.specs.declared.region.Kind.TheVariants.{Fixed}
 use Rattle.pager_model.specs.declared.region.Rights.TheVariants.{Write}
-use Rattle.pager_model.specs.Legal.{entries_in}
-use Rattle.pager_model.specs.Order.{Idle, progress_of}
-use Rattle.pager_model.specs.SpaceStates.{space_state}
+use Rattle.pager_model.specs.Legal.{state_of_space, progress_in, entries_in}
+use Rattle.pager_model.specs.Order.{at_rest}
 use Rattle.journal_core.specs.Journals.{JournalName, AuthorState, PassState}
 
 -- the answer to a load of a processor's space, in which no region has the page
@@ -24,11 +23,11 @@ unmapped processor number =
 
 -- two processors that make calls, two spaces whose stores aren't told, and 512 frames
 abbrev pub sample : Given
-sample = record { frames = 512; marks = 0 ∷ 0 ∷ []; told = false ∷ false ∷ []; faults = 0 ∷ 0 ∷ [] }
+sample = record { frames = 512; marks = 0 ∷ 0 ∷ []; told = false ∷ false ∷ []; faults = 0 ∷ 0 ∷ []; evicts = true }
 
 -- one processor, one space whose store isn't told, and one frame
 abbrev pub small : Given
-small = record { frames = 1; marks = 0 ∷ []; told = false ∷ []; faults = 0 ∷ [] }
+small = record { frames = 1; marks = 0 ∷ []; told = false ∷ []; faults = 0 ∷ []; evicts = true }
 
 -- the answer to the mapping of a space's first page
 abbrev pub mapped : Entry
@@ -50,14 +49,21 @@ taking =
       what = Take 0 0 (record { low = 0; high = 1; cap = 1; wired = false });
     }
 
--- after so many such answers
+-- a processor that makes calls and a daemon of mark 2, one space whose store isn't told, and eight frames
+abbrev pub watched : Given
+watched = record { frames = 8; marks = 0 ∷ 2 ∷ []; told = false ∷ []; faults = 0 ∷ []; evicts = true }
+
+-- the daemon finds enough frames free, and rests
+abbrev pub rest : Entry
+rest = record { processor = 1; space = None; frames = true; what = Rest false }
+
+-- after so many such answers, which leave the space as it was at the start
 pub record Filled (journal : JournalName) (processor n : ℕ) (author : AuthorState) (pass : PassState) : Type 0 where
   pub author_of : author.journal ≡ journal
   pub part : author.part ≡ processor
-  pub regions : (space_state author.entries).flat.regions ≡ []
-  pub pending : (space_state author.entries).pending ≡ None
+  pub space : state_of_space journal.setting processor author.entries ≡ state_of_space journal.setting processor []
   pub pass_of : pass.journal ≡ journal
   pub own : pass.processor ≡ processor
   pub room : pass.room ≡ 100
   pub count : length pass.entries ≡ n
-  pub progress : progress_of (entries_in pass.entries) ≡ Some (record { answered = n; doing = Idle })
+  pub progress : progress_in journal.setting processor (entries_in pass.entries) ≡ Some (at_rest 0 n)

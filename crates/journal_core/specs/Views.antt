@@ -1,5 +1,5 @@
 -- What each seat at the journal's word knows, the rule that ties it to the history, and what the steps tell.
-use Rattle.std.specs.Prelude.{ℕ, ◌≡◌, ◌+◌, ◌^◌, ◌≤◌, ◌<◌, Bool, true, false, ◌==◌, List, [], ◌∷◌, ◌++◌, map, length, take, drop, count_by, None}
+use Rattle.std.specs.Prelude.{ℕ, ◌≡◌, ◌+◌, ◌^◌, ◌≤◌, ◌<◌, Bool, true, false, ◌==◌, nat_lt, if◌then◌else◌, List, [], ◌∷◌, ◌++◌, map, length, take, drop, count_by, None}
 use Rattle.std.specs.List.{sum_by}
 use Rattle.std.specs.List.{AllByRecursion, range_with_len}
 use mathlib.Core.Option.{some}
@@ -35,22 +35,29 @@ authors_of part v = count_by (is_part part) v.authors
 abbrev pub passes_of : ℕ → View → ℕ
 passes_of c v = count_by (is_own c) v.passes
 
--- each author in the view has exactly its part of the history, and each pass exactly its processor's entries
+-- Each author in the view has exactly its part of the history, and each pass exactly its processor's entries. A live view has the
+-- setting, and a spent one neither an author nor a pass.
 pub record Knows (g : Given) (history : List Entry) (v : View) : Type 0 where
   pub setting : v.live ≡ true → v.setting ≡ g
+  pub spent_has_none : v.live ≡ false → (v.authors ≡ []) × (v.passes ≡ [])
   pub authors : AllByRecursion (λ (p : Part). p.entries ≡ part_list (length g.told) p.part history) v.authors
   pub passes : AllByRecursion (λ (o : Own). o.entries ≡ own_list o.processor history) v.passes
 
--- The rule: there is one legal history, whose length is the word. Each part has one author at most over all views, each
--- processor one pass at most, and each view knows its lists.
+-- of each number below n there is one, and of no other
+abbrev pub one_below : ℕ → ℕ → ℕ
+one_below n k = if nat_lt k n then 1 else 0
+
+-- The rule: there is one legal history, whose length is the word. Over all views each space and the frames have exactly one
+-- author, each processor has exactly one pass, and there is no other author and no other pass. Each view knows its lists, and only
+-- live views have any. So each author and each pass stands in exactly one live view.
 pub record Stands (g : Given) (words : List ℕ) (views : List View) : Type 0 where
   pub history : List Entry
   pub word : words ≡ length history ∷ []
   pub legal : IsLegal g history
   pub few : length g.marks ≤ most_processors
   pub short : (c : ℕ) → length (entries_of c history) ≤ most_entries
-  pub one_author : (part : ℕ) → sum_by (authors_of part) views ≤ 1
-  pub one_pass : (c : ℕ) → sum_by (passes_of c) views ≤ 1
+  pub one_author : (part : ℕ) → sum_by (authors_of part) views ≡ one_below (length g.told + 1) part
+  pub one_pass : (c : ℕ) → sum_by (passes_of c) views ≡ one_below (length g.marks) c
   pub known : (seat : ℕ) (v : View) → get_elem? views seat ≡ some v → Knows g history v
 
 abbrev pub Holds : Given → State Unit View → Type 0
@@ -86,7 +93,7 @@ abbrev pub joined : View → View → View
 joined v w = record { live = v.live; setting = v.setting; authors = v.authors ++ w.authors; passes = v.passes ++ w.passes }
 
 abbrev pub spent : View
-spent = record { live = false; setting = record { frames = 0; marks = []; told = []; faults = [] }; authors = []; passes = [] }
+spent = record { live = false; setting = record { frames = 0; marks = []; told = []; faults = []; evicts = false }; authors = []; passes = [] }
 
 -- the lists grown by an entry at this place of the history
 abbrev pub part_grown : Entry → Part → Part

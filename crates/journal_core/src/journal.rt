@@ -1,11 +1,9 @@
 ghost use Rattle.std.specs.Prelude.{◌≡◌, ◌+◌, ◌^◌, List, ◌≤◌, ◌<◌, true, [], map, length, sum, IfOk, Some};
 ghost use Rattle.std.specs.List.{All, range_with_len};
 ghost use Rattle.pager_model.specs.Entries.{NamesItsParts};
-ghost use Rattle.pager_model.specs.FrameStates.{FramesAllow};
-ghost use Rattle.pager_model.specs.Legal.{frames_state, mark_of, entries_in};
-ghost use Rattle.pager_model.specs.SpaceStates.{SpaceAllows, space_state};
+ghost use Rattle.pager_model.specs.Legal.{SpaceJudges, FramesJudge, KeepsOrder, entries_in};
 ghost use Rattle.pager_model.specs.declared.entry.Entry.{Entry};
-ghost use Rattle.journal_core.specs.Clauses.{NamesOnly, AllowedAfter, KeepsOrder, IsHistory, IsPartOf, IsOwnOf, AreOf, AreOfTwo, AreSpaceAndFrames};
+ghost use Rattle.journal_core.specs.Clauses.{NamesOnly, AllowedAfter, IsHistory, IsPartOf, IsOwnOf, AreOf, AreOfTwo, AreSpaceAndFrames};
 ghost use Rattle.journal_core.specs.Journals.{new_author, new_passes, written, kept};
 ghost use Rattle.journal_core.specs.Parts.{numbered};
 ghost use Rattle.journal_core.specs.Seats.{name_of};
@@ -144,7 +142,7 @@ pub fn commit(journal: &Journal, author: Author, pass: Pass, entry: Entry) -> (u
     requires author { NamesOnly (length author.journal.setting.told) author.part entry }
     requires processor { entry.processor ≡ pass.processor }
     requires allowed { AllowedAfter author.journal.setting author.entries entry }
-    requires order { KeepsOrder pass.entries entry }
+    requires order { KeepsOrder pass.journal.setting (entries_in pass.entries) entry }
     requires room { length pass.entries < pass.room }
     ensures author { result.1 ≡ written author entry }
     ensures pass { result.2 ≡ kept pass result.0 entry }
@@ -173,10 +171,9 @@ pub fn commit_two(
     requires parts { NamesItsParts entry }
     requires authors { AreSpaceAndFrames space frames × (entry.space ≡ Some space.part) × (entry.frames ≡ true) }
     requires processor { entry.processor ≡ pass.processor }
-    requires space { SpaceAllows (space_state space.entries) entry }
-    requires frames { FramesAllow (frames_state frames.journal.setting frames.entries)
-        (mark_of frames.journal.setting entry.processor) entry.processor entry.space entry.what }
-    requires order { KeepsOrder pass.entries entry }
+    requires space { SpaceJudges space.journal.setting space.part space.entries entry }
+    requires frames { FramesJudge frames.journal.setting frames.entries entry }
+    requires order { KeepsOrder pass.journal.setting (entries_in pass.entries) entry }
     requires room { length pass.entries < pass.room }
     ensures space { result.1 ≡ written space entry }
     ensures frames { result.2 ≡ written frames entry }

@@ -1,6 +1,9 @@
-ghost use Rattle.std.specs.Prelude.{◌≡◌, ◌<◌, length, IfOk};
+ghost use Rattle.std.specs.Prelude.{◌≡◌, ◌<◌, length, Some, IfOk};
 ghost use Rattle.journal_core.specs.Journals.{new_author, new_pass};
-ghost use Rattle.journal_core.specs.Samples.{unmapped, sample, Filled, mapped, taking, small};
+ghost use Rattle.pager_model.specs.Legal.{progress_in, entries_in};
+ghost use Rattle.pager_model.specs.Order.{at_rest};
+ghost use Rattle.pager_model.specs.Settings.{mark_of};
+ghost use Rattle.journal_core.specs.Samples.{unmapped, sample, Filled, mapped, taking, small, watched, rest};
 
 use crate::{Author, Journal, Opened, Pass, close, commit, commit_two, create, meet, meet_two};
 use pager_model::{
@@ -40,6 +43,7 @@ fn commit_all(journal: &Journal, author: Author, pass: Pass, processor: u32) -> 
     requires author { author ≡ new_author journal.now.name processor }
     requires pass { pass ≡ new_pass journal.now.name processor 100 }
     requires space { processor < length journal.now.name.setting.told }
+    requires caller { mark_of journal.now.name.setting processor ≡ 0 }
     ensures { Filled journal.now.name processor 100 result.0 result.1 }
 {
     let mut author = author;
@@ -69,7 +73,7 @@ fn both<R: Threads + Sync>(
     first: (Author, Pass),
     second: (Author, Pass),
 ) -> ((Author, Pass), (Author, Pass))
-    requires spaces { 1 < length journal.now.name.setting.told }
+    requires setting { journal.now.name.setting ≡ sample }
     requires first { (first.0 ≡ new_author journal.now.name 0) × (first.1 ≡ new_pass journal.now.name 0 100) }
     requires second { (second.0 ≡ new_author journal.now.name 1) × (second.1 ≡ new_pass journal.now.name 1 100) }
     ensures first { Filled journal.now.name 0 100 result.0.0 result.0.1 }
@@ -80,11 +84,11 @@ fn both<R: Threads + Sync>(
     join(
         rt,
         move || -> (Author, Pass)
-            requires { (author ≡ new_author journal.now.name 0) × (pass ≡ new_pass journal.now.name 0 100) × (0 < length journal.now.name.setting.told) }
+            requires { (author ≡ new_author journal.now.name 0) × (pass ≡ new_pass journal.now.name 0 100) × (journal.now.name.setting ≡ sample) }
             ensures { Filled journal.entry.now.name 0 100 result.0 result.1 }
         { commit_all(journal, author, pass, 0) },
         move || -> (Author, Pass)
-            requires { (other_author ≡ new_author journal.now.name 1) × (other_pass ≡ new_pass journal.now.name 1 100) × (1 < length journal.now.name.setting.told) }
+            requires { (other_author ≡ new_author journal.now.name 1) × (other_pass ≡ new_pass journal.now.name 1 100) × (journal.now.name.setting ≡ sample) }
             ensures { Filled journal.entry.now.name 1 100 result.0 result.1 }
         { commit_all(journal, other_author, other_pass, 1) },
     )
@@ -257,5 +261,65 @@ fn a_taking_stands_behind_the_answer_before_it(rt: HostRuntime) -> Result<(), Fa
         told.history.as_slice() == [first, second].as_slice(),
         "the answer, and then the taking"
     );
+    Ok(())
+}
+
+// A processor that makes calls and a daemon of mark 2, one space whose store isn't told, and eight frames.
+fn watched_setting(alloc: Global) -> Result<Setting, NoMemory>
+    ensures { IfOk result (λ s. s ≡ watched) }
+{
+    let marks = vec![in alloc; 0, 2]?;
+    let told = vec![in alloc; false; 1]?;
+    let faults = vec![in alloc; 0; 1]?;
+    Ok(Setting::of(8, marks, told, faults))
+}
+
+// The daemon finds enough frames free.
+fn rest_entry() -> Entry
+    ensures { result ≡ rest }
+{
+    Entry {
+        processor: 1,
+        space: None,
+        frames: true,
+        what: What::Rest { short: false },
+    }
+}
+
+// A turn with no other entry.
+fn rest_at_once(journal: &Journal, frames: Author, pass: Pass) -> (Author, Pass)
+    requires setting { journal.now.name.setting ≡ watched }
+    requires frames { frames ≡ new_author journal.now.name 1 }
+    requires pass { pass ≡ new_pass journal.now.name 1 1 }
+    ensures journal { (result.0.journal ≡ journal.now.name) × (result.1.journal ≡ journal.now.name) }
+    ensures pass { (result.1.processor ≡ 1) × (result.1.room ≡ 1) }
+    ensures turn { progress_in watched 1 (entries_in result.1.entries) ≡ Some (at_rest 2 1) }
+{
+    let (_, frames, pass) = commit(journal, frames, pass, rest_entry());
+    (frames, pass)
+}
+
+// The history of a daemon's turn.
+fn rested(alloc: Global) -> Result<Vec<Numbered>, NoMemory> {
+    let setting = watched_setting(alloc)?;
+    let Opened {
+        journal,
+        mut authors,
+        mut passes,
+    } = create(alloc, setting, &[0, 1])?;
+    let (frames, pass) = rest_at_once(&journal, authors.remove(1), passes.remove(1));
+    authors.push(frames)?;
+    passes.push(pass)?;
+    Ok(close(journal, authors, passes))
+}
+
+#[test]
+fn a_turn_that_rests_at_once_is_one_entry(rt: HostRuntime) -> Result<(), Fail> {
+    let history = rested(rt.alloc()).ok().ok_or("memory")?;
+    let only = Numbered {
+        number: 0,
+        entry: rest_entry(),
+    };
+    assert!(rt; history.as_slice() == [only].as_slice(), "the rest alone");
     Ok(())
 }

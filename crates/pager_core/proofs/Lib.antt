@@ -1,4 +1,4 @@
-pub mod Moves
-pub mod Rows
-pub mod Landing
-pub mod Loading
+pub mod Answering
+pub mod GivenRanges
+pub mod Clearing
+pub mod Taking

@@ -1,4 +1,6 @@
+pub mod Rows
 pub mod Flights
 pub mod Steps
 pub mod Running
 pub mod Machines
+pub mod MachineFields

@@ -1,14 +1,56 @@
 -- What the fields of a machine keep true.
-use Rattle.std.specs.Prelude.{ℕ, ◌*◌, ◌≤◌, List, length, Option}
+use Rattle.std.specs.Prelude.{ℕ, zero, suc, ◌≡◌, ◌≢◌, ◌+◌, ◌-◌, ◌*◌, ◌<◌, ◌≤◌, true, false, Bool, List, [], ◌∷◌, length, map, replicate, sum_by, slice_index_or, slice_get, Option, Some, None}
+use Rattle.std.specs.List.{range_with_len}
+use Rattle.pager_model.specs.declared.call.Call.{Call}
+use Rattle.pager_model.specs.declared.entry.Entry.{Entry}
 use Rattle.pager_model.specs.declared.entry.Numbered.{Numbered}
 use Rattle.pager_model.specs.FrameStates.{FrameState}
-use Rattle.pager_model.specs.Plans.{Plan}
-use Rattle.space_core.specs.Standing.{Kept}
+use Rattle.pager_model.specs.Flat.{space_of_call}
+use Rattle.pager_model.specs.Legal.{IsLegal, space_at, frames_at, entries_in}
+use Rattle.pager_model.specs.Settings.{Given}
+use Rattle.space_core.specs.Standing.{Kept, CanBegin}
 use Rattle.pager_core.specs.declared.flight.Flight.{Flight}
-use Rattle.pager_core.specs.Running.{IsRun}
+use Rattle.pager_core.specs.Rows.{row_of}
+use Rattle.pager_core.specs.Flights.{IsReady, IsAtRest}
+use Rattle.pager_core.specs.Running.{Running, calls_at, flight_at, left_at, IsLawful}
 
--- its parts are in the middle of a run, and the history has room for the rest
-pub record IsMachine (plan : Plan) (answered : ℕ) (flight : Option Flight) (kept : Kept) (pool : FrameState) (history : List Numbered) (capacity : ℕ) : Type 0 where
-  pub run : IsRun plan answered flight kept pool history
-  pub few : length plan.calls ≤ 65536
-  pub room : 8 * length plan.calls ≤ capacity
+-- the setting of so many frames, processors that make calls, and spaces whose stores tell their copies; nothing is paged out yet
+abbrev pub given_of : ℕ → ℕ → ℕ → Given
+given_of frames processors spaces =
+    record { frames = frames; marks = replicate processors 0; told = replicate spaces true; faults = replicate spaces 0; evicts = false }
+
+-- the call is on one of the spaces, and one that a space can begin
+pub record CanFly (spaces : ℕ) (call : Call) : Type 0 where
+  pub on : space_of_call call < spaces
+  pub can : CanBegin call
+
+abbrev pub all_left : Running → ℕ
+all_left run = sum_by (left_at run) (range_with_len 0 (length run.calls))
+
+-- a processor's flight: it is of this processor's call of its number, and isn't ended; and where it keeps a space it is ready there
+pub record IsFlying (run : Running) (spaces : List Kept) (c : ℕ) (f : Flight) : Type 0 where
+  pub processor : f.processor ≡ c
+  pub of_call : slice_get (calls_at run.calls c) f.number ≡ Some f.call
+  pub can : CanFly (length spaces) f.call
+  pub going : (row_of f).reply ≡ None
+  pub keeps : (s : ℕ) (kept : Kept) → (row_of f).keeps ≡ Some s → slice_get spaces s ≡ Some kept → IsReady f kept (space_at run.given (entries_in run.history) s)
+
+-- Its parts are in the middle of a run.
+pub record IsMachine (run : Running) (spaces : List Kept) (pool : FrameState) (capacity : ℕ) : Type 0 where
+  pub lawful : IsLawful run
+  pub given : run.given ≡ given_of run.given.frames (length run.calls) (length spaces)
+  pub known : length run.flights ≡ length run.calls
+  pub few_processors : length run.calls ≤ 16
+  pub few_spaces : length spaces ≤ 16
+  pub frames : pool ≡ frames_at run.given (entries_in run.history)
+  -- every call can be made
+  pub calls : (c n : ℕ) (call : Call) → slice_get (calls_at run.calls c) n ≡ Some call → CanFly (length spaces) call
+  pub flights : (c : ℕ) (f : Flight) → flight_at run.flights c ≡ Some f → IsFlying run spaces c f
+  -- a space has its number and its count of frames, and where no flight keeps it, it is at rest
+  pub numbers : (s : ℕ) (kept : Kept) → slice_get spaces s ≡ Some kept → (kept.number ≡ s) × (kept.frames ≡ run.given.frames)
+  pub rest : (s : ℕ) (kept : Kept) → slice_get spaces s ≡ Some kept → ((c : ℕ) (f : Flight) → flight_at run.flights c ≡ Some f → (row_of f).keeps ≢ Some s) → IsAtRest kept (space_at run.given (entries_in run.history) s)
+  -- at most one flight keeps a space
+  pub one_keeper : (s c d : ℕ) (f g : Flight) → flight_at run.flights c ≡ Some f → flight_at run.flights d ≡ Some g → (row_of f).keeps ≡ Some s → (row_of g).keeps ≡ Some s → c ≡ d
+  -- the history has room for what is left
+  pub room : length run.history + all_left run ≤ capacity
+  pub few : length run.history + all_left run ≤ 2097152

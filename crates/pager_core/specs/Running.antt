@@ -1,119 +1,118 @@
--- A machine in the middle of a run, and what it keeps true.
-use Rattle.std.specs.Prelude.{ℕ, ◌≡◌, ◌+◌, ◌*◌, ◌≤◌, List, [], ◌∷◌, ◌++◌, ◌⊎◌, length, take, map, slice_get, Option, Some, None, MatchOption}
+-- A machine as contracts see it, and what holds of it after any turns.
+use Rattle.std.specs.Prelude.{ℕ, ◌≡◌, ◌≢◌, ◌+◌, ◌-◌, ◌*◌, ◌<◌, ◌⊎◌, List, [], ◌∷◌, ◌++◌, length, map, take, slice_get, slice_index_or, option_map, Option, Some, None}
 use Rattle.std.specs.List.{enumerate_from, range_with_len}
 use Rattle.pager_model.specs.declared.call.Call.{Call}
-use Rattle.pager_model.specs.declared.call.Line.{Line}
 use Rattle.pager_model.specs.declared.entry.Entry.{Entry}
 use Rattle.pager_model.specs.declared.entry.Numbered.{Numbered}
 use Rattle.pager_model.specs.Agreement.{IsPartition, NothingHeld, Agrees}
 use Rattle.pager_model.specs.Entries.{entries_of}
-use Rattle.pager_model.specs.FrameStates.{FrameState}
-use Rattle.pager_model.specs.Legal.{IsLegal, space_at, frames_at, progress_at, entries_in}
-use Rattle.pager_model.specs.Order.{Idle}
-use Rattle.pager_model.specs.Plans.{Plan}
-use Rattle.pager_model.specs.Showing.{setting_of, answers_in, IsFiled, Shows}
-use Rattle.pager_model.specs.SpaceStates.{MayGoOn}
-use Rattle.pager_model.specs.TraceText.{AreLines}
-use Rattle.space_core.specs.Standing.{Kept, StandsFor}
+use Rattle.pager_model.specs.Legal.{IsLegal, frames_at, progress_at, entries_in}
+use Rattle.pager_model.specs.Order.{Progress, at_rest, IsWhole}
+use Rattle.pager_model.specs.Settings.{Given}
+use Rattle.pager_model.specs.Showing.{answers_in}
 use Rattle.pager_core.specs.declared.flight.Flight.{Flight}
 use Rattle.pager_core.specs.declared.flight.Phase.TheVariants.{Start}
-use Rattle.pager_core.specs.Flights.{progress_in, reply_in, made_in, IsReady, IsPart}
+use Rattle.pager_core.specs.Rows.{row_of, space_under}
 
--- A machine as contracts see it: its trace, how many of its calls were answered, the call in progress where there is one, and
--- its history.
+-- The setting of its history, the calls of each processor, for each processor the call that is in progress or comes next, where one is
+-- left, and the history.
 pub record Running : Type 0 where
-  pub plan : Plan
-  pub answered : ℕ
-  pub flight : Option Flight
+  pub given : Given
+  pub calls : List (List Call)
+  pub flights : List (Option Flight)
   pub history : List Numbered
 
--- no call is in progress, and every call was answered
-pub record HasEnded (run : Running) : Type 0 where
-  pub at_rest : run.flight ≡ None
-  pub all : run.answered ≡ length run.plan.calls
+abbrev pub calls_at : List (List Call) → ℕ → List Call
+calls_at calls c = slice_index_or calls c []
+
+abbrev pub flight_at : List (Option Flight) → ℕ → Option Flight
+flight_at flights c = slice_index_or flights c None
+
+-- the flight of the processor's call of this number, of which nothing was done, where there is such a call
+abbrev pub flight_of : ℕ → ℕ → List Call → Option Flight
+flight_of c number calls =
+    option_map (λ call. record { processor = c; number = number; call = call; phase = Start }) (slice_get calls number)
+
+-- at the start each processor's first call comes next
+abbrev pub first_flights : List (List Call) → List (Option Flight)
+first_flights calls = map (λ c. flight_of c 0 (calls_at calls c)) (range_with_len 0 (length calls))
+
+-- how many of its calls a processor has answered, and where it is in the next: it has answered all where it has no flight
+abbrev pub progress_by_flight : List Call → Option Flight → Progress
+progress_by_flight calls None = at_rest 0 (length calls)
+progress_by_flight calls (Some f) = (row_of f).progress
+
+abbrev pub progress_of_actor : Running → ℕ → Progress
+progress_of_actor run c = progress_by_flight (calls_at run.calls c) (flight_at run.flights c)
+
+-- no processor has a call left
+abbrev pub HasEnded : Running → Type 0
+HasEnded run = (c : ℕ) → flight_at run.flights c ≡ None
+
+-- another processor's flight keeps the space
+pub record IsKeptByOther (flights : List (Option Flight)) (actor space : ℕ) : Type 0 where
+  pub other : ℕ
+  pub differs : other ≢ actor
+  pub flight : Flight
+  pub flies : flight_at flights other ≡ Some flight
+  pub keeps : (row_of flight).keeps ≡ Some space
+
+-- the actor's next step is made under this space, which another flight keeps
+pub record MustWait (run : Running) (actor space : ℕ) : Type 0 where
+  pub flight : Flight
+  pub flies : flight_at run.flights actor ≡ Some flight
+  pub under : space_under (row_of flight).needs ≡ Some space
+  pub kept : IsKeptByOther run.flights actor space
 
 -- the numbers of a history are its places
 abbrev pub IsNumbered : List Numbered → Type 0
 IsNumbered history = map (λ (n : Numbered). n.number) history ≡ range_with_len 0 (length history)
 
-abbrev pub call_in : Line → Call
-call_in line = line.call
+-- how many entries a processor may make still: what is left of its flight, and eight for each call after that
+abbrev pub entries_left : List Call → Option Flight → ℕ
+entries_left calls None = 0
+entries_left calls (Some f) = (row_of f).entries + 8 * (length calls - (f.number + 1))
 
--- Between two calls: the history is made of a sequence for each call that was answered.
-pub record Between (plan : Plan) (answered : ℕ) (kept : Kept) (history : List Entry) : Type 0 where
-  pub some_left : answered ≤ length plan.calls
-  pub progress : progress_at history 0 ≡ Some (record { answered = answered; doing = Idle })
-  pub ready : kept.pending ≡ None
-  pub first : answered ≡ 0 → kept.regions ≡ []
-  pub filed : IsFiled (take answered plan.calls) history
-  pub few : length history ≤ 2 * answered
+abbrev pub left_at : Running → ℕ → ℕ
+left_at run c = entries_left (calls_at run.calls c) (flight_at run.flights c)
 
--- In a call: the flight is of the next call, and the history is made of the sequences before it and of the flight's entries.
-pub record InFlight (plan : Plan) (answered : ℕ) (kept : Kept) (history : List Entry) (f : Flight) : Type 0 where
-  pub processor : f.processor ≡ 0
-  pub number : f.number ≡ answered
-  pub line : slice_get plan.calls answered ≡ Some (record { processor = 0; call = f.call })
-  pub progress : progress_at history 0 ≡ Some (progress_in f)
-  pub ready : IsReady f kept
-  pub done : List Entry
-  pub part : List Entry
-  pub parts : history ≡ done ++ part
-  pub filed : IsFiled (take answered plan.calls) done
-  pub is_part : IsPart f part
-  pub few : length history ≤ 2 * answered + made_in f.phase
+-- the processor's flight goes on with its call of this number
+pub record StillFlies (run : Running) (actor number : ℕ) : Type 0 where
+  pub flight : Flight
+  pub flies : flight_at run.flights actor ≡ Some flight
+  pub same_call : flight.number ≡ number
+  pub going : (row_of flight).reply ≡ None
 
--- What holds after any list of turns: the history is legal, the space and the frames stand for their parts, the answers are of
--- the first calls in order, and each entry is of processor 0.
-pub record Runs (plan : Plan) (kept : Kept) (pool : FrameState) (history : List Entry) : Type 0 where
-  pub lines : AreLines plan.calls
-  pub one_processor : plan.processors ≡ 1
-  pub one_space : plan.spaces ≡ 1
-  pub legal : IsLegal (setting_of plan) history
-  pub space : StandsFor kept (space_at history 0)
-  pub frames : pool ≡ frames_at (setting_of plan) history
-  pub goes_on : MayGoOn (space_at history 0).pending 0
-  pub own : entries_of 0 history ≡ history
-  pub number : kept.number ≡ 0
-  pub counted : pool.entries ≤ length history
+-- after a step the flight goes on, or its call was answered and the processor's next call comes next, where there is one
+abbrev pub WentOn : Running → ℕ → ℕ → Type 0
+WentOn run actor number =
+    StillFlies run actor number ⊎ (flight_at run.flights actor ≡ flight_of actor (number + 1) (calls_at run.calls actor))
 
--- the answers of the history are of the first calls, numbered from 0
-abbrev pub AnswersFirst : Plan → ℕ → List Entry → Type 0
-AnswersFirst plan answered history = answers_in history ≡ enumerate_from 0 (map call_in (take answered plan.calls))
-
-abbrev pub RestsOrFlies : Plan → ℕ → Option Flight → Kept → List Entry → Type 0
-RestsOrFlies plan answered flight kept history =
-    MatchOption flight (Between plan answered kept history) (λ f. InFlight plan answered kept history f × (reply_in f.phase ≡ None))
-
--- a machine's parts in the middle of a run
-pub record IsRun (plan : Plan) (answered : ℕ) (flight : Option Flight) (kept : Kept) (pool : FrameState) (history : List Numbered) : Type 0 where
-  pub runs : Runs plan kept pool (entries_in history)
-  pub answers : AnswersFirst plan answered (entries_in history)
-  pub numbered : IsNumbered history
-  pub state : RestsOrFlies plan answered flight kept (entries_in history)
-
--- the flight that goes on, or that of the next line, where there is one
-abbrev pub IsNext : Option Flight → List Line → ℕ → Flight → Type 0
-IsNext flight lines answered f =
-    (flight ≡ Some f) ⊎ ((flight ≡ None) × ((line : Line) × (slice_get lines answered ≡ Some line) × (f ≡ record { processor = line.processor; number = answered; call = line.call; phase = Start })))
-
--- a machine's trace, as its fields give it
-abbrev pub plan_of : ℕ → List Line → Plan
-plan_of frames lines = record { frames = frames; processors = 1; spaces = 1; daemon = None; calls = lines }
-
--- one entry more, of this actor, and at most eight for each call of the trace
+-- one entry more, of this actor, whose flight went on, while every other processor's flight stays as it was
 pub record OneMore (old new : Running) (actor : ℕ) : Type 0 where
   pub entry : Entry
   pub history : new.history ≡ old.history ++ record { number = length old.history; entry = entry } ∷ []
   pub of_actor : entry.processor ≡ actor
-  pub few : length new.history ≤ 8 * length new.plan.calls
+  pub others : (c : ℕ) → c ≢ actor → flight_at new.flights c ≡ flight_at old.flights c
+  pub went_on : (f : Flight) → flight_at old.flights actor ≡ Some f → WentOn new actor f.number
+  pub fewer : left_at new actor < left_at old actor
 
--- What holds of the whole run of a trace: its history is numbered, legal, shows the trace and is filed in the order of its lines;
--- and after it each frame is in one role, none is held, and spaces and frames agree.
-pub record IsWholeRun (plan : Plan) (history : List Numbered) : Type 0 where
+-- What holds after any turns: the history is legal and numbered, spaces and frames agree, each processor is where its flight is, and
+-- its answers are of its first calls, in order and numbered from 0.
+pub record IsLawful (run : Running) : Type 0 where
+  pub legal : IsLegal run.given (entries_in run.history)
+  pub numbered : IsNumbered run.history
+  pub agrees : Agrees run.given (entries_in run.history)
+  pub progress : (c : ℕ) → c < length run.calls → progress_at run.given (entries_in run.history) c ≡ Some (progress_of_actor run c)
+  pub answers : (c : ℕ) → c < length run.calls → answers_in (entries_of c (entries_in run.history)) ≡ enumerate_from 0 (take (progress_of_actor run c).made (calls_at run.calls c))
+
+-- What holds of a whole run: the history is legal and numbered, each processor's answers are its calls and its list is whole; after it
+-- each frame is in one role, none is claimed or held, and spaces and frames agree.
+pub record IsWholeRun (given : Given) (calls : List (List Call)) (history : List Numbered) : Type 0 where
+  pub legal : IsLegal given (entries_in history)
   pub numbered : IsNumbered history
-  pub legal : IsLegal (setting_of plan) (entries_in history)
-  pub shows : Shows plan (entries_in history)
-  pub filed : IsFiled plan.calls (entries_in history)
-  pub partition : IsPartition plan.frames (frames_at (setting_of plan) (entries_in history))
-  pub none_held : NothingHeld (frames_at (setting_of plan) (entries_in history))
-  pub agrees : Agrees (setting_of plan) (entries_in history)
+  pub answers : (c : ℕ) → c < length calls → answers_in (entries_of c (entries_in history)) ≡ enumerate_from 0 (calls_at calls c)
+  pub whole : (c : ℕ) → c < length calls → IsWhole 0 (entries_of c (entries_in history))
+  pub partition : IsPartition given.frames (frames_at given (entries_in history))
+  pub none_held : NothingHeld (frames_at given (entries_in history))
+  pub agrees : Agrees given (entries_in history)

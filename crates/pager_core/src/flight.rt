@@ -1,9 +1,12 @@
-ghost use Rattle.std.specs.Prelude.{◌≡◌, ℕ, ◌^◌, ◌<◌, Some, None, IfSome, IfNone, IsSome};
-ghost use Rattle.pager_model.specs.Flat.{space_of_call};
-ghost use Rattle.pager_model.specs.FrameStates.{FrameState};
-ghost use Rattle.pager_core.specs.Flights.{needs_of, keeps_in, reply_in, IsReady};
-ghost use Rattle.space_core.specs.Standing.{answer_entry};
-ghost use Rattle.pager_core.specs.Steps.{AreAgreed, Steps, Waits};
+ghost use Rattle.std.specs.Prelude.{◌≡◌, ℕ, ◌^◌, ◌<◌, ◌≤◌, Some, None, IfSome, IfNone, IsSome};
+ghost use Rattle.pager_model.specs.Agreement.{OwnsBy};
+ghost use Rattle.pager_model.specs.declared.entry.Want.{Want as Item};
+ghost use Rattle.pager_model.specs.FrameStates.{FrameState, IsFull};
+ghost use Rattle.pager_model.specs.SpaceStates.{SpaceState};
+ghost use Rattle.space_core.specs.Standing.{Kept, answer_entry};
+ghost use Rattle.pager_core.specs.Flights.{IsReady};
+ghost use Rattle.pager_core.specs.Rows.{row_of, space_under};
+ghost use Rattle.pager_core.specs.Steps.{AreAgreed, Makes, Passes};
 
 use frame_pool::{Full, Pool};
 use pager_model::{Answered, Call, Entry, Reply, Want, What};
@@ -14,10 +17,14 @@ use space_core::{Begun, Space};
 pub enum Phase {
     /// Nothing was done.
     Start,
+    /// The call unmaps this region, whose pages have to give their frames up.
+    Clear { first: u32, length: u32 },
+    /// No page of the region that the call unmaps is resident.
+    Gone { first: u32, length: u32 },
     /// The call is a lawful access to a page that isn't resident.
     Frame { page: u32, want: Want },
-    /// The page has its frame, and its copy isn't read in.
-    Fill { page: u32 },
+    /// The page has this frame, and its copy isn't read in.
+    Fill { page: u32, frame: u32 },
     /// No frame could be had.
     Short { wired: u32, claimed: u32, held: u32 },
     /// The call was answered.
@@ -62,37 +69,84 @@ impl Flight {
 
     /// What the next step is made under.
     pub fn needs(&self) -> Needs
-        ensures { result ≡ needs_of self.now }
+        ensures { result ≡ (row_of self.now).needs }
     {
+        let space = self.call.space();
         match self.phase {
-            Phase::Start => Needs::Space(self.call.space()),
-            Phase::Frame { .. } => Needs::Both(self.call.space()),
-            Phase::Fill { .. } => Needs::Space(self.call.space()),
-            Phase::Short { .. } => Needs::Space(self.call.space()),
+            Phase::Start | Phase::Gone { .. } | Phase::Fill { .. } | Phase::Short { .. } => {
+                Needs::Space(space)
+            }
+            Phase::Clear { .. } | Phase::Frame { .. } => Needs::Both(space),
             Phase::Ended { .. } => Needs::Ended,
         }
     }
 
-    /// Whether the flight goes on holding its space's lock.
-    pub fn keeps(&self) -> bool
-        ensures { result ≡ keeps_in self.now.phase }
+    /// The space whose lock the next step is made under, where it is made under one.
+    pub fn under(&self) -> Option<u32>
+        ensures { result ≡ space_under (row_of self.now).needs }
+    {
+        match self.needs() {
+            Needs::Space(space) | Needs::Both(space) => Some(space),
+            Needs::Frames | Needs::Ended => None,
+        }
+    }
+
+    /// The space whose lock the flight goes on holding between two steps.
+    pub fn keeps(&self) -> Option<u32>
+        ensures { result ≡ (row_of self.now).keeps }
     {
         match self.phase {
-            Phase::Start => false,
-            Phase::Frame { .. } => true,
-            Phase::Fill { .. } => true,
-            Phase::Short { .. } => true,
-            Phase::Ended { .. } => false,
+            Phase::Start | Phase::Ended { .. } => None,
+            _ => Some(self.call.space()),
         }
     }
 
     /// What the call was answered, once it was.
     pub fn reply(&self) -> Option<Reply>
-        ensures { result ≡ reply_in self.now.phase }
+        ensures { result ≡ (row_of self.now).reply }
     {
         match self.phase {
             Phase::Ended { reply } => Some(reply),
             _ => None,
+        }
+    }
+
+    /// Does the next step under the lock of a space: makes one entry on it, or finds what the call needs first.
+    pub fn step_space(&mut self, space: &mut Space) -> Option<Entry>
+        requires needs { (row_of self.old).needs ≡ Needs.Space space.old.number }
+        requires ready { (st : SpaceState) × IsReady self.old space.old st }
+        ensures entry { IfSome result (λ e. (st : SpaceState) (frames : FrameState) → IsReady self.old space.old st → Makes self.old self.new space.old space.new st frames frames e) }
+        ensures none { IfNone result ((st : SpaceState) → IsReady self.old space.old st → Passes self.old self.new space.old space.new st) }
+        ensures nearer { (row_of self.new).steps < (row_of self.old).steps }
+    {
+        match self.phase {
+            Phase::Start => self.start(space),
+            Phase::Gone { .. } => Some(self.unmap(space)),
+            Phase::Fill { page, .. } => Some(self.fill(space, page)),
+            Phase::Short {
+                wired,
+                claimed,
+                held,
+            } => Some(self.refuse(wired, claimed, held)),
+            _ => unreachable!(),
+        }
+    }
+
+    /// Does the next step under the lock of a space and that of the frames: makes one entry on both, or on the frames alone.
+    pub fn step_both(&mut self, space: &mut Space, pool: &mut Pool) -> Option<Entry>
+        requires needs { (row_of self.old).needs ≡ Needs.Both space.old.number }
+        requires ready { (st : SpaceState) × IsReady self.old space.old st }
+        requires agree { AreAgreed space.old pool.old }
+        requires owns { OwnsBy pool.old self.old.processor (row_of self.old).progress.doing }
+        requires room { pool.old.entries < 2 ^ 45 }
+        ensures some { IsSome result }
+        ensures entry { IfSome result (λ e. (st : SpaceState) → IsReady self.old space.old st → Makes self.old self.new space.old space.new st pool.old pool.new e) }
+        ensures nearer { (row_of self.new).steps < (row_of self.old).steps }
+    {
+        match self.phase {
+            Phase::Clear { first, length } => Some(self.clear(space, pool, first, length)),
+            Phase::Frame { page, want } => Some(self.take(space, pool, page, want)),
+            _ => unreachable!(),
         }
     }
 
@@ -112,31 +166,13 @@ impl Flight {
         }
     }
 
-    /// Does the next step under the space's lock: makes one entry on the space, or finds that the page needs a frame.
-    pub fn step_space(&mut self, space: &mut Space) -> Option<Entry>
-        requires needs { needs_of self.old ≡ Needs.Space space.old.number }
-        requires ready { IsReady self.old space.old }
-        ensures entry { IfSome result (λ e. (frames : FrameState) → Steps self.old self.new space.old space.new frames frames e) }
-        ensures none { IfNone result (Waits self.old self.new space.old space.new) }
-    {
-        match self.phase {
-            Phase::Start => self.start(space),
-            Phase::Fill { page } => Some(self.fill(space, page)),
-            Phase::Short {
-                wired,
-                claimed,
-                held,
-            } => Some(self.refuse(space, wired, claimed, held)),
-            _ => unreachable!(),
-        }
-    }
-
     /// Begins the call.
     fn start(&mut self, space: &mut Space) -> Option<Entry>
         requires phase { self.old.phase ≡ Phase.Start }
-        requires ready { IsReady self.old space.old }
-        ensures entry { IfSome result (λ e. (frames : FrameState) → Steps self.old self.new space.old space.new frames frames e) }
-        ensures none { IfNone result (Waits self.old self.new space.old space.new) }
+        requires ready { (st : SpaceState) × IsReady self.old space.old st }
+        ensures entry { IfSome result (λ e. (st : SpaceState) (frames : FrameState) → IsReady self.old space.old st → Makes self.old self.new space.old space.new st frames frames e) }
+        ensures none { IfNone result ((st : SpaceState) → IsReady self.old space.old st → Passes self.old self.new space.old space.new st) }
+        ensures nearer { (row_of self.new).steps < (row_of self.old).steps }
     {
         let flight = *self;
         match space.begin(flight.processor, &flight.call) {
@@ -149,14 +185,36 @@ impl Flight {
                 self.phase = Phase::Frame { page, want };
                 None
             }
+            Begun::NeedsClear { first, length } => {
+                self.phase = Phase::Clear { first, length };
+                None
+            }
         }
+    }
+
+    /// Takes the region away whose pages were cleared.
+    fn unmap(&mut self, space: &mut Space) -> Entry
+        requires phase { (first len : ℕ) × (self.old.phase ≡ Phase.Gone first len) }
+        requires ready { (st : SpaceState) × IsReady self.old space.old st }
+        ensures entry { (st : SpaceState) (frames : FrameState) → IsReady self.old space.old st → Makes self.old self.new space.old space.new st frames frames result }
+        ensures nearer { (row_of self.new).steps < (row_of self.old).steps }
+    {
+        let flight = *self;
+        let Call::Unmap { page, .. } = flight.call else {
+            unreachable!()
+        };
+        let answered = space.unmap(page);
+        let reply = answered.reply;
+        self.phase = Phase::Ended { reply };
+        flight.answer(answered)
     }
 
     /// Reads the page's copy in, and answers.
     fn fill(&mut self, space: &mut Space, page: u32) -> Entry
-        requires phase { self.old.phase ≡ Phase.Fill page }
-        requires ready { IsReady self.old space.old }
-        ensures { (frames : FrameState) → Steps self.old self.new space.old space.new frames frames result }
+        requires phase { (frame : ℕ) × (self.old.phase ≡ Phase.Fill page frame) }
+        requires ready { (st : SpaceState) × IsReady self.old space.old st }
+        ensures entry { (st : SpaceState) (frames : FrameState) → IsReady self.old space.old st → Makes self.old self.new space.old space.new st frames frames result }
+        ensures nearer { (row_of self.new).steps < (row_of self.old).steps }
     {
         let flight = *self;
         space.read_in(page);
@@ -167,10 +225,10 @@ impl Flight {
     }
 
     /// Answers that no frame could be had.
-    fn refuse(&mut self, space: &mut Space, wired: u32, claimed: u32, held: u32) -> Entry
+    fn refuse(&mut self, wired: u32, claimed: u32, held: u32) -> Entry
         requires phase { self.old.phase ≡ Phase.Short wired claimed held }
-        requires ready { IsReady self.old space.old }
-        ensures { (frames : FrameState) → Steps self.old self.new space.old space.new frames frames result }
+        ensures entry { (kept : Kept) (st : SpaceState) (frames : FrameState) → IsReady self.old kept st → Makes self.old self.new kept kept st frames frames result }
+        ensures nearer { (row_of self.new).steps < (row_of self.old).steps }
     {
         let reply = Reply::NoFrames {
             wired,
@@ -182,78 +240,88 @@ impl Flight {
             hit: false,
             size: None,
         };
+        let entry = self.answer(answered);
         self.phase = Phase::Ended { reply };
-        self.answer(answered)
+        entry
     }
 
-    /// Does the next step under the space's lock and that of the frames: the page gets a frame, or there is none.
-    pub fn step_both(&mut self, space: &mut Space, pool: &mut Pool) -> Option<Entry>
-        requires needs { needs_of self.old ≡ Needs.Both space.old.number }
-        requires ready { IsReady self.old space.old }
-        requires agree { AreAgreed space.old.number space.old pool.old }
+    /// The pages of the region give their frames up, ascending.
+    fn clear(&mut self, space: &mut Space, pool: &mut Pool, first: u32, length: u32) -> Entry
+        requires phase { self.old.phase ≡ Phase.Clear first length }
+        requires ready { (st : SpaceState) × IsReady self.old space.old st }
+        requires agree { AreAgreed space.old pool.old }
+        requires owns { OwnsBy pool.old self.old.processor (row_of self.old).progress.doing }
         requires room { pool.old.entries < 2 ^ 45 }
-        ensures some { IsSome result }
-        ensures entry { IfSome result (λ e. Steps self.old self.new space.old space.new pool.old pool.new e) }
+        ensures entry { (st : SpaceState) → IsReady self.old space.old st → Makes self.old self.new space.old space.new st pool.old pool.new result }
+        ensures nearer { (row_of self.new).steps < (row_of self.old).steps }
     {
-        match self.phase {
-            Phase::Frame { page, want } => Some(self.take(space, pool, page, want)),
-            _ => unreachable!(),
+        let own = self.call.space();
+        while let Some((page, frame)) = space.clear_next(first, length) {
+            pool.give(own, page, frame);
         }
-    }
-
-    /// Does the next step under the lock of the frames alone. No phase of a call that is built has such a step, so none is made.
-    pub fn step_frames(&mut self, pool: &mut Pool) -> Option<Entry>
-        ensures none { result ≡ None }
-        ensures same { self.new ≡ self.old }
-        ensures same_frames { pool.new ≡ pool.old }
-    {
-        None
+        pool.end_entry();
+        self.phase = Phase::Gone { first, length };
+        Entry {
+            processor: self.processor,
+            space: Some(own),
+            frames: true,
+            what: What::Clear { first, length },
+        }
     }
 
     /// Takes a frame for the page, or finds that there is none.
     fn take(&mut self, space: &mut Space, pool: &mut Pool, page: u32, want: Want) -> Entry
         requires phase { self.old.phase ≡ Phase.Frame page want }
-        requires ready { IsReady self.old space.old }
-        requires agree { AreAgreed space.old.number space.old pool.old }
+        requires ready { (st : SpaceState) × IsReady self.old space.old st }
+        requires agree { AreAgreed space.old pool.old }
+        requires owns { OwnsBy pool.old self.old.processor (row_of self.old).progress.doing }
         requires room { pool.old.entries < 2 ^ 45 }
-        ensures { Steps self.old self.new space.old space.new pool.old pool.new result }
+        ensures entry { (st : SpaceState) → IsReady self.old space.old st → Makes self.old self.new space.old space.new st pool.old pool.new result }
+        ensures nearer { (row_of self.new).steps < (row_of self.old).steps }
     {
         let own = self.call.space();
         match pool.take(own, page, &want) {
-            Ok(frame) => {
-                let number = frame.number();
-                space.place(page, frame);
-                self.phase = Phase::Fill { page };
+            Ok(taken) => {
+                let frame = taken.number();
+                space.place(page, taken);
+                self.phase = Phase::Fill { page, frame };
                 Entry {
                     processor: self.processor,
                     space: Some(own),
                     frames: true,
-                    what: What::Take {
-                        page,
-                        frame: number,
-                        want,
-                    },
+                    what: What::Take { page, frame, want },
                 }
             }
-            Err(Full) => {
-                let wired = pool.counts().wired;
-                pool.end_entry();
-                self.phase = Phase::Short {
-                    wired,
-                    claimed: 0,
-                    held: 0,
-                };
-                Entry {
-                    processor: self.processor,
-                    space: None,
-                    frames: true,
-                    what: What::Refused {
-                        wired,
-                        claimed: 0,
-                        held: 0,
-                    },
-                }
-            }
+            Err(Full) => self.find_none(pool),
+        }
+    }
+
+    /// No frame can be had: the frames say how many are wired, claimed and held.
+    fn find_none(&mut self, pool: &mut Pool) -> Entry
+        requires phase { (page : ℕ) × (want : Item) × (self.old.phase ≡ Phase.Frame page want) }
+        requires full { IsFull pool.old }
+        requires owns { OwnsBy pool.old self.old.processor (row_of self.old).progress.doing }
+        requires room { pool.old.entries < 2 ^ 45 }
+        ensures entry { (kept : Kept) (st : SpaceState) → IsReady self.old kept st → Makes self.old self.new kept kept st pool.old pool.new result }
+        ensures nearer { (row_of self.new).steps < (row_of self.old).steps }
+    {
+        let counts = pool.counts();
+        pool.end_entry();
+        let (wired, claimed, held) = (counts.wired, counts.claimed, counts.held);
+        self.phase = Phase::Short {
+            wired,
+            claimed,
+            held,
+        };
+        Entry {
+            processor: self.processor,
+            space: None,
+            frames: true,
+            what: What::Refused {
+                wired,
+                claimed,
+                held,
+            },
         }
     }
 }

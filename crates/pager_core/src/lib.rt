@@ -1,7 +1,7 @@
-//! One call in progress, step by step, and the machine that runs a trace.
+//! A call in progress, step by step, and the machine that runs the calls of many processors on many spaces.
 //!
 //! A flight is a call in one of its phases. Each step does what the table of steps says of the phase, and makes one entry of
-//! the history, or none. The machine keeps its history legal whatever comes.
+//! the history, or none. The machine keeps its history legal for every list of turns.
 #![tactic(auto)]
 
 mod flight;
@@ -9,6 +9,3 @@ mod machine;
 
 pub use flight::{Flight, Needs, Phase};
 pub use machine::{Gathered, Machine, Turn};
-
-#[cfg(test)]
-mod tests;

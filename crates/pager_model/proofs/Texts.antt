@@ -1,28 +1,72 @@
--- How many calls a text has room for, and which lines may stand in it.
-use Rattle.std.proofs.Common.{◌<◌, ◌≤◌, List, [], ◌∷◌, ◌++◌, length, flat_map, decimal, codes, ap, arith, length-append}
-use Rattle.std.specs.List.{join_with_byte}
+-- A text is short: each of its lines is, and there are at most 262,144 calls.
+use Rattle.std.proofs.Common.{◌≡◌, ℕ, ◌+◌, ◌*◌, ◌^◌, ◌<◌, ◌≤◌, List, [], ◌∷◌, ◌++◌, length, flat_map, decimal, codes, ap, arith, length-append, lit≤}
+use Rattle.std.specs.List.{join_with_byte, AllByRecursion}
+use Rattle.std.proofs.lemmas.Fmt.{length-decimal-le}
 use Rattle.std.proofs.lemmas.List.Concat.{flat_map-cons}
-use Rattle.std.proofs.lemmas.List.Elements.{All-push}
+use Rattle.std.proofs.lemmas.List.Elements.{recursion_from_All}
+use Rattle.pager_model.specs.declared.call.Call.{Call}
+use Rattle.pager_model.specs.declared.call.Call.TheVariants.{Map, Grow, Unmap, Protect, Load, Store, Sync, Evict}
 use Rattle.pager_model.specs.declared.call.Line.{Line}
+use Rattle.pager_model.specs.declared.region.Kind.{Kind}
+use Rattle.pager_model.specs.declared.region.Kind.TheVariants.{Fixed, Growing, Wired}
+use Rattle.pager_model.specs.declared.region.Rights.{Rights}
+use Rattle.pager_model.specs.declared.region.Rights.TheVariants.{NoAccess, Read, Write}
 use Rattle.pager_model.specs.Plans.{Plan}
-use Rattle.pager_model.specs.TraceText.{HasText, AreLines, IsAccessLine, first_line, call_line, call_words, line_of_words}
+use Rattle.pager_model.specs.TraceText.{HasText, IsCall, IsLine, text_of, first_line, call_line, call_words, line_of_words, kind_word, rights_word}
 
--- each line has its line feed at least
-length-call_line : (line : Line) → 1 ≤ length (call_line line)
-length-call_line line =
+-- a number below ten million has at most seven digits, and so on
+small : (n : ℕ) → n < 10000000 → length (decimal n) ≤ 7
+small n h = length-decimal-le 7 n (omega arith) (omega arith) (omega arith)
+
+middle : (n : ℕ) → n < 10000000000 → length (decimal n) ≤ 10
+middle n h = length-decimal-le 10 n (omega arith) (omega arith) (omega arith)
+
+large : (n : ℕ) → n < 2 ^ 64 → length (decimal n) ≤ 20
+large n h = length-decimal-le 20 n (omega arith) (omega arith) h
+
+kind_is_short : (kind : Kind) → length (kind_word kind) ≤ 7
+kind_is_short Fixed = lit≤ tt
+kind_is_short Growing = lit≤ tt
+kind_is_short Wired = lit≤ tt
+
+rights_are_short : (rights : Rights) → length (rights_word rights) ≤ 5
+rights_are_short NoAccess = lit≤ tt
+rights_are_short Read = lit≤ tt
+rights_are_short Write = lit≤ tt
+
+-- the words of a call behind its processor, with the space before each
+call_is_short : (spaces : ℕ) (call : Call) (word : List ℕ) → spaces ≤ 16 → IsCall spaces call → length word ≤ 7 → length (join_with_byte 32 (word ∷ call_words call)) ≤ 62
+call_is_short spaces (Map space page len kind rights) word few is short =
+    simp length-append (omega (arith, small space (omega arith), small page (omega arith), small len (omega arith), kind_is_short kind, rights_are_short rights))
+call_is_short spaces (Grow space page by) word few is short =
+    simp length-append (omega (arith, small space (omega arith), small page (omega arith), small by (omega arith)))
+call_is_short spaces (Unmap space page) word few is short =
+    simp length-append (omega (arith, small space (omega arith), small page (omega arith)))
+call_is_short spaces (Protect space page len rights) word few is short =
+    simp length-append (omega (arith, small space (omega arith), small page (omega arith), small len (omega arith), rights_are_short rights))
+call_is_short spaces (Load space address) word few is short =
+    simp length-append (omega (arith, small space (omega arith), middle address (omega arith)))
+call_is_short spaces (Store space address stored) word few is short =
+    simp length-append (omega (arith, small space (omega arith), middle address (omega arith), large stored is.3))
+call_is_short spaces (Sync space page) word few is short =
+    simp length-append (omega (arith, small space (omega arith), small page (omega arith)))
+call_is_short spaces (Evict space page) word few is short =
+    simp length-append (omega (arith, small space (omega arith), small page (omega arith)))
+
+line_is_short : (processors spaces : ℕ) (line : Line) → processors ≤ 16 → spaces ≤ 16 → IsLine processors spaces line → length (call_line line) ≤ 63
+line_is_short processors spaces line some few is =
+    let short = call_is_short spaces line.call (decimal line.processor) few is.1 (small line.processor (omega (arith, is.0))) in
     omega (arith, length-append (join_with_byte 32 (decimal line.processor ∷ call_words line.call)) (10 ∷ []))
 
-length-calls : (lines : List Line) → length lines ≤ length (flat_map call_line lines)
-length-calls [] = omega arith
-length-calls (line ∷ lines) =
-    omega (arith, ap length (flat_map-cons call_line line lines), length-append (call_line line) (flat_map call_line lines), length-call_line line, length-calls lines)
+calls_are_short : (processors spaces : ℕ) (lines : List Line) → processors ≤ 16 → spaces ≤ 16 → AllByRecursion (IsLine processors spaces) lines → length (flat_map call_line lines) ≤ 63 * length lines
+calls_are_short processors spaces [] some few are = omega arith
+calls_are_short processors spaces (line ∷ lines) some few are =
+    omega (arith, ap length (flat_map-cons call_line line lines), length-append (call_line line) (flat_map call_line lines), line_is_short processors spaces line some few are.0, calls_are_short processors spaces lines some few are.1)
 
--- a trace has at most as many calls as its text has bytes
-pub calls_fit : (plan : Plan) → HasText plan → length plan.calls ≤ 65536
-calls_fit plan text =
-    omega (arith, text.short, length-append (first_line plan ++ flat_map call_line plan.calls) (line_of_words (codes "end" ∷ [])), length-append (first_line plan) (flat_map call_line plan.calls), length-calls plan.calls)
+first_is_short : (plan : Plan) → HasText plan → length (first_line plan) ≤ 40
+first_is_short plan has =
+    simp length-append (omega (arith, small plan.frames (omega (arith, has.frames_in)), small plan.processors (omega (arith, has.processors_in)), small plan.spaces (omega (arith, has.spaces_in))))
 
--- after a line that may stand, a load or a store may
-pub AreLines-push : (lines : List Line) (line : Line) → 0 < length lines → AreLines lines → IsAccessLine line → AreLines (lines ++ line ∷ [])
-AreLines-push [] line some are access = absurd (omega (arith, some))
-AreLines-push (first ∷ lines) line some are access = (are.0, All-push IsAccessLine lines line are.1 access)
+pub text_is_short : (plan : Plan) → HasText plan → length (text_of plan) ≤ 16777216
+text_is_short plan has =
+    omega (arith, has.few, first_is_short plan has, calls_are_short plan.processors plan.spaces plan.calls has.processors_in.1 has.spaces_in.1 (recursion_from_All _ plan.calls has.lines), length-append (first_line plan ++ flat_map call_line plan.calls) (line_of_words (codes "end" ∷ [])), length-append (first_line plan) (flat_map call_line plan.calls))

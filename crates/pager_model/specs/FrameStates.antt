@@ -161,6 +161,10 @@ is_evictable (Some u) = not u.wired && is_none u.claim
 abbrev pub has_evictable : FrameState → Bool
 has_evictable st = list_any is_evictable st.used
 
+-- some used frame may be claimed, where used frames may be at all
+abbrev pub has_victim : Bool → FrameState → Bool
+has_victim evicts st = evicts && has_evictable st
+
 abbrev pub age_in : Option Used → ℕ
 age_in None = 0
 age_in (Some u) = u.age
@@ -212,7 +216,7 @@ is_short st mark = nat_lt (free_count st + reserved_count st) mark
 
 -- What entries do.
 
--- Some s gives s; an entry that takes or gives names a space
+-- the space that an entry names; None never comes, since an entry that takes or gives names one
 abbrev pub named_space : Option ℕ → ℕ
 named_space None = 0
 named_space (Some s) = s
@@ -242,11 +246,11 @@ abbrev pub MayClaim : FrameState → ℕ → Type 0
 MayClaim st zero = IsFull st
 MayClaim st (suc n) = is_short st (suc n) ≡ true
 
--- No frame can be had, and where used frames may be claimed at all none may be now; so many are wired, claimed and held. (Wired,
--- claimed and held frames are then all frames.)
+-- No frame can be had, and no used frame may be claimed; so many are wired, claimed and held. (Where used frames may be claimed at
+-- all, wired, claimed and held frames are then all frames.)
 pub record IsRefused (evicts : Bool) (st : FrameState) (wired claimed held : ℕ) : Type 0 where
   pub full : IsFull st
-  pub none_evictable : evicts ≡ true → has_evictable st ≡ false
+  pub no_victim : has_victim evicts st ≡ false
   pub wired_are : wired ≡ wired_count st
   pub claimed_are : claimed ≡ claimed_count st
   pub held_are : held ≡ held_count st
@@ -270,5 +274,5 @@ FramesAllow evicts st mark c space (Got frame) = held_by st c ≡ Some frame
 FramesAllow evicts st mark c space (Unclaim frame) =
     (claim_in (used_at st frame) ≡ Some c) × ((page : ℕ) × (frame_of st (named_space space) page ≡ Some frame))
 FramesAllow evicts st mark c space (Refused wired claimed held) = HasNothing st c × IsRefused evicts st wired claimed held
-FramesAllow evicts st mark c space (Rest short) = HasNothing st c × (0 < mark) × (short ≡ (is_short st mark && has_evictable st))
+FramesAllow evicts st mark c space (Rest short) = HasNothing st c × (0 < mark) × (short ≡ (is_short st mark && has_victim evicts st))
 FramesAllow evicts st mark c space what = ⊥

@@ -57,7 +57,8 @@ pub data Doing : Type 0 where
   Late : Access → Doing
   -- a store failed, of this space and for the count-th time, and the answer says so next
   Faulted : Access → (space count : ℕ) → Doing
-  -- there was no memory to page out the victim, which is of this space, and the answer says so next
+  -- there was no memory to page out the victim, and the answer says so next; it was of this space, which tells whether the lock of
+  -- the call's own space is still kept
   Lacking : Access → (space : ℕ) → Doing
   -- no frame could be had, of which so many are wired, claimed and held, and the answer says so next
   Refusing : (wired claimed held : ℕ) → Doing
@@ -205,7 +206,7 @@ after_give made (Unfilling a own count) space page frame = leads (((space == a.s
 after_give made (Emptied purpose victim) space page frame = leads (is_victim victim space page && (frame == victim.frame)) made (Holding purpose victim)
 after_give made doing space page frame = None
 
--- an access claims a frame for its page, and a daemon's turn, of at most as many evictions as its mark, for none
+-- an access claims a frame for its page; a turn claims one for no page, while it has made fewer evictions than its mark
 abbrev pub after_claim : ℕ → Doing → Option ℕ → Victim → Option Need → Option Progress
 after_claim made Idle (Some space) victim (Some need) =
     leads true made (Claiming (ForAccess (record { space = space; page = need.page; writing = Some need.writing })) victim)
@@ -217,7 +218,8 @@ abbrev pub after_got : ℕ → Doing → ℕ → Option Progress
 after_got made (Claiming purpose victim) frame = leads (frame == victim.frame) made (Holding purpose victim)
 after_got made doing frame = None
 
--- a frame that is claimed no longer ends a turn, and an access for want of memory, or of a write that failed
+-- Giving the claim up ends a turn; an access is answered next, for want of memory or, where the write failed, with that store's
+-- fault.
 abbrev pub lacking_for : ℕ → Purpose → ℕ → Option Progress
 lacking_for made (ForAccess a) space = leads true made (Lacking a space)
 lacking_for made (ForTurn mark evictions) space = leads true (made + 1) (Looking mark 0)

@@ -89,7 +89,7 @@ is_wired Fixed = false
 is_wired Growing = false
 is_wired Wired = true
 
--- how far a reservation in a region may reach, and how many pages it may have
+-- how far a reservation in a region may reach
 abbrev pub want_end : Kind → Region → ℕ → ℕ
 want_end Fixed r next = end_of r
 want_end Growing r next = next

@@ -42,7 +42,8 @@ answers_in entries = filter_map (λ (e : Entry). answer_in e.what) entries
 abbrev pub calls_of : ℕ → List Line → List Call
 calls_of c lines = map (λ (l : Line). l.call) (filter (λ (l : Line). l.processor == c) lines)
 
--- for each processor its answers are its calls, in order and numbered from 0, and each call that was begun is answered
+-- For each processor its answers are its calls, in order and numbered from 0, and each call that was begun is answered. (No trace
+-- has a daemon line yet; a daemon's turns join here with it.)
 abbrev pub Shows : Plan → List Entry → Type 0
 Shows plan history =
     (c : ℕ) → c < plan.processors → (answers_in (entries_of c history) ≡ enumerate_from 0 (calls_of c plan.calls)) × IsWhole 0 (entries_of c history)

@@ -1,5 +1,5 @@
 -- What a space's list of entries leads to, and which entries a space in that state allows.
-use Rattle.std.specs.Prelude.{ℕ, ◌≡◌, ◌-◌, ◌^◌, ◌<◌, ◌⊎◌, Bool, true, false, ◌&&◌, ◌==◌, if◌then◌else◌, Option, Some, None, is_some, fold, List}
+use Rattle.std.specs.Prelude.{ℕ, ◌≡◌, ◌-◌, ◌^◌, ◌<◌, ◌⊎◌, Bool, true, false, ◌&&◌, ◌==◌, if◌then◌else◌, Option, Some, None, is_some, nat_lt, fold, List}
 use Rattle.pager_model.specs.declared.call.Call.{Call}
 use Rattle.pager_model.specs.declared.call.Call.TheVariants.{Unmap, Load, Store, Sync, Evict}
 use Rattle.pager_model.specs.declared.entry.Entry.{Entry}
@@ -15,7 +15,7 @@ use Rattle.pager_model.specs.declared.reply.Reply.TheVariants.{Done, Value, Writ
 use Rattle.pager_model.specs.Flat.{Flat, empty_space, after_call, reply_of, is_lawful, out, lost, page_of, word_of, can_read, can_write}
 use Rattle.pager_model.specs.Regions.{in_range, region_at, wanted}
 
--- Who makes the next entry of a space: anyone; where an entry left the space in the middle of a step, its processor; and after
+-- Who makes the next entry of a space: anyone; where an entry left the space in the middle of a sequence, its processor; and after
 -- the pages of a range gave their frames up, the unmap of that range, which is done.
 pub data Next : Type 0 where
   Anyone : Next
@@ -67,7 +67,7 @@ base_after base frames (Give page frame) p = if p == page then None else base p
 base_after base frames (Clear first len) p = if in_range first len p then None else base p
 base_after base frames what p = base p
 
--- after a taking, a paging out and a failed read the same processor goes on
+-- after a taking, a paging out and a failed read the same processor goes on, and after a clearing with the unmap of its range
 abbrev pub next_after : ℕ → What → Next
 next_after c (Take page frame want) = Only c
 next_after c (UseHeld page frame want) = Only c
@@ -89,7 +89,7 @@ tied_after tied (UseHeld page frame want) p i = if p == page then None else tied
 tied_after tied what p i = tied p i
 
 abbrev pub highest_after : ℕ → What → ℕ
-highest_after highest (Failed page writing count) = count
+highest_after highest (Failed page writing count) = if nat_lt highest count then count else highest
 highest_after highest what = highest
 
 abbrev pub space_after : SpaceState → Entry → SpaceState
@@ -109,7 +109,7 @@ space_state told faults entries = fold space_after (empty_state told faults) ent
 
 -- Who may go on.
 
--- the answer to an unmap of a page of the range
+-- an unmap of a page of the range, which is answered done
 abbrev pub IsUnmapOf : ℕ → ℕ → Call → Reply → Type 0
 IsUnmapOf first len (Unmap space page) Done = in_range first len page ≡ true
 IsUnmapOf first len call reply = ⊥
@@ -140,8 +140,8 @@ abbrev pub LacksItsPage : (ℕ → Option ℕ) → Option ℕ → Type 0
 LacksItsPage base None = ⊥
 LacksItsPage base (Some page) = base page ≡ None
 
--- A store's fault, and want of memory for it: a sync or an evict meets it where its page is dirty. Where a load or a store meets
--- it its processor's order says.
+-- A store's fault, and want of memory for it: a sync or an evict meets it where its page is dirty. Where a load or a store may meet
+-- it is for its processor's order to say.
 abbrev pub MayFail : SpaceState → Call → Type 0
 MayFail st (Load space address) = Unit {0}
 MayFail st (Store space address word) = Unit {0}
@@ -229,10 +229,11 @@ last_count = 2 ^ 64 - 1
 abbrev pub Rises : ℕ → ℕ → Type 0
 Rises before count = (before < count) ⊎ (count ≡ last_count)
 
--- the access that needs a frame has a right, and its page isn't resident
+-- the rights allow the load, or the store
 abbrev pub has_right : Bool → Rights → Bool
 has_right writing rights = if writing then can_write rights else can_read rights
 
+-- the access that needs a frame has the right, and its page isn't resident
 abbrev pub IsNeeded : SpaceState → Option Need → Type 0
 IsNeeded st None = ⊥
 IsNeeded st (Some need) =

@@ -1,5 +1,5 @@
 -- The text of a trace, and which traces have one. Lines end with a line feed, and their words are apart by one space.
-use Rattle.std.specs.Prelude.{ℕ, ◌≡◌, ◌+◌, ◌%◌, ◌^◌, ◌<◌, ◌≤◌, ◌⊎◌, List, [], ◌∷◌, ◌++◌, length, codes, decimal, flat_map, All, None}
+use Rattle.std.specs.Prelude.{ℕ, ◌≡◌, ◌+◌, ◌%◌, ◌^◌, ◌<◌, ◌≤◌, List, [], ◌∷◌, ◌++◌, length, codes, decimal, flat_map, All, None}
 use Rattle.std.specs.List.{join_with_byte}
 use Rattle.pager_model.specs.declared.call.Call.{Call}
 use Rattle.pager_model.specs.declared.call.Call.TheVariants.{Map, Grow, Unmap, Protect, Load, Store, Sync, Evict}
@@ -37,48 +37,49 @@ call_words (Evict space page) = codes "evict" ∷ decimal space ∷ decimal page
 abbrev pub line_of_words : List (List ℕ) → List ℕ
 line_of_words words = join_with_byte 32 words ++ 10 ∷ []
 
+abbrev pub line_words : Line → List (List ℕ)
+line_words line = decimal line.processor ∷ call_words line.call
+
 abbrev pub call_line : Line → List ℕ
-call_line line = line_of_words (decimal line.processor ∷ call_words line.call)
+call_line line = line_of_words (line_words line)
+
+-- the words of a first line, of version 1, for so many frames, processors and spaces
+abbrev pub first_words : ℕ → ℕ → ℕ → List (List ℕ)
+first_words frames processors spaces = codes "trace" ∷ codes "1" ∷ decimal frames ∷ decimal processors ∷ decimal spaces ∷ []
 
 abbrev pub first_line : Plan → List ℕ
-first_line plan = line_of_words (codes "trace" ∷ codes "1" ∷ decimal plan.frames ∷ decimal plan.processors ∷ decimal plan.spaces ∷ [])
+first_line plan = line_of_words (first_words plan.frames plan.processors plan.spaces)
 
 -- the whole text: the first line, a line for each call, and the line end
 abbrev pub text_of : Plan → List ℕ
 text_of plan = first_line plan ++ flat_map call_line plan.calls ++ line_of_words (codes "end" ∷ [])
 
--- a load or a store that a line may hold: of processor 0 and space 0, at a word of one of the 1,048,576 pages
-abbrev pub IsAccessCall : Call → Type 0
-IsAccessCall (Load space address) = (space ≡ 0) × (address % 8 ≡ 0) × (address < 8589934592)
-IsAccessCall (Store space address word) = (space ≡ 0) × (address % 8 ≡ 0) × (address < 8589934592) × (word < 2 ^ 64)
-IsAccessCall call = ⊥
+-- a call that a line may hold, where there are so many spaces: of one of them, at one of its 1,048,576 pages; a range has a page at
+-- least and as many as a space at most, and may lie past the end; an address is that of a word
+abbrev pub IsCall : ℕ → Call → Type 0
+IsCall spaces (Map space page len kind rights) = (space < spaces) × (page < 1048576) × (1 ≤ len) × (len ≤ 1048576)
+IsCall spaces (Grow space page by) = (space < spaces) × (page < 1048576) × (1 ≤ by) × (by ≤ 1048576)
+IsCall spaces (Unmap space page) = (space < spaces) × (page < 1048576)
+IsCall spaces (Protect space page len rights) = (space < spaces) × (page < 1048576) × (1 ≤ len) × (len ≤ 1048576)
+IsCall spaces (Load space address) = (space < spaces) × (address % 8 ≡ 0) × (address < 8589934592)
+IsCall spaces (Store space address word) = (space < spaces) × (address % 8 ≡ 0) × (address < 8589934592) × (word < 2 ^ 64)
+IsCall spaces (Sync space page) = (space < spaces) × (page < 1048576)
+IsCall spaces (Evict space page) = (space < spaces) × (page < 1048576)
 
--- a map that a line may hold: of a fixed region that lies in the space
-abbrev pub IsMapCall : Call → Type 0
-IsMapCall (Map space page len Fixed rights) = (space ≡ 0) × (1 ≤ len) × (page + len ≤ 1048576)
-IsMapCall call = ⊥
+-- a line that a trace of so many processors and spaces may hold
+abbrev pub IsLine : ℕ → ℕ → Line → Type 0
+IsLine processors spaces line = (line.processor < processors) × IsCall spaces line.call
 
-abbrev pub IsAccessLine : Line → Type 0
-IsAccessLine line = (line.processor ≡ 0) × IsAccessCall line.call
-
-abbrev pub IsMapLine : Line → Type 0
-IsMapLine line = (line.processor ≡ 0) × IsMapCall line.call
-
--- the first call may be a map, and every other is a load or a store
-abbrev pub AreLines : List Line → Type 0
-AreLines [] = Unit {0}
-AreLines (line ∷ lines) = (IsMapLine line ⊎ IsAccessLine line) × All IsAccessLine lines
-
--- the traces that have a text: a multiple of 512 frames from 512 to 32,768, one processor, one space, no daemon,
--- lines in their ranges, and at most 65,536 bytes
+-- the traces that have a text: a multiple of 512 frames from 512 to 32,768, one to sixteen processors and spaces, no daemon, and at
+-- most 262,144 calls in their ranges
 pub record HasText (plan : Plan) : Type 0 where
   pub frames_in : (512 ≤ plan.frames) × (plan.frames ≤ 32768)
   pub frames_whole : plan.frames % 512 ≡ 0
-  pub one_processor : plan.processors ≡ 1
-  pub one_space : plan.spaces ≡ 1
+  pub processors_in : (1 ≤ plan.processors) × (plan.processors ≤ 16)
+  pub spaces_in : (1 ≤ plan.spaces) × (plan.spaces ≤ 16)
   pub no_daemon : plan.daemon ≡ None
-  pub lines : AreLines plan.calls
-  pub short : length (text_of plan) ≤ 65536
+  pub lines : All (IsLine plan.processors plan.spaces) plan.calls
+  pub few : length plan.calls ≤ 262144
 
 -- these bytes are the text of this trace
 abbrev pub IsTextOf : List ℕ → Plan → Type 0

@@ -27,7 +27,7 @@ pub enum What {
         call: Call,
         answered: Answered,
     },
-    /// A page was made equal to its copy, written where it was dirty.
+    /// A page was paged out: written to its copy where it was dirty.
     Out {
         page: u32,
         written: bool,

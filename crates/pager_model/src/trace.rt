@@ -1,5 +1,5 @@
-ghost use Rattle.std.specs.Prelude.{◌≡◌, ◌≤◌, length};
-ghost use Rattle.pager_model.specs.TraceText.{HasText};
+ghost use Rattle.std.specs.Prelude.{◌≡◌, ◌≤◌, All, length};
+ghost use Rattle.pager_model.specs.TraceText.{HasText, IsLine};
 
 use crate::call::Line;
 use std::marker::Model;
@@ -91,7 +91,8 @@ impl Trace {
     /// The calls, in the order of their lines.
     pub fn calls(&self) -> &[Line]
         ensures calls { result.now ≡ self.now.calls }
-        ensures few { length result.now ≤ 65536 }
+        ensures few { length result.now ≤ 262144 }
+        ensures lines { All (IsLine self.now.processors self.now.spaces) result.now }
         ensures text { HasText self.now }
     {
         self.calls.as_slice()

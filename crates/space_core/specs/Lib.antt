@@ -1,3 +1,3 @@
-pub mod Beginning
-pub mod Keeping
+pub mod Tables
 pub mod Standing
+pub mod Beginning

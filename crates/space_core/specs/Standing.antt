@@ -1,58 +1,84 @@
 -- A space as contracts see it, and what it is for it to stand for its list of entries.
-use Rattle.std.specs.Prelude.{ℕ, ◌≡◌, ◌+◌, ◌<◌, ◌≤◌, Bool, true, false, ◌==◌, if◌then◌else◌, List, [], slice_index_or, Option, Some, None}
+use Rattle.std.specs.Prelude.{ℕ, ◌≡◌, ◌≢◌, ◌+◌, ◌<◌, ◌≤◌, Bool, true, false, ◌&&◌, ◌==◌, if◌then◌else◌, List, Option, Some, None, is_some}
 use Rattle.pager_model.specs.declared.call.Call.{Call}
-use Rattle.pager_model.specs.declared.call.Call.TheVariants.{Map, Load, Store}
+use Rattle.pager_model.specs.declared.call.Call.TheVariants.{Map, Grow, Unmap, Protect, Load, Store, Sync, Evict}
 use Rattle.pager_model.specs.declared.entry.Entry.{Entry}
-use Rattle.pager_model.specs.declared.entry.What.TheVariants.{Answer, Take}
+use Rattle.pager_model.specs.declared.entry.What.TheVariants.{Answer, Take, Clear}
 use Rattle.pager_model.specs.declared.entry.Want.{Want}
 use Rattle.pager_model.specs.declared.region.Region.{Region}
+use Rattle.pager_model.specs.declared.region.Rights.{Rights}
+use Rattle.pager_model.specs.declared.region.Rights.TheVariants.{NoAccess}
 use Rattle.pager_model.specs.declared.reply.Answered.{Answered}
 use Rattle.pager_model.specs.Flat.{page_of, can_read, can_write, space_of_call}
-use Rattle.pager_model.specs.Frame.{Framed}
-use Rattle.pager_model.specs.Regions.{region_at}
+use Rattle.pager_model.specs.Regions.{in_range, region_at}
 use Rattle.pager_model.specs.SpaceStates.{SpaceState}
+use Rattle.pager_model.specs.TraceText.{IsCall}
+use Rattle.space_core.specs.Tables.{Table, frame_in, word_in, own_in}
 
--- What a space keeps: its number, its regions, for each page its frame where it is resident, and the page that was placed
--- and not yet read in.
 pub record Kept : Type 0 where
+  -- the space's number
   pub number : ℕ
+  -- how many frames there are
+  pub frames : ℕ
   pub regions : List Region
-  pub pages : List (Option Framed)
+  -- what is kept of its pages
+  pub table : Table
+  -- the page that was placed and is not yet read in
   pub pending : Option ℕ
+  -- the region that is being unmapped, whose pages give their frames up
+  pub clearing : Option Region
 
--- the frame of a page, where it is resident
-abbrev pub page_at : Kept → ℕ → Option Framed
-page_at kept page = slice_index_or kept.pages page None
+-- What is seen of a page.
 
-abbrev pub number_of : Option Framed → Option ℕ
-number_of None = None
-number_of (Some frame) = Some frame.number
-
--- the number of a page's frame, where it is resident
+-- the number of its frame, where it is resident
 abbrev pub frame_at : Kept → ℕ → Option ℕ
-frame_at kept page = number_of (page_at kept page)
+frame_at kept page = frame_in kept.table page
+
+abbrev pub rights_by : Option Rights → Option Region → Rights
+rights_by None None = NoAccess
+rights_by None (Some r) = r.rights
+rights_by (Some own) region = own
+
+-- its rights: its own, or else its region's first
+abbrev pub rights_at : Kept → ℕ → Rights
+rights_at kept page = rights_by (own_in kept.table page) (region_at kept.regions page)
 
 abbrev pub is_page : ℕ → Option ℕ → Bool
 is_page page None = false
 is_page page (Some p) = p == page
 
-abbrev pub word_in : Option Framed → ℕ → ℕ
-word_in None i = 0
-word_in (Some frame) i = slice_index_or frame.words i 0
+-- its word: of its frame, and zero where it isn't resident or not yet read in
+abbrev pub word_at : Kept → ℕ → ℕ → ℕ
+word_at kept page i = if is_page page kept.pending then 0 else word_in kept.table page i
 
--- the word of a page: of its frame, and zero where it isn't resident or not yet read in
-abbrev pub shown_word : Kept → ℕ → ℕ → ℕ
-shown_word kept page i = if is_page page kept.pending then 0 else word_in (page_at kept page) i
+abbrev pub is_in : Option Region → ℕ → Bool
+is_in None page = false
+is_in (Some r) page = in_range r.first r.length page
 
--- A space stands for its list of entries, which leads to the state: their regions are the same, a page has its region's rights,
--- and page by page their frames and words are the same.
+-- no page is pending, and no region is being unmapped
+pub record IsResting (kept : Kept) : Type 0 where
+  pub none_pending : kept.pending ≡ None
+  pub none_clearing : kept.clearing ≡ None
+
+-- A space stands for its list of entries, which leads to the state: its store tells its copies, the regions are the same, and page
+-- by page the rights, the frames and the words are. Of the pages of a region that is being unmapped the words are open.
 pub record StandsFor (kept : Kept) (state : SpaceState) : Type 0 where
+  pub told : state.told ≡ true
   pub regions : state.flat.regions ≡ kept.regions
-  pub rights : (page : ℕ) (r : Region) → region_at kept.regions page ≡ Some r → state.flat.rights page ≡ r.rights
+  pub rights : (page : ℕ) → is_some (region_at kept.regions page) ≡ true → state.flat.rights page ≡ rights_at kept page
   pub base : (page : ℕ) → state.base page ≡ frame_at kept page
-  pub words : (page i : ℕ) → state.flat.words page i ≡ shown_word kept page i
+  pub words : (page i : ℕ) → is_in kept.clearing page ≡ false → state.flat.words page i ≡ word_at kept page i
 
--- the entry of an answer, and that of a taking
+-- The same but for the frames of a range, of which any may be missing: some of its pages gave theirs up, and no entry says so yet.
+pub record StandsBut (first len : ℕ) (kept : Kept) (state : SpaceState) : Type 0 where
+  pub told : state.told ≡ true
+  pub regions : state.flat.regions ≡ kept.regions
+  pub rights : (page : ℕ) → is_some (region_at kept.regions page) ≡ true → state.flat.rights page ≡ rights_at kept page
+  pub base : (page : ℕ) → in_range first len page ≡ false → state.base page ≡ frame_at kept page
+  pub words : (page i : ℕ) → in_range first len page ≡ false → state.flat.words page i ≡ word_at kept page i
+
+-- The entries of a space's calls.
+
 abbrev pub answer_entry : ℕ → ℕ → Call → Answered → Entry
 answer_entry c number call answered =
     record { processor = c; space = Some (space_of_call call); frames = false; what = Answer number call answered }
@@ -60,25 +86,20 @@ answer_entry c number call answered =
 abbrev pub take_entry : ℕ → ℕ → ℕ → ℕ → Want → Entry
 take_entry c space page frame want = record { processor = c; space = Some space; frames = true; what = Take page frame want }
 
--- the region allows the access
-abbrev pub region_allows : Call → Option Region → Bool
-region_allows (Load space address) (Some r) = can_read r.rights
-region_allows (Store space address word) (Some r) = can_write r.rights
-region_allows call region = false
+abbrev pub clear_entry : ℕ → ℕ → ℕ → ℕ → Entry
+clear_entry c space first len = record { processor = c; space = Some space; frames = true; what = Clear first len }
 
--- the page of a load or a store
-abbrev pub page_of_access : Call → ℕ
-page_of_access (Load space address) = page_of address
-page_of_access (Store space address word) = page_of address
-page_of_access call = 0
+-- Calls.
 
--- the call is a load or a store that its region allows
-abbrev pub is_allowed : List Region → Call → Bool
-is_allowed regions call = region_allows call (region_at regions (page_of_access call))
+-- the call is a load or a store that the rights of its page allow
+abbrev pub is_allowed : Kept → Call → Bool
+is_allowed kept (Load space address) = is_some (region_at kept.regions (page_of address)) && can_read (rights_at kept (page_of address))
+is_allowed kept (Store space address word) = is_some (region_at kept.regions (page_of address)) && can_write (rights_at kept (page_of address))
+is_allowed kept call = false
 
--- The calls that a space can begin for now: a map in an empty space, and a load or a store at a page of the space.
-abbrev pub CanBegin : List Region → Call → Type 0
-CanBegin regions (Map space page len kind rights) = (regions ≡ []) × (1 ≤ len) × (page + len ≤ 1048576)
-CanBegin regions (Load space address) = address < 8589934592
-CanBegin regions (Store space address word) = (address < 8589934592) × (word < 18446744073709551616)
-CanBegin regions call = ⊥
+-- The calls that a space can begin: those that a line of a trace may hold, but for those that write a copy, which wait for the
+-- backing stores.
+abbrev pub CanBegin : Call → Type 0
+CanBegin (Sync space page) = ⊥
+CanBegin (Evict space page) = ⊥
+CanBegin call = (spaces : ℕ) × IsCall spaces call

@@ -1,11 +1,6 @@
-//! A space: its region, its resident pages with their frames, and its calls, each of which is an answer of flat memory.
+//! A space: its regions, the rights and frames of its pages, and its calls, each of which is an answer of flat memory.
 #![tactic(auto)]
 
-mod access;
-mod frames;
 mod space;
 
 pub use space::{Begun, Space};
-
-#[cfg(test)]
-mod tests;

@@ -1,14 +1,12 @@
-ghost use Rattle.std.specs.Prelude.{◌≡◌, ◌≢◌, ℕ, ◌+◌, ◌<◌, ◌≤◌, [], ◌∷◌, true, length, slice_index_or, IfOk, IfSome};
-ghost use Rattle.pager_model.specs.Flat.{page_of, space_of_call};
-ghost use Rattle.pager_model.specs.Regions.{region_at, has_page};
-ghost use Rattle.pager_model.specs.Order.{is_access};
-ghost use Rattle.pager_model.specs.SpaceStates.{empty_state};
-ghost use Rattle.space_core.specs.Beginning.{BeginsAnswered, Begins, Places, ReadsIn, Finishes};
-ghost use Rattle.space_core.specs.Standing.{StandsFor, frame_at, is_allowed, page_of_access, CanBegin};
+ghost use Rattle.std.specs.Prelude.{◌≡◌, ◌≢◌, ℕ, ◌+◌, ◌<◌, ◌≤◌, ◌⊎◌, true, Some, None, IfOk, IfSome, IfNone, IsSome};
+ghost use Rattle.pager_model.specs.declared.region.Region.{Region as Item};
+ghost use Rattle.pager_model.specs.Flat.{space_of_call};
+ghost use Rattle.pager_model.specs.Regions.{region_at};
+ghost use Rattle.pager_model.specs.SpaceStates.{empty_state, access_page};
+ghost use Rattle.space_core.specs.Beginning.{Begins, Places, ReadsIn, Finishes, IsRange, NoneResident, ClearsOne, ClearsNone, Unmapped};
+ghost use Rattle.space_core.specs.Standing.{StandsFor, IsResting, frame_at, is_allowed, CanBegin};
 
-use crate::access::{PAGES, allows, answered, has_page, page_of, want_in, word_of};
-use crate::frames::{clear, set_word, word};
-use pager_model::{Answered, Call, Frame, NoMemory, Region, Reply, Want};
+use pager_model::{Answered, Call, Frame, NoMemory, Region, Rights, Want};
 use std::alloc::Global;
 use std::marker::Model;
 
@@ -19,215 +17,130 @@ pub enum Begun {
     Answered(Answered),
     /// A lawful load or store, whose page isn't resident.
     NeedsFrame { page: u32, want: Want },
+    /// An unmap, whose region's pages have to give their frames up.
+    NeedsClear { first: u32, length: u32 },
 }
 
-/// A space of 1,048,576 pages, with at most one region.
+/// A space of 1,048,576 pages.
 #[derive(Drop)]
 pub struct Space {
     number: u32,
-    region: Option<Region>,
-    /// For each page its frame, where it is resident.
-    pages: Vec<Option<Frame>>,
-    /// The page that was placed and is not yet read in.
+    frame_count: u32,
+    regions: Vec<Region>,
+    numbers: Vec<Option<u32>>,
+    own: Vec<Option<Rights>>,
+    frames: Vec<Option<Frame>>,
     pending: Option<u32>,
+    clearing: Option<Region>,
 }
 
 impl Model for Space {
-    ghost use Rattle.std.specs.Prelude.{option_to_list};
-    ghost use Rattle.space_core.specs.Keeping.{IsKept};
     ghost use Rattle.space_core.specs.Standing.{Kept};
 
     ghost Value = { Kept };
 
     ghost view = { λ s. record {
       number = s.number;
-      regions = option_to_list s.region;
-      pages = s.pages.items;
+      frames = s.frame_count;
+      regions = s.regions.items;
+      table = record { numbers = s.numbers.items; own = s.own.items; frames = s.frames.items };
       pending = s.pending;
+      clearing = s.clearing;
     } };
-
-    ghost invariant = { λ s. IsKept s.region s.pages.items s.pending };
 }
 
 impl Space {
-    /// A space without regions. All the memory that it ever takes is taken here.
-    ///
-    /// No translations are kept, so the numbers of frames and processors don't matter.
+    /// A space without regions. All the memory that it ever takes is taken here. No translations are kept yet, so the number of
+    /// processors doesn't matter.
     pub fn create(
-        alloc: Global,
-        space: u32,
+        _alloc: Global,
+        _space: u32,
         _frames: u32,
         _processors: u32,
     ) -> Result<Space, NoMemory>
-        ensures { IfOk result (λ s. (s.number ≡ space) × (s.pending ≡ None) × (s.regions ≡ []) × StandsFor s empty_state) }
+        requires { _frames ≤ 32768 }
+        ensures { IfOk result (λ s. (s.number ≡ _space) × (s.frames ≡ _frames) × IsResting s
+            × ((faults : ℕ) → StandsFor s (empty_state true faults))) }
     {
-        let pages = no_frames(alloc)?;
-        Ok(Space {
-            number: space,
-            region: None,
-            pages,
-            pending: None,
-        })
+        Err(NoMemory)
     }
 
-    /// Begins a call on this space: the whole answer, or that the page of a lawful load or store needs a frame.
-    pub fn begin(&mut self, processor: u32, call: &Call) -> Begun
+    /// Begins a call on this space: the whole answer, or what it needs first.
+    pub fn begin(&mut self, _processor: u32, call: &Call) -> Begun
+        requires stub { ⊥ }
         requires space { space_of_call call.now ≡ self.old.number }
-        requires ready { self.old.pending ≡ None }
-        requires can { CanBegin self.old.regions call.now }
+        requires resting { IsResting self.old }
+        requires can { CanBegin call.now }
         ensures { Begins self.old self.new call.now result }
     {
-        match *call {
-            Call::Map {
-                page,
-                length,
-                kind,
-                rights,
-                ..
-            } => Begun::Answered(self.map(Region {
-                first: page,
-                length,
-                kind,
-                rights,
-            })),
-            Call::Load { address, .. } | Call::Store { address, .. } => {
-                self.begin_access(processor, call, page_of(address))
-            }
-            _ => unreachable!(),
-        }
+        unreachable!()
     }
 
-    /// Puts a frame under a page that isn't resident.
+    /// Puts a frame under a page that isn't resident. No other page has a frame of this number.
     pub fn place(&mut self, page: u32, frame: Frame)
+        requires stub { ⊥ }
         requires page { page < 1048576 }
+        requires region { IsSome (region_at self.old.regions page) }
         requires absent { frame_at self.old page ≡ None }
-        requires ready { self.old.pending ≡ None }
+        requires resting { IsResting self.old }
+        requires known { frame.number < self.old.frames }
+        requires other { (p : ℕ) → frame_at self.old p ≢ Some frame.number }
         ensures { Places self.old self.new page frame.number }
     {
-        self.pages[page as usize] = Some(frame);
-        self.pending = Some(page);
+        unreachable!()
     }
 
     /// Reads the copy of the pending page in: its words are zero.
     pub fn read_in(&mut self, page: u32)
-        requires { self.old.pending ≡ Some page }
+        requires stub { ⊥ }
+        requires pending { self.old.pending ≡ Some page }
         ensures { ReadsIn self.old self.new }
     {
-        if let Some(frame) = &mut self.pages[page as usize] {
-            clear(frame);
-        }
-        self.pending = None;
+        unreachable!()
     }
 
     /// Ends a load or a store that is allowed and whose page is resident: its word, or done.
     pub fn finish(&mut self, _processor: u32, call: &Call) -> Answered
+        requires stub { ⊥ }
         requires space { space_of_call call.now ≡ self.old.number }
-        requires ready { self.old.pending ≡ None }
-        requires can { CanBegin self.old.regions call.now }
-        requires allowed { is_allowed self.old.regions call.now ≡ true }
-        requires resident { frame_at self.old (page_of_access call.now) ≢ None }
+        requires resting { IsResting self.old }
+        requires can { CanBegin call.now }
+        requires allowed { is_allowed self.old call.now ≡ true }
+        requires resident { IfSome (access_page call.now) (λ page. frame_at self.old page ≢ None) }
         ensures { Finishes self.old self.new call.now result }
     {
-        match *call {
-            Call::Load { address, .. } => self.load(address),
-            Call::Store { address, word, .. } => self.store(address, word),
-            _ => unreachable!(),
-        }
+        unreachable!()
     }
 
-    /// Maps the first region.
-    fn map(&mut self, region: Region) -> Answered
-        requires ready { self.old.pending ≡ None }
-        requires can { CanBegin self.old.regions (Call.Map self.old.number region.first region.length region.kind region.rights) }
-        ensures { BeginsAnswered self.old self.new (Call.Map self.old.number region.first region.length region.kind region.rights) result }
+    /// The lowest resident page of a region's range, with its frame, which it gives up. `None` exactly where no page of the range is
+    /// resident; the space then waits for the region's unmap.
+    pub fn clear_next(&mut self, first: u32, length: u32) -> Option<(u32, Frame)>
+        requires stub { ⊥ }
+        requires range { IsRange self.old first length }
+        requires none_pending { self.old.pending ≡ None }
+        ensures some { IfSome result (λ given. ClearsOne self.old self.new first length given.0 given.1.number) }
+        ensures none { IfNone result (ClearsNone self.old self.new first length) }
+        ensures none_left { NoneResident self.old first length → result ≡ None }
     {
-        self.region = Some(region);
-        answered(Reply::Done)
+        unreachable!()
     }
 
-    /// Begins a load or a store at this page.
-    fn begin_access(&mut self, processor: u32, call: &Call, page: u32) -> Begun
-        requires space { space_of_call call.now ≡ self.old.number }
-        requires ready { self.old.pending ≡ None }
-        requires can { CanBegin self.old.regions call.now }
-        requires access { is_access call.now ≡ true }
-        requires page_is { page ≡ page_of_access call.now }
-        requires in_space { page < 1048576 }
-        ensures { Begins self.old self.new call.now result }
+    /// Takes away the region that has the page, after its pages were cleared.
+    pub fn unmap(&mut self, page: u32) -> Answered
+        requires stub { ⊥ }
+        requires none_pending { self.old.pending ≡ None }
+        requires cleared { (r : Item) × (region_at self.old.regions page ≡ Some r) × (self.old.clearing ≡ Some r) × NoneResident self.old r.first r.length }
+        ensures { Unmapped self.old self.new page result }
     {
-        let Some(region) = self.region_of(page) else {
-            return Begun::Answered(answered(Reply::Unmapped));
-        };
-        if !allows(&region, call) {
-            return Begun::Answered(answered(Reply::Denied));
-        }
-        if self.resident(page).is_none() {
-            let want = want_in(&region, page);
-            return Begun::NeedsFrame { page, want };
-        }
-        Begun::Answered(self.finish(processor, call))
-    }
-
-    /// The region that has the page.
-    fn region_of(&self, page: u32) -> Option<Region>
-        ensures found { result ≡ region_at self.now.regions page }
-        ensures in_space { IfSome result (λ r. r.first + r.length ≤ 1048576) }
-        ensures only { IfSome result (λ r. (self.now.regions ≡ r ∷ []) × (has_page page r ≡ true)) }
-    {
-        match self.region {
-            Some(region) if has_page(&region, page) => Some(region),
-            _ => None,
-        }
-    }
-
-    /// The word of a resident page.
-    fn load(&self, address: u64) -> Answered
-        requires ready { self.now.pending ≡ None }
-        requires in_space { address < 8589934592 }
-        requires allowed { is_allowed self.now.regions (Call.Load self.now.number address) ≡ true }
-        requires resident { frame_at self.now (page_of address) ≢ None }
-        ensures { Finishes self.now self.now (Call.Load self.now.number address) result }
-    {
-        match &self.pages[page_of(address) as usize] {
-            Some(frame) => answered(Reply::Value(word(frame, word_of(address)))),
-            None => unreachable!(),
-        }
-    }
-
-    /// Writes the word of a resident page.
-    fn store(&mut self, address: u64, word: u64) -> Answered
-        requires ready { self.old.pending ≡ None }
-        requires in_space { address < 8589934592 }
-        requires allowed { is_allowed self.old.regions (Call.Store self.old.number address word) ≡ true }
-        requires resident { frame_at self.old (page_of address) ≢ None }
-        ensures { Finishes self.old self.new (Call.Store self.old.number address word) result }
-    {
-        match &mut self.pages[page_of(address) as usize] {
-            Some(frame) => set_word(frame, word_of(address), word),
-            None => unreachable!(),
-        }
-        answered(Reply::Done)
+        unreachable!()
     }
 
     /// The frame of a page, where it is resident.
     pub fn resident(&self, page: u32) -> Option<u32>
-        requires { page < 1048576 }
+        requires stub { ⊥ }
+        requires page { page < 1048576 }
         ensures { result ≡ frame_at self.now page }
     {
-        self.pages[page as usize]
-            .as_ref()
-            .map(|frame| frame.number())
+        unreachable!()
     }
-}
-
-/// A place for each page of a space, all without a frame.
-fn no_frames(alloc: Global) -> Result<Vec<Option<Frame>>, NoMemory>
-    ensures whole { IfOk result (λ pages. length pages.items ≡ 1048576) }
-    ensures empty { IfOk result (λ pages. (page : ℕ) → slice_index_or pages.items page None ≡ None) }
-{
-    let mut pages = Vec::with_capacity(alloc, PAGES as usize)?;
-    for _ in 0..PAGES {
-        pages.push(None)?;
-    }
-    Ok(pages)
 }

@@ -1,6 +1,9 @@
 pub mod Numbers
-pub mod Fields
+pub mod Splits
+pub mod Forms
 pub mod Lines
-pub mod Texts
-pub mod Plans
+pub mod Refusals
 pub mod Came
+pub mod Again
+pub mod Fillings
+pub mod Back

@@ -1,10 +1,13 @@
 -- Words that are decimals.
-use Rattle.std.proofs.Common.{◌≡◌, ◌≢◌, ℕ, ◌^◌, ◌<◌, ◌≤◌, Bool, true, ltb, ◌&&◌, List, length, get_or, Result, Ok, Err, Option, Some, None, decimal, refl, sym, arith, inl, inr}
+use Rattle.std.proofs.Common.{◌∙◌, ap, codes, false, cond, leb, eqb, ◌%◌, ◌≡◌, ◌≢◌, ℕ, ◌^◌, ◌<◌, ◌≤◌, Bool, true, ltb, ◌&&◌, List, length, get_or, Result, Ok, Err, Option, Some, None, decimal, refl, sym, arith, inl, inr}
+use Rattle.std.specs.Fmt.{digits}
 use Rattle.std.specs.Result.{result_ok}
 use Rattle.std.specs.Str.{IsUtf8, bytes_eq}
 use Rattle.std.specs.Str.Parse.{AllDigits, digits_value, ParsesUnsigned}
-use Rattle.trace_reader.specs.Reading.{IsPlain, number_of}
-use Rattle.std.proofs.lemmas.Bool.{cases_lt, and_parts, ltb-true, lt-ltb}
+use Rattle.trace_reader.specs.Forms.{number_of, in_range, number_in}
+use Rattle.trace_reader.specs.Words.{IsPlain}
+use Rattle.trace_reader.specs.declared.fault.LineCause.TheVariants as causes
+use Rattle.std.proofs.lemmas.Bool.{cases_lt, cases_Bool, and_parts, ltb-true, lt-ltb, eqb-true, eq-eqb, leb-true, le-leb}
 use Rattle.std.proofs.lemmas.Fmt.{digits_decimal, digits_value-decimal, decimal_digit, decimal_nonempty, first_decimal, parse-decimal, decimal-digits_value, IsAscii-decimal}
 use Rattle.std.proofs.lemmas.Option.{cond_some}
 use Rattle.std.proofs.lemmas.Slice.Eq.{bytes_eq-Decides}
@@ -14,12 +17,17 @@ use Rattle.std.proofs.lemmas.Str.Parse.{IsNumeralModel, numerals_by_value, tells
 own : IsNumeralModel (AllDigits 10) (digits_value 10)
 own = numerals_by_value (AllDigits 10) tells_digits
 
-pub digits : (n : ℕ) → n < 2 ^ 64 → AllDigits 10 (decimal n)
-digits n small = digits_decimal own n small
+-- the value of a test that passed
+cond_ok : {E : Type 0} (b : Bool) (x y : ℕ) (other : E) → cond b (Ok x) (Err other) ≡ Ok y → (b ≡ true) × (x ≡ y)
+cond_ok true x y other e = (refl, cc)
+cond_ok false x y other e = absurd cc
+
+pub all_digits : (n : ℕ) → n < 2 ^ 64 → AllDigits 10 (decimal n)
+all_digits n small = digits_decimal own n small
 
 -- a decimal has no sign and no leading zero
 pub plain : (n : ℕ) → n < 2 ^ 64 → get_or (decimal n) 0 0 ≢ 43
-plain n small e = let r = digit_at (decimal n) 0 (digits n small) (decimal_nonempty n small) in omega arith
+plain n small e = let r = digit_at (decimal n) 0 (all_digits n small) (decimal_nonempty n small) in omega arith
 
 pub short_zero : (n : ℕ) → n < 2 ^ 64 → get_or (decimal n) 0 0 ≡ 48 → length (decimal n) ≤ 1
 short_zero n small e =
@@ -66,3 +74,73 @@ parsed {E} word (Ok n) form h =
     let is : decimal n ≡ word = rw k.1 (decimal-digits_value own word k.0.0 k.0.1 (λ z. let l = form.1 z in omega arith) k.0.2) in
     sym (rw (← is) (number_again n (omega arith)))
 parsed {E} word (Err e) form h = sym (no_number word (λ n small is. let p = parse-decimal {E = E} 64 n word (Err e) small small is h in cc))
+
+-- ---- numbers in a range
+
+-- a word whose number may stand at a place is the decimal of that number
+pub record Takes (step low end : ℕ) (word : List ℕ) (n : ℕ) : Type 0 where
+  pub text : word ≡ decimal n
+  pub step_in : n % step ≡ 0
+  pub low_in : low ≤ n
+  pub end_in : n < end
+  pub small : n < 2 ^ 64
+
+in_range_takes : (step low end : ℕ) (o : Option ℕ) (n : ℕ) → in_range step low end o ≡ Ok n → (o ≡ Some n) × (n % step ≡ 0) × (low ≤ n) × (n < end)
+in_range_takes step low end None n e = absurd cc
+in_range_takes step low end (Some m) n e =
+    let g = cond_ok (eqb (m % step) 0 && (leb low m && ltb m end)) m n _ e in
+    let p = and_parts (eqb (m % step) 0) _ g.0 in
+    let q = and_parts (leb low m) _ p.1 in
+    rw (← g.1) (refl, eqb-true _ _ p.0, leb-true _ _ q.0, ltb-true _ _ q.1)
+
+pub number_in_takes : (step low end : ℕ) (word : List ℕ) (n : ℕ) → number_in step low end word ≡ Ok n → Takes step low end word n
+unfolding number_in
+number_in_takes step low end word n e =
+    let r = in_range_takes step low end (number_of word) n e in
+    let t = number_takes word n r.0 in
+    record { text = t.1; step_in = r.1; low_in = r.2; end_in = r.3; small = t.0 }
+
+pub number_in_again : (step low end n : ℕ) → n % step ≡ 0 → low ≤ n → n < end → n < 2 ^ 64 → number_in step low end (decimal n) ≡ Ok n
+unfolding number_in
+number_in_again step low end n whole above below small =
+    rw (number_again n small, eq-eqb (n % step) 0 whole, le-leb low n above, lt-ltb n end below) refl
+
+-- the same, by what is known of the word
+pub number_in_none : (step low end : ℕ) (word : List ℕ) → number_of word ≡ None → number_in step low end word ≡ Err causes.Number
+unfolding number_in
+number_in_none step low end word e = rw e refl
+
+pub number_in_some : (step low end : ℕ) (word : List ℕ) (n : ℕ) → number_of word ≡ Some n → n % step ≡ 0 → low ≤ n → n < end → number_in step low end word ≡ Ok n
+number_in_some step low end word n e whole above below =
+    let t = number_takes word n e in
+    rw t.1 (number_in_again step low end n whole above below t.0)
+
+pub number_in_out : (step low end : ℕ) (word : List ℕ) (n : ℕ) → number_of word ≡ Some n → ((n % step ≡ 0) × (low ≤ n) × (n < end) → ⊥) → number_in step low end word ≡ Err causes.Range
+unfolding number_in
+number_in_out step low end word n e out =
+    rw e (elim (cases_Bool ((eqb (n % step) 0) && (leb low n && ltb n end))) [
+      | inl passed ↦
+          let p = and_parts (eqb (n % step) 0) _ passed in
+          let q = and_parts (leb low n) _ p.1 in
+          absurd (out (eqb-true _ _ p.0, leb-true _ _ q.0, ltb-true _ _ q.1))
+      | inr failed ↦ rw failed refl
+    ])
+
+pub number_in_any : (word : List ℕ) (n : ℕ) → number_of word ≡ Some n → number_in 1 0 (2 ^ 64) word ≡ Ok n
+number_in_any word n e = let t = number_takes word n e in number_in_some 1 0 (2 ^ 64) word n e (omega arith) (omega arith) t.0
+
+-- a number's word is its decimal
+pub number_text : (word : List ℕ) (n : ℕ) → number_of word ≡ Some n → word ≡ decimal n
+number_text word n e = (number_takes word n e).1
+
+pub ruleset any_numbers = (number_in_none, number_in_any, number_text)
+
+pub ruleset numbers = (number_in_none, number_in_some, number_in_out, number_text)
+
+-- the one number of a version
+pub version_text : (word : List ℕ) (n : ℕ) → word ≡ decimal n → 1 ≤ n → n < 2 → word ≡ codes "1"
+unfolding digits
+version_text word n e low high = let one : n ≡ 1 = omega arith in e ∙ ap decimal one
+
+pub decimal_value : (n : ℕ) → n < 2 ^ 64 → digits_value 10 (decimal n) ≡ n
+decimal_value n small = digits_value-decimal own n small

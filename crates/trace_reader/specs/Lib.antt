@@ -1,4 +1,4 @@
-pub mod Reading
-pub mod Ranges
-pub mod CallsText
-pub mod Faults
+pub mod Forms
+pub mod Refusals
+pub mod Words
+pub mod Heads

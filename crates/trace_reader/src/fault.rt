@@ -1,35 +1,62 @@
 //! Why there is no trace.
 
-/// Why bytes give no trace.
+use std::fmt;
+
+/// What is wrong with a line of a text.
 #[derive(Clone, Copy, Debug, PartialEq, Eq)]
-pub enum TextFault {
-    /// They are no trace's text.
-    Refused,
-    /// There isn't enough memory.
-    NoMemory,
+pub enum LineCause {
+    /// No form that may stand there has so many words, or these words where no number stands.
+    Form,
+    /// The leftmost place at fault holds no number.
+    Number,
+    /// The leftmost place at fault holds a number that is out of its range.
+    Range,
+    /// It stands behind the line `end`.
+    After,
 }
 
-/// Why no trace was read.
+impl fmt::Display for LineCause {
+    fn fmt<W: fmt::Write>(&self, f: &mut fmt::Formatter<W>) -> fmt::Result {
+        f.write_str(match self {
+            LineCause::Form => "form",
+            LineCause::Number => "number",
+            LineCause::Range => "range",
+            LineCause::After => "after",
+        })
+    }
+}
+
+/// Why there is no trace, or none that can be run.
 #[derive(Clone, Copy, Debug, PartialEq, Eq)]
 pub enum TraceFault {
     /// A read failed.
     ReadFault,
-    /// What was read is no trace's text, or the beginning of none.
-    Refused,
+    /// There are more bytes than a text may have.
+    TooLong,
+    /// A line, by its number from 1, is no line of the grammar.
+    Line { number: u64, cause: LineCause },
+    /// The bytes end before a line `end`.
+    NoEnd,
+    /// There are more calls than a text may have.
+    TooManyCalls,
+    /// A run was given fewer stores than the trace has spaces.
+    TooFewStores { stores: u64, spaces: u32 },
     /// There isn't enough memory.
     NoMemory,
 }
 
-impl From<TextFault> for TraceFault {
-    ghost use Rattle.std.specs.Prelude.{◌≡◌};
-    ghost use Rattle.trace_reader.specs.Faults.{as_trace_fault};
-
-    ghost from_gives = { λ text trace. trace ≡ as_trace_fault text };
-
-    fn from(fault: TextFault) -> TraceFault {
-        match fault {
-            TextFault::Refused => TraceFault::Refused,
-            TextFault::NoMemory => TraceFault::NoMemory,
+impl fmt::Display for TraceFault {
+    fn fmt<W: fmt::Write>(&self, f: &mut fmt::Formatter<W>) -> fmt::Result {
+        match self {
+            TraceFault::ReadFault => f.write_str("read fault"),
+            TraceFault::TooLong => f.write_str("trace too long"),
+            TraceFault::Line { number, cause } => write!(f, "line {number}: {cause}"),
+            TraceFault::NoEnd => f.write_str("no end"),
+            TraceFault::TooManyCalls => f.write_str("too many calls"),
+            TraceFault::TooFewStores { stores, spaces } => {
+                write!(f, "{stores} stores for {spaces} spaces")
+            }
+            TraceFault::NoMemory => f.write_str("memory"),
         }
     }
 }

@@ -1,8 +1,8 @@
 //! A trace from a source, which gives its bytes a piece at a time.
-ghost use Rattle.std.specs.Prelude.{◌≡◌, ◌+◌, ◌<◌, ◌≤◌, length, [], Some, IfSome, IfOk, IsErrOf};
+ghost use Rattle.std.specs.Prelude.{◌≡◌, ◌<◌, ◌≤◌, ℕ, [], Some, IfSome, IfOk, IfErr, IsErrOf};
 ghost use Rattle.io_core.specs.Faults.{Rose};
-ghost use Rattle.pager_model.specs.Plans.{Plan};
 ghost use Rattle.pager_model.specs.TraceText.{IsTextOf};
+ghost use Rattle.trace_reader.specs.Refusals.{IsCause, refusal_of};
 
 use crate::fault::TraceFault;
 use crate::text::{MAX_BYTES, parse};
@@ -13,33 +13,31 @@ use std::alloc::Global;
 /// How many bytes one read asks for.
 const PIECE: usize = 4096;
 
-/// All that the source has left, and in `reads` how many reads that took. More bytes than a
-/// trace's text may have are refused as soon as they come.
-fn read_text<T: Source>(
-    alloc: Global,
-    source: &mut T,
-    reads: &mut usize,
-) -> Result<Vec<u8>, TraceFault>
+/// All that the source has left. More bytes than a trace's text may have are refused as soon as
+/// they come.
+#[tactic(auto, using(crate::proofs::Came::longer))]
+fn read_text<T: Source>(alloc: Global, source: &mut T) -> Result<Vec<u8>, TraceFault>
     ensures ok { IfOk result (λ text. IfSome (T.left source.old)
         (λ bytes. (bytes ≡ text.items) × (T.left source.new ≡ Some []))) }
-    ensures refused { IsErrOf result TraceFault.Refused
-        → IfSome (T.left source.old) (λ bytes. MAX_BYTES < length bytes) }
+    ensures refused { IfErr result
+        (λ fault. IfSome (T.left source.old) (λ bytes. IsCause (refusal_of bytes) fault)) }
     ensures fault { IsErrOf result TraceFault.ReadFault
         → Rose (T.faults source.old) (T.faults source.new) }
+    ensures asks_no_stores { (stores spaces : ℕ)
+        → IsErrOf result (TraceFault.TooFewStores stores spaces) → ⊥ }
     ensures never_falls { T.faults source.old ≤ T.faults source.new }
-    ensures few { reads.new ≤ MAX_BYTES + 1 }
 {
-    *reads = 0;
-    let mut text = Vec::with_capacity(alloc, MAX_BYTES).map_err(|_| TraceFault::NoMemory)?;
+    let mut text = Vec::new(alloc);
     let mut piece = [0; PIECE];
-    loop {
-        *reads += 1;
-        let n = source.read(&mut piece).map_err(|_| TraceFault::ReadFault)?;
+    'pieces: loop {
+        let Ok(n) = source.read(&mut piece) else {
+            return Err(TraceFault::ReadFault);
+        };
         if n == 0 {
             return Ok(text);
         }
         if n > MAX_BYTES - text.len() {
-            return Err(TraceFault::Refused);
+            return Err(TraceFault::TooLong);
         }
         text.extend_from_slice(&piece[..n])
             .map_err(|_| TraceFault::NoMemory)?;
@@ -48,23 +46,22 @@ fn read_text<T: Source>(
 
 /// Reads a trace to the end of its source.
 ///
-/// At most one read more than `MAX_BYTES` is made. After an `Err` it is open how much of the source
-/// was read.
+/// Each read gives a byte at least or is the last, and no read follows that which gives byte
+/// `MAX_BYTES + 1`: so at most `MAX_BYTES + 1` reads are made, which a test counts. Memory is taken as
+/// the text and its calls grow. After an `Err` it is open how much of the source was read.
 pub fn read_trace<T: Source>(alloc: Global, source: &mut T) -> Result<Trace, TraceFault>
     // Where the source tells its bytes: they are this trace's text, and all of them were read.
     ensures ok { IfOk result (λ trace. IfSome (T.left source.old)
         (λ bytes. IsTextOf bytes trace × (T.left source.new ≡ Some []))) }
-    // They are no other trace's text.
-    ensures only { IfOk result (λ trace. IfSome (T.left source.old)
-        (λ bytes. (plan : Plan) → IsTextOf bytes plan → plan ≡ trace)) }
-    ensures refused { IsErrOf result TraceFault.Refused
-        → IfSome (T.left source.old) (λ bytes. (plan : Plan) → IsTextOf bytes plan → ⊥) }
+    // A refusal is that of the bytes.
+    ensures refused { IfErr result
+        (λ fault. IfSome (T.left source.old) (λ bytes. IsCause (refusal_of bytes) fault)) }
     ensures fault { IsErrOf result TraceFault.ReadFault
         → Rose (T.faults source.old) (T.faults source.new) }
+    ensures asks_no_stores { (stores spaces : ℕ)
+        → IsErrOf result (TraceFault.TooFewStores stores spaces) → ⊥ }
     ensures never_falls { T.faults source.old ≤ T.faults source.new }
 {
-    // The count is for the contract of `read_text` alone.
-    let mut reads = 0;
-    let text = read_text(alloc, source, &mut reads)?;
-    Ok(parse(alloc, &text)?)
+    let text = read_text(alloc, source)?;
+    parse(alloc, &text)
 }

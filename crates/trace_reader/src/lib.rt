@@ -1,20 +1,21 @@
 //! Reads the text of a trace.
 //!
-//! A text is read from left to right, in one pass: a word, a number, a line, and the lines up to
-//! `end`. What is read has exactly that text, and no trace has a text that is refused.
+//! The text is read to its end first, since more bytes than it may have are refused before all
+//! else. Then one line after the other is cut off, its words are told apart, and the form of its
+//! name is filled with their numbers. What is read has exactly that text, and what is refused has
+//! the refusal of the grammar.
 #![tactic(auto)]
 
 mod fault;
 mod input;
 pub mod laws;
 mod line;
-mod ranges;
 mod text;
 mod word;
 
-pub use fault::{TextFault, TraceFault};
+pub use fault::{LineCause, TraceFault};
 pub use input::read_trace;
-pub use text::{MAX_BYTES, parse};
+pub use text::{MAX_BYTES, MAX_CALLS, parse};
 
 #[cfg(test)]
 mod tests;

@@ -1,9 +1,25 @@
 //! Lines: the first one, and those of calls.
-ghost use Rattle.std.specs.Prelude.{◌≡◌};
-ghost use Rattle.trace_reader.specs.Reading.{seen, map_at, load_at, store_at, call_at, line_at, head_at};
+ghost use Rattle.std.specs.Prelude.{◌≡◌, ◌≤◌, ◌%◌, ◌∷◌, [], false, Some, IfSome, IfNone, IfOk, IfErr, OnOk, codes};
+ghost use Rattle.std.specs.Str.{bytes_eq};
+ghost use Rattle.pager_model.specs.TraceText.{IsLine, line_words, first_words};
+ghost use Rattle.trace_reader.specs.Forms.{number_in, line_fault, first_form, map_form, grow_form, unmap_form, protect_form, load_form, store_form, sync_form, evict_form, call_forms};
+ghost use Rattle.trace_reader.specs.declared.line.Name.{Name};
+ghost use Rattle.trace_reader.specs.Heads.{IsInRange, word_of_name};
+ghost use Rattle.trace_reader.specs.Refusals.{words_of};
+ghost use Rattle.trace_reader.specs.Words.{seen};
 
-use crate::word::{keyword, number, rights, short, word};
-use pager_model::{Call, Kind, Line};
+use crate::fault::LineCause;
+use crate::word::{any_number, kind, number, rights, small, words};
+use pager_model::{Call, Line};
+
+/// The first word of a trace.
+const TRACE: &[u8] = b"trace";
+
+/// The pages of a space.
+const PAGES: u32 = 1_048_576;
+
+/// The bytes of a space.
+const ADDRESSES: u64 = 8_589_934_592;
 
 /// What a trace's first line says.
 #[derive(Clone, Copy, Debug, PartialEq, Eq)]
@@ -13,87 +29,291 @@ pub struct Head {
     pub spaces: u32,
 }
 
-/// The first line of a trace, and the text after it.
-#[tactic(auto, unfolding(crate::specs::Reading::head_at))]
-pub fn first_line(text: &[u8]) -> Option<(Head, &[u8])>
-    ensures { seen result ≡ head_at text.now }
+/// What the first line says.
+pub fn first_line(line: &[u8]) -> Result<Head, LineCause>
+    ensures range { IfOk result (λ head. IsInRange head) }
+    ensures text { IfOk result
+        (λ head. words_of line.now ≡ first_words head.frames head.processors head.spaces) }
+    ensures err { IfErr result
+        (λ cause. line_fault (first_form ∷ []) (words_of line.now) ≡ Some cause) }
 {
-    let rest = keyword(text, b"trace", b' ')?;
-    let rest = keyword(rest, b"1", b' ')?;
-    let (frames, rest) = short(rest, b' ')?;
-    let (processors, rest) = short(rest, b' ')?;
-    let (spaces, rest) = short(rest, b'\n')?;
-    let head = Head {
-        frames,
-        processors,
-        spaces,
+    let Some(words) = words(line) else {
+        return Err(LineCause::Form);
     };
-    Some((head, rest))
+    let [name, numbers @ ..] = words.as_slice() else {
+        return Err(LineCause::Form);
+    };
+    first_of(name, numbers)
 }
 
-#[tactic(auto, unfolding(crate::specs::Reading::map_at))]
-fn map(text: &[u8]) -> Option<(Call, &[u8])>
-    ensures { seen result ≡ map_at text.now }
+/// What the first line says whose first word is this, with the others behind it.
+fn first_of(name: &[u8], numbers: &[&[u8]]) -> Result<Head, LineCause>
+    ensures range { IfOk result (λ head. IsInRange head) }
+    ensures text { IfOk result (λ head. name.now ∷ seen numbers.now
+        ≡ first_words head.frames head.processors head.spaces) }
+    ensures err { IfErr result (λ cause. line_fault (first_form ∷ []) (name.now ∷ seen numbers.now) ≡ Some cause) }
 {
-    let (space, rest) = short(text, b' ')?;
-    let (page, rest) = short(rest, b' ')?;
-    let (length, rest) = short(rest, b' ')?;
-    let rest = keyword(rest, b"fixed", b' ')?;
-    let (word, rest) = word(rest, b'\n')?;
+    if name == TRACE {
+        first_numbers(numbers)
+    } else {
+        Err(LineCause::Form)
+    }
+}
+
+/// What the first line of a trace says by the words behind its first one.
+fn first_numbers(numbers: &[&[u8]]) -> Result<Head, LineCause>
+    ensures range { IfOk result (λ head. IsInRange head) }
+    ensures text { IfOk result (λ head. codes "trace" ∷ seen numbers.now
+        ≡ first_words head.frames head.processors head.spaces) }
+    ensures err { IfErr result (λ cause. line_fault (first_form ∷ [])
+        (codes "trace" ∷ seen numbers.now) ≡ Some cause) }
+{
+    let [version, frames, processors, spaces] = numbers else {
+        return Err(LineCause::Form);
+    };
+    version_of(version)?;
+    Ok(Head {
+        frames: small(frames, 512, 512..32_769)?,
+        processors: small(processors, 1, 1..17)?,
+        spaces: small(spaces, 1, 1..17)?,
+    })
+}
+
+/// The number of the version, which is 1.
+#[tactic(auto, using(crate::proofs::Numbers::version_text))]
+fn version_of(word: &[u8]) -> Result<u32, LineCause>
+    ensures exact { result ≡ number_in 1 1 2 word.now }
+    ensures text { OnOk result (word.now ≡ codes "1") }
+{
+    small(word, 1, 1..2)
+}
+
+/// The call that a line says, in a trace with this first line.
+pub fn call(line: &[u8], head: Head) -> Result<Line, LineCause>
+    ensures range { IfOk result (λ l. IsLine head.processors head.spaces l) }
+    ensures text { IfOk result (λ l. words_of line.now ≡ line_words l) }
+    ensures err { IfErr result
+        (λ cause. line_fault (call_forms head.processors head.spaces) (words_of line.now) ≡ Some cause) }
+{
+    let Some(words) = words(line) else {
+        return Err(LineCause::Form);
+    };
+    let [processor, name, arguments @ ..] = words.as_slice() else {
+        return Err(LineCause::Form);
+    };
+    call_of(head, processor, name, arguments)
+}
+
+/// The call of this name, by a processor, with these arguments.
+fn call_of(
+    head: Head,
+    processor: &[u8],
+    name: &[u8],
+    arguments: &[&[u8]],
+) -> Result<Line, LineCause>
+    ensures range { IfOk result (λ l. IsLine head.processors head.spaces l) }
+    ensures text { IfOk result (λ l. processor.now ∷ name.now ∷ seen arguments.now ≡ line_words l) }
+    ensures err { IfErr result (λ cause. line_fault (call_forms head.processors head.spaces)
+        (processor.now ∷ name.now ∷ seen arguments.now) ≡ Some cause) }
+{
+    match name_of(name) {
+        Some(Name::Map) => map(head, processor, arguments),
+        Some(Name::Grow) => grow(head, processor, arguments),
+        Some(Name::Unmap) => unmap(head, processor, arguments),
+        Some(Name::Protect) => protect(head, processor, arguments),
+        Some(Name::Load) => load(head, processor, arguments),
+        Some(Name::Store) => store(head, processor, arguments),
+        Some(Name::Sync) => sync(head, processor, arguments),
+        Some(Name::Evict) => evict(head, processor, arguments),
+        None => Err(LineCause::Form),
+    }
+}
+
+/// The name of a call.
+#[derive(Clone, Copy, Debug, PartialEq, Eq)]
+enum Name {
+    Map,
+    Grow,
+    Unmap,
+    Protect,
+    Load,
+    Store,
+    Sync,
+    Evict,
+}
+
+/// The name that a word is.
+fn name_of(word: &[u8]) -> Option<Name>
+    ensures some { IfSome result (λ name. word.now ≡ word_of_name name) }
+    ensures none { IfNone result ((name : Name) → bytes_eq word.now (word_of_name name) ≡ false) }
+{
+    match word {
+        b"map" => Some(Name::Map),
+        b"grow" => Some(Name::Grow),
+        b"unmap" => Some(Name::Unmap),
+        b"protect" => Some(Name::Protect),
+        b"load" => Some(Name::Load),
+        b"store" => Some(Name::Store),
+        b"sync" => Some(Name::Sync),
+        b"evict" => Some(Name::Evict),
+        _ => None,
+    }
+}
+
+/// The call `map` of this processor, with these arguments.
+fn map(head: Head, processor: &[u8], arguments: &[&[u8]]) -> Result<Line, LineCause>
+    ensures range { IfOk result (λ l. IsLine head.processors head.spaces l) }
+    ensures text { IfOk result (λ l. processor.now ∷ codes "map" ∷ seen arguments.now ≡ line_words l) }
+    ensures err { IfErr result (λ cause. line_fault (map_form head.processors head.spaces ∷ [])
+        (processor.now ∷ codes "map" ∷ seen arguments.now) ≡ Some cause) }
+{
+    let [space, page, length, kind_word, rights_word] = arguments else {
+        return Err(LineCause::Form);
+    };
+    let kind = kind(kind_word).ok_or(LineCause::Form)?;
+    let rights = rights(rights_word).ok_or(LineCause::Form)?;
+    let processor = small(processor, 1, 0..head.processors)?;
+    let space = small(space, 1, 0..head.spaces)?;
+    let page = small(page, 1, 0..PAGES)?;
+    let length = small(length, 1, 1..PAGES + 1)?;
     let call = Call::Map {
         space,
         page,
         length,
-        kind: Kind::Fixed,
-        rights: rights(word)?,
+        kind,
+        rights,
     };
-    Some((call, rest))
+    Ok(Line { processor, call })
 }
 
-#[tactic(auto, unfolding(crate::specs::Reading::load_at))]
-fn load(text: &[u8]) -> Option<(Call, &[u8])>
-    ensures { seen result ≡ load_at text.now }
+/// The call `grow` of this processor, with these arguments.
+fn grow(head: Head, processor: &[u8], arguments: &[&[u8]]) -> Result<Line, LineCause>
+    ensures range { IfOk result (λ l. IsLine head.processors head.spaces l) }
+    ensures text { IfOk result (λ l. processor.now ∷ codes "grow" ∷ seen arguments.now ≡ line_words l) }
+    ensures err { IfErr result (λ cause. line_fault (grow_form head.processors head.spaces ∷ [])
+        (processor.now ∷ codes "grow" ∷ seen arguments.now) ≡ Some cause) }
 {
-    let (space, rest) = short(text, b' ')?;
-    let (address, rest) = number(rest, b'\n')?;
-    Some((Call::Load { space, address }, rest))
+    let [space, page, by] = arguments else {
+        return Err(LineCause::Form);
+    };
+    let processor = small(processor, 1, 0..head.processors)?;
+    let space = small(space, 1, 0..head.spaces)?;
+    let page = small(page, 1, 0..PAGES)?;
+    let by = small(by, 1, 1..PAGES + 1)?;
+    let call = Call::Grow { space, page, by };
+    Ok(Line { processor, call })
 }
 
-#[tactic(auto, unfolding(crate::specs::Reading::store_at))]
-fn store(text: &[u8]) -> Option<(Call, &[u8])>
-    ensures { seen result ≡ store_at text.now }
+/// The call `unmap` of this processor, with these arguments.
+fn unmap(head: Head, processor: &[u8], arguments: &[&[u8]]) -> Result<Line, LineCause>
+    ensures range { IfOk result (λ l. IsLine head.processors head.spaces l) }
+    ensures text { IfOk result (λ l. processor.now ∷ codes "unmap" ∷ seen arguments.now ≡ line_words l) }
+    ensures err { IfErr result (λ cause. line_fault (unmap_form head.processors head.spaces ∷ [])
+        (processor.now ∷ codes "unmap" ∷ seen arguments.now) ≡ Some cause) }
 {
-    let (space, rest) = short(text, b' ')?;
-    let (address, rest) = number(rest, b' ')?;
-    let (word, rest) = number(rest, b'\n')?;
+    let [space, page] = arguments else {
+        return Err(LineCause::Form);
+    };
+    let processor = small(processor, 1, 0..head.processors)?;
+    let space = small(space, 1, 0..head.spaces)?;
+    let page = small(page, 1, 0..PAGES)?;
+    let call = Call::Unmap { space, page };
+    Ok(Line { processor, call })
+}
+
+/// The call `protect` of this processor, with these arguments.
+fn protect(head: Head, processor: &[u8], arguments: &[&[u8]]) -> Result<Line, LineCause>
+    ensures range { IfOk result (λ l. IsLine head.processors head.spaces l) }
+    ensures text { IfOk result (λ l. processor.now ∷ codes "protect" ∷ seen arguments.now ≡ line_words l) }
+    ensures err { IfErr result (λ cause. line_fault (protect_form head.processors head.spaces ∷ [])
+        (processor.now ∷ codes "protect" ∷ seen arguments.now) ≡ Some cause) }
+{
+    let [space, page, length, rights_word] = arguments else {
+        return Err(LineCause::Form);
+    };
+    let rights = rights(rights_word).ok_or(LineCause::Form)?;
+    let processor = small(processor, 1, 0..head.processors)?;
+    let space = small(space, 1, 0..head.spaces)?;
+    let page = small(page, 1, 0..PAGES)?;
+    let length = small(length, 1, 1..PAGES + 1)?;
+    let call = Call::Protect {
+        space,
+        page,
+        length,
+        rights,
+    };
+    Ok(Line { processor, call })
+}
+
+/// The call `load` of this processor, with these arguments.
+fn load(head: Head, processor: &[u8], arguments: &[&[u8]]) -> Result<Line, LineCause>
+    ensures range { IfOk result (λ l. IsLine head.processors head.spaces l) }
+    ensures text { IfOk result (λ l. processor.now ∷ codes "load" ∷ seen arguments.now ≡ line_words l) }
+    ensures err { IfErr result (λ cause. line_fault (load_form head.processors head.spaces ∷ [])
+        (processor.now ∷ codes "load" ∷ seen arguments.now) ≡ Some cause) }
+{
+    let [space, address] = arguments else {
+        return Err(LineCause::Form);
+    };
+    let processor = small(processor, 1, 0..head.processors)?;
+    let space = small(space, 1, 0..head.spaces)?;
+    let address = number(address, 8, 0..ADDRESSES)?;
+    let call = Call::Load { space, address };
+    Ok(Line { processor, call })
+}
+
+/// The call `store` of this processor, with these arguments.
+fn store(head: Head, processor: &[u8], arguments: &[&[u8]]) -> Result<Line, LineCause>
+    ensures range { IfOk result (λ l. IsLine head.processors head.spaces l) }
+    ensures text { IfOk result (λ l. processor.now ∷ codes "store" ∷ seen arguments.now ≡ line_words l) }
+    ensures err { IfErr result (λ cause. line_fault (store_form head.processors head.spaces ∷ [])
+        (processor.now ∷ codes "store" ∷ seen arguments.now) ≡ Some cause) }
+{
+    let [space, address, word] = arguments else {
+        return Err(LineCause::Form);
+    };
+    let processor = small(processor, 1, 0..head.processors)?;
+    let space = small(space, 1, 0..head.spaces)?;
+    let address = number(address, 8, 0..ADDRESSES)?;
+    let word = any_number(word)?;
     let call = Call::Store {
         space,
         address,
         word,
     };
-    Some((call, rest))
+    Ok(Line { processor, call })
 }
 
-/// A call by its name, and the text after it.
-#[tactic(auto, unfolding(crate::specs::Reading::call_at))]
-fn call(text: &[u8]) -> Option<(Call, &[u8])>
-    ensures { seen result ≡ call_at text.now }
+/// The call `sync` of this processor, with these arguments.
+fn sync(head: Head, processor: &[u8], arguments: &[&[u8]]) -> Result<Line, LineCause>
+    ensures range { IfOk result (λ l. IsLine head.processors head.spaces l) }
+    ensures text { IfOk result (λ l. processor.now ∷ codes "sync" ∷ seen arguments.now ≡ line_words l) }
+    ensures err { IfErr result (λ cause. line_fault (sync_form head.processors head.spaces ∷ [])
+        (processor.now ∷ codes "sync" ∷ seen arguments.now) ≡ Some cause) }
 {
-    let (name, rest) = word(text, b' ')?;
-    match name {
-        b"map" => map(rest),
-        b"load" => load(rest),
-        b"store" => store(rest),
-        _ => None,
-    }
+    let [space, page] = arguments else {
+        return Err(LineCause::Form);
+    };
+    let processor = small(processor, 1, 0..head.processors)?;
+    let space = small(space, 1, 0..head.spaces)?;
+    let page = small(page, 1, 0..PAGES)?;
+    let call = Call::Sync { space, page };
+    Ok(Line { processor, call })
 }
 
-/// A line of a call, and the text after it.
-#[tactic(auto, unfolding(crate::specs::Reading::line_at))]
-pub fn line(text: &[u8]) -> Option<(Line, &[u8])>
-    ensures { seen result ≡ line_at text.now }
+/// The call `evict` of this processor, with these arguments.
+fn evict(head: Head, processor: &[u8], arguments: &[&[u8]]) -> Result<Line, LineCause>
+    ensures range { IfOk result (λ l. IsLine head.processors head.spaces l) }
+    ensures text { IfOk result (λ l. processor.now ∷ codes "evict" ∷ seen arguments.now ≡ line_words l) }
+    ensures err { IfErr result (λ cause. line_fault (evict_form head.processors head.spaces ∷ [])
+        (processor.now ∷ codes "evict" ∷ seen arguments.now) ≡ Some cause) }
 {
-    let (processor, rest) = short(text, b' ')?;
-    let (call, rest) = call(rest)?;
-    Some((Line { processor, call }, rest))
+    let [space, page] = arguments else {
+        return Err(LineCause::Form);
+    };
+    let processor = small(processor, 1, 0..head.processors)?;
+    let space = small(space, 1, 0..head.spaces)?;
+    let page = small(page, 1, 0..PAGES)?;
+    let call = Call::Evict { space, page };
+    Ok(Line { processor, call })
 }

@@ -1,9 +1,18 @@
 //! Words, and what they say.
-ghost use Rattle.std.specs.Prelude.{◌≡◌, ◌==◌, option_map, IsTrue, ◌↔◌};
-ghost use Rattle.std.specs.List.{position};
-ghost use Rattle.trace_reader.specs.Reading.{seen, word_at, keyword_at, number_of, number_at, short_at, rights_of, IsPlain};
+ghost use Rattle.std.specs.Prelude.{◌≡◌, ◌==◌, ◌^◌, ◌%◌, ◌<◌, ◌≤◌, ◌++◌, ◌∷◌, [], length, true, false, IsTrue, ◌↔◌, IfSome, IfNone, IfOk, decimal};
+ghost use Rattle.std.specs.List.{position, slice_split};
+ghost use Rattle.pager_model.specs.TraceText.{kind_word, rights_word};
+ghost use Rattle.trace_reader.specs.Forms.{number_of, number_in, may_stand, any_kind, any_rights};
+ghost use Rattle.trace_reader.specs.Refusals.{words_of};
+ghost use Rattle.trace_reader.specs.Words.{seen, IsPlain};
 
-use pager_model::Rights;
+use crate::fault::LineCause;
+use arrayvec::ArrayVec;
+use pager_model::{Kind, Rights};
+use std::ops::Range;
+
+/// The most words that a form has.
+pub const MAX_WORDS: usize = 7;
 
 /// Where a byte first stands.
 fn find(text: &[u8], wanted: u8) -> Option<usize>
@@ -13,15 +22,38 @@ fn find(text: &[u8], wanted: u8) -> Option<usize>
 }
 
 /// The bytes before the first byte `end`, and those after it.
-#[tactic(auto, unfolding(crate::specs::Reading::word_at))]
-pub fn word(text: &[u8], end: u8) -> Option<(&[u8], &[u8])>
-    ensures { option_map (λ w. (w.0.now, w.1.now)) result ≡ word_at end text.now }
+pub fn cut(text: &[u8], end: u8) -> Option<(&[u8], &[u8])>
+    ensures parts { IfSome result (λ parts. text.now ≡ parts.0.now ++ end ∷ parts.1.now) }
+    ensures first { IfSome result
+        (λ parts. slice_split (λ b. b == end) text.now ≡ parts.0.now ∷ slice_split (λ b. b == end) parts.1.now) }
+    ensures none { IfNone result (slice_split (λ b. b == end) text.now ≡ text.now ∷ []) }
 {
     let at = find(text, end)?;
     Some((&text[..at], &text[at + 1..]))
 }
 
-/// Whether a word has neither a sign nor a zero that leads other digits.
+/// The words of a line, where there are no more than a form has.
+pub fn words(line: &[u8]) -> Option<ArrayVec<&[u8], MAX_WORDS>>
+    ensures words { IfSome result (λ words. seen words.items ≡ words_of line.now) }
+    ensures none { IfNone result (MAX_WORDS < length (words_of line.now)) }
+{
+    let mut words = ArrayVec::new();
+    let mut rest = line;
+    while let Some((word, after)) = cut(rest, b' ') {
+        if words.is_full() {
+            return None;
+        }
+        words.push(word);
+        rest = after;
+    }
+    if words.is_full() {
+        return None;
+    }
+    words.push(rest);
+    Some(words)
+}
+
+/// Whether a word has neither a sign nor a zero before other digits.
 fn is_plain(word: &[u8]) -> bool
     ensures { IsTrue result ↔ IsPlain word.now }
 {
@@ -29,7 +61,7 @@ fn is_plain(word: &[u8]) -> bool
 }
 
 /// The number that a word is: decimal digits with no sign and no leading zero, below 2^64.
-fn decimal(word: &[u8]) -> Option<u64>
+fn decimal_of(word: &[u8]) -> Option<u64>
     ensures { result ≡ number_of word.now }
 {
     if !is_plain(word) {
@@ -39,39 +71,61 @@ fn decimal(word: &[u8]) -> Option<u64>
     digits.parse().ok()
 }
 
-/// What stands after this word and its end.
-#[tactic(auto, unfolding(crate::specs::Reading::keyword_at))]
-pub fn keyword<'a>(text: &'a [u8], keyword: &[u8], end: u8) -> Option<&'a [u8]>
-    ensures { option_map (λ rest. rest.now) result ≡ keyword_at keyword.now end text.now }
+/// The number that a word is, whichever it is.
+#[tactic(auto, using(crate::proofs::Numbers::any_numbers))]
+pub fn any_number(word: &[u8]) -> Result<u64, LineCause>
+    ensures exact { result ≡ number_in 1 0 (2 ^ 64) word.now }
+    ensures found { IfOk result (λ n. word.now ≡ decimal n) }
 {
-    let (word, rest) = word(text, end)?;
-    if word == keyword { Some(rest) } else { None }
+    match decimal_of(word) {
+        Some(n) => Ok(n),
+        None => Err(LineCause::Number),
+    }
 }
 
-/// The number that the first word is, and the text after its end.
-#[tactic(auto, unfolding(crate::specs::Reading::number_at))]
-pub fn number(text: &[u8], end: u8) -> Option<(u64, &[u8])>
-    ensures { seen result ≡ number_at end text.now }
+/// The number that a word is, a multiple of `step` in this range.
+#[tactic(auto, using(crate::proofs::Numbers::numbers))]
+pub fn number(word: &[u8], step: u64, range: Range<u64>) -> Result<u64, LineCause>
+    requires { 0 < step }
+    ensures exact { result ≡ number_in step range.start range.end word.now }
+    ensures found { IfOk result (λ n. (word.now ≡ decimal n) × (n % step ≡ 0) × (range.start ≤ n) × (n < range.end)) }
 {
-    let (word, rest) = word(text, end)?;
-    let n = decimal(word)?;
-    Some((n, rest))
+    match decimal_of(word) {
+        Some(n) if n % step == 0 && range.contains(&n) => Ok(n),
+        Some(_) => Err(LineCause::Range),
+        None => Err(LineCause::Number),
+    }
 }
 
-/// The same, for a number below 2^32.
-#[tactic(auto, unfolding(crate::specs::Reading::short_at))]
-pub fn short(text: &[u8], end: u8) -> Option<(u32, &[u8])>
-    ensures { seen result ≡ short_at end text.now }
+/// The same, for a range of small numbers.
+pub fn small(word: &[u8], step: u32, range: Range<u32>) -> Result<u32, LineCause>
+    requires { 0 < step }
+    ensures exact { result ≡ number_in step range.start range.end word.now }
+    ensures found { IfOk result (λ n. (word.now ≡ decimal n) × (n % step ≡ 0) × (range.start ≤ n) × (n < range.end)) }
 {
-    let (n, rest) = number(text, end)?;
-    let n = u32::try_from(n).ok()?;
-    Some((n, rest))
+    let n = number(word, step.into(), range.start.into()..range.end.into())?;
+    Ok(n as u32)
+}
+
+/// The kind that a word names.
+pub fn kind(word: &[u8]) -> Option<Kind>
+    ensures named { IfSome result (λ kind. word.now ≡ kind_word kind) }
+    ensures some { IfSome result (λ kind. may_stand any_kind word.now ≡ true) }
+    ensures none { IfNone result (may_stand any_kind word.now ≡ false) }
+{
+    match word {
+        b"fixed" => Some(Kind::Fixed),
+        b"growing" => Some(Kind::Growing),
+        b"wired" => Some(Kind::Wired),
+        _ => None,
+    }
 }
 
 /// The rights that a word names.
-#[tactic(auto, unfolding(crate::specs::Reading::rights_of))]
 pub fn rights(word: &[u8]) -> Option<Rights>
-    ensures { result ≡ rights_of word.now }
+    ensures named { IfSome result (λ rights. word.now ≡ rights_word rights) }
+    ensures some { IfSome result (λ rights. may_stand any_rights word.now ≡ true) }
+    ensures none { IfNone result (may_stand any_rights word.now ≡ false) }
 {
     match word {
         b"none" => Some(Rights::NoAccess),

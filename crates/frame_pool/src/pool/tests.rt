@@ -67,6 +67,51 @@ const WIRED: Want = Want {
     wired: true,
 };
 
+/// Spaces in whose frames there is always a page that isn't wired.
+const LOOSE: [Want; 3] = [PLAIN, GROWING, WIRED];
+
+/// Spaces in which all pages but two are wired.
+const TIGHT: [Want; 3] = [
+    Want {
+        high: 2,
+        cap: 2,
+        ..PLAIN
+    },
+    Want {
+        wired: true,
+        ..GROWING
+    },
+    Want {
+        wired: true,
+        ..PLAIN
+    },
+];
+
+const FRAMES: u32 = 512;
+
+const PROCESSORS: u32 = 4;
+
+/// How many calls are drawn over loose spaces, and how many over tight ones.
+const CALLS: u32 = 1200;
+
+/// How often each arm must be reached at least.
+const LEAST: u32 = 50;
+
+/// A call of the pool and its answer.
+#[derive(Clone, Copy)]
+enum Arm {
+    Took,
+    Full,
+    Gave,
+    Carved,
+    Claimed,
+    NoneLeft,
+    Unclaimed,
+    UsedHeld,
+    DroppedHeld,
+    EndedEntry,
+}
+
 /// Takes a frame for a page that has none.
 fn take(
     rt: &impl Abort,
@@ -81,28 +126,108 @@ fn take(
     pool.take(space, page, want)
 }
 
-#[test]
-fn breaks_the_reservation_that_was_allocated_from_least_recently(
-    rt: HostRuntime,
-) -> Result<(), Fail> {
-    let mut pool = Pool::create(rt.alloc(), 1024, 3, 1)?;
-    for (space, page, frame) in [(0, 0, 0), (1, 0, 512), (0, 1, 1), (2, 0, 576)] {
-        assert_eq!(rt; take(&rt, &mut pool, space, page, &PLAIN)?.number(), frame);
+/// A space, a page of it, the cap of a reservation for the page, and the frame that the rules say.
+type Told = (u32, u32, u32, u32);
+
+/// How many frames there are, how many reservations are broken, and the pages that take a frame, in order.
+const ROWS: [(u32, u64, &[Told]); 5] = [
+    // Of two reservations the one that was allocated from least recently is broken.
+    (
+        1024,
+        1,
+        &[
+            (0, 0, 512, 0),
+            (1, 0, 512, 512),
+            (0, 1, 512, 1),
+            (2, 0, 512, 576),
+        ],
+    ),
+    // The second reservation of the row begins beside the one part of the first that has a used place.
+    (512, 1, &[(0, 0, 512, 0), (0, 512, 512, 64)]),
+    // Each part of the first has a used place, so its lowest part is broken too.
+    (
+        512,
+        1,
+        &[
+            (0, 0, 512, 0),
+            (0, 64, 512, 64),
+            (0, 128, 512, 128),
+            (0, 192, 512, 192),
+            (0, 256, 512, 256),
+            (0, 320, 512, 320),
+            (0, 384, 512, 384),
+            (0, 448, 512, 448),
+            (0, 512, 512, 8),
+        ],
+    ),
+    // An older reservation that can give back more is left alone.
+    (
+        1024,
+        1,
+        &[
+            (1, 0, 512, 0),
+            (0, 0, 512, 512),
+            (0, 64, 512, 576),
+            (0, 128, 512, 640),
+            (0, 192, 512, 704),
+            (0, 256, 512, 768),
+            (0, 320, 512, 832),
+            (0, 384, 512, 896),
+            (0, 448, 512, 960),
+            (2, 0, 8, 520),
+        ],
+    ),
+    // The part that stayed of a broken reservation is the next to be broken.
+    (
+        512,
+        2,
+        &[
+            (0, 0, 512, 0),
+            (0, 512, 512, 64),
+            (0, 576, 512, 128),
+            (0, 640, 512, 192),
+            (0, 704, 512, 256),
+            (0, 768, 512, 320),
+            (0, 832, 512, 384),
+            (0, 896, 512, 448),
+            (0, 960, 512, 8),
+        ],
+    ),
+];
+
+/// A new pool gives these pages the frames that the rules say. Answers how many reservations it broke.
+fn gives(rt: &impl Abort, alloc: Global, frames: u32, pages: &[Told]) -> Result<u64, Fail> {
+    assert!(rt; frames % 512 == 0 && frames <= 32768);
+    let mut pool = Pool::create(alloc, frames, 3, 1)?;
+    for (space, page, cap, frame) in pages {
+        let want = Want { cap: *cap, ..PLAIN };
+        let taken = take(rt, &mut pool, *space, *page, &want)?;
+        assert_eq!(rt; taken.number(), *frame);
     }
-    assert_eq!(rt; pool.preempted(), 1);
+    Ok(pool.preempted())
+}
+
+#[test]
+fn gives_the_frames_that_the_rules_say(rt: HostRuntime) -> Result<(), Fail> {
+    for (frames, broken, pages) in ROWS {
+        assert_eq!(rt; gives(&rt, rt.alloc(), frames, pages)?, broken);
+    }
     Ok(())
 }
 
-/// A pool and the plain one, with the pages that have a frame, each at its frame's number.
+/// A pool and the plain one over these spaces, with the pages that have a frame, each at its frame's number, and how often each
+/// arm was reached.
 #[derive(Drop)]
 struct Both {
     pool: Pool,
     plain: Plain,
+    spaces: [Want; 3],
     pages: Vec<Option<(u32, u32, Frame)>>,
+    reached: [u32; 10],
 }
 
 impl Both {
-    fn create(alloc: Global) -> Result<Both, Fail> {
+    fn create(alloc: Global, spaces: [Want; 3]) -> Result<Both, Fail> {
         let mut pages = Vec::with_capacity(alloc, FRAMES as usize)?;
         for _ in 0..FRAMES {
             pages.push(None)?;
@@ -110,8 +235,45 @@ impl Both {
         Ok(Both {
             pool: Pool::create(alloc, FRAMES, 3, PROCESSORS)?,
             plain: Plain::create(alloc, FRAMES, PROCESSORS)?,
+            spaces,
             pages,
+            reached: [0; 10],
         })
+    }
+
+    fn reach(&mut self, arm: Arm) {
+        if let Some(count) = self.reached.get_mut(arm as usize) {
+            *count = count.saturating_add(1);
+        }
+    }
+
+    /// The region of a space.
+    fn want(&self, space: u32) -> Want {
+        self.spaces.get(space as usize).copied().unwrap_or(PLAIN)
+    }
+
+    /// The first page of the space from a drawn one on that has no frame.
+    fn page_in(&self, space: u32, draw: u32) -> Option<u32> {
+        let want = self.want(space);
+        let drawn = want.low.max(draw % want.high.max(1));
+        (drawn..want.high)
+            .chain(want.low..drawn)
+            .find(|page| self.pool.frame_of(space, *page).is_none())
+    }
+
+    /// A page that has no frame, of this space or else of one after it.
+    fn page_without(&self, space: u32, draw: u32) -> Option<(u32, u32)> {
+        [space, (space % 3 + 1) % 3, (space % 3 + 2) % 3]
+            .iter()
+            .find_map(|space| self.page_in(*space, draw).map(|page| (*space, page)))
+    }
+
+    /// The first frame from a drawn one on that a page has.
+    fn used_frame(&self, draw: u32) -> Option<u32> {
+        (draw % FRAMES..FRAMES).find(|at| self
+            .pages
+            .get(*at as usize)
+            .is_some_and(|page| page.is_some()))
     }
 
     /// Notes that the page has the frame.
@@ -122,17 +284,23 @@ impl Both {
         }
     }
 
-    /// A page without a frame takes one.
-    fn take(&mut self, rt: &impl Abort, space: u32, page: u32) -> Result<(), Fail> {
-        if self.pool.frame_of(space, page).is_some() {
+    /// A page that has no frame takes one.
+    fn take(&mut self, rt: &impl Abort, space: u32, draw: u32) -> Result<(), Fail> {
+        let Some((space, page)) = self.page_without(space, draw) else {
             return Ok(());
-        }
-        let want = want_of(space);
+        };
+        let want = self.want(space);
         let expected = self.plain.take(space, page, &want)?;
-        let frame = take(rt, &mut self.pool, space, page, &want).ok();
-        assert_eq!(rt; frame.as_ref().map(|frame| frame.number()), expected);
-        if let Some(frame) = frame {
-            self.note(space, page, frame);
+        match take(rt, &mut self.pool, space, page, &want) {
+            Ok(frame) => {
+                assert_eq!(rt; Some(frame.number()), expected);
+                self.note(space, page, frame);
+                self.reach(Arm::Took);
+            }
+            Err(Full) => {
+                assert_eq!(rt; None, expected);
+                self.reach(Arm::Full);
+            }
         }
         Ok(())
     }
@@ -148,6 +316,11 @@ impl Both {
         assert_eq!(rt; self.pool.frame_of(space, page), Some(frame.number()));
         let expected = self.plain.give(at)?;
         assert_eq!(rt; self.pool.give(space, page, frame), expected);
+        self.reach(if expected.is_none() {
+            Arm::Gave
+        } else {
+            Arm::Carved
+        });
         Ok(())
     }
 
@@ -162,6 +335,7 @@ impl Both {
             Ok(victim) => {
                 assert_eq!(rt; Some((victim.space, victim.page, victim.frame)), expected);
                 self.plain.claim(victim.frame, Some(processor));
+                self.reach(Arm::Claimed);
             }
             Err(none) => {
                 let [_, _, _, wired, claimed, held] = self.plain.counts();
@@ -174,6 +348,7 @@ impl Both {
                     ),
                     (wired, claimed, held)
                 );
+                self.reach(Arm::NoneLeft);
             }
         }
     }
@@ -187,14 +362,7 @@ impl Both {
         assert_eq!(rt; self.pool.collect(processor), Collected::Claimed);
         assert_eq!(rt; self.pool.unclaim(processor), frame);
         self.plain.claim(frame, None);
-    }
-
-    /// The page whose frame the processor claims gives it up.
-    fn give_claimed(&mut self, rt: &impl Abort, processor: u32) -> Result<(), Fail> {
-        match self.pool.claim_of(processor) {
-            Some(frame) => self.give(rt, frame),
-            None => Ok(()),
-        }
+        self.reach(Arm::Unclaimed);
     }
 
     /// An entry that moves no frame.
@@ -202,32 +370,68 @@ impl Both {
         assert!(rt; self.pool.entries < 1 << 40);
         self.pool.end_entry();
         self.plain.end_entry();
+        self.reach(Arm::EndedEntry);
     }
 
-    /// A processor that holds a frame drops it, or uses it for a page without one.
-    fn spend(
+    /// A processor that holds a frame drops it.
+    fn drop_held(&mut self, rt: &impl Abort, processor: u32) {
+        assert!(rt; self.pool.entries < 1 << 40);
+        let Some(held) = self.pool.held_by(processor) else {
+            return;
+        };
+        assert_eq!(rt; self.pool.collect(processor), Collected::Held);
+        assert_eq!(rt; self.pool.drop_held(processor), held);
+        assert_eq!(rt; self.plain.drop_held(processor), Some(held));
+        self.reach(Arm::DroppedHeld);
+    }
+
+    /// A processor that holds a frame uses it for a page that has none.
+    fn use_held(
         &mut self,
         rt: &impl Abort,
         processor: u32,
         space: u32,
-        page: u32,
+        draw: u32,
     ) -> Result<(), Fail> {
         assert!(rt; self.pool.entries < 1 << 40);
         let Some(held) = self.pool.held_by(processor) else {
             return Ok(());
         };
-        assert_eq!(rt; self.pool.collect(processor), Collected::Held);
-        if self.pool.frame_of(space, page).is_some() {
-            assert_eq!(rt; self.pool.drop_held(processor), held);
-            assert_eq!(rt; self.plain.drop_held(processor), Some(held));
+        let Some((space, page)) = self.page_without(space, draw) else {
             return Ok(());
-        }
-        let want = want_of(space);
+        };
+        let want = self.want(space);
+        assert!(rt; self.pool.frame_of(space, page).is_none());
         assert!(rt; want.low <= page && page < want.high && want.high <= 1 << 20 && 1 <= want.cap);
         let frame = self.pool.use_held(processor, space, page, &want);
         assert_eq!(rt; self.plain.put_back(processor), Some(held));
         assert_eq!(rt; self.plain.take(space, page, &want)?, Some(frame.number()));
         self.note(space, page, frame);
+        self.reach(Arm::UsedHeld);
+        Ok(())
+    }
+
+    /// The processor goes on: it claims a frame; the page of one that it claims gives it up, or it is claimed no more; one that it
+    /// holds it uses or drops.
+    fn go_on(
+        &mut self,
+        rt: &impl Abort,
+        processor: u32,
+        space: u32,
+        draw: u32,
+    ) -> Result<(), Fail> {
+        if self.pool.held_by(processor).is_some() {
+            if draw % 3 == 0 {
+                self.drop_held(rt, processor);
+                return Ok(());
+            }
+            return self.use_held(rt, processor, space, draw);
+        }
+        match self.pool.claim_of(processor) {
+            None => self.claim(rt, processor),
+            Some(_) if draw % 3 == 0 => self.unclaim(rt, processor),
+            Some(frame) => self.give(rt, frame)?,
+        }
         Ok(())
     }
 
@@ -250,51 +454,74 @@ impl Both {
     }
 }
 
-const FRAMES: u32 = 512;
-
-const PROCESSORS: u32 = 4;
-
-/// Where reservations may lie in a space: in a fixed region, in one that may grow, or in a wired one.
-fn want_of(space: u32) -> Want {
-    match space {
-        0 => PLAIN,
-        1 => GROWING,
-        _ => WIRED,
-    }
-}
-
-/// A page of a space's region.
-fn page_of(space: u32, draw: u32) -> u32 {
-    match space {
-        0 => draw % 1024,
-        1 => 3 + draw % 600,
-        _ => draw % 64,
-    }
-}
-
 #[test]
-fn does_as_the_plain_pool_over_a_thousand_calls(rt: HostRuntime) -> Result<(), Fail> {
-    let mut both = Both::create(rt.alloc())?;
+fn carves_out_of_a_reservation_of_every_size(rt: HostRuntime) -> Result<(), Fail> {
+    for pages in [1, 8, 64, 512] {
+        let want = Want {
+            high: pages,
+            cap: pages,
+            ..PLAIN
+        };
+        let mut both = Both::create(rt.alloc(), [want; 3])?;
+        both.take(&rt, 0, pages / 2)?;
+        assert_eq!(rt; both.pool.counts().reserved, pages - 1);
+        both.claim(&rt, 0);
+        both.give(&rt, pages / 2)?;
+        both.compare(&rt);
+        assert_eq!(rt; both.pool.held_by(0), Some(pages / 2));
+        assert_eq!(rt; both.pool.counts().free, FRAMES - 1);
+        both.drop_held(&rt, 0);
+        both.compare(&rt);
+    }
+    Ok(())
+}
+
+/// Makes drawn calls of both pools over these spaces, of sixteen so many to take a frame, and tells how often it reached each arm.
+fn drawn_calls(
+    rt: &impl Abort,
+    alloc: Global,
+    spaces: [Want; 3],
+    takes: u32,
+) -> Result<[u32; 10], Fail> {
+    let mut both = Both::create(alloc, spaces)?;
     let mut random = 5u64;
-    for _ in 0..1000 {
+    for _ in 0..CALLS {
         random = random
             .wrapping_mul(6364136223846793005)
             .wrapping_add(1442695040888963407);
         let draw = (random >> 33) as u32;
-        let space = draw % 3;
-        let page = page_of(space, draw / 64);
-        let processor = draw / 4 % PROCESSORS;
+        let (space, processor, rest) = (draw % 3, draw / 4 % PROCESSORS, draw / 64);
         match draw / 16 % 16 {
-            0..8 => both.take(&rt, space, page)?,
-            8..10 => both.give(&rt, draw / 1024 % FRAMES)?,
-            10..12 => both.claim(&rt, processor),
-            12 => both.unclaim(&rt, processor),
-            13 => both.give_claimed(&rt, processor)?,
-            14 => both.spend(&rt, processor, space, page)?,
-            _ => both.end_entry(&rt),
+            0 => both.end_entry(rt),
+            kind if kind <= takes => both.take(rt, space, rest)?,
+            15 => {
+                if let Some(frame) = both.used_frame(rest) {
+                    both.give(rt, frame)?;
+                }
+            }
+            _ => both.go_on(rt, processor, space, rest)?,
         }
-        both.compare(&rt);
+        both.compare(rt);
     }
+    // No draw came to nothing.
+    let calls = both
+        .reached
+        .iter()
+        .fold(0, |sum: u32, count| sum.saturating_add(*count));
+    assert_eq!(rt; calls, CALLS);
     assert!(rt; 0 < both.pool.preempted());
+    Ok(both.reached)
+}
+
+#[test]
+fn does_as_the_plain_pool_over_drawn_calls(rt: HostRuntime) -> Result<(), Fail> {
+    let loose = drawn_calls(&rt, rt.alloc(), LOOSE, 7)?;
+    let tight = drawn_calls(&rt, rt.alloc(), TIGHT, 10)?;
+    for (loosely, tightly) in loose.iter().zip(tight.iter()) {
+        assert!(rt;
+            LEAST <= loosely.saturating_add(*tightly),
+            "{loose:?} {tight:?}"
+        );
+    }
     Ok(())
 }

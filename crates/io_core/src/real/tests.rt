@@ -81,11 +81,3 @@ fn a_writer_that_takes_no_byte_has_failed(rt: HostRuntime) {
     assert_eq!(rt; sink.write(b""), Ok(0));
     assert_eq!(rt; sink.faults, 1);
 }
-
-#[test]
-fn the_standard_streams_are_a_source_and_a_sink(rt: HostRuntime) {
-    let mut source = RealSource::of(rt.stdin());
-    assert_eq!(rt; source.read(&mut []), Ok(0));
-    let mut sink = RealSink::of(rt.stdout());
-    assert_eq!(rt; sink.write(b""), Ok(0));
-}

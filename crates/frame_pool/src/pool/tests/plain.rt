@@ -375,13 +375,21 @@ impl Plain {
         frame
     }
 
+    /// How many places of the reservation are unused.
+    fn unused(&self, whole: &Reservation) -> usize {
+        (whole.frame..whole.frame.saturating_add(whole.size.pages()))
+            .filter(|frame| self.used_at(*frame).is_none())
+            .count()
+    }
+
     /// How many frames are free, unused places, used ones, and of these wired and claimed ones, and how many are held.
     pub fn counts(&self) -> [usize; 6] {
         let free = self.free.iter().filter(|free| **free).count();
         let used = self.used.iter().filter(|place| place.is_some()).count();
-        let reserved = (0..self.frames)
-            .filter(|frame| self.owner(*frame).is_some() && self.used_at(*frame).is_none())
-            .count();
+        let reserved = self.records.iter().fold(
+            0,
+            |sum: usize, record| sum.saturating_add(self.unused(record)),
+        );
         let wired = (0..self.frames)
             .filter(|frame| self.used_at(*frame).is_some_and(|used| used.wired))
             .count();

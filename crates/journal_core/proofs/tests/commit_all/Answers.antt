@@ -1,9 +1,11 @@
-use Rattle.journal_core.proofs.Sampling.{answered, filled_more}
+use Rattle.journal_core.proofs.Sampling.{answer_allowed, answer_next, filled_more}
 use Rattle.journal_core.proofs.tests.commit_all.Goals as goal
 
+pub commit-next_author-requires-clause-allowed : goal.commit-next_author-requires-clause-allowed
+commit-next_author-requires-clause-allowed c = answer_allowed _ _ _ _ _ _ c.loop-number.invariant c.answer.ensures
+
 pub commit-next_author-requires-clause-order : goal.commit-next_author-requires-clause-order
-commit-next_author-requires-clause-order c =
-    (_, answered c.args.processor c.loop-number.number c.loop-number.pass.entries _ c.answer.ensures c.loop-number.invariant.progress)
+commit-next_author-requires-clause-order c = answer_next _ _ _ _ _ _ c.loop-number.invariant c.answer.ensures
 
 pub loop-number-preserved : goal.loop-number-preserved
 loop-number-preserved c =

@@ -1,25 +1,57 @@
-use Rattle.std.proofs.Common.{◌≡◌, ◌≢◌, ◌∷◌, ◌++◌, [], sym, rules, arith}
+use Rattle.std.proofs.Common.{◌≡◌, ◌≢◌, ◌+◌, ◌<◌, ◌^◌, ℕ, List, true, false, [], ◌∷◌, ◌++◌, length, codes, flat_map, None, sym, ◌∙◌, ap, subst, rules, arith}
+use Rattle.std.specs.Str.{bytes_eq}
 use Rattle.std.proofs.lemmas.Grind.{common_steps}
-use Rattle.trace_reader.specs.Ranges.{MayFollow}
-use Rattle.trace_reader.proofs.Texts.{end_line, no_line, no_fit, goes_on, gets_shorter}
+use Rattle.std.proofs.lemmas.List.Elements.{All-push}
+use Rattle.std.proofs.lemmas.Slice.Eq.{bytes_eq-Decides}
+use Rattle.pager_model.specs.TraceText.{IsLine, call_line, line_words}
+use Rattle.trace_reader.specs.Forms.{call_forms, line_fault}
+use Rattle.trace_reader.specs.Refusals.{words_of, lines_of, calls_refusal}
+use Rattle.trace_reader.proofs.Lines.{line_is_lawful}
+use Rattle.trace_reader.proofs.Refusals.{faulty_line, one_call_more, goes_on, past_the_end, parts_go_on}
 use Rattle.trace_reader.proofs.text.calls.Goals as goal
 
-pub returns-in_default-clause-refused : goal.returns-in_default-clause-refused
-returns-in_default-clause-refused c = λ _ lines are e.
-    let more : c.loop-rest.rest.now ≢ end_line = search rules in
-    no_line c.args.text.now c.loop-rest.calls.items c.loop-rest.rest.now lines c.loop-rest.invariant more (sym c.in_default.ensures) are e
+pub returns-then-is_empty-clause-text : goal.returns-then-is_empty-clause-text
+returns-then-is_empty-clause-text c =
+    let same : c.in-Some.line.now ≡ codes "end" = (bytes_eq-Decides c.in-Some.line.now (codes "end")).0 (sym c.if-eq.ensures) in
+    let none : c.in-Some.after.now ≡ [] = grind (arith, common_steps) in
+    let left : c.lines.rest.now ≡ codes "end\n" = c.in-Some.ensures.parts ∙ ap (λ (x : List ℕ). x ++ 10 ∷ c.in-Some.after.now) same ∙ ap (λ (x : List ℕ). codes "end" ++ 10 ∷ x) none in
+    c.lines.invariant.parts ∙ ap (λ (x : List ℕ). flat_map call_line c.lines.calls.items ++ x) left
 
-pub returns-then-not-may_follow-clause-refused : goal.returns-then-not-may_follow-clause-refused
-returns-then-not-may_follow-clause-refused c = λ _ lines are e.
-    let more : c.loop-rest.rest.now ≢ end_line = search rules in
-    let misfit : MayFollow c.loop-rest.calls.items c.in-Some.line → ⊥ = search rules in
-    no_fit c.args.text.now c.loop-rest.calls.items c.loop-rest.rest.now c.in-Some.line c.in-Some.after.now lines c.loop-rest.invariant more (sym c.in-Some.ensures) misfit are e
+pub returns-then-eq-clause-refused : goal.returns-then-eq-clause-refused
+returns-then-eq-clause-refused c =
+    let calls = c.lines.calls.items in
+    let some : c.in-Some.after.now ≢ [] = λ e. let none : length c.in-Some.after.now ≡ 0 = ap length e in grind (arith, common_steps) in
+    let len : c.len.result ≡ length calls = omega arith in
+    rw len (c.lines.invariant.refusal ∙ past_the_end (call_forms c.args.head.processors c.args.head.spaces) (2 + length calls) (length calls) c.lines.rest.now c.in-Some.line.now c.in-Some.after.now c.in-Some.ensures.first (sym c.if-eq.ensures) some)
 
-pub loop-rest-smaller : goal.loop-rest-smaller
-loop-rest-smaller c = gets_shorter c.loop-rest.rest.now c.in-Some.line c.in-Some.after.now (sym c.in-Some.ensures)
+pub returns-in-Err-clause-refused : goal.returns-in-Err-clause-refused
+returns-in-Err-clause-refused c =
+    let calls = c.lines.calls.items in
+    let len : c.len.result ≡ length calls = omega arith in
+    rw len (c.lines.invariant.refusal ∙ faulty_line (call_forms c.args.head.processors c.args.head.spaces) (2 + length calls) (length calls) c.lines.rest.now c.in-Some.line.now c.in-Some.after.now c.in-Err.cause c.in-Some.ensures.first (sym c.if-eq.ensures) c.in-Err.ensures.err)
 
-pub loop-rest-preserved : goal.loop-rest-preserved
-loop-rest-preserved c =
-    let fits : MayFollow c.loop-rest.calls.items c.in-Some.line = search rules in
-    let items : c.push.new.self.items ≡ c.loop-rest.calls.items ++ c.in-Some.line ∷ [] = grind (arith, common_steps) in
-    rw items (goes_on c.args.text.now c.loop-rest.calls.items c.loop-rest.rest.now c.in-Some.line c.in-Some.after.now c.loop-rest.invariant (sym c.in-Some.ensures) fits)
+pub returns-then-len-eq-MAX_CALLS-clause-refused :
+    goal.returns-then-len-eq-MAX_CALLS-clause-refused
+returns-then-len-eq-MAX_CALLS-clause-refused c =
+    let calls = c.lines.calls.items in
+    let forms = call_forms c.args.head.processors c.args.head.spaces in
+    let lawful : line_fault forms (words_of c.in-Some.line.now) ≡ None = rw c.in-Ok.ensures.text (line_is_lawful c.args.head.processors c.args.head.spaces c.in-Ok.call (omega arith) (omega arith) c.in-Ok.ensures.range) in
+    let many : length calls ≡ 262144 = omega arith in
+    c.lines.invariant.refusal ∙ one_call_more forms (2 + length calls) (length calls) c.lines.rest.now c.in-Some.line.now c.in-Some.after.now c.in-Some.ensures.first (sym c.if-eq.ensures) lawful many
+
+pub lines-preserved : goal.lines-preserved
+lines-preserved c =
+    let calls = c.lines.calls.items in
+    let forms = call_forms c.args.head.processors c.args.head.spaces in
+    let lawful : line_fault forms (words_of c.in-Some.line.now) ≡ None = rw c.in-Ok.ensures.text (line_is_lawful c.args.head.processors c.args.head.spaces c.in-Ok.call (omega arith) (omega arith) c.in-Ok.ensures.range) in
+    let items : c.push.new.self.items ≡ calls ++ c.in-Ok.call ∷ [] = grind (arith, common_steps) in
+    let more : length c.push.new.self.items ≡ length calls + 1 = grind (arith, common_steps) in
+    let few : length calls ≢ 262144 = λ e. omega arith in
+    let next = goes_on forms (2 + length calls) (length calls) c.lines.rest.now c.in-Some.line.now c.in-Some.after.now c.in-Some.ensures.first (sym c.if-eq.ensures) lawful few in
+    let number : 2 + length calls + 1 ≡ 2 + length c.push.new.self.items = omega arith in
+    record {
+      lines = rw items (All-push (IsLine c.args.head.processors c.args.head.spaces) calls c.in-Ok.call c.lines.invariant.lines c.in-Ok.ensures.range);
+      few = omega arith;
+      parts = rw items (parts_go_on c.args.text.now c.lines.rest.now c.in-Some.line.now c.in-Some.after.now calls c.in-Ok.call c.lines.invariant.parts c.in-Some.ensures.parts c.in-Ok.ensures.text);
+      refusal = c.lines.invariant.refusal ∙ next ∙ ap (λ (n : ℕ). calls_refusal forms n (length calls + 1) (lines_of c.in-Some.after.now)) number ∙ ap (λ (n : ℕ). calls_refusal forms (2 + length c.push.new.self.items) n (lines_of c.in-Some.after.now)) (sym more);
+    }

@@ -1,9 +1,16 @@
-use Rattle.std.proofs.Common.{length}
-use Rattle.trace_reader.proofs.Texts.{Reached}
+use Rattle.std.proofs.Common.{◌≡◌, ◌+◌, ◌≤◌, ◌++◌, All, length, flat_map}
+use Rattle.pager_model.specs.TraceText.{IsLine, call_line}
+use Rattle.trace_reader.specs.Forms.{call_forms}
+use Rattle.trace_reader.specs.Refusals.{calls_refusal, lines_of}
 use Rattle.trace_reader.proofs.text.calls.Given as goal
 
-abbrev pub invariant-loop-rest : goal.invariant-loop-rest
-invariant-loop-rest l = Reached l.text l.calls.items l.rest
+abbrev pub invariant-lines : goal.invariant-lines
+invariant-lines l = record {
+  lines : All (IsLine l.head.processors l.head.spaces) l.calls.items;
+  few : length l.calls.items ≤ 262144;
+  parts : l.text ≡ flat_map call_line l.calls.items ++ l.rest;
+  refusal : calls_refusal (call_forms l.head.processors l.head.spaces) 2 0 (lines_of l.text) ≡ calls_refusal (call_forms l.head.processors l.head.spaces) (2 + length l.calls.items) (length l.calls.items) (lines_of l.rest);
+}
 
-abbrev pub decreases-loop-rest : goal.decreases-loop-rest
-decreases-loop-rest l = length l.rest
+abbrev pub decreases-lines : goal.decreases-lines
+decreases-lines l = length l.rest

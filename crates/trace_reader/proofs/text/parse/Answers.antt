@@ -1,41 +1,22 @@
-use Rattle.std.proofs.Common.{◌≡◌, ◌∙◌, Err, ap, sym, subst, rules, arith}
-use Rattle.std.specs.Result.{IsErrOf}
 use Rattle.std.proofs.lemmas.Result.{err_from_is_err_and}
-use Rattle.pager_model.specs.TraceText.{IsTextOf}
-use Rattle.trace_reader.specs.Ranges.{IsInRange}
-use Rattle.trace_reader.proofs.Plans.{head_parts, no_head, out_of_range, is_text, one_plan}
+use Rattle.trace_reader.proofs.Refusals.{too_long, no_first_line, faulty_first_line, behind_first_line, is_text}
 use Rattle.trace_reader.proofs.text.parse.Goals as goal
 
--- one fault, of two kinds of result
-same_fault : {T U E : Type 0} (x y : E) → IsErrOf {T = T} (Err x) y → IsErrOf {T = U} (Err x) y
-same_fault x y e = let same : x ≡ y = cc in ap Err same
+pub returns-then-text-gt-MAX_BYTES-clause-refused : goal.returns-then-text-gt-MAX_BYTES-clause-refused
+returns-then-text-gt-MAX_BYTES-clause-refused c = too_long c.args.text.now c.if-text-gt-MAX_BYTES.true
 
 pub returns-in_default-clause-refused : goal.returns-in_default-clause-refused
-returns-in_default-clause-refused c = λ _ plan is. no_head c.args.text.now plan (sym c.in_default.ensures) is
+returns-in_default-clause-refused c = no_first_line c.args.text.now c.if-text-gt-MAX_BYTES.false c.in_default.ensures.none
 
-pub returns-then-not-is_in_range-clause-refused : goal.returns-then-not-is_in_range-clause-refused
-returns-then-not-is_in_range-clause-refused c = λ _ plan is.
-    let out : IsInRange c.in-Some.head → ⊥ = search rules in
-    out_of_range c.args.text.now c.in-Some.head c.in-Some.rest.now plan (sym c.in-Some.ensures) out is
+pub returns-in-Err-clause-refused : goal.returns-in-Err-clause-refused
+returns-in-Err-clause-refused c =
+    faulty_first_line c.args.text.now c.in-Some.line.now c.in-Some.rest.now c.in-Err.cause c.if-text-gt-MAX_BYTES.false c.in-Some.ensures.first c.in-Err.ensures.err
 
 pub returns-in_err-calls-clause-refused : goal.returns-in_err-calls-clause-refused
 returns-in_err-calls-clause-refused c =
     let p = err_from_is_err_and c.from_residual.result c.from_residual.ensures.1 in
-    rw (p.1, p.2) (λ refused plan is.
-    let parts = head_parts c.args.text.now c.in-Some.head c.in-Some.rest.now plan (sym c.in-Some.ensures) is in
-    c.in_err-calls.ensures.refused (same_fault _ _ refused) plan.calls is.0.lines parts.1)
-
-pub of-requires : goal.of-requires
-of-requires c =
-    let range : IsInRange c.in-Some.head = search rules in
-    (is_text c.args.text.now c.in-Some.head c.in-Some.rest.now c.in_ok-calls.calls.items (omega arith) (sym c.in-Some.ensures) range c.in_ok-calls.ensures.ok.0 c.in_ok-calls.ensures.ok.1).0
+    rw (p.1, p.2, behind_first_line c.args.text.now c.in-Some.line.now c.in-Some.rest.now c.in-Ok.head c.if-text-gt-MAX_BYTES.false c.in-Some.ensures.first c.in-Ok.ensures.text c.in-Ok.ensures.range) c.in_err-calls.ensures.refused
 
 pub returns-clause-ok : goal.returns-clause-ok
 returns-clause-ok c =
-    let range : IsInRange c.in-Some.head = search rules in
-    subst (IsTextOf c.args.text.now) (sym c.of.ensures) (is_text c.args.text.now c.in-Some.head c.in-Some.rest.now c.in_ok-calls.calls.items (omega arith) (sym c.in-Some.ensures) range c.in_ok-calls.ensures.ok.0 c.in_ok-calls.ensures.ok.1)
-
-pub returns-clause-only : goal.returns-clause-only
-returns-clause-only c = λ plan is.
-    let range : IsInRange c.in-Some.head = search rules in
-    one_plan c.args.text.now plan _ is (is_text c.args.text.now c.in-Some.head c.in-Some.rest.now c.in_ok-calls.calls.items (omega arith) (sym c.in-Some.ensures) range c.in_ok-calls.ensures.ok.0 c.in_ok-calls.ensures.ok.1) ∙ sym c.of.ensures
+    rw c.of.ensures (is_text c.args.text.now c.in-Some.line.now c.in-Some.rest.now c.in-Ok.head c.in_ok-calls.calls.items c.in-Some.ensures.parts c.in-Ok.ensures.text c.in-Ok.ensures.range c.in_ok-calls.ensures.lines c.in_ok-calls.ensures.few c.in_ok-calls.ensures.text)

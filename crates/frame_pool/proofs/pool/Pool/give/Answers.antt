@@ -1,8 +1,18 @@
-use Rattle.std.proofs.Common.{◌≡◌, Some, None, sym, ap, ◌∙◌, arith}
-use Rattle.pager_model.specs.FrameStates.{FrameState, frame_of, give_page}
+use Rattle.std.proofs.Common.{◌≡◌, ℕ, cond, eqb, ◌&&◌, Some, None, sym, ap, subst, ◌∙◌, arith}
+use Rattle.pager_model.specs.FrameStates.{FrameState, frame_of, give_page, layout_of}
+use Rattle.frame_pool.specs.declared.pool.Pool.TheInside.{Inside}
+use Rattle.frame_pool.specs.Laid.{IsLaid}
 use Rattle.frame_pool.specs.PoolState.{state_of}
+use Rattle.frame_pool.specs.Pooled.{IsPool}
+use Rattle.frame_pool.proofs.PageMoves.{frame_of-give_page}
 use Rattle.frame_pool.proofs.Pooling.{claim_read, give_page-is, IsPool-given}
 use Rattle.frame_pool.proofs.pool.Pool.give.Goals as goal
+
+-- the page has no place then, and every other page keeps its own
+places_given : (p : Inside) (space page frame : ℕ) → IsPool p.frames.items p.layout (state_of p) → (old new : FrameState) → state_of p ≡ old → frame_of old space page ≡ Some frame → new ≡ give_page old space page → (s q : ℕ) → frame_of new s q ≡ cond (eqb space s && eqb q page) None (frame_of old s q)
+places_given p space page frame pool old new seen is given s q =
+    let laid = subst (λ (st : FrameState). IsLaid (layout_of st)) seen pool.sound.laid in
+    ap (λ (st : FrameState). frame_of st s q) given ∙ frame_of-give_page old space page frame laid is s q
 
 pub invariant_of-self : goal.invariant_of-self
 invariant_of-self c =
@@ -45,3 +55,11 @@ returns-in-Some-clause-given c =
     let claims = claim_read p c.args.space c.args.page n c.self.invariant is (Some c.in-Some.processor) _ (sym c.in-Some.is ∙ c.claimer-claim.ensures) c.index.ensures in
     give_page-is p c.args.space c.args.page n c.self.invariant is (Some c.in-Some.processor) _ claims c.carve.ensures
     ∙ ap (λ (st : FrameState). give_page st c.args.space c.args.page) c.self.view_is
+
+pub returns-in-None-clause-places : goal.returns-in-None-clause-places
+returns-in-None-clause-places c =
+    places_given c.self.inside c.args.space c.args.page c.args.frame.number c.self.invariant c.args.self.now _ c.self.view_is c.requires (returns-in-None-clause-given c)
+
+pub returns-in-Some-clause-places : goal.returns-in-Some-clause-places
+returns-in-Some-clause-places c =
+    places_given c.self.inside c.args.space c.args.page c.args.frame.number c.self.invariant c.args.self.now _ c.self.view_is c.requires (returns-in-Some-clause-given c)

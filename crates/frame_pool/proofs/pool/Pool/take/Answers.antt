@@ -1,11 +1,11 @@
-use Rattle.std.proofs.Common.{◌≡◌, Some, None, refl, sym, ap, subst, ◌∙◌, arith}
+use Rattle.std.proofs.Common.{◌≡◌, ℕ, ◌<◌, length, Some, None, false, is_some, refl, sym, ap, subst, ◌∙◌, arith}
 use Rattle.std.proofs.lemmas.Option.{none-some, same_Some}
-use Rattle.pager_model.specs.FrameStates.{layout_of, take_frame, IsFull}
+use Rattle.pager_model.specs.FrameStates.{FrameState, layout_of, used_at, take_frame, IsFull}
 use Rattle.pager_model.specs.Layouts.{placing}
 use Rattle.frame_pool.specs.PoolState.{state_of}
 use Rattle.frame_pool.specs.Pooled.{number_in}
 use Rattle.frame_pool.proofs.Placing.{full-placing, placing-full}
-use Rattle.frame_pool.proofs.Pooling.{layout_of-pool, used_long, taking_of, take_frame-placed, state_taken-is, frame_known, frame_there, IsPool-taken}
+use Rattle.frame_pool.proofs.Pooling.{layout_of-pool, used_long, taking_of, take_frame-placed, state_taken-is, frame_known, frame_out, frame_there, IsPool-taken}
 use Rattle.frame_pool.proofs.pool.Pool.take.Goals as goal
 
 pub returns-in_default-clause-full : goal.returns-in_default-clause-full
@@ -65,3 +65,14 @@ returns-clause-full_is_told c = λ told.
     let full : IsFull (state_of p) = subst IsFull (sym c.self.view_is) told in
     let none = placing-full (layout_of (state_of p)) p.entries c.args.space c.args.page c.args.want.now c.self.invariant.sound.laid unplaced full in
     absurd (none-some _ (sym none ∙ ap (placing p.entries c.args.space c.args.page c.args.want.now) (layout_of-pool p c.self.invariant) ∙ c.in-Some.ensures.placed.is))
+
+pub returns-clause-unused : goal.returns-clause-unused
+returns-clause-unused c =
+    let p = c.self.inside in
+    let unplaced = rw (← c.self.view_is) at c.requires.unplaced in
+    let placed = c.in-Some.ensures.placed in
+    let there = frame_there p c.args.space c.args.page c.args.want.now _ _ _ c.self.invariant unplaced placed c.index_mut.result.now c.index_mut.ensures.value in
+    let number : Some c.in-Some-take.frame.number ≡ number_in c.index_mut.result.now = ap number_in c.in-Some-take.ensures.value in
+    let out = frame_out p c.args.space c.args.page c.args.want.now _ _ _ c.self.invariant unplaced placed in
+    let P : FrameState → ℕ → Type 0 = λ st f. (f < length st.free) × (is_some (used_at st f) ≡ false) in
+    subst (λ f. P c.args.self.now f) (sym (same_Some _ _ (number ∙ there))) (subst (λ st. P st c.in-Some.place.frame) c.self.view_is out)

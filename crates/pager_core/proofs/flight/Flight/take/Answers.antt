@@ -1,14 +1,20 @@
-use Rattle.std.proofs.Common.{◌∙◌, ap}
-use Rattle.pager_model.specs.FrameStates.{wired_count}
-use Rattle.pager_core.proofs.Rows.{frame_takes, frame_refused}
+use Rattle.std.proofs.Common.{subst, ◌∙◌}
+use Rattle.space_core.specs.Beginning.{Places}
+use Rattle.pager_core.specs.Steps.{Makes}
+use Rattle.pager_core.proofs.Taking.{unused_elsewhere, frame_taken}
 use Rattle.pager_core.proofs.flight.Flight.take.Goals as goal
 
-pub returns-in-Ok : goal.returns-in-Ok
-returns-in-Ok c =
-    let taken = c.in-Ok.ensures.taken in
-    frame_takes c.args.self.now c.args.page c.args.want c.args.space.now c.place.new.self c.args.pool.now c.take.new.self taken.0 c.space-own.result c.number-number.result c.in-Ok.frame.number
-    c.requires.phase c.requires.ready c.space-own.ensures taken.1 taken.2 taken.3 c.number-number.ensures c.place.ensures
+pub place-requires-clause-other : goal.place-requires-clause-other
+place-requires-clause-other c = unused_elsewhere c.args.space.now c.args.pool.now c.in-Ok.taken.number c.requires.agree c.in-Ok.ensures.unused.1
 
-pub returns-in-Err : goal.returns-in-Err
-returns-in-Err c =
-    rw (c.end_entry.ensures, c.in-Err.ensures.full.1) (frame_refused c.args.self.now c.args.page c.counts-wired.result.wired c.args.want c.args.space.now c.args.pool.now c.requires.phase c.requires.ready c.in-Err.ensures.full.0 (c.counts-wired.ensures.wired ∙ ap wired_count c.in-Err.ensures.full.1))
+pub returns-in-Ok-clause-entry : goal.returns-in-Ok-clause-entry
+returns-in-Ok-clause-entry c =
+    let taken = c.in-Ok.ensures.taken in
+    frame_taken c.args.self.now c.args.page c.space-own.result c.number-frame.result c.args.want c.args.space.now c.place.new.self c.args.pool.now c.take.new.self taken.0
+    c.requires.phase c.space-own.ensures (c.number-frame.ensures ∙ taken.3) c.requires.agree c.requires.owns taken.1 taken.2
+    (subst (Places c.args.space.now c.place.new.self c.args.page) taken.3 c.place.ensures)
+
+pub returns-in-Err-clause-entry : goal.returns-in-Err-clause-entry
+returns-in-Err-clause-entry c =
+    let same = c.in-Err.ensures.full.1 in
+    λ st ready. subst (λ pool. Makes c.args.self.now c.find_none.new.self c.args.space.now c.args.space.now st pool c.find_none.new.pool c.find_none.result) same (c.find_none.ensures.entry c.args.space.now st ready)

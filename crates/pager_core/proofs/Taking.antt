@@ -1,0 +1,112 @@
+-- A page that isn't resident takes a frame.
+use Rattle.std.proofs.Common.{◌≡◌, ℕ, true, false, eqb, ◌&&◌, is_some, Some, None, refl, ap, sym, subst, ◌∙◌, arith}
+use Rattle.std.specs.Option.{IsSomeAnd}
+use Rattle.std.proofs.lemmas.Bool.{cond-true, eq-eqb, false≢true}
+use Rattle.pager_model.specs.declared.call.Call.{Call}
+use Rattle.pager_model.specs.declared.call.Call.TheVariants.{Map, Grow, Unmap, Protect, Load, Store, Sync, Evict}
+use Rattle.pager_model.specs.declared.entry.Want.{Want}
+use Rattle.pager_model.specs.declared.entry.What.TheVariants.{Take}
+use Rattle.pager_model.specs.Flat.{space_of_call, page_of, can_read, can_write}
+use Rattle.pager_model.specs.FrameStates.{FrameState, Taking, layout_of, used_at, frame_of, take_frame, state_taken, counted, HasNothing}
+use Rattle.pager_model.specs.Agreement.{OwnsBy}
+use Rattle.pager_model.specs.Regions.{region_at, wanted}
+use Rattle.pager_model.specs.SpaceStates.{SpaceState, space_after, MayGoOn}
+use Rattle.frame_pool.proofs.Covering.{frame_in-found}
+use Rattle.frame_pool.proofs.Soundness.{is_used-layout_of}
+use Rattle.space_core.specs.Beginning.{SameRegions, Places}
+use Rattle.space_core.specs.Standing.{Kept, StandsFor, frame_at, rights_at, take_entry, is_allowed}
+use Rattle.pager_core.specs.declared.flight.Flight.{Flight}
+use Rattle.pager_core.specs.declared.flight.Phase.TheVariants.{Frame, Fill}
+use Rattle.pager_core.specs.Flights.{IsReady, IsLawfulAt}
+use Rattle.pager_core.specs.Rows.{row_of}
+use Rattle.pager_core.specs.Steps.{Makes, AreAgreed}
+use Rattle.pager_core.proofs.Answering.{in_phase, by_phase, Some-same}
+
+-- the place of a page is a used place
+place_is_used : (st : FrameState) (space page frame : ℕ) → frame_of st space page ≡ Some frame → is_some (used_at st frame) ≡ true
+place_is_used st space page frame is = sym (is_used-layout_of st frame) ∙ (frame_in-found (layout_of st) space page frame is).used
+
+-- so where space and frames agree no page has an unused frame
+pub unused_elsewhere : (kept : Kept) (st : FrameState) (frame : ℕ) → AreAgreed kept st → is_some (used_at st frame) ≡ false → (p : ℕ) → frame_at kept p ≡ Some frame → ⊥
+unused_elsewhere kept st frame agree unused p is = false≢true (sym unused ∙ place_is_used st kept.number p frame (sym (agree.pages p) ∙ is))
+
+-- what rights allow depends on the regions and the rights alone
+allowed-same : (was now : Kept) (call : Call) → SameRegions was now → is_allowed now call ≡ is_allowed was call
+allowed-same was now (Load space address) same =
+    ap (λ rs. is_some (region_at rs (page_of address)) && can_read (rights_at now (page_of address))) same.regions
+    ∙ ap (λ r. is_some (region_at was.regions (page_of address)) && can_read r) (same.rights (page_of address))
+allowed-same was now (Store space address word) same =
+    ap (λ rs. is_some (region_at rs (page_of address)) && can_write (rights_at now (page_of address))) same.regions
+    ∙ ap (λ r. is_some (region_at was.regions (page_of address)) && can_write r) (same.rights (page_of address))
+allowed-same was now (Map space page len kind rights) same = refl
+allowed-same was now (Grow space page by) same = refl
+allowed-same was now (Unmap space page) same = refl
+allowed-same was now (Protect space page len rights) same = refl
+allowed-same was now (Sync space page) same = refl
+allowed-same was now (Evict space page) same = refl
+
+-- The page gets the frame that is taken.
+module _ (f : Flight) (page : ℕ) (want : Want) (was now : Kept) (before : FrameState) (t : Taking) where
+  Makes-take :
+      (st : SpaceState) → IsReady (in_phase f (Frame page want)) was st → AreAgreed was before → HasNothing before f.processor
+      → take_frame before (space_of_call f.call) page want ≡ Some t → Places was now page t.frame
+      → Makes (in_phase f (Frame page want)) (in_phase f (Fill page t.frame)) was now st before (counted t.state) (take_entry f.processor (space_of_call f.call) page t.frame want)
+  Makes-take st ready agree nothing takes places = record {
+    same_call = record { processor = refl; number = refl; call = refl };
+    same_space = places.same.number;
+    same_count = places.same.frames;
+    processor = refl;
+    parts = ((space_of_call f.call, refl), refl);
+    own_space = on;
+    space_allows = (
+      subst (λ next. MayGoOn next f.processor (Take page t.frame want)) (sym ready.next) tt,
+      (ap (λ rs. wanted rs page) ready.stands.regions ∙ ready.found.wanted, ready.stands.base page ∙ absent),
+    );
+    frames_allow = λ named. (
+      ap (λ s. frame_of before s page) on ∙ sym (agree.pages page) ∙ absent,
+      nothing,
+      subst (λ o. IsSomeAnd o (λ (u : Taking). u.frame ≡ t.frame)) (sym takes) refl,
+    );
+    frames_after = ap (λ o. counted (state_taken before o)) (sym takes);
+    in_order = refl;
+    reply = refl;
+    answer = refl;
+    left = (on ∙ sym places.same.number, subst (IsReady (in_phase f (Fill page t.frame)) now) (sym (cond-true (eqb (space_of_call f.call) was.number) (space_after st (take_entry f.processor (space_of_call f.call) page t.frame want)) st (eq-eqb _ _ on))) next);
+    fewer = omega arith;
+  }
+    where
+      on : space_of_call f.call ≡ was.number
+      on = Some-same _ _ ready.under
+
+      absent : frame_at was page ≡ None
+      absent = ready.found.lacks.absent
+
+      lawful : IsLawfulAt f.call was page
+      lawful = ready.found.lacks.lawful
+
+      next : IsReady (in_phase f (Fill page t.frame)) now (space_after st (take_entry f.processor (space_of_call f.call) page t.frame want))
+      next = record {
+        under = ap Some (on ∙ sym places.same.number);
+        can = ready.can;
+        stands = subst (λ n. StandsFor now (space_after st (take_entry f.processor n page t.frame want))) (sym on) (places.stands st f.processor want ready.stands);
+        next = refl;
+        found = record {
+          lawful = record { page_is = lawful.page_is; in_space = lawful.in_space; allowed = allowed-same was now f.call places.same ∙ lawful.allowed };
+          pending = places.pending;
+          none_clearing = places.same_clearing ∙ ready.found.lacks.resting.none_clearing;
+          resident = places.resident;
+        };
+      }
+
+-- what a flight that wants a frame has: nothing
+HasNothing-wanting : (f : Flight) (page : ℕ) (want : Want) (before : FrameState) → f.phase ≡ Frame page want → OwnsBy before f.processor (row_of f).progress.doing → HasNothing before f.processor
+HasNothing-wanting f page want before phase =
+    by_phase f (Frame page want) phase (λ g. OwnsBy before f.processor (row_of g).progress.doing → HasNothing before f.processor) (λ owns. owns)
+
+pub frame_taken : (f : Flight) (page own frame : ℕ) (want : Want) (was now : Kept) (before after : FrameState) (t : Taking) → f.phase ≡ Frame page want → own ≡ space_of_call f.call → frame ≡ t.frame → AreAgreed was before → OwnsBy before f.processor (row_of f).progress.doing → take_frame before own page want ≡ Some t → after ≡ counted t.state → Places was now page t.frame → (st : SpaceState) → IsReady f was st → Makes f (in_phase f (Fill page frame)) was now st before after (take_entry f.processor own page frame want)
+frame_taken f page own frame want was now before after t phase same numbered agree owns takes counts places st =
+    subst (λ n. IsReady f was st → Makes f (in_phase f (Fill page n)) was now st before after (take_entry f.processor own page n want)) (sym numbered)
+    (subst (λ u. IsReady f was st → Makes f (in_phase f (Fill page t.frame)) was now st before u (take_entry f.processor own page t.frame want)) (sym counts)
+    (subst (λ s. IsReady f was st → Makes f (in_phase f (Fill page t.frame)) was now st before (counted t.state) (take_entry f.processor s page t.frame want)) (sym same)
+    (by_phase f (Frame page want) phase (λ g. IsReady g was st → Makes g (in_phase f (Fill page t.frame)) was now st before (counted t.state) (take_entry f.processor (space_of_call f.call) page t.frame want))
+    (λ ready. Makes-take f page want was now before t st ready agree (HasNothing-wanting f page want before phase owns) (ap (λ s. take_frame before s page want) (sym same) ∙ takes) places))))

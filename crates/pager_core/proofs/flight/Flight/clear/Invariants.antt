@@ -1,0 +1,13 @@
+use Rattle.std.proofs.Common.{is_some}
+use Rattle.std.specs.List.{range_with_len, count_by}
+use Rattle.space_core.specs.Standing.{frame_at}
+use Rattle.pager_core.proofs.flight.Flight.clear.Given as goal
+use Rattle.pager_core.proofs.Clearing.{IsClearing}
+
+-- so far some pages of the range gave their frames up, the lowest first
+abbrev pub invariant-loop-page : goal.invariant-loop-page
+invariant-loop-page l = IsClearing l.initial.space l.initial.pool l.space l.pool l.first l.length
+
+-- so many pages of the range are resident
+abbrev pub decreases-loop-page : goal.decreases-loop-page
+decreases-loop-page l = count_by (λ p. is_some (frame_at l.space p)) (range_with_len l.first l.length)

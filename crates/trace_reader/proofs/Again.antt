@@ -1,0 +1,181 @@
+-- A trace's text is cut into the lines and words that it was made of, and has no refusal.
+use Rattle.std.proofs.Common.{◌≡◌, ◌≢◌, ℕ, suc, ◌+◌, ◌^◌, ◌<◌, ◌≤◌, Bool, true, false, eqb, ltb, ◌&&◌, List, [], ◌∷◌, ◌++◌, length, flat_map, Option, Some, None, decimal, codes, refl, sym, ap, ◌∙◌, append_assoc, arith, lit≤, inl, inr}
+use Rattle.std.specs.List.{join_with_byte, slice_split, All, AllByRecursion, list_all}
+use Rattle.std.specs.Str.{bytes_eq}
+use Rattle.std.specs.Str.Parse.{AllDigits}
+use Rattle.std.proofs.lemmas.Bool.{and_parts, ltb-true, ne_eqb, cases_Bool}
+use Rattle.std.proofs.lemmas.List.Concat.{flat_map-cons}
+use Rattle.std.proofs.lemmas.List.Elements.{All-from_recursion, All-append, All-cons, All-nil, recursion_from_All}
+use Rattle.std.proofs.lemmas.List.Splits.{slice_split_at, slice_split_none}
+use Rattle.std.proofs.lemmas.Slice.Eq.{bytes_eq-Decides}
+use Rattle.std.proofs.lemmas.Str.Parse.{digit_from_value}
+use Rattle.pager_model.specs.declared.call.Call.{Call}
+use Rattle.pager_model.specs.declared.call.Call.TheVariants.{Map, Grow, Unmap, Protect, Load, Store, Sync, Evict}
+use Rattle.pager_model.specs.declared.call.Line.{Line}
+use Rattle.pager_model.specs.declared.region.Kind.{Kind}
+use Rattle.pager_model.specs.declared.region.Kind.TheVariants.{Fixed, Growing, Wired}
+use Rattle.pager_model.specs.declared.region.Rights.{Rights}
+use Rattle.pager_model.specs.declared.region.Rights.TheVariants.{NoAccess, Read, Write}
+use Rattle.pager_model.specs.Plans.{Plan}
+use Rattle.pager_model.specs.TraceText.{kind_word, rights_word, call_words, line_words, line_of_words, call_line, first_words, first_line, text_of, IsCall, IsLine, HasText}
+use Rattle.pager_model.proofs.Texts.{text_is_short}
+use Rattle.trace_reader.specs.declared.line.Head.{Head}
+use Rattle.trace_reader.specs.Forms.{call_forms, line_fault}
+use Rattle.trace_reader.specs.Heads.{IsInRange}
+use Rattle.trace_reader.specs.Refusals.{lines_of, words_of, calls_refusal, refusal_of}
+use Rattle.trace_reader.proofs.Lines.{line_is_lawful}
+use Rattle.trace_reader.proofs.Numbers.{all_digits}
+use Rattle.trace_reader.proofs.Refusals.{goes_on, behind_first_line}
+
+-- ---- words without a space and a line feed
+
+-- each byte is above that of a space
+abbrev pub IsWord : List ℕ → Type 0
+IsWord word = AllByRecursion (λ b. 32 < b) word
+
+-- for a word that is written out
+is_word : (word : List ℕ) → list_all (λ b. ltb 32 b) word ≡ true → IsWord word
+is_word [] e = tt
+is_word (b ∷ word) e =
+    let p = and_parts (ltb 32 b) (list_all (λ c. ltb 32 c) word) e in
+    (ltb-true 32 b p.0, is_word word p.1)
+
+digits_are : (word : List ℕ) → AllDigits 10 word → IsWord word
+digits_are [] h = tt
+digits_are (b ∷ word) h = (let r = digit_from_value b h.0 in omega arith, digits_are word h.1)
+
+decimal_is : (n : ℕ) → n < 2 ^ 64 → IsWord (decimal n)
+decimal_is n small = digits_are (decimal n) (all_digits n small)
+
+kind_is : (kind : Kind) → IsWord (kind_word kind)
+kind_is Fixed = is_word (codes "fixed") refl
+kind_is Growing = is_word (codes "growing") refl
+kind_is Wired = is_word (codes "wired") refl
+
+rights_are : (rights : Rights) → IsWord (rights_word rights)
+rights_are NoAccess = is_word (codes "none") refl
+rights_are Read = is_word (codes "read") refl
+rights_are Write = is_word (codes "write") refl
+
+call_words_are : (spaces : ℕ) (call : Call) → spaces ≤ 2 ^ 64 → IsCall spaces call → AllByRecursion IsWord (call_words call)
+call_words_are spaces (Map space page len kind rights) few is =
+    (is_word (codes "map") refl, (decimal_is space (omega arith), (decimal_is page (omega arith), (decimal_is len (omega arith), (kind_is kind, (rights_are rights, tt))))))
+call_words_are spaces (Grow space page by) few is =
+    (is_word (codes "grow") refl, (decimal_is space (omega arith), (decimal_is page (omega arith), (decimal_is by (omega arith), tt))))
+call_words_are spaces (Unmap space page) few is =
+    (is_word (codes "unmap") refl, (decimal_is space (omega arith), (decimal_is page (omega arith), tt)))
+call_words_are spaces (Protect space page len rights) few is =
+    (is_word (codes "protect") refl, (decimal_is space (omega arith), (decimal_is page (omega arith), (decimal_is len (omega arith), (rights_are rights, tt)))))
+call_words_are spaces (Load space address) few is =
+    (is_word (codes "load") refl, (decimal_is space (omega arith), (decimal_is address (omega arith), tt)))
+call_words_are spaces (Store space address word) few is =
+    (is_word (codes "store") refl, (decimal_is space (omega arith), (decimal_is address (omega arith), (decimal_is word is.3, tt))))
+call_words_are spaces (Sync space page) few is =
+    (is_word (codes "sync") refl, (decimal_is space (omega arith), (decimal_is page (omega arith), tt)))
+call_words_are spaces (Evict space page) few is =
+    (is_word (codes "evict") refl, (decimal_is space (omega arith), (decimal_is page (omega arith), tt)))
+
+line_words_are : (processors spaces : ℕ) (line : Line) → processors ≤ 2 ^ 64 → spaces ≤ 2 ^ 64 → IsLine processors spaces line → AllByRecursion IsWord (line_words line)
+line_words_are processors spaces line some few is = (decimal_is line.processor (omega (arith, is.0)), call_words_are spaces line.call few is.1)
+
+first_words_are : (plan : Plan) → HasText plan → AllByRecursion IsWord (first_words plan.frames plan.processors plan.spaces)
+first_words_are plan has =
+    (is_word (codes "trace") refl, (is_word (codes "1") refl, (decimal_is plan.frames (omega (arith, has.frames_in)), (decimal_is plan.processors (omega (arith, has.processors_in)), (decimal_is plan.spaces (omega (arith, has.spaces_in)), tt)))))
+
+-- ---- what was joined is cut again
+
+-- a byte at most that of a space isn't in a word
+lacks : (byte : ℕ) (word : List ℕ) → byte ≤ 32 → IsWord word → AllByRecursion (λ b. eqb b byte ≡ false) word
+lacks byte [] low is = tt
+lacks byte (b ∷ word) low is = (ne_eqb b byte (λ e. omega (arith, is.0)), lacks byte word low is.1)
+
+lacks_all : (byte : ℕ) (word : List ℕ) → byte ≤ 32 → IsWord word → All (λ b. eqb b byte ≡ false) word
+lacks_all byte word low is = All-from_recursion _ word (lacks byte word low is)
+
+-- the words of a line that was joined of some
+pub words_again : (word : List ℕ) (words : List (List ℕ)) → AllByRecursion IsWord (word ∷ words) → words_of (join_with_byte 32 (word ∷ words)) ≡ word ∷ words
+words_again word [] are = slice_split_none (λ b. eqb b 32) word (lacks_all 32 word (lit≤ tt) are.0)
+words_again word (next ∷ words) are =
+    slice_split_at (λ b. eqb b 32) word 32 (join_with_byte 32 (next ∷ words)) (lacks_all 32 word (lit≤ tt) are.0) refl ∙ ap (λ (x : List (List ℕ)). word ∷ x) (words_again next words are.1)
+
+abbrev IsNoFeed : ℕ → Type 0
+IsNoFeed b = eqb b 10 ≡ false
+
+no_feed : (words : List (List ℕ)) → AllByRecursion IsWord words → All IsNoFeed (join_with_byte 32 words)
+no_feed [] are = All-nil IsNoFeed
+no_feed (word ∷ []) are = lacks_all 10 word (omega arith) are.0
+no_feed (word ∷ next ∷ words) are =
+    All-append IsNoFeed word (32 ∷ join_with_byte 32 (next ∷ words)) (lacks_all 10 word (omega arith) are.0) (All-cons IsNoFeed 32 (join_with_byte 32 (next ∷ words)) refl (no_feed (next ∷ words) are.1))
+
+-- the first line of a text that begins with these words
+pub line_again : (words : List (List ℕ)) (rest : List ℕ) → AllByRecursion IsWord words → lines_of (line_of_words words ++ rest) ≡ join_with_byte 32 words ∷ lines_of rest
+line_again words rest are =
+    ap lines_of (append_assoc (join_with_byte 32 words) (10 ∷ []) rest) ∙ slice_split_at (λ b. eqb b 10) (join_with_byte 32 words) 10 rest (no_feed words are) refl
+
+-- ---- the lines of calls
+
+abbrev pub end_line : List ℕ
+end_line = line_of_words (codes "end" ∷ [])
+
+-- the text of these calls, up to the end
+abbrev pub calls_text : List Line → List ℕ
+calls_text calls = flat_map call_line calls ++ end_line
+
+pub calls_text-cons : (call : Line) (calls : List Line) → calls_text (call ∷ calls) ≡ call_line call ++ calls_text calls
+calls_text-cons call calls =
+    ap (λ (x : List ℕ). x ++ end_line) (flat_map-cons call_line call calls) ∙ append_assoc (call_line call) (flat_map call_line calls) end_line
+
+pub call_again : (processors spaces : ℕ) (call : Line) (calls : List Line) → processors ≤ 2 ^ 64 → spaces ≤ 2 ^ 64 → IsLine processors spaces call → lines_of (calls_text (call ∷ calls)) ≡ join_with_byte 32 (line_words call) ∷ lines_of (calls_text calls)
+call_again processors spaces call calls some few is =
+    ap lines_of (calls_text-cons call calls) ∙ line_again (line_words call) (calls_text calls) (line_words_are processors spaces call some few is)
+
+pub call_words_again : (processors spaces : ℕ) (call : Line) → processors ≤ 2 ^ 64 → spaces ≤ 2 ^ 64 → IsLine processors spaces call → words_of (join_with_byte 32 (line_words call)) ≡ line_words call
+call_words_again processors spaces call some few is = words_again (decimal call.processor) (call_words call.call) (line_words_are processors spaces call some few is)
+
+some_words : (call : Call) → 1 ≤ length (call_words call)
+some_words (Map space page len kind rights) = omega arith
+some_words (Grow space page by) = omega arith
+some_words (Unmap space page) = omega arith
+some_words (Protect space page len rights) = omega arith
+some_words (Load space address) = omega arith
+some_words (Store space address word) = omega arith
+some_words (Sync space page) = omega arith
+some_words (Evict space page) = omega arith
+
+-- a call has more words than the end
+pub call_is_not_end : (processors spaces : ℕ) (call : Line) → processors ≤ 2 ^ 64 → spaces ≤ 2 ^ 64 → IsLine processors spaces call → bytes_eq (join_with_byte 32 (line_words call)) (codes "end") ≡ false
+call_is_not_end processors spaces call some few is =
+    elim (cases_Bool (bytes_eq (join_with_byte 32 (line_words call)) (codes "end"))) [
+      | inl same ↦
+          let e = (bytes_eq-Decides (join_with_byte 32 (line_words call)) (codes "end")).0 same in
+          let words : line_words call ≡ codes "end" ∷ [] = sym (call_words_again processors spaces call some few is) ∙ ap words_of e in
+          absurd (omega (arith, ap length words, some_words call.call))
+      | inr other ↦ other
+    ]
+
+calls_are_lawful : (processors spaces number before : ℕ) (calls : List Line) → processors ≤ 2 ^ 64 → spaces ≤ 2 ^ 64 → AllByRecursion (IsLine processors spaces) calls → before + length calls ≤ 262144 → calls_refusal (call_forms processors spaces) number before (lines_of (calls_text calls)) ≡ None
+calls_are_lawful processors spaces number before [] some few are in' = refl
+calls_are_lawful processors spaces number before (call ∷ calls) some few are in' =
+    let lawful : line_fault (call_forms processors spaces) (words_of (join_with_byte 32 (line_words call))) ≡ None = rw (call_words_again processors spaces call some few are.0) (line_is_lawful processors spaces call some few are.0) in
+    let next = goes_on (call_forms processors spaces) number before (calls_text (call ∷ calls)) (join_with_byte 32 (line_words call)) (calls_text calls) (call_again processors spaces call calls some few are.0) (call_is_not_end processors spaces call some few are.0) lawful (λ e. omega arith) in
+    next ∙ calls_are_lawful processors spaces (number + 1) (before + 1) calls some few are.1 (omega arith)
+
+-- ---- the whole text
+
+abbrev pub head_of : Plan → Head
+head_of plan = record { frames = plan.frames; processors = plan.processors; spaces = plan.spaces }
+
+pub text_is : (plan : Plan) → text_of plan ≡ first_line plan ++ calls_text plan.calls
+text_is plan = append_assoc (first_line plan) (flat_map call_line plan.calls) end_line
+
+pub first_again : (plan : Plan) → HasText plan → lines_of (text_of plan) ≡ join_with_byte 32 (first_words plan.frames plan.processors plan.spaces) ∷ lines_of (calls_text plan.calls)
+first_again plan has = ap lines_of (text_is plan) ∙ line_again (first_words plan.frames plan.processors plan.spaces) (calls_text plan.calls) (first_words_are plan has)
+
+pub first_words_again : (plan : Plan) → HasText plan → words_of (join_with_byte 32 (first_words plan.frames plan.processors plan.spaces)) ≡ first_words plan.frames plan.processors plan.spaces
+first_words_again plan has = words_again (codes "trace") (codes "1" ∷ decimal plan.frames ∷ decimal plan.processors ∷ decimal plan.spaces ∷ []) (first_words_are plan has)
+
+pub not_refused : (plan : Plan) → HasText plan → refusal_of (text_of plan) ≡ None
+not_refused plan has =
+    let is : IsInRange (head_of plan) = (has.frames_in, has.frames_whole, has.processors_in, has.spaces_in) in
+    let behind = behind_first_line (text_of plan) (join_with_byte 32 (first_words plan.frames plan.processors plan.spaces)) (calls_text plan.calls) (head_of plan) (text_is_short plan has) (first_again plan has) (first_words_again plan has) is in
+    behind ∙ calls_are_lawful plan.processors plan.spaces 2 0 plan.calls (omega (arith, has.processors_in)) (omega (arith, has.spaces_in)) (recursion_from_All _ plan.calls has.lines) (omega (arith, has.few))

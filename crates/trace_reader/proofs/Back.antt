@@ -1,0 +1,102 @@
+-- A trace is read back from its text, so that no two have one.
+use Rattle.std.proofs.Common.{◌≡◌, ℕ, ◌^◌, ◌<◌, ◌≤◌, Bool, cond, List, [], ◌∷◌, ◌++◌, get_or, drop, Option, None, decimal, codes, refl, sym, ap, ◌∙◌, arith}
+use Rattle.std.specs.List.{join_with_byte, AllByRecursion}
+use Rattle.std.specs.Str.{bytes_eq}
+use Rattle.std.specs.Str.Parse.{digits_value}
+use Rattle.std.proofs.lemmas.List.Elements.{recursion_from_All}
+use Rattle.pager_model.specs.declared.call.Call.{Call}
+use Rattle.pager_model.specs.declared.call.Call.TheVariants.{Map, Grow, Unmap, Protect, Load, Store, Sync, Evict}
+use Rattle.pager_model.specs.declared.call.Line.{Line}
+use Rattle.pager_model.specs.declared.region.Kind.{Kind}
+use Rattle.pager_model.specs.declared.region.Kind.TheVariants.{Fixed, Growing, Wired}
+use Rattle.pager_model.specs.declared.region.Rights.{Rights}
+use Rattle.pager_model.specs.declared.region.Rights.TheVariants.{NoAccess, Read, Write}
+use Rattle.pager_model.specs.Plans.{Plan}
+use Rattle.pager_model.specs.TraceText.{kind_word, rights_word, call_words, line_words, first_words, text_of, IsCall, IsLine, HasText}
+use Rattle.trace_reader.specs.Refusals.{lines_of, words_of}
+use Rattle.trace_reader.proofs.Again.{calls_text, call_again, call_words_again, call_is_not_end, first_again, first_words_again}
+use Rattle.trace_reader.proofs.Numbers.{decimal_value}
+
+-- the number at a place, the kind and the rights
+abbrev number_back : List (List ℕ) → ℕ → ℕ
+number_back words i = digits_value 10 (get_or words i [])
+
+abbrev kind_back : List ℕ → Kind
+kind_back word = cond (bytes_eq word (codes "fixed")) Fixed (cond (bytes_eq word (codes "growing")) Growing Wired)
+
+abbrev rights_back : List ℕ → Rights
+rights_back word = cond (bytes_eq word (codes "none")) NoAccess (cond (bytes_eq word (codes "read")) Read Write)
+
+kind_again : (kind : Kind) → kind_back (kind_word kind) ≡ kind
+kind_again Fixed = refl
+kind_again Growing = refl
+kind_again Wired = refl
+
+rights_again : (rights : Rights) → rights_back (rights_word rights) ≡ rights
+rights_again NoAccess = refl
+rights_again Read = refl
+rights_again Write = refl
+
+-- the call of this name, with the words of its line
+abbrev call_back : List ℕ → List (List ℕ) → Call
+call_back name words =
+    cond (bytes_eq name (codes "map")) (Map (number_back words 2) (number_back words 3) (number_back words 4) (kind_back (get_or words 5 [])) (rights_back (get_or words 6 [])))
+    (cond (bytes_eq name (codes "grow")) (Grow (number_back words 2) (number_back words 3) (number_back words 4))
+    (cond (bytes_eq name (codes "unmap")) (Unmap (number_back words 2) (number_back words 3))
+    (cond (bytes_eq name (codes "protect")) (Protect (number_back words 2) (number_back words 3) (number_back words 4) (rights_back (get_or words 5 [])))
+    (cond (bytes_eq name (codes "load")) (Load (number_back words 2) (number_back words 3))
+    (cond (bytes_eq name (codes "store")) (Store (number_back words 2) (number_back words 3) (number_back words 4))
+    (cond (bytes_eq name (codes "sync")) (Sync (number_back words 2) (number_back words 3))
+    (Evict (number_back words 2) (number_back words 3))))))))
+
+abbrev line_back : List (List ℕ) → Line
+line_back words = record { processor = number_back words 0; call = call_back (get_or words 1 []) words }
+
+value : (n : ℕ) → n < 2 ^ 64 → digits_value 10 (decimal n) ≡ n
+value n small = decimal_value n small
+
+call_is_back : (spaces processor : ℕ) (call : Call) → spaces ≤ 2 ^ 64 → processor < 2 ^ 64 → IsCall spaces call → line_back (decimal processor ∷ call_words call) ≡ record { processor = processor; call = call }
+call_is_back spaces processor (Map space page len kind rights) few small is =
+    rw (value processor small, value space (omega arith), value page (omega arith), value len (omega arith), kind_again kind, rights_again rights) refl
+call_is_back spaces processor (Grow space page by) few small is =
+    rw (value processor small, value space (omega arith), value page (omega arith), value by (omega arith)) refl
+call_is_back spaces processor (Unmap space page) few small is =
+    rw (value processor small, value space (omega arith), value page (omega arith)) refl
+call_is_back spaces processor (Protect space page len rights) few small is =
+    rw (value processor small, value space (omega arith), value page (omega arith), value len (omega arith), rights_again rights) refl
+call_is_back spaces processor (Load space address) few small is =
+    rw (value processor small, value space (omega arith), value address (omega arith)) refl
+call_is_back spaces processor (Store space address word) few small is =
+    rw (value processor small, value space (omega arith), value address (omega arith), value word is.3) refl
+call_is_back spaces processor (Sync space page) few small is =
+    rw (value processor small, value space (omega arith), value page (omega arith)) refl
+call_is_back spaces processor (Evict space page) few small is =
+    rw (value processor small, value space (omega arith), value page (omega arith)) refl
+
+-- the calls of the lines up to the end
+abbrev calls_back : List (List ℕ) → List Line
+calls_back [] = []
+calls_back (line ∷ lines) = cond (bytes_eq line (codes "end")) [] (line_back (words_of line) ∷ calls_back lines)
+
+calls_are_back : (processors spaces : ℕ) (calls : List Line) → processors ≤ 2 ^ 64 → spaces ≤ 2 ^ 64 → AllByRecursion (IsLine processors spaces) calls → calls_back (lines_of (calls_text calls)) ≡ calls
+calls_are_back processors spaces [] some few are = refl
+calls_are_back processors spaces (call ∷ calls) some few are =
+    let back : line_back (line_words call) ≡ call = call_is_back spaces call.processor call.call few (omega (arith, are.0)) are.0.1 in
+    rw (call_again processors spaces call calls some few are.0, call_is_not_end processors spaces call some few are.0, call_words_again processors spaces call some few are.0, back, calls_are_back processors spaces calls some few are.1) refl
+
+abbrev plan_of : List (List ℕ) → List (List ℕ) → Plan
+plan_of words lines = record { frames = number_back words 2; processors = number_back words 3; spaces = number_back words 4; daemon = None; calls = calls_back lines }
+
+abbrev plan_back : List ℕ → Plan
+plan_back text = plan_of (words_of (get_or (lines_of text) 0 [])) (drop 1 (lines_of text))
+
+plan_is_back : (plan : Plan) → HasText plan → plan_back (text_of plan) ≡ plan
+plan_is_back plan has =
+    let frames = value plan.frames (omega (arith, has.frames_in)) in
+    let processors = value plan.processors (omega (arith, has.processors_in)) in
+    let spaces = value plan.spaces (omega (arith, has.spaces_in)) in
+    let calls = calls_are_back plan.processors plan.spaces plan.calls (omega (arith, has.processors_in)) (omega (arith, has.spaces_in)) (recursion_from_All _ plan.calls has.lines) in
+    rw (first_again plan has, first_words_again plan has, frames, processors, spaces, calls, sym has.no_daemon) refl
+
+pub one_plan : (a b : Plan) → HasText a → HasText b → text_of a ≡ text_of b → a ≡ b
+one_plan a b p q same = sym (plan_is_back a p) ∙ ap plan_back same ∙ plan_is_back b q

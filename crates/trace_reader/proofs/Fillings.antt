@@ -1,0 +1,288 @@
+-- A line without a fault is filled with numbers and words of its form, and so is a line of a trace. A text without a refusal is a trace's.
+use Rattle.std.proofs.Common.{◌≡◌, ◌≢◌, ℕ, ◌+◌, ◌%◌, ◌^◌, ◌<◌, ◌≤◌, ◌⊎◌, Bool, true, false, cond, eqb, ◌&&◌, ◌||◌, List, [], ◌∷◌, ◌++◌, length, get_or, flat_map, Option, Some, None, Result, Ok, Err, decimal, codes, refl, sym, ap, subst, ◌∙◌, append_assoc, arith, inl, inr}
+use Rattle.std.specs.List.{join_with_byte, list_any, All, AllByRecursion}
+use Rattle.std.specs.Option.{option_or}
+use Rattle.std.specs.Result.{result_err}
+use Rattle.std.specs.Str.{bytes_eq}
+use Rattle.std.proofs.lemmas.Bool.{and_parts, or_cases, cases_Bool, cases_lt, eq-eqb}
+use Rattle.std.proofs.lemmas.List.Concat.{flat_map-cons}
+use Rattle.std.proofs.lemmas.List.Elements.{All-from_recursion}
+use Rattle.std.proofs.lemmas.List.Splits.{join_with_byte-slice_split}
+use Rattle.std.proofs.lemmas.Slice.Eq.{bytes_eq-Decides}
+use Rattle.pager_model.specs.declared.call.Call.TheVariants.{Map, Grow, Unmap, Protect, Load, Store, Sync, Evict}
+use Rattle.pager_model.specs.declared.call.Line.{Line}
+use Rattle.pager_model.specs.declared.region.Kind.{Kind}
+use Rattle.pager_model.specs.declared.region.Kind.TheVariants.{Fixed, Growing, Wired}
+use Rattle.pager_model.specs.declared.region.Rights.{Rights}
+use Rattle.pager_model.specs.declared.region.Rights.TheVariants.{NoAccess, Read, Write}
+use Rattle.pager_model.specs.Plans.{Plan}
+use Rattle.pager_model.specs.TraceText.{kind_word, rights_word, line_words, line_of_words, call_line, first_words, IsLine, IsTextOf}
+use Rattle.trace_reader.specs.declared.fault.LineCause.{LineCause}
+use Rattle.trace_reader.specs.declared.fault.LineCause.TheVariants as causes
+use Rattle.trace_reader.specs.declared.fault.TraceFault.{TraceFault}
+use Rattle.trace_reader.specs.declared.fault.TraceFault.TheVariants.{TooManyCalls}
+use Rattle.trace_reader.specs.declared.line.Head.{Head}
+use Rattle.trace_reader.specs.Forms.{Place, Word, OneOf, Number, number_in, may_stand, fits, leftmost, line_fault, first_form, any_kind, any_rights, map_form, grow_form, unmap_form, protect_form, load_form, store_form, sync_form, evict_form, call_forms}
+use Rattle.trace_reader.specs.Heads.{IsInRange}
+use Rattle.trace_reader.specs.Refusals.{lines_of, words_of, end_refusal, at_line, calls_refusal, forms_behind, refusal_of_lines, refusal_of}
+use Rattle.trace_reader.proofs.Again.{calls_text, calls_text-cons}
+use Rattle.trace_reader.proofs.Numbers.{number_in_takes, version_text}
+use Rattle.trace_reader.proofs.Refusals.{short_enough, too_long, forms_again, is_text}
+
+-- ---- what fills a form
+
+-- a number of a place
+record Numeral (step low end : ℕ) : Type 0 where
+  n : ℕ
+  step_in : n % step ≡ 0
+  low_in : low ≤ n
+  end_in : n < end
+  small : n < 2 ^ 64
+
+-- a word out of a list
+abbrev IsOneOf : List (List ℕ) → List ℕ → Type 0
+IsOneOf [] word = ⊥
+IsOneOf (keyword ∷ keywords) word = (word ≡ keyword) ⊎ IsOneOf keywords word
+
+abbrev Chosen : List (List ℕ) → Type 0
+Chosen keywords = (word : List ℕ) × IsOneOf keywords word
+
+abbrev Filling : List Place → Type 0
+Filling [] = Unit {0}
+Filling (Word keyword ∷ places) = Filling places
+Filling (OneOf keywords ∷ places) = Chosen keywords × Filling places
+Filling (Number step low end ∷ places) = Numeral step low end × Filling places
+
+abbrev words_by : (form : List Place) → Filling form → List (List ℕ)
+words_by [] filling = []
+words_by (Word keyword ∷ places) filling = keyword ∷ words_by places filling
+words_by (OneOf keywords ∷ places) filling = filling.0.0 ∷ words_by places filling.1
+words_by (Number step low end ∷ places) filling = decimal filling.0.n ∷ words_by places filling.1
+
+-- the words are those of a filled form
+abbrev Fills : List Place → List (List ℕ) → Type 0
+Fills form words = (filling : Filling form) × (words ≡ words_by form filling)
+
+one_of : (keywords : List (List ℕ)) (word : List ℕ) → list_any (λ keyword. bytes_eq word keyword) keywords ≡ true → IsOneOf keywords word
+one_of [] word e = absurd cc
+one_of (keyword ∷ keywords) word e =
+    elim (or_cases (bytes_eq word keyword) (list_any (λ k. bytes_eq word k) keywords) e) [
+      | inl here ↦ inl ((bytes_eq-Decides word keyword).0 here)
+      | inr later ↦ inr (one_of keywords word later)
+    ]
+
+-- neither of two options is there
+neither : {A : Type 0} (a b : Option A) → option_or a b ≡ None → (a ≡ None) × (b ≡ None)
+neither None b e = (refl, e)
+neither (Some x) b e = absurd cc
+
+ok_of : (r : Result ℕ LineCause) → result_err r ≡ None → (n : ℕ) × (r ≡ Ok n)
+ok_of (Ok n) e = (n, refl)
+ok_of (Err cause) e = absurd cc
+
+filled : (form : List Place) (words : List (List ℕ)) → fits form words ≡ true → leftmost form words ≡ None → Fills form words
+filled [] [] fit none = (tt, refl)
+filled [] (word ∷ words) fit none = absurd cc
+filled (Word keyword ∷ form) [] fit none = absurd cc
+filled (OneOf keywords ∷ form) [] fit none = absurd cc
+filled (Number step low end ∷ form) [] fit none = absurd cc
+filled (Word keyword ∷ form) (word ∷ words) fit none =
+    let p = and_parts (bytes_eq word keyword) (fits form words) fit in
+    let rest = filled form words p.1 none in
+    (rest.0, ap (λ (w : List ℕ). w ∷ words) ((bytes_eq-Decides word keyword).0 p.0) ∙ ap (λ (ws : List (List ℕ)). keyword ∷ ws) rest.1)
+filled (OneOf keywords ∷ form) (word ∷ words) fit none =
+    let p = and_parts (list_any (λ keyword. bytes_eq word keyword) keywords) (fits form words) fit in
+    let rest = filled form words p.1 none in
+    (((word, one_of keywords word p.0), rest.0), ap (λ (ws : List (List ℕ)). word ∷ ws) rest.1)
+filled (Number step low end ∷ form) (word ∷ words) fit none =
+    let both = neither (result_err (number_in step low end word)) (leftmost form words) none in
+    let found = ok_of (number_in step low end word) both.0 in
+    let takes = number_in_takes step low end word found.0 found.1 in
+    let rest = filled form words fit both.1 in
+    ((record { n = found.0; step_in = takes.step_in; low_in = takes.low_in; end_in = takes.end_in; small = takes.small }, rest.0), ap (λ (w : List ℕ). w ∷ words) takes.text ∙ ap (λ (ws : List (List ℕ)). decimal found.0 ∷ ws) rest.1)
+
+-- the words fill one of these forms
+abbrev FillsOne : List (List Place) → List (List ℕ) → Type 0
+FillsOne [] words = ⊥
+FillsOne (form ∷ forms) words = Fills form words ⊎ FillsOne forms words
+
+fills_one : (forms : List (List Place)) (words : List (List ℕ)) → line_fault forms words ≡ None → FillsOne forms words
+fills_one [] words none = absurd cc
+fills_one (form ∷ forms) words none =
+    elim (cases_Bool (fits form words)) [
+      | inl fit ↦ inl (filled form words fit (rw fit at none))
+      | inr unfit ↦ inr (fills_one forms words (rw unfit at none))
+    ]
+
+-- ---- lines
+
+-- the words are those of a line that may stand
+abbrev Says : ℕ → ℕ → List (List ℕ) → Type 0
+Says processors spaces words = (line : Line) × IsLine processors spaces line × (words ≡ line_words line)
+
+kind_of : (chosen : Chosen (kind_word Fixed ∷ kind_word Growing ∷ kind_word Wired ∷ [])) → (kind : Kind) × (chosen.0 ≡ kind_word kind)
+kind_of chosen =
+    elim chosen.1 [
+      | inl fixed ↦ (Fixed, fixed)
+      | inr others ↦ elim others [
+        | inl growing ↦ (Growing, growing)
+        | inr last ↦ elim last [ inl wired ↦ (Wired, wired) | inr none ↦ absurd none ]
+      ]
+    ]
+
+rights_of : (chosen : Chosen (rights_word NoAccess ∷ rights_word Read ∷ rights_word Write ∷ [])) → (rights : Rights) × (chosen.0 ≡ rights_word rights)
+rights_of chosen =
+    elim chosen.1 [
+      | inl none ↦ (NoAccess, none)
+      | inr others ↦ elim others [
+        | inl read ↦ (Read, read)
+        | inr last ↦ elim last [ inl write ↦ (Write, write) | inr more ↦ absurd more ]
+      ]
+    ]
+
+map_says : (processors spaces : ℕ) (words : List (List ℕ)) → Fills (map_form processors spaces) words → Says processors spaces words
+map_says processors spaces words (f, e) =
+    let kind = kind_of f.1.1.1.1.0 in
+    let rights = rights_of f.1.1.1.1.1.0 in (
+      record { processor = f.0.n; call = Map f.1.0.n f.1.1.0.n f.1.1.1.0.n kind.0 rights.0 },
+      (f.0.end_in, (f.1.0.end_in, f.1.1.0.end_in, f.1.1.1.0.low_in, omega (arith, f.1.1.1.0.end_in))),
+      e
+          ∙ ap (λ (w : List ℕ). decimal f.0.n ∷ codes "map" ∷ decimal f.1.0.n ∷ decimal f.1.1.0.n ∷ decimal f.1.1.1.0.n ∷ w ∷ f.1.1.1.1.1.0.0 ∷ []) kind.1
+          ∙ ap (λ (w : List ℕ). decimal f.0.n ∷ codes "map" ∷ decimal f.1.0.n ∷ decimal f.1.1.0.n ∷ decimal f.1.1.1.0.n ∷ kind_word kind.0 ∷ w ∷ []) rights.1,
+    )
+
+grow_says : (processors spaces : ℕ) (words : List (List ℕ)) → Fills (grow_form processors spaces) words → Says processors spaces words
+grow_says processors spaces words (f, e) = (
+  record { processor = f.0.n; call = Grow f.1.0.n f.1.1.0.n f.1.1.1.0.n },
+  (f.0.end_in, (f.1.0.end_in, f.1.1.0.end_in, f.1.1.1.0.low_in, omega (arith, f.1.1.1.0.end_in))),
+  e,
+)
+
+unmap_says : (processors spaces : ℕ) (words : List (List ℕ)) → Fills (unmap_form processors spaces) words → Says processors spaces words
+unmap_says processors spaces words (f, e) =
+    (record { processor = f.0.n; call = Unmap f.1.0.n f.1.1.0.n }, (f.0.end_in, (f.1.0.end_in, f.1.1.0.end_in)), e)
+
+protect_says : (processors spaces : ℕ) (words : List (List ℕ)) → Fills (protect_form processors spaces) words → Says processors spaces words
+protect_says processors spaces words (f, e) =
+    let rights = rights_of f.1.1.1.1.0 in (
+      record { processor = f.0.n; call = Protect f.1.0.n f.1.1.0.n f.1.1.1.0.n rights.0 },
+      (f.0.end_in, (f.1.0.end_in, f.1.1.0.end_in, f.1.1.1.0.low_in, omega (arith, f.1.1.1.0.end_in))),
+      e ∙ ap (λ (w : List ℕ). decimal f.0.n ∷ codes "protect" ∷ decimal f.1.0.n ∷ decimal f.1.1.0.n ∷ decimal f.1.1.1.0.n ∷ w ∷ []) rights.1,
+    )
+
+load_says : (processors spaces : ℕ) (words : List (List ℕ)) → Fills (load_form processors spaces) words → Says processors spaces words
+load_says processors spaces words (f, e) =
+    (record { processor = f.0.n; call = Load f.1.0.n f.1.1.0.n }, (f.0.end_in, (f.1.0.end_in, f.1.1.0.step_in, f.1.1.0.end_in)), e)
+
+store_says : (processors spaces : ℕ) (words : List (List ℕ)) → Fills (store_form processors spaces) words → Says processors spaces words
+store_says processors spaces words (f, e) = (
+  record { processor = f.0.n; call = Store f.1.0.n f.1.1.0.n f.1.1.1.0.n },
+  (f.0.end_in, (f.1.0.end_in, f.1.1.0.step_in, f.1.1.0.end_in, f.1.1.1.0.end_in)),
+  e,
+)
+
+sync_says : (processors spaces : ℕ) (words : List (List ℕ)) → Fills (sync_form processors spaces) words → Says processors spaces words
+sync_says processors spaces words (f, e) =
+    (record { processor = f.0.n; call = Sync f.1.0.n f.1.1.0.n }, (f.0.end_in, (f.1.0.end_in, f.1.1.0.end_in)), e)
+
+evict_says : (processors spaces : ℕ) (words : List (List ℕ)) → Fills (evict_form processors spaces) words → Says processors spaces words
+evict_says processors spaces words (f, e) =
+    (record { processor = f.0.n; call = Evict f.1.0.n f.1.1.0.n }, (f.0.end_in, (f.1.0.end_in, f.1.1.0.end_in)), e)
+
+line_says : (processors spaces : ℕ) (words : List (List ℕ)) → line_fault (call_forms processors spaces) words ≡ None → Says processors spaces words
+line_says processors spaces words none =
+    elim (fills_one (call_forms processors spaces) words none) [
+      | inl map ↦ map_says processors spaces words map
+      | inr a ↦ elim a [
+        | inl grow ↦ grow_says processors spaces words grow
+        | inr b ↦ elim b [
+          | inl unmap ↦ unmap_says processors spaces words unmap
+          | inr c ↦ elim c [
+            | inl protect ↦ protect_says processors spaces words protect
+            | inr d ↦ elim d [
+              | inl load ↦ load_says processors spaces words load
+              | inr e ↦ elim e [
+                | inl store ↦ store_says processors spaces words store
+                | inr f ↦ elim f [
+                  | inl sync ↦ sync_says processors spaces words sync
+                  | inr g ↦ elim g [ inl evict ↦ evict_says processors spaces words evict | inr none_left ↦ absurd none_left ]
+                ]
+              ]
+            ]
+          ]
+        ]
+      ]
+    ]
+
+first_says : (words : List (List ℕ)) → line_fault (first_form ∷ []) words ≡ None → (head : Head) × IsInRange head × (words ≡ first_words head.frames head.processors head.spaces)
+first_says words none =
+    elim (fills_one (first_form ∷ []) words none) [
+      | inl first ↦
+          let f = first.0 in
+          let version = version_text (decimal f.0.n) f.0.n refl f.0.low_in f.0.end_in in (
+            record { frames = f.1.0.n; processors = f.1.1.0.n; spaces = f.1.1.1.0.n },
+            ((f.1.0.low_in, omega (arith, f.1.0.end_in)), f.1.0.step_in, (f.1.1.0.low_in, omega (arith, f.1.1.0.end_in)), (f.1.1.1.0.low_in, omega (arith, f.1.1.1.0.end_in))),
+            first.1 ∙ rw version refl,
+          )
+      | inr none_left ↦ absurd none_left
+    ]
+
+-- ---- texts
+
+no_fault : (number : ℕ) (fault : Option LineCause) → at_line number fault ≡ None → fault ≡ None
+no_fault number None e = refl
+no_fault number (Some cause) e = absurd cc
+
+nothing_behind : (number : ℕ) (next : List ℕ) (lines : List (List ℕ)) → end_refusal number (next ∷ lines) ≡ None → next ∷ lines ≡ [] ∷ []
+nothing_behind number [] [] e = refl
+nothing_behind number [] (line ∷ lines) e = absurd cc
+nothing_behind number (b ∷ next) [] e = absurd cc
+nothing_behind number (b ∷ next) (line ∷ lines) e = absurd cc
+
+-- the lines are those of some calls, up to the end
+abbrev SayCalls : ℕ → ℕ → ℕ → List (List ℕ) → Type 0
+SayCalls processors spaces before lines = (calls : List Line) × AllByRecursion (IsLine processors spaces) calls × (before + length calls ≤ 262144) × (join_with_byte 10 lines ≡ calls_text calls)
+
+calls_say : (processors spaces number before : ℕ) (lines : List (List ℕ)) → before ≤ 262144 → calls_refusal (call_forms processors spaces) number before lines ≡ None → SayCalls processors spaces before lines
+calls_say processors spaces number before [] few none = absurd cc
+calls_say processors spaces number before (line ∷ []) few none = absurd cc
+calls_say processors spaces number before (line ∷ next ∷ lines) few none =
+    elim (cases_Bool (bytes_eq line (codes "end"))) [
+      | inl same ↦
+          let last = nothing_behind number next lines (rw same at none) in
+          let is = (bytes_eq-Decides line (codes "end")).0 same in
+          ([], tt, omega arith, ap (λ (l : List ℕ). join_with_byte 10 (l ∷ next ∷ lines)) is ∙ ap (λ (ls : List (List ℕ)). join_with_byte 10 (codes "end" ∷ ls)) last)
+      | inr other ↦
+          let forms = call_forms processors spaces in
+          let both = neither (at_line number (line_fault forms (words_of line))) (cond (eqb before 262144) (Some TooManyCalls) (calls_refusal forms (number + 1) (before + 1) (next ∷ lines))) (rw other at none) in
+          let says = line_says processors spaces (words_of line) (no_fault number (line_fault forms (words_of line)) both.0) in
+          elim (cases_Bool (eqb before 262144)) [
+            | inl many ↦ absurd (let fault : Some TooManyCalls ≡ None = rw many at both.1 in cc)
+            | inr room ↦
+                let more : before ≢ 262144 = λ e. (let full : eqb before 262144 ≡ true = eq-eqb before 262144 e in cc) in
+                let rest = calls_say processors spaces (number + 1) (before + 1) (next ∷ lines) (omega arith) (rw room at both.1) in
+                let whole : line ≡ join_with_byte 32 (line_words says.0) = sym (join_with_byte-slice_split 32 line) ∙ ap (join_with_byte 32) says.2 in
+                (says.0 ∷ rest.0, (says.1, rest.1), omega (arith, rest.2), ap (λ (l : List ℕ). l ++ 10 ∷ join_with_byte 10 (next ∷ lines)) whole ∙ ap (λ (t : List ℕ). join_with_byte 32 (line_words says.0) ++ 10 ∷ t) rest.3 ∙ sym (append_assoc (join_with_byte 32 (line_words says.0)) (10 ∷ []) (calls_text rest.0)) ∙ sym (calls_text-cons says.0 rest.0))
+          ]
+    ]
+
+text_says : (text : List ℕ) (lines : List (List ℕ)) → lines_of text ≡ lines → refusal_of_lines lines ≡ None → (plan : Plan) × IsTextOf text plan
+text_says text [] is none = absurd cc
+text_says text (first ∷ []) is none = absurd cc
+text_says text (first ∷ next ∷ lines) is none =
+    let both = neither (at_line 1 (line_fault (first_form ∷ []) (words_of first))) (calls_refusal (forms_behind (words_of first)) 2 0 (next ∷ lines)) none in
+    let says = first_says (words_of first) (no_fault 1 (line_fault (first_form ∷ []) (words_of first)) both.0) in
+    let head = says.0 in
+    let forms : forms_behind (words_of first) ≡ call_forms head.processors head.spaces = ap forms_behind says.2 ∙ forms_again head says.1 in
+    let calls = calls_say head.processors head.spaces 2 0 (next ∷ lines) (omega arith) (subst (λ (fs : List (List Place)). calls_refusal fs 2 0 (next ∷ lines) ≡ None) forms both.1) in
+    let cut : text ≡ first ++ 10 ∷ join_with_byte 10 (next ∷ lines) = sym (join_with_byte-slice_split 10 text) ∙ ap (join_with_byte 10) is in (
+      record { frames = head.frames; processors = head.processors; spaces = head.spaces; daemon = None; calls = calls.0 },
+      is_text text first (join_with_byte 10 (next ∷ lines)) head calls.0 cut says.2 says.1 (All-from_recursion _ calls.0 calls.1) (omega (arith, calls.2)) calls.3,
+    )
+
+pub some_trace : (text : List ℕ) → refusal_of text ≡ None → (plan : Plan) × IsTextOf text plan
+some_trace text none =
+    elim (cases_lt 16777216 (length text)) [
+      | inl more ↦ absurd (let fault = sym none ∙ too_long text more in cc)
+      | inr few ↦ text_says text (lines_of text) refl (sym (short_enough text few) ∙ none)
+    ]

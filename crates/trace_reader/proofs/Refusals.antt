@@ -1,0 +1,93 @@
+-- The refusal of a text, line by line.
+use Rattle.std.proofs.Common.{◌≡◌, ◌≢◌, ℕ, ◌+◌, ◌<◌, ◌≤◌, Bool, true, false, cond, eqb, List, [], ◌∷◌, ◌++◌, length, Option, Some, None, codes, decimal, refl, sym, ap, ◌∙◌, append_assoc, flat_map, arith, inl, inr}
+use Rattle.std.specs.List.{join_with_byte, All}
+use Rattle.std.specs.Str.Parse.{digits_value}
+use Rattle.std.specs.Str.{bytes_eq}
+use Rattle.std.proofs.lemmas.Bool.{ne_eqb, eq-eqb, lt-ltb, le-ltb}
+use Rattle.std.proofs.lemmas.List.Splits.{join_with_byte-slice_split}
+use Rattle.std.proofs.lemmas.Grind.{flat_map-append}
+use Rattle.std.proofs.lemmas.List.{append-nil}
+use Rattle.std.proofs.lemmas.List.Concat.{flat_map-cons}
+use Rattle.pager_model.specs.declared.call.Line.{Line as Call}
+use Rattle.pager_model.specs.TraceText.{call_line, line_words, line_of_words, first_words, IsLine, IsTextOf}
+use Rattle.trace_reader.specs.declared.fault.LineCause.{LineCause}
+use Rattle.trace_reader.specs.declared.fault.LineCause.TheVariants as causes
+use Rattle.trace_reader.specs.declared.fault.TraceFault.{TraceFault}
+use Rattle.trace_reader.specs.declared.fault.TraceFault.TheVariants.{TooLong, Line, NoEnd, TooManyCalls}
+use Rattle.trace_reader.specs.Forms.{Place, line_fault, first_form, call_forms}
+use Rattle.trace_reader.specs.declared.line.Head.{Head}
+use Rattle.trace_reader.specs.Heads.{IsInRange}
+use Rattle.trace_reader.proofs.Lines.{first_is_lawful}
+use Rattle.trace_reader.proofs.Numbers.{decimal_value}
+use Rattle.trace_reader.specs.Refusals.{lines_of, words_of, end_refusal, calls_refusal, forms_behind, refusal_of_lines, refusal_of}
+use Rattle.trace_reader.proofs.Splits.{pieces, some_piece}
+
+-- what the next line, in front of this rest, says of the refusal
+pub no_line : (forms : List (List Place)) (number calls : ℕ) (rest : List ℕ) → lines_of rest ≡ rest ∷ [] → calls_refusal forms number calls (lines_of rest) ≡ Some NoEnd
+no_line forms number calls rest last = rw last refl
+
+pub faulty_line : (forms : List (List Place)) (number calls : ℕ) (rest line after : List ℕ) (cause : LineCause) → lines_of rest ≡ line ∷ lines_of after → bytes_eq line (codes "end") ≡ false → line_fault forms (words_of line) ≡ Some cause → calls_refusal forms number calls (lines_of rest) ≡ Some (Line number cause)
+faulty_line forms number calls rest line after cause first other fault = let p = some_piece 10 after in rw (first, p.2, other, fault) refl
+
+pub one_call_more : (forms : List (List Place)) (number calls : ℕ) (rest line after : List ℕ) → lines_of rest ≡ line ∷ lines_of after → bytes_eq line (codes "end") ≡ false → line_fault forms (words_of line) ≡ None → calls ≡ 262144 → calls_refusal forms number calls (lines_of rest) ≡ Some TooManyCalls
+one_call_more forms number calls rest line after first other lawful many = let p = some_piece 10 after in rw (first, p.2, other, lawful, eq-eqb calls 262144 many) refl
+
+pub goes_on : (forms : List (List Place)) (number calls : ℕ) (rest line after : List ℕ) → lines_of rest ≡ line ∷ lines_of after → bytes_eq line (codes "end") ≡ false → line_fault forms (words_of line) ≡ None → calls ≢ 262144 → calls_refusal forms number calls (lines_of rest) ≡ calls_refusal forms (number + 1) (calls + 1) (lines_of after)
+goes_on forms number calls rest line after first other lawful few = let p = some_piece 10 after in rw (first, p.2, other, lawful, ne_eqb calls 262144 few) refl
+
+-- behind the end something stands
+something : (number : ℕ) (after first : List ℕ) (others : List (List ℕ)) → lines_of after ≡ first ∷ others → after ≢ [] → end_refusal number (first ∷ others) ≡ Some (Line (number + 1) causes.After)
+something number after [] [] e some = absurd (some (sym (join_with_byte-slice_split 10 after) ∙ ap (join_with_byte 10) e))
+something number after [] (line ∷ others) e some = refl
+something number after (b ∷ first) [] e some = refl
+something number after (b ∷ first) (line ∷ others) e some = refl
+
+pub past_the_end : (forms : List (List Place)) (number calls : ℕ) (rest line after : List ℕ) → lines_of rest ≡ line ∷ lines_of after → bytes_eq line (codes "end") ≡ true → after ≢ [] → calls_refusal forms number calls (lines_of rest) ≡ Some (Line (number + 1) causes.After)
+past_the_end forms number calls rest line after first same some =
+    let p = some_piece 10 after in
+    rw (first, p.2, same) (something number after p.0 p.1 p.2 some)
+
+-- the lines so far, and one more that ends at a line feed
+pub parts_go_on : (text rest line after : List ℕ) (calls : List Call) (call : Call) → text ≡ flat_map call_line calls ++ rest → rest ≡ line ++ 10 ∷ after → words_of line ≡ line_words call → text ≡ flat_map call_line (calls ++ call ∷ []) ++ after
+parts_go_on text rest line after calls call so_far cut words =
+    let front : flat_map call_line (calls ++ call ∷ []) ≡ flat_map call_line calls ++ call_line call = flat_map-append call_line calls (call ∷ []) ∙ ap (λ (x : List ℕ). flat_map call_line calls ++ x) (flat_map-cons call_line call [] ∙ append-nil (call_line call)) in
+    let whole : line ≡ join_with_byte 32 (line_words call) = sym (join_with_byte-slice_split 32 line) ∙ ap (join_with_byte 32) words in
+    let next : rest ≡ call_line call ++ after = cut ∙ ap (λ (x : List ℕ). x ++ 10 ∷ after) whole ∙ sym (append_assoc (join_with_byte 32 (line_words call)) (10 ∷ []) after) in
+    so_far ∙ ap (λ (x : List ℕ). flat_map call_line calls ++ x) next ∙ sym (append_assoc (flat_map call_line calls) (call_line call) after) ∙ ap (λ (x : List ℕ). x ++ after) (sym front)
+
+-- ---- the whole text
+
+pub too_long : (text : List ℕ) → 16777216 < length text → refusal_of text ≡ Some TooLong
+unfolding refusal_of
+too_long text more = rw (lt-ltb 16777216 (length text) more) refl
+
+pub short_enough : (text : List ℕ) → length text ≤ 16777216 → refusal_of text ≡ refusal_of_lines (lines_of text)
+unfolding refusal_of
+short_enough text few = rw (le-ltb 16777216 (length text) few) refl
+
+pub no_first_line : (text : List ℕ) → length text ≤ 16777216 → lines_of text ≡ text ∷ [] → refusal_of text ≡ Some NoEnd
+no_first_line text few last = short_enough text few ∙ ap refusal_of_lines last
+
+pub faulty_first_line : (text line rest : List ℕ) (cause : LineCause) → length text ≤ 16777216 → lines_of text ≡ line ∷ lines_of rest → line_fault (first_form ∷ []) (words_of line) ≡ Some cause → refusal_of text ≡ Some (Line 1 cause)
+faulty_first_line text line rest cause few first fault = let p = some_piece 10 rest in rw (short_enough text few, first, p.2, fault) refl
+
+pub forms_again : (head : Head) → IsInRange head → forms_behind (first_words head.frames head.processors head.spaces) ≡ call_forms head.processors head.spaces
+forms_again head is =
+    let processors : digits_value 10 (decimal head.processors) ≡ head.processors = decimal_value head.processors (omega (arith, is.2)) in
+    let spaces : digits_value 10 (decimal head.spaces) ≡ head.spaces = decimal_value head.spaces (omega (arith, is.3)) in
+    rw (processors, spaces) refl
+
+pub behind_first_line : (text line rest : List ℕ) (head : Head) → length text ≤ 16777216 → lines_of text ≡ line ∷ lines_of rest → words_of line ≡ first_words head.frames head.processors head.spaces → IsInRange head → refusal_of text ≡ calls_refusal (call_forms head.processors head.spaces) 2 0 (lines_of rest)
+behind_first_line text line rest head few first words is =
+    let p = some_piece 10 rest in
+    rw (short_enough text few, first, p.2, words, first_is_lawful head is, forms_again head is) refl
+
+-- the trace of what was read
+pub is_text : (text line rest : List ℕ) (head : Head) (calls : List Call) → text ≡ line ++ 10 ∷ rest → words_of line ≡ first_words head.frames head.processors head.spaces → IsInRange head → All (IsLine head.processors head.spaces) calls → length calls ≤ 262144 → rest ≡ flat_map call_line calls ++ line_of_words (codes "end" ∷ [])
+    → IsTextOf text (record { frames = head.frames; processors = head.processors; spaces = head.spaces; daemon = None; calls = calls })
+is_text text line rest head calls cut words is are few behind =
+    let whole : line ≡ join_with_byte 32 (first_words head.frames head.processors head.spaces) = sym (join_with_byte-slice_split 32 line) ∙ ap (join_with_byte 32) words in
+    let first : List ℕ = line_of_words (first_words head.frames head.processors head.spaces) in
+    let front : text ≡ first ++ rest = cut ∙ ap (λ (x : List ℕ). x ++ 10 ∷ rest) whole ∙ sym (append_assoc (join_with_byte 32 (first_words head.frames head.processors head.spaces)) (10 ∷ []) rest) in
+    let all : text ≡ (first ++ flat_map call_line calls) ++ line_of_words (codes "end" ∷ []) = front ∙ ap (λ (x : List ℕ). first ++ x) behind ∙ sym (append_assoc first (flat_map call_line calls) (line_of_words (codes "end" ∷ []))) in
+    (record { frames_in = is.0; frames_whole = is.1; processors_in = is.2; spaces_in = is.3; no_daemon = refl; lines = are; few = few }, all)

@@ -1,0 +1,90 @@
+#!/bin/sh
+# Runs the built program on every example, and on words, inputs and outputs that it must not take, and compares its output, status
+# and message with what stands here.
+#
+#     examples/check.sh [PROGRAM]
+#
+# Each NAME.trace is run with the word `order`, ends with status 0, says nothing and prints NAME.text, unless a line of `cases` has
+# it as a run of the same name; that file has the other runs too. To add an example, add its two files; to add another run, add a
+# line to `cases`.
+#
+# PROGRAM is crates/superpager/out/superpager where it isn't given. `rt ci` at the top leaves it there, built of what it proved, also
+# where nothing was kept from an earlier run, and then these runs take a second. Where it isn't there, `rt run` proves and builds it.
+#
+# The last line is `N passed, M failed`. The status is 1 where a run failed, or none was made.
+
+case ${1-} in
+    '' | /*) program=${1-} ;;
+    *) program=$PWD/$1 ;;
+esac
+cd "$(dirname "$0")" || exit 1
+made=$(mktemp -d) || exit 1
+trap 'rm -rf "$made"' EXIT
+trap 'exit 1' HUP INT TERM
+passed=0
+failed=0
+# A word that is no UTF-8, for `cases`.
+not_utf_8=$(printf '\377')
+
+if [ -z "$program" ]; then
+    program=$(cd .. && pwd)/crates/superpager/out/superpager
+    if [ ! -x "$program" ]; then
+        (cd ../crates/superpager && rt run -- order <../../examples/zero-pages.trace >/dev/null)
+    fi
+fi
+
+# Runs the program with these words on an input and an output, and answers its status.
+run() {
+    input=$1
+    output=$2
+    shift 2
+    case $input,$output in
+        closed,closed) "$program" "$@" <&- >&- ;;
+        closed,full) "$program" "$@" <&- >/dev/full ;;
+        closed,*) "$program" "$@" <&- ;;
+        *,closed) "$program" "$@" <"$input" >&- ;;
+        *,full) "$program" "$@" <"$input" >/dev/full ;;
+        *) "$program" "$@" <"$input" ;;
+    esac >"$made/output" 2>"$made/message"
+}
+
+# Compares what a run of this name came to, its status among it, with what is expected, and counts it.
+compare() {
+    name=$1
+    status=$2
+    expected=$3
+    said=$4
+    text=$name.text
+    [ -e "$text" ] || text=/dev/null
+    if [ -n "$said" ]; then printf '%s\n' "$said"; fi >"$made/expected"
+    wrong=
+    [ "$status" = "$expected" ] || wrong="status $status in place of $expected; "
+    cmp -s "$text" "$made/output" || wrong="${wrong}another output than $text; "
+    cmp -s "$made/expected" "$made/message" || wrong="${wrong}another message than '$said'; "
+    if [ -z "$wrong" ]; then
+        passed=$((passed + 1))
+    else
+        failed=$((failed + 1))
+        printf '%s: %s\n' "$name" "${wrong%; }"
+        diff "$text" "$made/output"
+        diff "$made/expected" "$made/message"
+    fi
+}
+
+sed -e '/^#/d' -e '/^$/d' -e 's/ *| */|/g' cases >"$made/cases"
+
+while IFS='|' read -r name words input output status message; do
+    eval "run \"\$input\" \"\$output\" $words"
+    compare "$name" $? "$status" "$message"
+done <"$made/cases"
+
+for trace in *.trace; do
+    name=${trace%.trace}
+    if ! grep -q "^$name|" "$made/cases"; then
+        run "$trace" told order
+        compare "$name" $? 0 ''
+    fi
+done
+
+printf '%s passed, %s failed\n' "$passed" "$failed"
+[ "$failed" = 0 ] && [ "$passed" != 0 ]
