@@ -6,7 +6,7 @@ use Rattle.pager_model.specs.Agreement.{IsPartition, has_frame, is_frame, roles}
 use Rattle.pager_model.specs.FrameStates.{FrameState, layout_of, held_by}
 use Rattle.pager_model.specs.Layouts.{record_at, is_free}
 use Rattle.frame_pool.specs.Laid.{IsSound, IsIn}
-use Rattle.frame_pool.proofs.Soundness.{is_used-layout_of}
+use Rattle.frame_pool.proofs.StateSoundness.{is_used-layout_of}
 
 -- what an element adds to a count
 abbrev weight : Bool → ℕ

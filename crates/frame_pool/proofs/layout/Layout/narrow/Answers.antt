@@ -1,7 +1,7 @@
 use Rattle.std.proofs.Common.{◌≡◌, ◌∙◌, ◌<◌, refl, sym, ap, arith}
 use Rattle.pager_model.specs.Layouts.{split_layout, narrows_to, narrow_layout, split_on, record_at}
-use Rattle.frame_pool.proofs.Keeping.{IfSome-from, narrow_step, only_frame, owner_is, same_owner}
-use Rattle.frame_pool.proofs.Settling.{Settles-split}
+use Rattle.frame_pool.proofs.LayoutInOrder.{IfSome-from, narrow_step, only_frame, owner_is, same_owner}
+use Rattle.frame_pool.proofs.LayoutSplit.{Settles-split}
 use Rattle.frame_pool.proofs.layout.Layout.narrow.Goals as goal
 
 pub unwrap-part-requires : goal.unwrap-part-requires

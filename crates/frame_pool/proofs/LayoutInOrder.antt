@@ -17,14 +17,14 @@ use Rattle.reservations.proofs.HoldLemmas.{ArePlaced-set, has_frame_bounds, has_
 use Rattle.reservations.proofs.SplitLemmas.{split_records-open}
 use Rattle.frame_pool.specs.Laid.{IsLaid}
 use Rattle.frame_pool.specs.Listed.{AreListed, IsInOrder, WasSplit}
-use Rattle.frame_pool.proofs.Breaking.{placed_own, alone_own, record_at-part, part_with-has, yield_less}
-use Rattle.frame_pool.proofs.Giving.{had}
-use Rattle.frame_pool.proofs.Listing.{list_of-used, is_listed-none, AreListed-full}
-use Rattle.frame_pool.proofs.Covering.{covers-IsPageOf, frame_in-is, used_in-unused}
-use Rattle.frame_pool.proofs.Placing.{MayPut-stamped}
-use Rattle.frame_pool.proofs.Putting.{IsLaid-put}
-use Rattle.frame_pool.proofs.Settling.{Settles-split}
-use Rattle.frame_pool.proofs.Splitting.{free_up_to, free_up_to-cases}
+use Rattle.frame_pool.proofs.LayoutBreak.{placed_own, alone_own, record_at-part, part_with-has, yield_less}
+use Rattle.frame_pool.proofs.LayoutRelease.{had}
+use Rattle.frame_pool.proofs.AgeLists.{list_of-used, is_listed-none, AreListed-full}
+use Rattle.frame_pool.proofs.PagePlaces.{covers-IsPageOf, frame_in-is, used_in-unused}
+use Rattle.frame_pool.proofs.LayoutPlacing.{MayPut-stamped}
+use Rattle.frame_pool.proofs.LayoutWithRecord.{IsLaid-put}
+use Rattle.frame_pool.proofs.LayoutSplit.{Settles-split}
+use Rattle.frame_pool.proofs.SplitFrames.{free_up_to, free_up_to-cases}
 
 -- Clauses on an option.
 

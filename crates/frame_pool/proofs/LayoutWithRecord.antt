@@ -9,7 +9,7 @@ use Rattle.pager_model.specs.Records.{is_used}
 use Rattle.reservations.specs.Kept.{IsPlaced}
 use Rattle.reservations.proofs.HoldLemmas.{has_frame_bounds, Some-same, ArePlaced-set}
 use Rattle.frame_pool.specs.Laid.{IsLaid, IsIn}
-use Rattle.frame_pool.proofs.Covering.{IsPageOf-covers, has_frame_for, covering-found, covering-none, frame_in-is, used_in-used}
+use Rattle.frame_pool.proofs.PagePlaces.{IsPageOf-covers, has_frame_for, covering-found, covering-none, frame_in-is, used_in-used}
 
 -- the layout with the reservation at its first frame, these free frames, and one more used place
 abbrev pub put : Layout → Reservation → ℕ → List Bool → Layout

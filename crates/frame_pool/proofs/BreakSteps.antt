@@ -12,8 +12,8 @@ use Rattle.reservations.specs.declared.part.Part.{Part}
 use Rattle.frame_pool.proofs.PartYields.{same_size_from}
 use Rattle.frame_pool.specs.Laid.{IsLaid}
 use Rattle.frame_pool.specs.Placed.{CanBreak, first_of}
-use Rattle.frame_pool.proofs.Settling.{Settles-split}
-use Rattle.frame_pool.proofs.Breaking.{record_at-part, kept_each, find_below, goes_on_part, yield_less}
+use Rattle.frame_pool.proofs.LayoutSplit.{Settles-split}
+use Rattle.frame_pool.proofs.LayoutBreak.{record_at-part, kept_each, find_below, goes_on_part, yield_less}
 
 -- Which reservation is broken.
 

@@ -12,10 +12,10 @@ use Rattle.reservation_lists.specs.Kept.{Kept}
 use Rattle.frame_pool.specs.Laid.{IsLaid}
 use Rattle.frame_pool.specs.Listed.{IsInOrder}
 use Rattle.frame_pool.specs.Placed.{CanBreak, FindsExtent, without_extent}
-use Rattle.frame_pool.proofs.Breaking.{yield_less}
-use Rattle.frame_pool.proofs.BrokenLayout.{choice-break}
-use Rattle.frame_pool.proofs.Listing.{oldest_from-found}
-use Rattle.frame_pool.proofs.Stepping.{option_or-some, option_or-none}
+use Rattle.frame_pool.proofs.LayoutBreak.{yield_less}
+use Rattle.frame_pool.proofs.BreakYield.{choice-break}
+use Rattle.frame_pool.proofs.AgeLists.{oldest_from-found}
+use Rattle.frame_pool.proofs.BreakSteps.{option_or-some, option_or-none}
 
 -- An extent that was chosen in a sound layout.
 

@@ -17,7 +17,7 @@ use Rattle.reservations.proofs.YieldLemmas.{yield_below, yield_below-found, yiel
 use Rattle.frame_pool.specs.Laid.{IsLaid}
 use Rattle.frame_pool.proofs.PartRecords.{IsAlone, split_at, which_part, used_part}
 use Rattle.frame_pool.proofs.PartYields.{has_empty_some}
-use Rattle.frame_pool.proofs.Settling.{Settles, Settles-split}
+use Rattle.frame_pool.proofs.LayoutSplit.{Settles, Settles-split}
 
 -- One splitting after another.
 

@@ -22,11 +22,11 @@ use Rattle.frame_pool.specs.Laid.{IsLaid, IsSound}
 use Rattle.frame_pool.specs.Placed.{IsPageAt, PlacesPage}
 use Rattle.frame_pool.specs.PoolState.{state_of}
 use Rattle.frame_pool.specs.Pooled.{IsPool, number_in}
-use Rattle.frame_pool.proofs.Covering.{covers-IsPageOf, has_frame_for, HasPlace, frame_in-from, frame_in-found, covering-is}
-use Rattle.frame_pool.proofs.Giving.{Gives-vacate, Gives-carve}
-use Rattle.frame_pool.proofs.Placing.{Places-placing}
-use Rattle.frame_pool.proofs.Soundness.{is_used-layout_of, used_if_noted, IsSound-take, IsSound-give_page, IsSound-claimed, IsSound-unclaimed, IsSound-dropped}
-use Rattle.frame_pool.proofs.Starting.{IsSound-start, nothing_used}
+use Rattle.frame_pool.proofs.PagePlaces.{covers-IsPageOf, has_frame_for, HasPlace, frame_in-from, frame_in-found, covering-is}
+use Rattle.frame_pool.proofs.LayoutRelease.{Gives-vacate, Gives-carve}
+use Rattle.frame_pool.proofs.LayoutPlacing.{Places-placing}
+use Rattle.frame_pool.proofs.StateSoundness.{is_used-layout_of, used_if_noted, IsSound-take, IsSound-give_page, IsSound-claimed, IsSound-unclaimed, IsSound-dropped}
+use Rattle.frame_pool.proofs.StartStates.{IsSound-start, nothing_used}
 
 -- The frames that are there.
 

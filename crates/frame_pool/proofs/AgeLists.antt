@@ -18,7 +18,7 @@ use Rattle.frame_pool.proofs.PartYields.{same_size_from}
 use Rattle.reservations.proofs.HoldLemmas.{None-not_Some, Some-same, known_record}
 use Rattle.frame_pool.specs.Listed.{AreListed}
 use Rattle.frame_pool.proofs.MemberOrder.{with_member-swap, without_member-with}
-use Rattle.frame_pool.proofs.SameYields.{yield_of-agree}
+use Rattle.frame_pool.proofs.YieldByPlaces.{yield_of-agree}
 
 -- a reservation's member of its list
 abbrev pub member_of : Reservation → Member

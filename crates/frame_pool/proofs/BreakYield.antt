@@ -18,11 +18,11 @@ use Rattle.reservations.proofs.HoldLemmas.{has_frame_bounds, has_frame_from}
 use Rattle.reservations.proofs.SplitLemmas.{part_placed}
 use Rattle.frame_pool.specs.Breaking.{KeepsPlace, Breaks}
 use Rattle.frame_pool.specs.Laid.{IsLaid}
-use Rattle.frame_pool.proofs.Breaking.{placed_own, alone_own, record_at-part, kept_each, yield_less}
+use Rattle.frame_pool.proofs.LayoutBreak.{placed_own, alone_own, record_at-part, kept_each, yield_less}
 use Rattle.frame_pool.proofs.PartRecords.{which_part, used_part, outside_parts}
 use Rattle.frame_pool.proofs.PartYields.{IsWidest-from, yield_narrow, any_part_is, part_as_wide, lowest_found, goes_on}
-use Rattle.frame_pool.proofs.Settling.{Settles-split}
-use Rattle.frame_pool.proofs.Splitting.{IsSplit, IsSplit-split_layout}
+use Rattle.frame_pool.proofs.LayoutSplit.{Settles-split}
+use Rattle.frame_pool.proofs.SplitFrames.{IsSplit, IsSplit-split_layout}
 
 -- a part joins its frames to the pages that the whole joins them to
 keeps_part : (r : Reservation) (f j : ℕ) → has_frame f (Some (part_of r j)) ≡ true → KeepsPlace r (part_of r j) f

@@ -18,9 +18,9 @@ use Rattle.pager_model.specs.Layouts.{Layout, Placing, placing, frame_for, recor
 use Rattle.pager_model.specs.Records.{is_used}
 use Rattle.reservations.proofs.HoldLemmas.{has_frame_bounds, Some-same, None-not_Some}
 use Rattle.frame_pool.specs.Laid.{IsLaid, IsSound, IsIn}
-use Rattle.frame_pool.proofs.Covering.{has_frame_for, frame_in-found, covering-is}
-use Rattle.frame_pool.proofs.Placing.{Places, Places-placing}
-use Rattle.frame_pool.proofs.Giving.{Gives, Gives-vacate, Gives-carve, PutsBack-put_back}
+use Rattle.frame_pool.proofs.PagePlaces.{has_frame_for, frame_in-found, covering-is}
+use Rattle.frame_pool.proofs.LayoutPlacing.{Places, Places-placing}
+use Rattle.frame_pool.proofs.LayoutRelease.{Gives, Gives-vacate, Gives-carve, PutsBack-put_back}
 
 -- What is noted of the frames.
 

@@ -16,7 +16,7 @@ use Rattle.reservations.proofs.CountLemmas.{extent_of_frame}
 use Rattle.reservations.proofs.ExtentLemmas.{part_of_eight}
 use Rattle.reservations.proofs.HoldLemmas.{has_frame_bounds, has_frame_from}
 use Rattle.reservations.proofs.SplitLemmas.{range_more}
-use Rattle.frame_pool.proofs.Covering.{IsPageOf-covers, covers-IsPageOf}
+use Rattle.frame_pool.proofs.PagePlaces.{IsPageOf-covers, covers-IsPageOf}
 
 -- The pages of a reservation and of its parts.
 

@@ -10,9 +10,9 @@ use Rattle.pager_model.specs.Layouts.{Layout, frame_in, vacate_layout, carve_lay
 use Rattle.pager_model.specs.Records.{is_used}
 use Rattle.reservations.proofs.HoldLemmas.{has_frame_bounds, has_frame_from, known_record, ArePlaced-set, Some-same, None-not_Some, no_frame, unused_in}
 use Rattle.frame_pool.specs.Laid.{IsLaid, IsIn}
-use Rattle.frame_pool.proofs.Covering.{HasPlace, has_frame_for, frame_in-found, frame_in-from}
-use Rattle.frame_pool.proofs.Splitting.{some_used_in}
-use Rattle.frame_pool.proofs.Breaking.{Narrows-narrow}
+use Rattle.frame_pool.proofs.PagePlaces.{HasPlace, has_frame_for, frame_in-found, frame_in-from}
+use Rattle.frame_pool.proofs.SplitFrames.{some_used_in}
+use Rattle.frame_pool.proofs.LayoutBreak.{Narrows-narrow}
 
 -- the frame is no used place any more, and every other place stays its page's; by which frames are in the layout
 pub record Gives (old new : Layout) (frame : ℕ) (in_after : ℕ → Type 0) : Type 0 where

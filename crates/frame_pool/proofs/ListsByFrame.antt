@@ -13,7 +13,7 @@ use Rattle.reservations.proofs.ExtentLemmas.{eight_pos, part_of_eight}
 use Rattle.reservations.proofs.HoldLemmas.{has_frame_from}
 use Rattle.reservations.proofs.SplitLemmas.{split_up_to, split_up_to-more, ArePlaced-part}
 use Rattle.frame_pool.specs.Listed.{AreListed, WasSplit}
-use Rattle.frame_pool.proofs.Listing.{member_of, AreListed-without, AreListed-with, AreListed-full, is_listed-none}
+use Rattle.frame_pool.proofs.AgeLists.{member_of, AreListed-without, AreListed-with, AreListed-full, is_listed-none}
 
 -- where something stands, it is a reservation
 pub found_record : (o : Option Reservation) → is_some o ≡ true → (r : Reservation) × (o ≡ Some r)

@@ -15,10 +15,10 @@ use Rattle.frame_pool.proofs.PartYields.{has_empty_some}
 use Rattle.reservations.proofs.ExtentLemmas.{eight_pos}
 use Rattle.reservations.proofs.HoldLemmas.{has_frame_bounds, known_record, unused_in}
 use Rattle.reservations.proofs.YieldLemmas.{has_empty-yes}
-use Rattle.frame_pool.proofs.Covering.{IsPageOf-covers}
+use Rattle.frame_pool.proofs.PagePlaces.{IsPageOf-covers}
 use Rattle.frame_pool.specs.Laid.{IsLaid}
-use Rattle.frame_pool.proofs.Finding.{MayBreak-found}
-use Rattle.frame_pool.proofs.Listing.{oldest_from-none}
+use Rattle.frame_pool.proofs.FoundExtents.{MayBreak-found}
+use Rattle.frame_pool.proofs.AgeLists.{oldest_from-none}
 
 -- what is_full says of each frame and each reservation
 pub record EachFull (l : Layout) : Type 0 where

@@ -11,8 +11,8 @@ use Rattle.reservations.proofs.ExtentLemmas.{eight_pos, part_of_eight}
 use Rattle.reservations.proofs.HoldLemmas.{has_frame_from, Some-same, None-not_Some}
 use Rattle.reservations.proofs.SplitLemmas.{part_placed}
 use Rattle.frame_pool.specs.Laid.{IsLaid, IsIn}
-use Rattle.frame_pool.proofs.Covering.{HasPlace, has_frame_for, frame_in-found, frame_in-from, same_option}
-use Rattle.frame_pool.proofs.Splitting.{IsSplit, IsSplit-split_layout, covers_whole, frame_for_part, one_part_covers, part_covers, some_used_in}
+use Rattle.frame_pool.proofs.PagePlaces.{HasPlace, has_frame_for, frame_in-found, frame_in-from, same_option}
+use Rattle.frame_pool.proofs.SplitFrames.{IsSplit, IsSplit-split_layout, covers_whole, frame_for_part, one_part_covers, part_covers, some_used_in}
 
 -- from a layout to another one only reservations were split
 pub record Settles (old new : Layout) : Type 0 where
