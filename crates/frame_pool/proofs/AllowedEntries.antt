@@ -9,9 +9,9 @@ use Rattle.pager_model.specs.Legal.{frames_state}
 use Rattle.pager_model.specs.Settings.{Given, mark_of}
 use Rattle.frame_pool.specs.Allowed.{AreAllowed, AreFrameEntries}
 use Rattle.frame_pool.specs.Laid.{IsSound}
-use Rattle.frame_pool.proofs.Placing.{full-placing, placing-full}
-use Rattle.frame_pool.proofs.Soundness.{IsSound-moved}
-use Rattle.frame_pool.proofs.Starting.{IsSound-start}
+use Rattle.frame_pool.proofs.LayoutPlacing.{full-placing, placing-full}
+use Rattle.frame_pool.proofs.StateSoundness.{IsSound-moved}
+use Rattle.frame_pool.proofs.StartStates.{IsSound-start}
 
 -- entries that the frames allow lead from a sound state to a sound one
 IsSound-from : (g : Given) (st : FrameState) (entries : List Entry) → IsSound g.frames (length g.marks) st → AreAllowed g st entries → IsSound g.frames (length g.marks) (fold frames_after st entries)

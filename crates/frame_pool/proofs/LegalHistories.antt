@@ -28,8 +28,8 @@ use Rattle.frame_pool.proofs.Owners.{Keeps, Keeps-owns, Keeps-same, Keeps-then, 
 use Rattle.frame_pool.proofs.OrderedOwners.{owns-answer, owns-take, owns-clear, owns-out, owns-failure, owns-refusal, owns-rest, owns-give, owns-claim, owns-got, owns-use, owns-drop, owns-unclaim, nothing-between}
 use Rattle.frame_pool.proofs.PageMoves.{frame_of-give_page, frame_of-give_each}
 use Rattle.frame_pool.proofs.Partition.{IsPartition-sound}
-use Rattle.frame_pool.proofs.Soundness.{Takes-take_frame, layout_of-claimed, frame_of-dropped, IsSound-dropped, IsSound-moved}
-use Rattle.frame_pool.proofs.Starting.{IsSound-start}
+use Rattle.frame_pool.proofs.StateSoundness.{Takes-take_frame, layout_of-claimed, frame_of-dropped, IsSound-dropped, IsSound-moved}
+use Rattle.frame_pool.proofs.StartStates.{IsSound-start}
 
 -- what every legal history keeps
 pub record IsKept (g : Given) (history : List Entry) : Type 0 where

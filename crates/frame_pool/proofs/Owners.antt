@@ -12,8 +12,8 @@ use Rattle.pager_model.specs.Order.{Victim}
 use Rattle.reservations.proofs.HoldLemmas.{Some-same, None-not_Some}
 use Rattle.frame_pool.specs.Laid.{IsSound}
 use Rattle.frame_pool.proofs.PageMoves.{GivesPage, GivesPage-give_page, place_in_layout}
-use Rattle.frame_pool.proofs.Placing.{Places, Places-placing}
-use Rattle.frame_pool.proofs.Soundness.{used_if_noted, claim_from, claim_taken, claim_given, claim_claimed, unset_at, taking_from, layout_of-taken, layout_of-claimed, IsSound-give_if_used}
+use Rattle.frame_pool.proofs.LayoutPlacing.{Places, Places-placing}
+use Rattle.frame_pool.proofs.StateSoundness.{used_if_noted, claim_from, claim_taken, claim_given, claim_claimed, unset_at, taking_from, layout_of-taken, layout_of-claimed, IsSound-give_if_used}
 
 -- What a move leaves of a processor's frame: where it has nothing it still has nothing, a held frame stays held, and a claimed
 -- frame stays claimed, as the place of its page, or is held.

@@ -5,14 +5,14 @@ use Rattle.std.proofs.lemmas.Bool.{cases_Bool, cases_eq, cases_lt, and_parts, an
 use Rattle.pager_model.specs.declared.reservation.Reservation.{Reservation}
 use Rattle.pager_model.specs.Agreement.{has_frame}
 use Rattle.pager_model.specs.FrameStates.{FrameState, layout_of, used_at, claim_in, frame_of, layout_given, held_given, given, given_in, give_page, give_if_used}
-use Rattle.pager_model.specs.Layouts.{Layout, covers, frame_for, frame_in}
+use Rattle.pager_model.specs.Layouts.{Layout, covers, frame_for, frame_in, record_at}
 use Rattle.pager_model.specs.Records.{is_used}
 use Rattle.pager_model.specs.Regions.{in_range}
 use Rattle.reservations.proofs.HoldLemmas.{Some-same, None-not_Some}
-use Rattle.frame_pool.specs.Laid.{IsLaid, IsSound, IsIn, record_at}
-use Rattle.frame_pool.proofs.Covering.{IsPageOf-covers, has_frame_for, covering-is, frame_in-found, same_option}
-use Rattle.frame_pool.proofs.Giving.{Gives, Gives-vacate, Gives-carve}
-use Rattle.frame_pool.proofs.Soundness.{layout_of-given, IsSound-give_if_used}
+use Rattle.frame_pool.specs.Laid.{IsLaid, IsSound, IsIn}
+use Rattle.frame_pool.proofs.PagePlaces.{IsPageOf-covers, has_frame_for, covering-is, frame_in-found, same_option}
+use Rattle.frame_pool.proofs.LayoutRelease.{Gives, Gives-vacate, Gives-carve}
+use Rattle.frame_pool.proofs.StateSoundness.{layout_of-given, IsSound-give_if_used}
 
 -- a page's place is in the layout
 pub place_in_layout : (l : Layout) (space page frame : ℕ) → frame_in l space page ≡ Some frame → IsIn l frame

@@ -3,9 +3,10 @@ use Rattle.std.proofs.Common.{◌≡◌, ℕ, zero, suc, ◌<◌, Bool, true, fa
 use Rattle.std.proofs.lemmas.Bool.{false≢true, false_from_ne_true, eq-eqb, eqb-true}
 use Rattle.std.proofs.lemmas.List.Sums.{sum_by-cons}
 use Rattle.pager_model.specs.Agreement.{IsPartition, has_frame, is_frame, roles}
-use Rattle.pager_model.specs.FrameStates.{FrameState, is_free, layout_of, held_by}
-use Rattle.frame_pool.specs.Laid.{IsSound, IsIn, record_at}
-use Rattle.frame_pool.proofs.Soundness.{is_used-layout_of}
+use Rattle.pager_model.specs.FrameStates.{FrameState, layout_of, held_by}
+use Rattle.pager_model.specs.Layouts.{record_at, is_free}
+use Rattle.frame_pool.specs.Laid.{IsSound, IsIn}
+use Rattle.frame_pool.proofs.StateSoundness.{is_used-layout_of}
 
 -- what an element adds to a count
 abbrev weight : Bool → ℕ
@@ -59,19 +60,19 @@ module _ (frames processors : ℕ) (st : FrameState) (sound : IsSound frames pro
   one_role known = elim (sound.accounted f known) [
     | inl within ↦ elim within [
       | inl free ↦
-          let free_one : weight (is_free st f) ≡ 1 = ap weight free in
+          let free_one : weight (is_free (layout_of st) f) ≡ 1 = ap weight free in
           let no_place = count-nowhere (has_frame f) st.records None (λ id has. sound.laid.not_free f id free has) in
           let not_held = none_holds (inl free) in
           omega (arith, free_one, no_place, not_held)
       | inr place ↦
-          let not_free : weight (is_free st f) ≡ 0 = ap weight (false_from_ne_true (is_free st f) (λ free. sound.laid.not_free f place.0 free place.1)) in
+          let not_free : weight (is_free (layout_of st) f) ≡ 0 = ap weight (false_from_ne_true (is_free (layout_of st) f) (λ free. sound.laid.not_free f place.0 free place.1)) in
           let places = one_place place.0 place.1 in
           let not_held = none_holds (inr place) in
           omega (arith, not_free, places, not_held)
     ]
     | inr held ↦
         let out = (sound.held_apart held.0 f held.1).1 in
-        let not_free : weight (is_free st f) ≡ 0 = ap weight (false_from_ne_true (is_free st f) (λ free. out (inl free))) in
+        let not_free : weight (is_free (layout_of st) f) ≡ 0 = ap weight (false_from_ne_true (is_free (layout_of st) f) (λ free. out (inl free))) in
         let no_place = count-nowhere (has_frame f) st.records None (λ id has. out (inr (id, has))) in
         let holds = one_holds held.0 held.1 in
         omega (arith, not_free, no_place, holds)

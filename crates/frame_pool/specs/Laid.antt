@@ -1,19 +1,12 @@
 -- What every layout of the frames keeps, and what every state of the frames keeps beside it.
-use Rattle.std.specs.Prelude.{ℕ, ◌≡◌, ◌<◌, ◌⊎◌, Bool, true, false, length, slice_index_or, Option, Some, None}
+use Rattle.std.specs.Prelude.{ℕ, ◌≡◌, ◌<◌, ◌⊎◌, true, length, Some, None}
 use Rattle.pager_model.specs.declared.reservation.Reservation.{Reservation}
 use Rattle.pager_model.specs.declared.reservation.Used.{Used}
 use Rattle.pager_model.specs.Agreement.{has_frame}
 use Rattle.pager_model.specs.FrameStates.{FrameState, layout_of, used_at, held_by, claim_in}
-use Rattle.pager_model.specs.Layouts.{Layout, covers}
+use Rattle.pager_model.specs.Layouts.{Layout, covers, record_at, is_free}
 use Rattle.pager_model.specs.Records.{is_used}
 use Rattle.reservations.specs.Kept.{ArePlaced}
-
--- the reservation that begins at the frame, where one does
-abbrev pub record_at : Layout → ℕ → Option Reservation
-record_at l id = slice_index_or l.records id None
-
-abbrev pub is_free : Layout → ℕ → Bool
-is_free l frame = slice_index_or l.free frame false
 
 -- the frame is free, or a place of a reservation
 abbrev pub IsIn : Layout → ℕ → Type 0

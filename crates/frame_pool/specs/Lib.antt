@@ -5,3 +5,4 @@ pub mod Pooled
 pub mod PoolState
 pub mod Victims
 pub mod Allowed
+pub mod Breaking

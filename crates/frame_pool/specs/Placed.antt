@@ -4,10 +4,9 @@ use Rattle.pager_model.specs.declared.reservation.Reservation.{Reservation}
 use Rattle.pager_model.specs.Agreement.{has_frame}
 use Rattle.pager_model.specs.Extents.{IsExtent}
 use Rattle.pager_model.specs.FreeBlocks.{with_range}
-use Rattle.pager_model.specs.Layouts.{Layout, Found, Placing, frame_for}
+use Rattle.pager_model.specs.Layouts.{Layout, Found, Placing, frame_for, record_at}
 use Rattle.pager_model.specs.Records.{is_used, yield_of}
 use Rattle.reservations.specs.Kept.{HasPage}
-use Rattle.frame_pool.specs.Laid.{record_at}
 
 -- the first frame of a reservation
 abbrev pub first_of : Option Reservation → Option ℕ

@@ -7,13 +7,21 @@ ghost use Rattle.pager_model.specs.declared.entry.Want.{Want};
 ghost use Rattle.pager_model.specs.declared.reservation.Reservation.{Reservation};
 ghost use Rattle.pager_model.specs.declared.reservation.Used.{Used};
 ghost use Rattle.pager_model.specs.FrameStates.{frame_of, layout_of, used_at, held_by, claim_in, take_frame, IsFull};
-ghost use Rattle.pager_model.specs.Layouts.{covers};
+ghost use Rattle.pager_model.specs.Layouts.{Layout, break_layout, covers, record_at};
 ghost use Rattle.pager_model.specs.Legal.{AllWhole, IsLegal, frames_at, frames_state, progress_at};
 ghost use Rattle.pager_model.specs.Order.{Progress};
-ghost use Rattle.pager_model.specs.Records.{is_used};
+ghost use Rattle.pager_model.specs.Records.{is_used, yield_of};
 ghost use Rattle.pager_model.specs.Settings.{Given};
 ghost use Rattle.frame_pool.specs.Allowed.{AreFrameEntries};
-ghost use Rattle.frame_pool.specs.Laid.{record_at};
+ghost use Rattle.frame_pool.specs.Breaking.{Breaks};
+ghost use Rattle.frame_pool.specs.Laid.{IsLaid};
+
+/// A reservation that isn't full is broken: an extent of its yield is free then, each of its used places is one of a reservation
+/// with its stamp, and nothing beside it changes.
+pub fn breaking_frees_the_yield()
+    ensures { (l : Layout) (r : Reservation) (k : ℕ) → IsLaid l → record_at l r.frame ≡ Some r → yield_of (is_used l.used) r ≡ Some k
+        → Breaks r k l (break_layout r l) }
+{}
 
 /// What the state keeps, whatever entries the frames allow.
 pub fn frames_keep()

@@ -3,14 +3,14 @@ ghost use Rattle.std.specs.List.{list_any};
 ghost use Rattle.std.specs.Option.{option_and_then};
 ghost use Rattle.pager_model.specs.Agreement.{has_frame};
 ghost use Rattle.pager_model.specs.FrameStates.{places_in};
-ghost use Rattle.pager_model.specs.Layouts.{start_layout, frame_for, frame_in, split_layout, split_free, broken_at, to_break};
+ghost use Rattle.pager_model.specs.Layouts.{start_layout, frame_for, frame_in, split_layout, split_free, broken_at, to_break, record_at};
 ghost use Rattle.pager_model.specs.Layouts.{carve_layout, narrow_layout, take_out, vacate_layout, put_back};
 ghost use Rattle.pager_model.specs.Layouts.{extent_of, largest_extent, populated, placing};
 ghost use Rattle.pager_model.specs.PreferredSize.{IsWanted};
 ghost use Rattle.pager_model.specs.Records.{is_used, goes_on_at};
 ghost use Rattle.reservations.specs.Kept.{HasPage, IsPlaced};
 ghost use Rattle.reservations.specs.Parts.{told_parts};
-ghost use Rattle.frame_pool.specs.Laid.{record_at, IsIn, IsLaid};
+ghost use Rattle.frame_pool.specs.Laid.{IsIn, IsLaid};
 ghost use Rattle.frame_pool.specs.Placed.{CanBreak, FindsExtent, PlacesPage, with_reservation};
 
 use crate::lists::{enlist, enlist_parts, unlist};

@@ -11,8 +11,8 @@ use Rattle.pager_model.specs.FrameStates.{FrameState, Taking, layout_of, used_at
 use Rattle.pager_model.specs.Agreement.{OwnsBy}
 use Rattle.pager_model.specs.Regions.{region_at, wanted}
 use Rattle.pager_model.specs.SpaceStates.{SpaceState, space_after, MayGoOn}
-use Rattle.frame_pool.proofs.Covering.{frame_in-found}
-use Rattle.frame_pool.proofs.Soundness.{is_used-layout_of}
+use Rattle.frame_pool.proofs.PagePlaces.{frame_in-found}
+use Rattle.frame_pool.proofs.StateSoundness.{is_used-layout_of}
 use Rattle.space_core.specs.Beginning.{SameRegions, Places}
 use Rattle.space_core.specs.Standing.{Kept, StandsFor, frame_at, rights_at, take_entry, is_allowed}
 use Rattle.pager_core.specs.declared.flight.Flight.{Flight}

@@ -2,7 +2,8 @@
 use Rattle.std.specs.Prelude.{ℕ, ◌≡◌, ◌+◌, ◌<◌, ◌^◌, ◌⊎◌, Bool, true, false, ◌&&◌, ◌==◌, nat_le, nat_lt, if◌then◌else◌, List, count_by, Option, Some, None, IsSome, length}
 use Rattle.pager_model.specs.declared.entry.Entry.{Entry}
 use Rattle.pager_model.specs.declared.reservation.Reservation.{Reservation}
-use Rattle.pager_model.specs.FrameStates.{FrameState, is_free, used_at, held_by, claim_in, frame_of, HasNothing}
+use Rattle.pager_model.specs.FrameStates.{FrameState, layout_of, used_at, held_by, claim_in, frame_of, HasNothing}
+use Rattle.pager_model.specs.Layouts.{is_free}
 use Rattle.pager_model.specs.Legal.{space_at, frames_at}
 use Rattle.pager_model.specs.Order.{Doing, Victim, victim_in, is_holding}
 use Rattle.pager_model.specs.Settings.{Given}
@@ -18,7 +19,7 @@ is_frame frame (Some f) = f == frame
 
 -- in how many roles a frame is: free, a place of a reservation, held by a processor
 abbrev pub roles : FrameState → ℕ → ℕ
-roles st frame = (if is_free st frame then 1 else 0) + count_by (has_frame frame) st.records + count_by (is_frame frame) st.held
+roles st frame = (if is_free (layout_of st) frame then 1 else 0) + count_by (has_frame frame) st.records + count_by (is_frame frame) st.held
 
 -- each frame is exactly one of free, a place of one reservation, and held by one processor; and a used place is a place
 abbrev pub IsPartition : ℕ → FrameState → Type 0

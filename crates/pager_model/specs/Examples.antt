@@ -1,5 +1,5 @@
 -- Small values on which the definitions are computed.
-use Rattle.std.specs.Prelude.{ℕ, true, false, List, [], ◌∷◌, fold, Option, Some, None}
+use Rattle.std.specs.Prelude.{ℕ, true, false, List, [], ◌∷◌, fold, Some, None}
 use Rattle.pager_model.specs.declared.call.Call.{Call}
 use Rattle.pager_model.specs.declared.call.Call.TheVariants.{Map, Load, Store}
 use Rattle.pager_model.specs.declared.entry.Entry.{Entry}
@@ -9,7 +9,7 @@ use Rattle.pager_model.specs.declared.entry.What.TheVariants.{Answer, Out, Faile
 use Rattle.pager_model.specs.declared.region.Kind.TheVariants.{Fixed}
 use Rattle.pager_model.specs.declared.region.Rights.TheVariants.{Write}
 use Rattle.pager_model.specs.declared.reply.Reply.{Reply}
-use Rattle.pager_model.specs.declared.reply.Reply.TheVariants.{Done, Value, Unmapped, StoreFault}
+use Rattle.pager_model.specs.declared.reply.Reply.TheVariants.{Done, Unmapped, StoreFault}
 use Rattle.pager_model.specs.declared.reservation.Reservation.{Reservation}
 use Rattle.pager_model.specs.Flat.{Flat, empty_space, after_call}
 use Rattle.pager_model.specs.FrameStates.{FrameState, start_frames, take_frame, state_taken, give_page, claimed, counted}

@@ -35,9 +35,6 @@ start_frames frames processors =
 abbrev pub layout_of : FrameState → Layout
 layout_of st = record { free = st.free; records = st.records; used = map is_some st.used }
 
-abbrev pub is_free : FrameState → ℕ → Bool
-is_free st frame = slice_index_or st.free frame false
-
 abbrev pub used_at : FrameState → ℕ → Option Used
 used_at st frame = slice_index_or st.used frame None
 

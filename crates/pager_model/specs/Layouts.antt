@@ -9,7 +9,7 @@ use Rattle.pager_model.specs.Ages.{Member, with_member, oldest_in}
 use Rattle.pager_model.specs.Extents.{extent_start}
 use Rattle.pager_model.specs.FreeBlocks.{choice, with_range}
 use Rattle.pager_model.specs.PreferredSize.{preferred_size}
-use Rattle.pager_model.specs.Records.{is_used, none_used, yield_of, same_size, part_of, is_part_empty, split_records, goes_on_at, split_on}
+use Rattle.pager_model.specs.Records.{is_used, none_used, yield_of, same_size, part_of, is_part_empty, split_records, goes_on_at}
 
 pub record Layout : Type 0 where
   -- for each frame whether it is free
@@ -22,6 +22,13 @@ pub record Layout : Type 0 where
 -- at first all frames are free
 abbrev pub start_layout : ℕ → Layout
 start_layout frames = record { free = replicate frames true; records = replicate frames None; used = replicate frames false }
+
+-- the reservation that begins at the frame, where one does
+abbrev pub record_at : Layout → ℕ → Option Reservation
+record_at l frame = slice_index_or l.records frame None
+
+abbrev pub is_free : Layout → ℕ → Bool
+is_free l frame = slice_index_or l.free frame false
 
 -- Pages and their places.
 
@@ -61,9 +68,14 @@ abbrev pub split_layout : Reservation → Layout → Layout
 split_layout r l =
     record { free = split_free (is_used l.used) r l.free; records = split_records (is_used l.used) r l.records; used = l.used }
 
+-- A reservation is split, over at most so many levels: and where a rule names one of its parts, that part is split in the same way.
+abbrev pub split_on : (Reservation → Option Reservation) → ℕ → Reservation → Layout → Layout
+split_on next zero r l = l
+split_on next (suc levels) r l = option_map_or (λ part. split_on next levels part (split_layout r l)) (next r) (split_layout r l)
+
 -- a reservation is broken: it is split, and while no part was empty, so is the lowest part with its yield
 abbrev pub break_layout : Reservation → Layout → Layout
-break_layout r l = split_on split_layout (goes_on_at (is_used l.used)) r.size r l
+break_layout r l = split_on (goes_on_at (is_used l.used)) r.size r l
 
 -- the part of a reservation that has the frame
 abbrev pub part_with : ℕ → Reservation → Reservation
@@ -75,7 +87,7 @@ narrows_to frame r = if nat_lt 1 r.size then Some (part_with frame r) else None
 
 -- a reservation is split, and the part that has the frame again, down to the frame
 abbrev pub narrow_layout : ℕ → Reservation → Layout → Layout
-narrow_layout frame r l = split_on split_layout (narrows_to frame) r.size r l
+narrow_layout frame r l = split_on (narrows_to frame) r.size r l
 
 -- a reservation of one frame is none any more, and its frame is neither free nor a place
 abbrev pub take_out : ℕ → Layout → Layout
@@ -112,7 +124,7 @@ to_break l k = oldest_from l k (3 - k)
 
 -- the reservation that begins at the frame is broken
 abbrev pub broken_at : ℕ → Layout → Layout
-broken_at id l = option_map_or (λ r. break_layout r l) (slice_index_or l.records id None) l
+broken_at id l = option_map_or (λ r. break_layout r l) (record_at l id) l
 
 -- Taking.
 

@@ -1,7 +1,6 @@
 -- Reservations, their used places and their yields.
 use Rattle.std.specs.Prelude.{ℕ, ◌+◌, ◌-◌, ◌*◌, ◌^◌, zero, suc, Bool, true, false, not, if◌then◌else◌, List, slice_index_or, slice_set, fold, ◌==◌, find, option_map, Option, Some, None}
 use Rattle.std.specs.List.{range_with_len, list_any, list_all}
-use Rattle.std.specs.Option.{option_map_or}
 use Rattle.pager_model.specs.declared.reservation.Reservation.{Reservation}
 
 -- Reservations as they are kept: for each frame the reservation that begins at it, where one does, and whether it is a used
@@ -59,18 +58,3 @@ lowest_as_wide used r = find (λ i. same_size (yield_of used (part_of r i)) (yie
 -- the part at which a breaking goes on: none where a part is empty, else the lowest part with the yield of the whole
 abbrev pub goes_on_at : (ℕ → Bool) → Reservation → Option Reservation
 goes_on_at used r = if list_any (is_part_empty used r) (range_with_len 0 8) then None else option_map (part_of r) (lowest_as_wide used r)
-
--- A reservation is split, over at most so many levels: and where a rule names one of its parts, that part is split in the same
--- way. What a splitting changes is left open here: the records, the free frames, or both.
-abbrev pub split_on : {S : Type 0} → (Reservation → S → S) → (Reservation → Option Reservation) → ℕ → Reservation → S → S
-split_on split next zero r state = state
-split_on split next (suc levels) r state = option_map_or (λ part. split_on split next levels part (split r state)) (next r) (split r state)
-
--- Breaking over at most so many levels: the reservation is split, and while none of its parts was empty, the lowest part with
--- its yield is broken in the same way.
-abbrev pub broken_over : ℕ → (ℕ → Bool) → Reservation → List (Option Reservation) → List (Option Reservation)
-broken_over levels used r records = split_on (split_records used) (goes_on_at used) levels r records
-
--- a reservation broken: it has at most as many levels as its size
-abbrev pub broken : (ℕ → Bool) → Reservation → List (Option Reservation) → List (Option Reservation)
-broken used r records = broken_over r.size used r records

@@ -1,4 +1,3 @@
-pub mod BreakLemmas
 pub mod CountLemmas
 pub mod ExtentLemmas
 pub mod HoldLemmas

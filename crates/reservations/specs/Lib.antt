@@ -1,4 +1,3 @@
-pub mod Breaking
 pub mod Counts
 pub mod Kept
 pub mod Parts

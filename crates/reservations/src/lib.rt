@@ -15,7 +15,6 @@ ghost use Rattle.reservations.specs.Kept.{record_at, with_record, with_used, fir
 ghost use Rattle.reservations.specs.Kept.{ArePlaced, AreHeld, HasPage, HasPlace, IsFilled, IsPlaced};
 ghost use Rattle.reservations.specs.Parts.{told_parts};
 
-pub mod laws;
 mod part;
 mod places;
 

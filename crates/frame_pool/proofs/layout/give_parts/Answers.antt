@@ -6,8 +6,8 @@ use Rattle.reservations.specs.declared.part.Part.{Part}
 use Rattle.reservations.specs.Parts.{told_part, told_parts}
 use Rattle.reservations.proofs.ExtentLemmas.{aligned_part, part_of_eight}
 use Rattle.reservations.proofs.HoldLemmas.{has_frame_from}
-use Rattle.frame_pool.proofs.Keeping.{free_up_to-later}
-use Rattle.frame_pool.proofs.Splitting.{length-free_up_to}
+use Rattle.frame_pool.proofs.LayoutInOrder.{free_up_to-later}
+use Rattle.frame_pool.proofs.SplitFrames.{length-free_up_to}
 use Rattle.frame_pool.proofs.layout.give_parts.Goals as goal
 
 -- what is told at a place is told of that part

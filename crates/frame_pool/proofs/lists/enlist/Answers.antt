@@ -1,7 +1,7 @@
 use Rattle.std.proofs.Common.{◌≡◌, Some, sym, ◌∙◌, arith}
 use Rattle.reservations.specs.Kept.{record_at}
 use Rattle.reservations.proofs.HoldLemmas.{Some-same, None-not_Some}
-use Rattle.frame_pool.proofs.Relisting.{found_record_and, AreListed-enlisted, AreListed-not_enlisted}
+use Rattle.frame_pool.proofs.ListsByFrame.{found_record_and, AreListed-enlisted, AreListed-not_enlisted}
 use Rattle.frame_pool.proofs.lists.enlist.Goals as goal
 
 pub returns-then-level-lt3-clause-listed : goal.returns-then-level-lt3-clause-listed

@@ -1,4 +1,4 @@
-use Rattle.frame_pool.proofs.Relisting.{HasParts}
+use Rattle.frame_pool.proofs.ListsByFrame.{HasParts}
 use Rattle.frame_pool.proofs.lists.enlist_parts.Given as goal
 
 abbrev pub invariant-loop-i : goal.invariant-loop-i

@@ -1,8 +1,8 @@
 use Rattle.std.proofs.Common.{◌≡◌, Some, sym, ◌∙◌, arith}
 use Rattle.reservations.specs.Kept.{record_at}
 use Rattle.reservations.proofs.HoldLemmas.{Some-same, None-not_Some}
-use Rattle.frame_pool.proofs.Listing.{AreListed-full}
-use Rattle.frame_pool.proofs.Relisting.{found_record, AreListed-unlisted}
+use Rattle.frame_pool.proofs.AgeLists.{AreListed-full}
+use Rattle.frame_pool.proofs.ListsByFrame.{found_record, AreListed-unlisted}
 use Rattle.frame_pool.proofs.lists.unlist.Goals as goal
 
 pub returns-then-level-lt3-clause-listed : goal.returns-then-level-lt3-clause-listed

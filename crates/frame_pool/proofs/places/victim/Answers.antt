@@ -1,6 +1,6 @@
 use Rattle.std.proofs.Common.{◌≡◌, None, ℕ, length, sym, ap, subst, ◌∙◌, arith}
 use Rattle.std.proofs.lemmas.Option.{none-some, same_Some}
-use Rattle.frame_pool.proofs.Searching.{IsBest, IsFoundBelow, IsBest-keeps, IsBest-takes, IsFoundBelow-skips, IsLeast-best, none_evictable}
+use Rattle.frame_pool.proofs.VictimSearch.{IsBest, IsFoundBelow, IsBest-keeps, IsBest-takes, IsFoundBelow-skips, IsLeast-best, none_evictable}
 use Rattle.frame_pool.proofs.places.victim.Goals as goal
 use Rattle.frame_pool.proofs.places.victim.Goals.{in-Some+in-Some-victim, in-Some+in_default-victim-2, in-Some+in_default-victim, in_default}
 

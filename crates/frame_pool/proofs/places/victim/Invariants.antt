@@ -1,4 +1,4 @@
-use Rattle.frame_pool.proofs.Searching.{IsFoundBelow}
+use Rattle.frame_pool.proofs.VictimSearch.{IsFoundBelow}
 use Rattle.frame_pool.proofs.places.victim.Given as goal
 
 abbrev pub invariant-loop-at : goal.invariant-loop-at

@@ -2,7 +2,7 @@ use Rattle.std.proofs.Common.{◌≡◌, ◌<◌, length, None, ap, ◌∙◌, a
 use Rattle.std.proofs.lemmas.List.Sums.{sum_by_more}
 use Rattle.pager_model.specs.FrameStates.{places_in}
 use Rattle.reservations.specs.Kept.{record_at}
-use Rattle.frame_pool.proofs.Reading.{places_few}
+use Rattle.frame_pool.proofs.RecordSearch.{places_few}
 use Rattle.frame_pool.proofs.records.places.Goals as goal
 
 pub loop-id-preserved : goal.loop-id-preserved

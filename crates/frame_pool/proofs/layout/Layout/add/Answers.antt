@@ -6,9 +6,9 @@ use Rattle.pager_model.specs.Layouts.{frame_for}
 use Rattle.reservations.proofs.ExtentLemmas.{eight_pos}
 use Rattle.reservations.proofs.HoldLemmas.{has_frame_from}
 use Rattle.frame_pool.specs.Listed.{AreListed}
-use Rattle.frame_pool.proofs.Keeping.{AreListed-used, place_has}
-use Rattle.frame_pool.proofs.Relisting.{none_begins}
-use Rattle.frame_pool.proofs.Listing.{is_listed-none}
+use Rattle.frame_pool.proofs.LayoutInOrder.{AreListed-used, place_has}
+use Rattle.frame_pool.proofs.ListsByFrame.{none_begins}
+use Rattle.frame_pool.proofs.AgeLists.{is_listed-none}
 use Rattle.frame_pool.proofs.layout.Layout.add.Goals as goal
 
 pub enlist-requires-clause-unlisted : goal.enlist-requires-clause-unlisted

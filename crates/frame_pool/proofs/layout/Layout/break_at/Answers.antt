@@ -1,5 +1,5 @@
 use Rattle.std.proofs.Common.{sym, ap, ◌∙◌}
-use Rattle.frame_pool.proofs.Stepping.{broken_from, StepsOn-split}
+use Rattle.frame_pool.proofs.BreakSteps.{broken_from, StepsOn-split}
 use Rattle.frame_pool.proofs.layout.Layout.break_at.Goals as goal
 
 pub loop-part-smaller : goal.loop-part-smaller

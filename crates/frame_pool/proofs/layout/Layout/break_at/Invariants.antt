@@ -2,7 +2,7 @@ use Rattle.std.proofs.Common.{◌≡◌}
 use Rattle.std.specs.Option.{IfSome}
 use Rattle.pager_model.specs.Layouts.{broken_at}
 use Rattle.frame_pool.specs.Placed.{CanBreak}
-use Rattle.frame_pool.proofs.Stepping.{broken_from, size_from}
+use Rattle.frame_pool.proofs.BreakSteps.{broken_from, size_from}
 use Rattle.frame_pool.proofs.layout.Layout.break_at.Given as goal
 
 abbrev pub invariant-loop-part : goal.invariant-loop-part

@@ -1,11 +1,10 @@
 use Rattle.std.proofs.Common.{◌≡◌, ◌∙◌, ◌+◌, ◌-◌, None, false, ap, arith}
 use Rattle.std.proofs.lemmas.Option.{IfSome_then}
-use Rattle.pager_model.specs.Layouts.{Layout, take_out}
+use Rattle.pager_model.specs.Layouts.{Layout, take_out, record_at}
 use Rattle.pager_model.specs.Records.{Records}
 use Rattle.reservations.specs.Kept.{with_record, with_used}
-use Rattle.frame_pool.specs.Laid.{record_at}
-use Rattle.frame_pool.proofs.Giving.{Gives-take_out}
-use Rattle.frame_pool.proofs.Keeping.{AreListed-take_out, some_of}
+use Rattle.frame_pool.proofs.LayoutRelease.{Gives-take_out}
+use Rattle.frame_pool.proofs.LayoutInOrder.{AreListed-take_out, some_of}
 use Rattle.frame_pool.proofs.layout.Layout.carve.Goals as goal
 
 pub invariant_of-self : goal.invariant_of-self

@@ -2,8 +2,8 @@ use Rattle.std.proofs.Common.{◌≡◌, ◌-◌, suc, None, sym, ap, subst, ◌
 use Rattle.std.proofs.lemmas.Option.{IfSome_then}
 use Rattle.pager_model.specs.Layouts.{extent_of}
 use Rattle.frame_pool.specs.Placed.{FindsExtent}
-use Rattle.frame_pool.proofs.Stepping.{IfNone-holds}
-use Rattle.frame_pool.proofs.Taking.{largest_below, largest_below-found, largest_below-missed}
+use Rattle.frame_pool.proofs.BreakSteps.{IfNone-holds}
+use Rattle.frame_pool.proofs.TakenExtent.{largest_below, largest_below-found, largest_below-missed}
 use Rattle.frame_pool.proofs.layout.Layout.largest_extent.Goals as goal
 
 pub returns-then-is_some-clause-found : goal.returns-then-is_some-clause-found

@@ -1,6 +1,6 @@
 use Rattle.std.proofs.Common.{◌≡◌}
 use Rattle.pager_model.specs.Layouts.{largest_extent}
-use Rattle.frame_pool.proofs.Taking.{largest_below}
+use Rattle.frame_pool.proofs.TakenExtent.{largest_below}
 use Rattle.frame_pool.proofs.layout.Layout.largest_extent.Given as goal
 
 abbrev pub invariant-loop-level : goal.invariant-loop-level

@@ -1,9 +1,7 @@
 use Rattle.std.proofs.Common.{◌≡◌, ◌∙◌, ◌<◌, refl, sym, ap, arith}
-use Rattle.pager_model.specs.Layouts.{split_layout, narrows_to, narrow_layout}
-use Rattle.pager_model.specs.Records.{split_on}
-use Rattle.frame_pool.specs.Laid.{record_at}
-use Rattle.frame_pool.proofs.Keeping.{IfSome-from, narrow_step, only_frame, owner_is, same_owner}
-use Rattle.frame_pool.proofs.Settling.{Settles-split}
+use Rattle.pager_model.specs.Layouts.{split_layout, narrows_to, narrow_layout, split_on, record_at}
+use Rattle.frame_pool.proofs.LayoutInOrder.{IfSome-from, narrow_step, only_frame, owner_is, same_owner}
+use Rattle.frame_pool.proofs.LayoutSplit.{Settles-split}
 use Rattle.frame_pool.proofs.layout.Layout.narrow.Goals as goal
 
 pub unwrap-part-requires : goal.unwrap-part-requires
@@ -59,7 +57,7 @@ returns-clause-narrowed c =
     let part = c.loop-self.part in
     let found = rw c.unwrap-part.ensures at c.owner.ensures.owner in
     let one : part.size ≡ 0 = omega (arith, c.loop-self-test.false, c.level.ensures.level) in
-    let stops : narrow_layout frame part c.loop-self.self ≡ c.loop-self.self = ap (λ k. split_on split_layout (narrows_to frame) k part c.loop-self.self) one in
+    let stops : narrow_layout frame part c.loop-self.self ≡ c.loop-self.self = ap (λ k. split_on (narrows_to frame) k part c.loop-self.self) one in
     λ id. IfSome-from (record_at l id) _ (λ r is has.
     sym stops ∙ was.narrows ∙ ap (λ q. narrow_layout frame q l) (same_owner l first.frame first c.owner.ensures.laid found.0 frame id r found.1 is has))
 

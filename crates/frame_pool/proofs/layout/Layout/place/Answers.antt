@@ -1,7 +1,7 @@
 use Rattle.std.proofs.Common.{sym, ap, subst, ◌∙◌, arith}
 use Rattle.pager_model.specs.Layouts.{Layout, covering, populated, preferred_in}
 use Rattle.frame_pool.specs.Laid.{IsLaid}
-use Rattle.frame_pool.proofs.Reserving.{PlacesPage-from, placing-covered, record_at-covered, HasPage-covered, round_page, IsLaid-added, PlacesPage-added}
+use Rattle.frame_pool.proofs.PlacingResult.{PlacesPage-from, placing-covered, record_at-covered, HasPage-covered, round_page, IsLaid-added, PlacesPage-added}
 use Rattle.frame_pool.proofs.layout.Layout.place.Goals as goal
 
 pub populate-frame-requires-clause-there : goal.populate-frame-requires-clause-there

@@ -1,9 +1,9 @@
 use Rattle.std.proofs.Common.{◌≡◌, Some, true, false, refl, sym, ap, subst}
-use Rattle.pager_model.specs.Layouts.{Layout, frame_for, stamped}
+use Rattle.pager_model.specs.Layouts.{Layout, frame_for, stamped, record_at}
 use Rattle.pager_model.specs.Records.{Records, is_used}
 use Rattle.reservations.specs.Kept.{with_record, with_used}
-use Rattle.frame_pool.specs.Laid.{IsLaid, record_at}
-use Rattle.frame_pool.proofs.Keeping.{IsLaid-populated, IsInOrder-again, place_has, rest_unlisted}
+use Rattle.frame_pool.specs.Laid.{IsLaid}
+use Rattle.frame_pool.proofs.LayoutInOrder.{IsLaid-populated, IsInOrder-again, place_has, rest_unlisted}
 use Rattle.frame_pool.proofs.layout.Layout.populate.Goals as goal
 
 pub enlist-requires-clause-unlisted : goal.enlist-requires-clause-unlisted

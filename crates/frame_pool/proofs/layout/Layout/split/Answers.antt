@@ -1,10 +1,9 @@
 use Rattle.std.proofs.Common.{◌≡◌, ◌∙◌, ◌<◌, Some, sym}
-use Rattle.pager_model.specs.Layouts.{Layout, split_free}
+use Rattle.pager_model.specs.Layouts.{Layout, split_free, record_at}
 use Rattle.pager_model.specs.Records.{is_used, split_records}
 use Rattle.reservations.specs.Parts.{told_parts}
-use Rattle.frame_pool.specs.Laid.{record_at}
-use Rattle.frame_pool.proofs.Keeping.{WasSplit-from, not_free_there}
-use Rattle.frame_pool.proofs.Settling.{Settles-split}
+use Rattle.frame_pool.proofs.LayoutInOrder.{WasSplit-from, not_free_there}
+use Rattle.frame_pool.proofs.LayoutSplit.{Settles-split}
 use Rattle.frame_pool.proofs.layout.Layout.split.Goals as goal
 
 pub give_parts-requires-clause-taken : goal.give_parts-requires-clause-taken

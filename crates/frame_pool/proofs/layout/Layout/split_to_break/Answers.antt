@@ -1,9 +1,9 @@
 use Rattle.std.proofs.Common.{◌≡◌, ◌+◌, ◌-◌, ◌*◌, ◌^◌, Some, option_map, sym, ap, subst, ◌∙◌}
-use Rattle.pager_model.specs.Layouts.{Layout}
+use Rattle.pager_model.specs.Layouts.{Layout, record_at}
 use Rattle.pager_model.specs.Records.{is_used, part_of, lowest_as_wide}
-use Rattle.frame_pool.specs.Laid.{IsLaid, record_at}
+use Rattle.frame_pool.specs.Laid.{IsLaid}
 use Rattle.frame_pool.specs.Placed.{first_of}
-use Rattle.frame_pool.proofs.Stepping.{Fills-from, part_stands, goes_on-lowest, CanBreak-lowest}
+use Rattle.frame_pool.proofs.BreakSteps.{Fills-from, part_stands, goes_on-lowest, CanBreak-lowest}
 use Rattle.frame_pool.proofs.layout.Layout.split_to_break.Goals as goal
 
 pub lowest_as_wide-requires-clause-parts : goal.lowest_as_wide-requires-clause-parts

@@ -2,7 +2,7 @@ use Rattle.std.proofs.Common.{◌≡◌, ◌-◌, ◌+◌, ◌<◌, true, false,
 use Rattle.std.specs.Option.{is_some}
 use Rattle.pager_model.specs.Ages.{list_at, oldest_in}
 use Rattle.pager_model.specs.Layouts.{oldest_of}
-use Rattle.frame_pool.proofs.Stepping.{oldest_from-some, oldest_from-later}
+use Rattle.frame_pool.proofs.BreakSteps.{oldest_from-some, oldest_from-later}
 use Rattle.frame_pool.proofs.layout.Layout.to_break.Goals as goal
 
 pub returns-then-is_some : goal.returns-then-is_some

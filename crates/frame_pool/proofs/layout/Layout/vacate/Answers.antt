@@ -1,12 +1,12 @@
 use Rattle.std.proofs.Common.{◌≡◌, ◌∙◌, None, true, false, length, refl, sym, ap, subst, arith}
 use Rattle.std.proofs.lemmas.List.{set-get_or}
-use Rattle.pager_model.specs.Layouts.{Layout, vacate_layout}
+use Rattle.pager_model.specs.Layouts.{Layout, vacate_layout, record_at}
 use Rattle.pager_model.specs.Records.{Records}
 use Rattle.reservations.specs.Kept.{with_record, with_used}
 use Rattle.reservations.proofs.HoldLemmas.{has_frame_from}
-use Rattle.frame_pool.specs.Laid.{IsLaid, record_at}
-use Rattle.frame_pool.proofs.Giving.{Gives-vacate}
-use Rattle.frame_pool.proofs.Keeping.{IfSome-from, IsInOrder-again, IsInOrder-gone, not_free_there, rest_unlisted, same_owner, vacated}
+use Rattle.frame_pool.specs.Laid.{IsLaid}
+use Rattle.frame_pool.proofs.LayoutRelease.{Gives-vacate}
+use Rattle.frame_pool.proofs.LayoutInOrder.{IfSome-from, IsInOrder-again, IsInOrder-gone, not_free_there, rest_unlisted, same_owner, vacated}
 use Rattle.frame_pool.proofs.layout.Layout.vacate.Goals as goal
 
 pub page_at-requires-clause-pages : goal.page_at-requires-clause-pages

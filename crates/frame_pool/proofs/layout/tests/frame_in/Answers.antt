@@ -1,7 +1,7 @@
 use Rattle.std.proofs.Common.{sym, ap, subst, ◌∙◌}
 use Rattle.pager_model.specs.Layouts.{Layout, covering}
 use Rattle.frame_pool.specs.Laid.{IsLaid}
-use Rattle.frame_pool.proofs.Reserving.{record_at-covered, HasPage-covered}
+use Rattle.frame_pool.proofs.PlacingResult.{record_at-covered, HasPage-covered}
 use Rattle.frame_pool.proofs.layout.tests.frame_in.Goals as goal
 
 pub frame_for-frame-requires-clause-page : goal.frame_for-frame-requires-clause-page

@@ -1,9 +1,9 @@
 use Rattle.std.proofs.Common.{ap, ◌∙◌}
 use Rattle.pager_model.specs.FrameStates.{layout_of, counted, IsVictim}
 use Rattle.frame_pool.specs.PoolState.{state_of}
-use Rattle.frame_pool.proofs.Keeping.{owner_is}
-use Rattle.frame_pool.proofs.Soundness.{used_if_noted}
-use Rattle.frame_pool.proofs.Pooling.{noted_evictable, page_of}
+use Rattle.frame_pool.proofs.LayoutInOrder.{owner_is}
+use Rattle.frame_pool.proofs.StateSoundness.{used_if_noted}
+use Rattle.frame_pool.proofs.PoolFields.{noted_evictable, page_of}
 use Rattle.frame_pool.proofs.pool.Pool.claim.Goals as goal
 
 pub unwrap-reservation-requires : goal.unwrap-reservation-requires

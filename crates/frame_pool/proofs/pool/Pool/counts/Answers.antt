@@ -1,6 +1,6 @@
 use Rattle.std.proofs.Common.{length, ap, arith}
 use Rattle.frame_pool.specs.PoolState.{state_of}
-use Rattle.frame_pool.proofs.Summing.{counts_sum, used_places_few}
+use Rattle.frame_pool.proofs.FrameCounts.{counts_sum, used_places_few}
 use Rattle.frame_pool.proofs.pool.Pool.counts.Goals as goal
 
 pub returns-clause-all : goal.returns-clause-all

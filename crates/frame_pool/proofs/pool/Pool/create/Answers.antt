@@ -1,5 +1,5 @@
 use Rattle.std.proofs.Common.{◌≡◌, None, replicate, rules}
-use Rattle.frame_pool.proofs.Pooling.{IsPool-start}
+use Rattle.frame_pool.proofs.PoolFields.{IsPool-start}
 use Rattle.frame_pool.proofs.pool.Pool.create.Goals as goal
 
 pub invariant_of-result : goal.invariant_of-result

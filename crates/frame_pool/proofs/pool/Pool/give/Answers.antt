@@ -5,7 +5,7 @@ use Rattle.frame_pool.specs.Laid.{IsLaid}
 use Rattle.frame_pool.specs.PoolState.{state_of}
 use Rattle.frame_pool.specs.Pooled.{IsPool}
 use Rattle.frame_pool.proofs.PageMoves.{frame_of-give_page}
-use Rattle.frame_pool.proofs.Pooling.{claim_read, give_page-is, IsPool-given}
+use Rattle.frame_pool.proofs.PoolFields.{claim_read, give_page-is, IsPool-given}
 use Rattle.frame_pool.proofs.pool.Pool.give.Goals as goal
 
 -- the page has no place then, and every other page keeps its own

@@ -1,7 +1,7 @@
 use Rattle.std.proofs.Common.{None, ◌∙◌}
 use Rattle.std.proofs.lemmas.List.{get_or_read}
 use Rattle.frame_pool.specs.PoolState.{state_of}
-use Rattle.frame_pool.proofs.Pooling.{IsPool-claimed}
+use Rattle.frame_pool.proofs.PoolFields.{IsPool-claimed}
 use Rattle.frame_pool.proofs.pool.Pool.note_claim.Goals as goal
 use Rattle.frame_pool.proofs.pool.Pool.note_claim.Goals.{in-Some, in_default}
 

@@ -1,6 +1,6 @@
 use Rattle.std.proofs.Common.{sym, ◌∙◌}
 use Rattle.frame_pool.specs.PoolState.{state_of}
-use Rattle.frame_pool.proofs.Pooling.{held_read, IsPool-dropped}
+use Rattle.frame_pool.proofs.PoolFields.{held_read, IsPool-dropped}
 use Rattle.frame_pool.proofs.pool.Pool.put_back.Goals as goal
 
 pub put_back-requires-clause-known : goal.put_back-requires-clause-known

@@ -4,8 +4,8 @@ use Rattle.pager_model.specs.FrameStates.{FrameState, layout_of, used_at, take_f
 use Rattle.pager_model.specs.Layouts.{placing}
 use Rattle.frame_pool.specs.PoolState.{state_of}
 use Rattle.frame_pool.specs.Pooled.{number_in}
-use Rattle.frame_pool.proofs.Placing.{full-placing, placing-full}
-use Rattle.frame_pool.proofs.Pooling.{layout_of-pool, used_long, taking_of, take_frame-placed, state_taken-is, frame_known, frame_out, frame_there, IsPool-taken}
+use Rattle.frame_pool.proofs.LayoutPlacing.{full-placing, placing-full}
+use Rattle.frame_pool.proofs.PoolFields.{layout_of-pool, used_long, taking_of, take_frame-placed, state_taken-is, frame_known, frame_out, frame_there, IsPool-taken}
 use Rattle.frame_pool.proofs.pool.Pool.take.Goals as goal
 
 pub returns-in_default-clause-full : goal.returns-in_default-clause-full

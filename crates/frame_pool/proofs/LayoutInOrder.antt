@@ -6,25 +6,25 @@ use Rattle.std.proofs.lemmas.List.{get_or-set_same, get_or-set_other, length-set
 use Rattle.pager_model.specs.declared.reservation.Reservation.{Reservation}
 use Rattle.pager_model.specs.Ages.{Lists}
 use Rattle.pager_model.specs.Agreement.{has_frame}
-use Rattle.pager_model.specs.Layouts.{Layout, frame_for, stamped, populated, split_layout, part_with, narrows_to, narrow_layout, vacate_layout, is_last}
-use Rattle.pager_model.specs.Records.{Records, is_used, yield_of, part_of, split_records, split_on}
+use Rattle.pager_model.specs.Layouts.{Layout, frame_for, stamped, populated, split_layout, part_with, narrows_to, narrow_layout, vacate_layout, is_last, split_on, record_at, is_free}
+use Rattle.pager_model.specs.Records.{Records, is_used, yield_of, part_of, split_records}
 use Rattle.pager_model.specs.FreeBlocks.{with_range}
 use Rattle.reservation_lists.specs.Kept.{Kept, is_listed}
 use Rattle.reservations.specs.Kept.{HasPage, IsPlaced, ArePlaced}
-use Rattle.reservations.proofs.BreakLemmas.{used_part}
+use Rattle.frame_pool.proofs.PartRecords.{used_part}
 use Rattle.reservations.proofs.ExtentLemmas.{part_inside, part_of_eight}
 use Rattle.reservations.proofs.HoldLemmas.{ArePlaced-set, has_frame_bounds, has_frame_from, known_record, None-not_Some, Some-same}
 use Rattle.reservations.proofs.SplitLemmas.{split_records-open}
-use Rattle.frame_pool.specs.Laid.{IsLaid, record_at, is_free}
+use Rattle.frame_pool.specs.Laid.{IsLaid}
 use Rattle.frame_pool.specs.Listed.{AreListed, IsInOrder, WasSplit}
-use Rattle.frame_pool.proofs.Breaking.{placed_own, alone_own, record_at-part, part_with-has, yield_less}
-use Rattle.frame_pool.proofs.Giving.{had}
-use Rattle.frame_pool.proofs.Listing.{list_of-used, is_listed-none, AreListed-full}
-use Rattle.frame_pool.proofs.Covering.{covers-IsPageOf, frame_in-is, used_in-unused}
-use Rattle.frame_pool.proofs.Placing.{MayPut-stamped}
-use Rattle.frame_pool.proofs.Putting.{IsLaid-put}
-use Rattle.frame_pool.proofs.Settling.{Settles-split}
-use Rattle.frame_pool.proofs.Splitting.{free_up_to, free_up_to-cases}
+use Rattle.frame_pool.proofs.LayoutBreak.{placed_own, alone_own, record_at-part, part_with-has, yield_less}
+use Rattle.frame_pool.proofs.LayoutRelease.{had}
+use Rattle.frame_pool.proofs.AgeLists.{list_of-used, is_listed-none, AreListed-full}
+use Rattle.frame_pool.proofs.PagePlaces.{covers-IsPageOf, frame_in-is, used_in-unused}
+use Rattle.frame_pool.proofs.LayoutPlacing.{MayPut-stamped}
+use Rattle.frame_pool.proofs.LayoutWithRecord.{IsLaid-put}
+use Rattle.frame_pool.proofs.LayoutSplit.{Settles-split}
+use Rattle.frame_pool.proofs.SplitFrames.{free_up_to, free_up_to-cases}
 
 -- Clauses on an option.
 
@@ -193,10 +193,10 @@ only_frame r frame one has =
     omega (arith, bounds.0, bounds.1, width)
 
 -- a narrowing begins with a split, and goes on at the part with the frame
-narrow_suc : (n frame : ℕ) (r : Reservation) (l : Layout) → r.size ≡ suc n → narrow_layout frame r l ≡ split_on split_layout (narrows_to frame) n (part_with frame r) (split_layout r l)
+narrow_suc : (n frame : ℕ) (r : Reservation) (l : Layout) → r.size ≡ suc n → narrow_layout frame r l ≡ split_on (narrows_to frame) n (part_with frame r) (split_layout r l)
 narrow_suc n frame r l size =
     let next = split_layout r l in
-    let narrow : ℕ → Reservation → Layout → Layout = split_on split_layout (narrows_to frame) in
+    let narrow : ℕ → Reservation → Layout → Layout = split_on (narrows_to frame) in
     let step : Option Reservation → Layout = λ o. option_map_or (λ p. narrow n p next) o next in
     ap (λ k. narrow k r l) size ∙ elim (cases_lt 1 r.size) [
       | inl more ↦ ap step (cond-true _ _ _ (lt-ltb 1 r.size more))
@@ -214,7 +214,7 @@ narrow_step l frame r q laid is has used splits at holds =
     let kept = used_part (is_used l.used) r l.records splits (placed_own l r.frame r laid is) (alone_own l r.frame r laid is) frame part.0 used part.3 in
     let stands = record_at-part l r.frame r laid is part.0 splits part.1 kept in
     let same = same_owner next mine.frame mine (Settles-split l r.frame r laid is splits).laid stands frame q.frame q part.3 at holds in
-    let narrow : Reservation → Layout = λ p. split_on split_layout (narrows_to frame) (r.size - 1) p next in
+    let narrow : Reservation → Layout = λ p. split_on (narrows_to frame) (r.size - 1) p next in
     subst (λ p. (p.size < r.size) × (narrow_layout frame p next ≡ narrow_layout frame r l)) same
     (omega arith, ap narrow part.2 ∙ sym (narrow_suc (r.size - 1) frame r l (omega arith)))
 

@@ -4,12 +4,12 @@ use Rattle.std.proofs.lemmas.Bool.{cases_eq, cases_Bool, cond-true, cond-false, 
 use Rattle.std.proofs.lemmas.List.{get_or-set_same, get_or-set_other, length-set}
 use Rattle.pager_model.specs.declared.reservation.Reservation.{Reservation}
 use Rattle.pager_model.specs.Agreement.{has_frame}
-use Rattle.pager_model.specs.Layouts.{Layout, covers, covering, frame_for, used_in, frame_in}
+use Rattle.pager_model.specs.Layouts.{Layout, covers, covering, frame_for, used_in, frame_in, record_at, is_free}
 use Rattle.pager_model.specs.Records.{is_used}
 use Rattle.reservations.specs.Kept.{IsPlaced}
 use Rattle.reservations.proofs.HoldLemmas.{has_frame_bounds, Some-same, ArePlaced-set}
-use Rattle.frame_pool.specs.Laid.{IsLaid, IsIn, record_at, is_free}
-use Rattle.frame_pool.proofs.Covering.{IsPageOf-covers, has_frame_for, covering-found, covering-none, frame_in-is, used_in-used}
+use Rattle.frame_pool.specs.Laid.{IsLaid, IsIn}
+use Rattle.frame_pool.proofs.PagePlaces.{IsPageOf-covers, has_frame_for, covering-found, covering-none, frame_in-is, used_in-used}
 
 -- the layout with the reservation at its first frame, these free frames, and one more used place
 abbrev pub put : Layout → Reservation → ℕ → List Bool → Layout

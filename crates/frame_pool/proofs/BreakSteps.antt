@@ -5,15 +5,15 @@ use Rattle.std.specs.Option.{option_or, option_and_then, option_map_or, IfSome, 
 use Rattle.std.proofs.lemmas.Bool.{cond-false, false≢true}
 use Rattle.buddy_extents.proofs.Runs.{find_passes}
 use Rattle.pager_model.specs.declared.reservation.Reservation.{Reservation}
-use Rattle.pager_model.specs.Layouts.{Layout, split_layout, broken_at, oldest_of, oldest_from}
-use Rattle.pager_model.specs.Records.{is_used, yield_of, part_of, is_part_empty, same_size, lowest_as_wide, goes_on_at, split_on}
+use Rattle.pager_model.specs.Layouts.{Layout, split_layout, broken_at, oldest_of, oldest_from, split_on, record_at}
+use Rattle.pager_model.specs.Records.{is_used, yield_of, part_of, is_part_empty, same_size, lowest_as_wide, goes_on_at}
 use Rattle.reservations.specs.Parts.{told_part, told_parts}
 use Rattle.reservations.specs.declared.part.Part.{Part}
-use Rattle.reservations.proofs.BreakLemmas.{same_size_from}
-use Rattle.frame_pool.specs.Laid.{IsLaid, record_at}
+use Rattle.frame_pool.proofs.PartYields.{same_size_from}
+use Rattle.frame_pool.specs.Laid.{IsLaid}
 use Rattle.frame_pool.specs.Placed.{CanBreak, first_of}
-use Rattle.frame_pool.proofs.Settling.{Settles-split}
-use Rattle.frame_pool.proofs.Breaking.{record_at-part, kept_each, find_below, goes_on_part, yield_less}
+use Rattle.frame_pool.proofs.LayoutSplit.{Settles-split}
+use Rattle.frame_pool.proofs.LayoutBreak.{record_at-part, kept_each, find_below, goes_on_part, yield_less}
 
 -- Which reservation is broken.
 
@@ -148,7 +148,7 @@ module _ (l : Layout) (id : ℕ) (r : Reservation) (next : Option ℕ) (is : rec
   pub broken_step : broken_from next (split_layout r l) ≡ broken_at id l
   broken_step =
       let new = split_layout r l in
-      let on : ℕ → Reservation → Layout = λ levels p. split_on split_layout (goes_on_at (is_used l.used)) levels p new in
+      let on : ℕ → Reservation → Layout = λ levels p. split_on (goes_on_at (is_used l.used)) levels p new in
       let levels : r.size ≡ suc (r.size - 1) = omega arith in
       let each : (o : Option Reservation) → goes_on_at (is_used l.used) r ≡ o → option_map_or (λ q. on q.size q) o new ≡ option_map_or (λ q. on (r.size - 1) q) o new =
       λ o. elim o as (λ o. goes_on_at (is_used l.used) r ≡ o → option_map_or (λ q. on q.size q) o new ≡ option_map_or (λ q. on (r.size - 1) q) o new) [
@@ -160,8 +160,8 @@ module _ (l : Layout) (id : ℕ) (r : Reservation) (next : Option ℕ) (is : rec
         | Some at ↦ λ named. ap (λ o. option_map_or (λ q. on q.size q) o new) named
       ] goes
       ∙ each (goes_on_at (is_used l.used) r) refl
-      ∙ sym (ap (λ n. split_on split_layout (goes_on_at (is_used l.used)) n r l) levels)
-      ∙ sym (ap (λ o. option_map_or (λ q. split_on split_layout (goes_on_at (is_used l.used)) q.size q l) o l) is)
+      ∙ sym (ap (λ n. split_on (goes_on_at (is_used l.used)) n r l) levels)
+      ∙ sym (ap (λ o. option_map_or (λ q. split_on (goes_on_at (is_used l.used)) q.size q l) o l) is)
 
   pub size_falls : size_from next (split_layout r l) < size_from (Some id) l
   size_falls =

@@ -6,15 +6,16 @@ use Rattle.buddy_extents.proofs.Runs.{IsExtent-choice, choice_within, run_free-c
 use Rattle.buddy_extents.proofs.Ranges.{length-with_range, with_range_inside, with_range_outside, range_cases}
 use Rattle.pager_model.specs.Agreement.{has_frame}
 use Rattle.pager_model.specs.FreeBlocks.{choice}
-use Rattle.pager_model.specs.Layouts.{Layout, Found, break_layout, broken_at, to_break, chosen, extent_of, largest_extent}
+use Rattle.pager_model.specs.Layouts.{Layout, Found, break_layout, broken_at, to_break, chosen, extent_of, largest_extent, record_at, is_free}
 use Rattle.pager_model.specs.Records.{is_used, yield_of}
 use Rattle.reservation_lists.specs.Kept.{Kept}
-use Rattle.frame_pool.specs.Laid.{IsLaid, record_at, is_free}
+use Rattle.frame_pool.specs.Laid.{IsLaid}
 use Rattle.frame_pool.specs.Listed.{IsInOrder}
 use Rattle.frame_pool.specs.Placed.{CanBreak, FindsExtent, without_extent}
-use Rattle.frame_pool.proofs.Breaking.{choice-break, yield_less}
-use Rattle.frame_pool.proofs.Listing.{oldest_from-found}
-use Rattle.frame_pool.proofs.Stepping.{option_or-some, option_or-none}
+use Rattle.frame_pool.proofs.LayoutBreak.{yield_less}
+use Rattle.frame_pool.proofs.BreakYield.{choice-break}
+use Rattle.frame_pool.proofs.AgeLists.{oldest_from-found}
+use Rattle.frame_pool.proofs.BreakSteps.{option_or-some, option_or-none}
 
 -- An extent that was chosen in a sound layout.
 

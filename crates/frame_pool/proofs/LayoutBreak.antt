@@ -1,27 +1,23 @@
--- What breaking a reservation keeps and frees, and what narrowing one down to a used frame leaves.
-use Rattle.std.proofs.Common.{◌≡◌, ℕ, zero, suc, ◌+◌, ◌-◌, ◌*◌, ◌%◌, ◌^◌, ◌<◌, ◌≤◌, Bool, true, false, length, get_or, Option, Some, None, find, option_map, inl, inr, refl, sym, ap, subst, ◌∙◌, arith}
+-- What breaking a reservation keeps, and what narrowing one down to a used frame leaves.
+use Rattle.std.proofs.Common.{◌≡◌, ℕ, zero, suc, ◌+◌, ◌-◌, ◌*◌, ◌^◌, ◌<◌, Bool, true, false, length, get_or, Option, Some, None, find, option_map, inl, inr, refl, sym, ap, subst, ◌∙◌, arith}
 use Rattle.std.specs.List.{range_with_len, list_any}
 use Rattle.std.specs.Option.{option_map_or}
-use Rattle.std.proofs.Math.Nat.{pow-le-pow_right}
 use Rattle.std.proofs.lemmas.Bool.{cases_Bool, cases_lt, cond-true, cond-false, false≢true, lt-ltb, le-ltb}
 use Rattle.std.proofs.lemmas.List.FromFn.{get_or-range_with_len}
 use Rattle.std.proofs.lemmas.List.Folds.{list_any_at}
 use Rattle.pager_model.specs.declared.reservation.Reservation.{Reservation}
 use Rattle.pager_model.specs.Agreement.{has_frame}
-use Rattle.pager_model.specs.FreeBlocks.{run_free, choice}
-use Rattle.pager_model.specs.Layouts.{Layout, split_layout, break_layout, part_with, narrows_to, narrow_layout}
-use Rattle.pager_model.specs.Records.{is_used, none_used, has_empty, yield_of, part_of, is_part_empty, kept_part, split_records, same_size, lowest_as_wide, goes_on_at, split_on}
-use Rattle.buddy_extents.proofs.Runs.{run_free_exactly, run_free_part, no_choice_exactly}
-use Rattle.reservations.specs.Breaking.{IsAlone}
+use Rattle.pager_model.specs.Layouts.{Layout, split_layout, break_layout, part_with, narrows_to, narrow_layout, split_on, record_at}
+use Rattle.pager_model.specs.Records.{is_used, none_used, has_empty, yield_of, part_of, is_part_empty, kept_part, same_size, lowest_as_wide, goes_on_at}
 use Rattle.reservations.specs.Kept.{IsPlaced}
-use Rattle.reservations.proofs.BreakLemmas.{has_empty_some, split_at, which_part, used_part, Breaks-broken_over}
 use Rattle.reservations.proofs.CountLemmas.{extent_of_frame}
-use Rattle.reservations.proofs.ExtentLemmas.{aligned_part}
-use Rattle.reservations.proofs.HoldLemmas.{has_frame_bounds, has_frame_from, Some-same, None-not_Some, unused_in}
+use Rattle.reservations.proofs.HoldLemmas.{has_frame_bounds, Some-same, None-not_Some, unused_in}
 use Rattle.reservations.proofs.SplitLemmas.{kept_cases}
 use Rattle.reservations.proofs.YieldLemmas.{yield_below, yield_below-found, yield_below-missed}
-use Rattle.frame_pool.specs.Laid.{IsLaid, record_at}
-use Rattle.frame_pool.proofs.Settling.{Settles, Settles-split}
+use Rattle.frame_pool.specs.Laid.{IsLaid}
+use Rattle.frame_pool.proofs.PartRecords.{IsAlone, split_at, which_part, used_part}
+use Rattle.frame_pool.proofs.PartYields.{has_empty_some}
+use Rattle.frame_pool.proofs.LayoutSplit.{Settles, Settles-split}
 
 -- One splitting after another.
 
@@ -96,13 +92,13 @@ goes_on_part used r p goes = elim (cases_Bool (list_any (is_part_empty used r) (
 ]
 
 -- a reservation broken over as many levels as its size
-pub Settles-break_over : (levels : ℕ) (l : Layout) (id : ℕ) (r : Reservation) → r.size ≡ levels → IsLaid l → record_at l id ≡ Some r → Settles l (split_on split_layout (goes_on_at (is_used l.used)) levels r l)
+pub Settles-break_over : (levels : ℕ) (l : Layout) (id : ℕ) (r : Reservation) → r.size ≡ levels → IsLaid l → record_at l id ≡ Some r → Settles l (split_on (goes_on_at (is_used l.used)) levels r l)
 Settles-break_over zero l id r size laid is = Settles-same l laid
 Settles-break_over (suc n) l id r size laid is =
     let splits : 0 < r.size = omega arith in
     let next = split_layout r l in
     let split = Settles-split l id r laid is splits in
-    let step : Option Reservation → Layout = λ o. option_map_or (λ part. split_on split_layout (goes_on_at (is_used l.used)) n part next) o next in
+    let step : Option Reservation → Layout = λ o. option_map_or (λ part. split_on (goes_on_at (is_used l.used)) n part next) o next in
     elim (goes_on_at (is_used l.used) r) as (λ o. goes_on_at (is_used l.used) r ≡ o → Settles l (step o)) [
       | None ↦ λ stops. split
       | Some p ↦ λ goes.
@@ -115,16 +111,6 @@ Settles-break_over (suc n) l id r size laid is =
 -- breaking a reservation settles
 pub Settles-break : (l : Layout) (id : ℕ) (r : Reservation) → IsLaid l → record_at l id ≡ Some r → Settles l (break_layout r l)
 Settles-break l id r laid is = Settles-break_over r.size l id r refl laid is
-
--- what a splitting over some levels does to the records doesn't depend on the free frames
-pub split_on-records : (levels : ℕ) (next : Reservation → Option Reservation) (r : Reservation) (l : Layout) → (split_on split_layout next levels r l).records ≡ split_on (split_records (is_used l.used)) next levels r l.records
-split_on-records zero next r l = refl
-split_on-records (suc n) next r l =
-    let after = split_records (is_used l.used) r l.records in
-    elim (next r) as (λ o. (option_map_or (λ part. split_on split_layout next n part (split_layout r l)) o (split_layout r l)).records ≡ option_map_or (λ part. split_on (split_records (is_used l.used)) next n part after) o after) [
-      | None ↦ refl
-      | Some p ↦ split_on-records n next p (split_layout r l)
-    ]
 
 -- the largest size below a bound that has an empty extent is below the bound
 pub yield_below-less : (used : ℕ → Bool) (r : Reservation) (n k : ℕ) → yield_below used r n ≡ Some k → k < n
@@ -149,38 +135,6 @@ yield_less used r k frame has is yields = elim (cases_Bool (has_empty used r r.s
   | inr some ↦ yield_below-less used r r.size k (sym (yield_below-missed used r (suc r.size) r.size refl some) ∙ yields)
 ]
 
--- breaking a reservation frees the frames of an extent of its yield
-pub frees_extent : (l : Layout) (id : ℕ) (r : Reservation) (k : ℕ) → IsLaid l → record_at l id ≡ Some r → yield_of (is_used l.used) r ≡ Some k → (first : ℕ) × (k ≤ 3) × (first % 8 ^ k ≡ 0) × (run_free (break_layout r l).free first (8 ^ k) ≡ true)
-frees_extent l id r k laid is yields =
-    let some = laid.some_used id r is in
-    let less = yield_less (is_used l.used) r k some.0 some.1 some.2 yields in
-    let breaks = Breaks-broken_over r.size (is_used l.used) r k l.records (omega arith) (placed_own l id r laid is) (alone_own l id r laid is) yields less in
-    let records = split_on-records r.size (goes_on_at (is_used l.used)) r l in
-    let within = (Settles-break l id r laid is).within in
-    let first = breaks.freed.0 in
-    let freed = breaks.freed.1 in (
-      first,
-      freed.extent.0,
-      freed.extent.1,
-      (run_free_exactly (break_layout r l).free first (8 ^ k)).1 (λ frame low high.
-          let has = has_frame_from frame r (omega (arith, freed.begins)) (omega (arith, freed.ends)) in
-          elim ((within frame).1 (inr (id, ap (has_frame frame) is ∙ has))) [
-            | inl free ↦ free
-            | inr place ↦ absurd (freed.free frame place.0 low high (ap (λ rs. has_frame frame (get_or rs place.0 None)) (sym records) ∙ place.1))
-          ]),
-    )
-
--- breaking a reservation makes a choice for every size up to its yield
-pub choice-break : (l : Layout) (id : ℕ) (r : Reservation) (k size : ℕ) → IsLaid l → record_at l id ≡ Some r → yield_of (is_used l.used) r ≡ Some k → size ≤ k → choice (break_layout r l).free size ≡ None → ⊥
-choice-break l id r k size laid is yields le none =
-    let freed = frees_extent l id r k laid is yields in
-    let positive : 0 < 8 = omega arith in
-    let run = run_free_part (break_layout r l).free freed.0 (8 ^ k) (8 ^ size) freed.3 (pow-le-pow_right positive le) in
-    let start : freed.0 + 0 * 8 ^ size ≡ freed.0 = omega arith in
-    let aligned : freed.0 % 8 ^ size ≡ 0 = ap (λ n. n % 8 ^ size) (sym start) ∙ aligned_part size k freed.0 0 le freed.2 in
-    let fails = (no_choice_exactly (break_layout r l).free size (omega (arith, freed.1))).0 none freed.0 aligned in
-    false≢true (sym fails ∙ run)
-
 -- Narrowing.
 
 -- what narrowing a reservation down to a used frame leaves there
@@ -199,7 +153,7 @@ part_with-has l id frame r laid is splits has =
     (at.0, at.1, ap (part_of r) (sym index), at.2)
 
 -- a reservation narrowed over as many levels as its size
-pub Narrows-narrow_over : (levels : ℕ) (l : Layout) (id frame : ℕ) (r : Reservation) → r.size ≡ levels → IsLaid l → record_at l id ≡ Some r → has_frame frame (Some r) ≡ true → is_used l.used frame ≡ true → Narrows l (split_on split_layout (narrows_to frame) levels r l) frame
+pub Narrows-narrow_over : (levels : ℕ) (l : Layout) (id frame : ℕ) (r : Reservation) → r.size ≡ levels → IsLaid l → record_at l id ≡ Some r → has_frame frame (Some r) ≡ true → is_used l.used frame ≡ true → Narrows l (split_on (narrows_to frame) levels r l) frame
 Narrows-narrow_over zero l id frame r size laid is has used =
     let bounds = has_frame_bounds frame r has in
     let one : 8 ^ r.size ≡ 1 = ap (λ m. 8 ^ m) size in
@@ -213,8 +167,8 @@ Narrows-narrow_over (suc n) l id frame r size laid is has used =
     let kept = used_part (is_used l.used) r l.records splits (placed_own l id r laid is) (alone_own l id r laid is) frame part.0 used part.3 in
     let stands = record_at-part l id r laid is part.0 splits part.1 kept in
     let rest = Narrows-narrow_over n next (part_of r part.0).frame frame (part_of r part.0) (omega arith) split.laid stands part.3 used in
-    let step : Option Reservation → Layout = λ o. option_map_or (λ p. split_on split_layout (narrows_to frame) n p next) o next in
-    let both : Narrows l (split_on split_layout (narrows_to frame) n (part_of r part.0) next) frame =
+    let step : Option Reservation → Layout = λ o. option_map_or (λ p. split_on (narrows_to frame) n p next) o next in
+    let both : Narrows l (split_on (narrows_to frame) n (part_of r part.0) next) frame =
     record { settles = Settles-then l next _ split rest.settles; alone = rest.alone; is = rest.is; one = rest.one } in
     elim (cases_lt 1 r.size) [
       | inl more ↦
@@ -224,7 +178,7 @@ Narrows-narrow_over (suc n) l id frame r size laid is has used =
           let stops : narrows_to frame r ≡ None = cond-false _ _ _ (le-ltb 1 r.size most) in
           let last : n ≡ 0 = omega arith in
           subst (λ o. Narrows l (step o) frame) (sym stops)
-          (subst (λ m. Narrows l (split_on split_layout (narrows_to frame) m (part_of r part.0) next) frame) last both)
+          (subst (λ m. Narrows l (split_on (narrows_to frame) m (part_of r part.0) next) frame) last both)
     ]
 
 -- narrowing down to a used frame leaves a reservation of this frame alone

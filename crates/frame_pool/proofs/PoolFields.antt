@@ -14,19 +14,19 @@ use Rattle.pager_model.specs.declared.reservation.Reservation.{Reservation}
 use Rattle.pager_model.specs.declared.reservation.Used.{Used}
 use Rattle.pager_model.specs.Agreement.{has_frame}
 use Rattle.pager_model.specs.FrameStates.{FrameState, start_frames, layout_of, used_at, held_by, claim_in, frame_of, HasNothing, taking, Taking, take_frame, counted, layout_given, held_given, given, give_page, given_in, with_claim, claimed, dropped_in, is_evictable}
-use Rattle.pager_model.specs.Layouts.{Layout, start_layout, placing, put_back}
+use Rattle.pager_model.specs.Layouts.{Layout, start_layout, placing, put_back, record_at}
 use Rattle.pager_model.specs.Records.{is_used}
 use Rattle.pager_model.proofs.Starting.{get_or-nothing}
 use Rattle.frame_pool.specs.declared.pool.Pool.TheInside.{Inside}
-use Rattle.frame_pool.specs.Laid.{IsLaid, IsSound, record_at}
+use Rattle.frame_pool.specs.Laid.{IsLaid, IsSound}
 use Rattle.frame_pool.specs.Placed.{IsPageAt, PlacesPage}
 use Rattle.frame_pool.specs.PoolState.{state_of}
 use Rattle.frame_pool.specs.Pooled.{IsPool, number_in}
-use Rattle.frame_pool.proofs.Covering.{covers-IsPageOf, has_frame_for, HasPlace, frame_in-from, frame_in-found, covering-is}
-use Rattle.frame_pool.proofs.Giving.{Gives-vacate, Gives-carve}
-use Rattle.frame_pool.proofs.Placing.{Places-placing}
-use Rattle.frame_pool.proofs.Soundness.{is_used-layout_of, used_if_noted, IsSound-take, IsSound-give_page, IsSound-claimed, IsSound-unclaimed, IsSound-dropped}
-use Rattle.frame_pool.proofs.Starting.{IsSound-start, nothing_used}
+use Rattle.frame_pool.proofs.PagePlaces.{covers-IsPageOf, has_frame_for, HasPlace, frame_in-from, frame_in-found, covering-is}
+use Rattle.frame_pool.proofs.LayoutRelease.{Gives-vacate, Gives-carve}
+use Rattle.frame_pool.proofs.LayoutPlacing.{Places-placing}
+use Rattle.frame_pool.proofs.StateSoundness.{is_used-layout_of, used_if_noted, IsSound-take, IsSound-give_page, IsSound-claimed, IsSound-unclaimed, IsSound-dropped}
+use Rattle.frame_pool.proofs.StartStates.{IsSound-start, nothing_used}
 
 -- The frames that are there.
 

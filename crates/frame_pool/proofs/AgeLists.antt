@@ -14,11 +14,11 @@ use Rattle.pager_model.specs.Records.{is_used, yield_of, same_size}
 use Rattle.reservation_lists.specs.Kept.{has_member_of, is_listed}
 use Rattle.reservation_lists.proofs.Members.{All-with_member}
 use Rattle.reservations.specs.Kept.{ArePlaced}
-use Rattle.reservations.proofs.BreakLemmas.{same_size_from}
+use Rattle.frame_pool.proofs.PartYields.{same_size_from}
 use Rattle.reservations.proofs.HoldLemmas.{None-not_Some, Some-same, known_record}
 use Rattle.frame_pool.specs.Listed.{AreListed}
 use Rattle.frame_pool.proofs.MemberOrder.{with_member-swap, without_member-with}
-use Rattle.frame_pool.proofs.SameYields.{yield_of-agree}
+use Rattle.frame_pool.proofs.YieldByPlaces.{yield_of-agree}
 
 -- a reservation's member of its list
 abbrev pub member_of : Reservation → Member

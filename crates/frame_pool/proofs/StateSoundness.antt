@@ -14,13 +14,13 @@ use Rattle.pager_model.specs.declared.reservation.Reservation.{Reservation}
 use Rattle.pager_model.specs.declared.reservation.Used.{Used}
 use Rattle.pager_model.specs.Agreement.{has_frame}
 use Rattle.pager_model.specs.FrameStates.{FrameState, Taking, layout_of, used_at, held_by, claim_in, frame_of, HasNothing, taken, taking, take_frame, state_taken, layout_given, held_given, given, given_in, give_page, give_if_used, with_claim, claimed, dropped, dropped_in, counted, named_space, moved, moved_by_answer, AllowsAnswer, FramesAllow}
-use Rattle.pager_model.specs.Layouts.{Layout, Placing, placing, frame_for}
+use Rattle.pager_model.specs.Layouts.{Layout, Placing, placing, frame_for, record_at}
 use Rattle.pager_model.specs.Records.{is_used}
 use Rattle.reservations.proofs.HoldLemmas.{has_frame_bounds, Some-same, None-not_Some}
-use Rattle.frame_pool.specs.Laid.{IsLaid, IsSound, IsIn, record_at}
-use Rattle.frame_pool.proofs.Covering.{has_frame_for, frame_in-found, covering-is}
-use Rattle.frame_pool.proofs.Placing.{Places, Places-placing}
-use Rattle.frame_pool.proofs.Giving.{Gives, Gives-vacate, Gives-carve, PutsBack-put_back}
+use Rattle.frame_pool.specs.Laid.{IsLaid, IsSound, IsIn}
+use Rattle.frame_pool.proofs.PagePlaces.{has_frame_for, frame_in-found, covering-is}
+use Rattle.frame_pool.proofs.LayoutPlacing.{Places, Places-placing}
+use Rattle.frame_pool.proofs.LayoutRelease.{Gives, Gives-vacate, Gives-carve, PutsBack-put_back}
 
 -- What is noted of the frames.
 

@@ -9,7 +9,8 @@ use Rattle.std.proofs.lemmas.List.FromFn.{length-range_with_len, get_or-range_wi
 use Rattle.std.proofs.lemmas.List.Sums.{sum_by-cons, sum_by_push, sum_by_more}
 use Rattle.pager_model.specs.declared.reservation.Reservation.{Reservation}
 use Rattle.pager_model.specs.Agreement.{has_frame, is_frame, roles}
-use Rattle.pager_model.specs.FrameStates.{FrameState, is_free, used_at, free_count, used_count, places_in, reserved_count, held_count}
+use Rattle.pager_model.specs.FrameStates.{FrameState, layout_of, used_at, free_count, used_count, places_in, reserved_count, held_count}
+use Rattle.pager_model.specs.Layouts.{is_free}
 use Rattle.pager_model.proofs.Ranges.{range_with_len-more}
 use Rattle.reservations.proofs.CountLemmas.{count-one_more}
 use Rattle.frame_pool.specs.Laid.{IsSound}
@@ -128,7 +129,7 @@ module _ (frames processors : ℕ) (st : FrameState) (sound : IsSound frames pro
       (λ c _. count-held frames (get_or st.held c None) (λ f is. (sound.held_apart c f is).0))
 
   -- over all frames the free ones
-  all_free : sum_by (λ f. cond (is_free st f) 1 0) (range_with_len 0 frames) ≡ free_count st
+  all_free : sum_by (λ f. cond (is_free (layout_of st) f) 1 0) (range_with_len 0 frames) ≡ free_count st
   all_free = count-indexes (λ free. free) st.free false frames sound.known
 
   -- over all frames the used ones
@@ -148,7 +149,7 @@ module _ (frames processors : ℕ) (st : FrameState) (sound : IsSound frames pro
       let ones = sum_by-same_at (roles st) (λ f. 1) (range_with_len 0 frames) 0
       (λ i within. (IsPartition-sound frames processors st sound _ (below i within)).0) in
       let all = ones ∙ sum_by-ones (range_with_len 0 frames) ∙ length-range_with_len 0 frames in
-      let in_layout : ℕ → ℕ = λ f. cond (is_free st f) 1 0 + count_by (has_frame f) st.records in
+      let in_layout : ℕ → ℕ = λ f. cond (is_free (layout_of st) f) 1 0 + count_by (has_frame f) st.records in
       let parts = sum_by-plus in_layout (λ f. count_by (is_frame f) st.held) (range_with_len 0 frames) in
-      let more_parts = sum_by-plus (λ f. cond (is_free st f) 1 0) (λ f. count_by (has_frame f) st.records) (range_with_len 0 frames) in
+      let more_parts = sum_by-plus (λ f. cond (is_free (layout_of st) f) 1 0) (λ f. count_by (has_frame f) st.records) (range_with_len 0 frames) in
       omega (arith, all, parts, more_parts, all_free, all_places, all_held, used_places_few)

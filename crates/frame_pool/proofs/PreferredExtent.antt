@@ -6,13 +6,12 @@ use Rattle.std.proofs.lemmas.List.Folds.{list_any_at}
 use Rattle.pager_model.specs.declared.entry.Want.{Want}
 use Rattle.pager_model.specs.declared.reservation.Reservation.{Reservation}
 use Rattle.pager_model.specs.Extents.{extent_start}
-use Rattle.pager_model.specs.Layouts.{Layout, covers, covering, meets, meets_any, preferred_in}
+use Rattle.pager_model.specs.Layouts.{Layout, covers, covering, meets, meets_any, preferred_in, record_at}
 use Rattle.pager_model.specs.PreferredSize.{fits}
 use Rattle.size_policy.proofs.Sizes.{Suits-from_fits}
 use Rattle.reservations.proofs.ExtentLemmas.{eight_pos, eight_split}
 use Rattle.reservations.proofs.HoldLemmas.{known_record}
-use Rattle.frame_pool.specs.Laid.{record_at}
-use Rattle.frame_pool.proofs.Covering.{IsPageOf-covers, covering-none}
+use Rattle.frame_pool.proofs.PagePlaces.{IsPageOf-covers, covering-none}
 
 -- no reservation of the space has a page of the extent of the size round the page
 abbrev pub Misses : Layout → ℕ → ℕ → ℕ → Type 0

@@ -3,10 +3,10 @@ use Rattle.std.proofs.Common.{◌≡◌, ℕ, zero, suc, ◌+◌, ◌^◌, ◌<�
 use Rattle.std.proofs.lemmas.Bool.{and_parts, and_from, eqb-true, eq-eqb, leb-true, le-leb, ltb-true, lt-ltb, false≢true}
 use Rattle.pager_model.specs.declared.reservation.Reservation.{Reservation}
 use Rattle.pager_model.specs.Agreement.{has_frame}
-use Rattle.pager_model.specs.Layouts.{Layout, covers, covering, frame_for, used_in, frame_in}
+use Rattle.pager_model.specs.Layouts.{Layout, covers, covering, frame_for, used_in, frame_in, record_at}
 use Rattle.pager_model.specs.Records.{is_used}
 use Rattle.reservations.proofs.HoldLemmas.{has_frame_from}
-use Rattle.frame_pool.specs.Laid.{IsLaid, record_at}
+use Rattle.frame_pool.specs.Laid.{IsLaid}
 
 -- the page of the space is one of the reservation's, as the test covers says
 pub record IsPageOf (space page : ℕ) (r : Reservation) : Type 0 where

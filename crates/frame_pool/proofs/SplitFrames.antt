@@ -7,17 +7,16 @@ use Rattle.std.proofs.lemmas.List.Sums.{fold_push}
 use Rattle.pager_model.specs.declared.reservation.Reservation.{Reservation}
 use Rattle.pager_model.specs.Agreement.{has_frame}
 use Rattle.pager_model.specs.FreeBlocks.{with_range}
-use Rattle.pager_model.specs.Layouts.{Layout, covers, frame_for, freed_part, split_layout}
+use Rattle.pager_model.specs.Layouts.{Layout, covers, frame_for, freed_part, split_layout, record_at, is_free}
 use Rattle.pager_model.specs.Records.{is_used, none_used, part_of, is_part_empty, kept_part}
 use Rattle.buddy_extents.proofs.Ranges.{length-with_range, with_range_inside, with_range_outside}
 use Rattle.reservations.specs.Kept.{IsPlaced}
-use Rattle.reservations.proofs.BreakLemmas.{length-split, split_at, split_other}
+use Rattle.frame_pool.proofs.PartRecords.{length-split, split_at, split_other}
 use Rattle.reservations.proofs.CountLemmas.{extent_of_frame}
 use Rattle.reservations.proofs.ExtentLemmas.{part_of_eight}
 use Rattle.reservations.proofs.HoldLemmas.{has_frame_bounds, has_frame_from}
 use Rattle.reservations.proofs.SplitLemmas.{range_more}
-use Rattle.frame_pool.specs.Laid.{record_at, is_free}
-use Rattle.frame_pool.proofs.Covering.{IsPageOf-covers, covers-IsPageOf}
+use Rattle.frame_pool.proofs.PagePlaces.{IsPageOf-covers, covers-IsPageOf}
 
 -- The pages of a reservation and of its parts.
 

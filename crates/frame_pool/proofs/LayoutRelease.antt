@@ -6,13 +6,13 @@ use Rattle.buddy_extents.proofs.Ranges.{length-with_range, with_range_inside, wi
 use Rattle.pager_model.specs.declared.reservation.Reservation.{Reservation}
 use Rattle.pager_model.specs.Agreement.{has_frame}
 use Rattle.pager_model.specs.FreeBlocks.{with_range}
-use Rattle.pager_model.specs.Layouts.{Layout, frame_in, vacate_layout, carve_layout, narrow_layout, take_out, put_back, is_last}
+use Rattle.pager_model.specs.Layouts.{Layout, frame_in, vacate_layout, carve_layout, narrow_layout, take_out, put_back, is_last, record_at, is_free}
 use Rattle.pager_model.specs.Records.{is_used}
 use Rattle.reservations.proofs.HoldLemmas.{has_frame_bounds, has_frame_from, known_record, ArePlaced-set, Some-same, None-not_Some, no_frame, unused_in}
-use Rattle.frame_pool.specs.Laid.{IsLaid, IsIn, record_at, is_free}
-use Rattle.frame_pool.proofs.Covering.{HasPlace, has_frame_for, frame_in-found, frame_in-from}
-use Rattle.frame_pool.proofs.Splitting.{some_used_in}
-use Rattle.frame_pool.proofs.Breaking.{Narrows-narrow}
+use Rattle.frame_pool.specs.Laid.{IsLaid, IsIn}
+use Rattle.frame_pool.proofs.PagePlaces.{HasPlace, has_frame_for, frame_in-found, frame_in-from}
+use Rattle.frame_pool.proofs.SplitFrames.{some_used_in}
+use Rattle.frame_pool.proofs.LayoutBreak.{Narrows-narrow}
 
 -- the frame is no used place any more, and every other place stays its page's; by which frames are in the layout
 pub record Gives (old new : Layout) (frame : ℕ) (in_after : ℕ → Type 0) : Type 0 where

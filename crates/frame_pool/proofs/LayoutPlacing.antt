@@ -9,17 +9,17 @@ use Rattle.pager_model.specs.declared.entry.Want.{Want}
 use Rattle.pager_model.specs.declared.reservation.Reservation.{Reservation}
 use Rattle.pager_model.specs.Agreement.{has_frame}
 use Rattle.pager_model.specs.FreeBlocks.{choice, with_range}
-use Rattle.pager_model.specs.Layouts.{Layout, Found, Placing, covers, covering, frame_for, used_in, frame_in, stamped, populated, new_reservation, reserved, preferred_in, largest_extent, placing_in, placing, is_full}
+use Rattle.pager_model.specs.Layouts.{Layout, Found, Placing, covers, covering, frame_for, used_in, frame_in, stamped, populated, new_reservation, reserved, preferred_in, largest_extent, placing_in, placing, is_full, record_at, is_free}
 use Rattle.pager_model.specs.Records.{is_used}
 use Rattle.reservations.proofs.ExtentLemmas.{eight_pos}
 use Rattle.reservations.proofs.HoldLemmas.{has_frame_bounds, has_frame_from, no_frame}
-use Rattle.frame_pool.specs.Laid.{IsLaid, IsIn, record_at, is_free}
-use Rattle.frame_pool.proofs.Covering.{IsPageOf-covers, covers-IsPageOf, has_frame_for, covering-found, used_in-unused, frame_in-is, frame_in-none}
-use Rattle.frame_pool.proofs.Filling.{EachFull-from, is_full-from, EachFull-none, none-choice, to_break-full, used-full}
-use Rattle.frame_pool.proofs.Finding.{IsFound-largest_extent, largest_extent-none, none-largest_extent}
-use Rattle.frame_pool.proofs.Meeting.{Misses, Misses-preferred, Misses-smaller, extent_low, extent_high}
-use Rattle.frame_pool.proofs.Putting.{put, MayPut, IsLaid-put, IsIn-put, frame_in-put}
-use Rattle.frame_pool.proofs.Settling.{Settles}
+use Rattle.frame_pool.specs.Laid.{IsLaid, IsIn}
+use Rattle.frame_pool.proofs.PagePlaces.{IsPageOf-covers, covers-IsPageOf, has_frame_for, covering-found, used_in-unused, frame_in-is, frame_in-none}
+use Rattle.frame_pool.proofs.FullLayout.{EachFull-from, is_full-from, EachFull-none, none-choice, to_break-full, used-full}
+use Rattle.frame_pool.proofs.FoundExtents.{IsFound-largest_extent, largest_extent-none, none-largest_extent}
+use Rattle.frame_pool.proofs.PreferredExtent.{Misses, Misses-preferred, Misses-smaller, extent_low, extent_high}
+use Rattle.frame_pool.proofs.LayoutWithRecord.{put, MayPut, IsLaid-put, IsIn-put, frame_in-put}
+use Rattle.frame_pool.proofs.LayoutSplit.{Settles}
 
 -- The page of the space has this frame now, which was no used place; the same frames are in the layout, and every other page
 -- keeps its place.

@@ -8,12 +8,12 @@ use Rattle.pager_model.specs.Agreement.{has_frame}
 use Rattle.pager_model.specs.Records.{Records, is_used, yield_of, part_of, kept_part}
 use Rattle.reservation_lists.specs.Kept.{Kept, is_listed}
 use Rattle.reservations.specs.Kept.{IsPlaced, ArePlaced}
-use Rattle.reservations.proofs.BreakLemmas.{split_suc, length-split, parts_apart, part_known, split_at, split_other}
+use Rattle.frame_pool.proofs.PartRecords.{split_suc, length-split, parts_apart, part_known, split_at, split_other}
 use Rattle.reservations.proofs.ExtentLemmas.{eight_pos, part_of_eight}
 use Rattle.reservations.proofs.HoldLemmas.{has_frame_from}
 use Rattle.reservations.proofs.SplitLemmas.{split_up_to, split_up_to-more, ArePlaced-part}
 use Rattle.frame_pool.specs.Listed.{AreListed, WasSplit}
-use Rattle.frame_pool.proofs.Listing.{member_of, AreListed-without, AreListed-with, AreListed-full, is_listed-none}
+use Rattle.frame_pool.proofs.AgeLists.{member_of, AreListed-without, AreListed-with, AreListed-full, is_listed-none}
 
 -- where something stands, it is a reservation
 pub found_record : (o : Option Reservation) → is_some o ≡ true → (r : Reservation) × (o ≡ Some r)

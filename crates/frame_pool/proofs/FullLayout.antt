@@ -9,16 +9,16 @@ use Rattle.std.proofs.lemmas.Option.{none-some, same_Some}
 use Rattle.buddy_extents.proofs.Runs.{run_free-choice, run_free_at, run_free_from, no_choice}
 use Rattle.pager_model.specs.declared.reservation.Reservation.{Reservation}
 use Rattle.pager_model.specs.FreeBlocks.{choice, run_free}
-use Rattle.pager_model.specs.Layouts.{Layout, covers, frame_for, to_break, is_full, is_full_record}
+use Rattle.pager_model.specs.Layouts.{Layout, covers, frame_for, to_break, is_full, is_full_record, record_at, is_free}
 use Rattle.pager_model.specs.Records.{is_used, none_used, has_empty, yield_up_to, yield_of}
-use Rattle.reservations.proofs.BreakLemmas.{has_empty_some}
+use Rattle.frame_pool.proofs.PartYields.{has_empty_some}
 use Rattle.reservations.proofs.ExtentLemmas.{eight_pos}
 use Rattle.reservations.proofs.HoldLemmas.{has_frame_bounds, known_record, unused_in}
 use Rattle.reservations.proofs.YieldLemmas.{has_empty-yes}
-use Rattle.frame_pool.proofs.Covering.{IsPageOf-covers}
-use Rattle.frame_pool.specs.Laid.{IsLaid, record_at, is_free}
-use Rattle.frame_pool.proofs.Finding.{MayBreak-found}
-use Rattle.frame_pool.proofs.Listing.{oldest_from-none}
+use Rattle.frame_pool.proofs.PagePlaces.{IsPageOf-covers}
+use Rattle.frame_pool.specs.Laid.{IsLaid}
+use Rattle.frame_pool.proofs.FoundExtents.{MayBreak-found}
+use Rattle.frame_pool.proofs.AgeLists.{oldest_from-none}
 
 -- what is_full says of each frame and each reservation
 pub record EachFull (l : Layout) : Type 0 where

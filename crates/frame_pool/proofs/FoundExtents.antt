@@ -4,12 +4,13 @@ use Rattle.std.specs.Option.{option_or, option_and_then, option_map_or}
 use Rattle.std.proofs.lemmas.Option.{none-some, same_Some}
 use Rattle.pager_model.specs.declared.reservation.Reservation.{Reservation}
 use Rattle.pager_model.specs.FreeBlocks.{choice}
-use Rattle.pager_model.specs.Layouts.{Layout, Found, break_layout, to_break, broken_at, chosen, extent_of, largest_extent}
+use Rattle.pager_model.specs.Layouts.{Layout, Found, break_layout, to_break, broken_at, chosen, extent_of, largest_extent, record_at}
 use Rattle.pager_model.specs.Records.{is_used, yield_of}
-use Rattle.frame_pool.specs.Laid.{IsLaid, record_at}
-use Rattle.frame_pool.proofs.Breaking.{Settles-same, Settles-break, choice-break}
-use Rattle.frame_pool.proofs.Listing.{oldest_from-found}
-use Rattle.frame_pool.proofs.Settling.{Settles}
+use Rattle.frame_pool.specs.Laid.{IsLaid}
+use Rattle.frame_pool.proofs.LayoutBreak.{Settles-same, Settles-break}
+use Rattle.frame_pool.proofs.BreakYield.{choice-break}
+use Rattle.frame_pool.proofs.AgeLists.{oldest_from-found}
+use Rattle.frame_pool.proofs.LayoutSplit.{Settles}
 
 -- the reservation that is broken for a size has a yield of this size or more
 pub record MayBreak (l : Layout) (size id : ℕ) : Type 0 where

@@ -3,17 +3,16 @@ use Rattle.std.proofs.Common.{◌≡◌, ◌≢◌, ℕ, ◌-◌, ◌^◌, ◌<�
 use Rattle.std.proofs.lemmas.Bool.{cases_Bool, cases_eq, cond-true, cond-false, false≢true}
 use Rattle.pager_model.specs.declared.reservation.Reservation.{Reservation}
 use Rattle.pager_model.specs.Agreement.{has_frame}
-use Rattle.pager_model.specs.Layouts.{Layout, covers, frame_for, frame_in, split_layout}
+use Rattle.pager_model.specs.Layouts.{Layout, covers, frame_for, frame_in, split_layout, record_at}
 use Rattle.pager_model.specs.Records.{is_used, part_of, is_part_empty}
-use Rattle.reservations.specs.Breaking.{IsAlone}
 use Rattle.reservations.specs.Kept.{IsPlaced}
-use Rattle.reservations.proofs.BreakLemmas.{find_part, part_in_whole, same_part, which_part, used_part}
+use Rattle.frame_pool.proofs.PartRecords.{IsAlone, find_part, part_in_whole, same_part, which_part, used_part}
 use Rattle.reservations.proofs.ExtentLemmas.{eight_pos, part_of_eight}
 use Rattle.reservations.proofs.HoldLemmas.{has_frame_from, Some-same, None-not_Some}
 use Rattle.reservations.proofs.SplitLemmas.{part_placed}
-use Rattle.frame_pool.specs.Laid.{IsLaid, IsIn, record_at}
-use Rattle.frame_pool.proofs.Covering.{HasPlace, has_frame_for, frame_in-found, frame_in-from, same_option}
-use Rattle.frame_pool.proofs.Splitting.{IsSplit, IsSplit-split_layout, covers_whole, frame_for_part, one_part_covers, part_covers, some_used_in}
+use Rattle.frame_pool.specs.Laid.{IsLaid, IsIn}
+use Rattle.frame_pool.proofs.PagePlaces.{HasPlace, has_frame_for, frame_in-found, frame_in-from, same_option}
+use Rattle.frame_pool.proofs.SplitFrames.{IsSplit, IsSplit-split_layout, covers_whole, frame_for_part, one_part_covers, part_covers, some_used_in}
 
 -- from a layout to another one only reservations were split
 pub record Settles (old new : Layout) : Type 0 where
