@@ -12,9 +12,3 @@ step_both-requires-clause-needs c = needs_both (row_of c.args.flight.now).needs 
 
 pub returns-in-Space-clause-entry : goal.returns-in-Space-clause-entry
 returns-in-Space-clause-entry c = IfSome_then c.step_space.result c.step_space.ensures.entry (λ e made st is. made st c.args.pool.now is)
-
-pub step_space-requires-clause-stub : goal.step_space-requires-clause-stub
-step_space-requires-clause-stub c = ?
-
-pub step_both-requires-clause-stub : goal.step_both-requires-clause-stub
-step_both-requires-clause-stub c = ?
