@@ -24,6 +24,7 @@ use Rattle.space_core.proofs.Refusing.{begins_refused}
 -- an unmap of a region that is there
 pub begins_clearing : (old : Kept) (page : ℕ) (r : Region) → IsTable old.regions → region_at old.regions page ≡ Some r → BeginsClearing old old (Unmap old.number page) r.first r.length
 begins_clearing old page r ordered h =
+    let found = found_from 0 old.regions ordered.in_order page r h in
     record {
       same = refl;
       unmapping = record {
@@ -34,7 +35,8 @@ begins_clearing old page r ordered h =
         at = h;
         first_is = refl;
         length_is = refl;
-        in_space = (found_from 0 old.regions ordered.in_order page r h).in_space;
+        in_space = found.in_space;
+        at_first = found_same 0 old.regions ordered.in_order page r h r.first (bounds_in r.first r.length r.first (omega arith) (omega (arith, found.some)));
       };
     }
 
