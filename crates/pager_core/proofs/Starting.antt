@@ -1,5 +1,5 @@
 -- A machine at the start of a trace.
-use Rattle.std.proofs.Common.{◌≡◌, ℕ, zero, suc, ◌+◌, ◌-◌, ◌*◌, ◌%◌, ◌<◌, ◌≤◌, Bool, true, false, cond, ◌==◌, not, List, [], ◌∷◌, ◌++◌, length, map, filter, replicate, get_or, slice_get, Option, Some, None, option_map, refl, ap, sym, subst, ◌∙◌, inl, inr, arith, All, take}
+use Rattle.std.proofs.Common.{◌≡◌, ℕ, zero, suc, ◌+◌, ◌-◌, ◌*◌, ◌<◌, ◌≤◌, Bool, true, false, cond, ◌==◌, not, List, [], ◌∷◌, ◌++◌, length, map, filter, replicate, get_or, slice_get, Option, Some, None, option_map, refl, ap, sym, subst, ◌∙◌, inl, inr, arith, All, take}
 use Rattle.std.specs.List.{range_with_len, sum_by, enumerate_from}
 use Rattle.std.proofs.lemmas.Bool.{cases_eq, cases_lt}
 use Rattle.std.proofs.lemmas.List.{append-nil, map_push, get_or-replicate, get_or_past}
@@ -19,7 +19,7 @@ use Rattle.pager_model.specs.Plans.{Plan}
 use Rattle.pager_model.specs.Settings.{Given, faults_at_entry}
 use Rattle.pager_model.specs.Showing.{setting_of, daemon_marks, calls_of}
 use Rattle.pager_model.specs.SpaceStates.{empty_state}
-use Rattle.pager_model.specs.TraceText.{HasText, IsCall, IsLine}
+use Rattle.pager_model.specs.TraceText.{HasText, IsCall}
 use Rattle.frame_pool.proofs.LegalHistories.{Agrees-legal}
 use Rattle.space_core.specs.Standing.{Kept, StandsFor, CanBegin}
 use Rattle.pager_core.specs.declared.flight.Flight.{Flight}

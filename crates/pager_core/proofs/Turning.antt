@@ -26,7 +26,7 @@ use Rattle.pager_core.specs.declared.flight.Flight.{Flight}
 use Rattle.pager_core.specs.Flights.{IsReady, IsAtRest, LeftBy}
 use Rattle.pager_core.specs.Machines.{given_of, CanFly, all_left, IsFlying, IsMachine}
 use Rattle.pager_core.specs.Rows.{row_of, space_under}
-use Rattle.pager_core.specs.Running.{Running, calls_at, flight_at, progress_by_flight, progress_of_actor, kept_by, IsKeptByOther, entries_left, left_at, WentOn, IsNumbered, IsLawful}
+use Rattle.pager_core.specs.Running.{Running, calls_at, flight_at, progress_by_flight, progress_of_actor, kept_by, IsKeptByOther, entries_left, left_at, IsNumbered, IsLawful}
 use Rattle.pager_core.specs.Steps.{Makes, after_named, answer_made}
 use Rattle.pager_core.proofs.Lists.{slice_get-set_same, slice_get-set_other, within, sum_by-lower}
 use Rattle.pager_core.proofs.Following.{MayFollow-step, space_at-elsewhere, space_at-here, frames_at-step, differs, same_number}

@@ -148,7 +148,7 @@ impl Machine {
         ensures ended { IsTrue result ↔ HasEnded self.now }
         ensures lawful { IsLawful self.now }
     {
-        self.flights.iter().all(|flight| flight.is_none())
+        none_flies(self.flights.as_slice())
     }
 
     /// The history of the whole run, and its counts of frames.
@@ -259,6 +259,13 @@ fn going_on(flight: Flight, calls: &[Call]) -> Option<Flight>
         return flight_of(flight.processor, flight.number + 1, calls);
     }
     Some(flight)
+}
+
+/// Whether no processor has a flight.
+fn none_flies(flights: &[Option<Flight>]) -> bool
+    ensures { IsTrue result ↔ ((c : ℕ) → flight_at flights.now c ≡ None) }
+{
+    flights.iter().all(|flight| flight.is_none())
 }
 
 /// Whether the flight of another processor keeps the space.

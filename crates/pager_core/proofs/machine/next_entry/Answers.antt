@@ -1,11 +1,8 @@
-use Rattle.std.proofs.Common.{◌≡◌, Some, None, IfSome, IfNone, refl, sym, ap, subst, ◌∙◌, arith}
-use Rattle.pager_model.specs.declared.entry.Entry.{Entry}
+use Rattle.std.proofs.Common.{refl, sym, subst, ◌∙◌}
 use Rattle.pager_model.specs.Agreement.{OwnsBy}
-use Rattle.pager_model.specs.SpaceStates.{SpaceState}
-use Rattle.pager_core.specs.Flights.{IsReady}
 use Rattle.pager_core.specs.Rows.{row_of}
 use Rattle.pager_core.specs.Steps.{AreAgreed, Makes}
-use Rattle.pager_core.proofs.Passing.{HasPassed, HasPassed-none, HasPassed-more, Makes-passed, AreAgreed-passed, OwnsBy-passed}
+use Rattle.pager_core.proofs.Passing.{HasPassed-none, HasPassed-more, Makes-passed, AreAgreed-passed, OwnsBy-passed}
 use Rattle.pager_core.proofs.machine.next_entry.Goals as goal
 
 pub loop-entry-init : goal.loop-entry-init

@@ -1,11 +1,11 @@
-use Rattle.std.proofs.Common.{◌≡◌, ℕ, ◌+◌, ◌*◌, ◌%◌, ◌<◌, ◌≤◌, List, length, map, slice_get, Some, None, refl, sym, ap, subst, ◌∙◌, arith, All}
+use Rattle.std.proofs.Common.{◌≡◌, ℕ, ◌%◌, length, map, slice_get, Some, refl, sym, ap, subst, ◌∙◌, arith}
 use Rattle.std.specs.List.{range_with_len}
 use Rattle.std.proofs.lemmas.List.FromFn.{length-map-range_with_len}
 use Rattle.std.proofs.Math.ListN.{length-map}
 use Rattle.pager_model.specs.FrameStates.{start_frames}
 use Rattle.pager_model.specs.Showing.{calls_of}
 use Rattle.space_core.specs.Standing.{Kept}
-use Rattle.pager_core.specs.Machines.{given_of, IsNew, IsMachine}
+use Rattle.pager_core.specs.Machines.{given_of, IsNew}
 use Rattle.pager_core.specs.Running.{first_flights}
 use Rattle.pager_core.proofs.Starting.{IsMachine-started, IsLawful-started, setting-start}
 use Rattle.pager_core.proofs.machine.Machine.create.Goals as goal

@@ -1,12 +1,9 @@
-use Rattle.std.proofs.Common.{◌≡◌, ◌+◌, ◌<◌, ◌≤◌, List, length, Some, None, refl, sym, ap, subst, ◌∙◌, arith}
+use Rattle.std.proofs.Common.{◌≡◌, length, refl, sym, ap, ◌∙◌, arith}
 use Rattle.std.proofs.Math.ListN.{length-set, length-map}
-use Rattle.pager_model.specs.declared.call.Call.{Call}
 use Rattle.pager_model.specs.Legal.{space_at, entries_in}
-use Rattle.pager_core.specs.declared.flight.Flight.{Flight}
-use Rattle.pager_core.specs.Machines.{given_of, IsMachine}
+use Rattle.pager_core.specs.Machines.{given_of}
 use Rattle.pager_core.specs.MachineFields.{running_of}
-use Rattle.pager_core.specs.Rows.{row_of, space_under}
-use Rattle.pager_core.specs.Running.{Running, flight_at, IsKeptByOther, IsLawful}
+use Rattle.pager_core.specs.Running.{Running}
 use Rattle.pager_core.proofs.Readying.{is_under, number-few, OwnsBy-machine, entries-below, space_within}
 use Rattle.pager_core.proofs.Turned.{flight_read, finds, calls_read, Turns-of, IsMachine-turned, IsLawful-turned, OneMore-turned}
 use Rattle.pager_core.proofs.Turning.{Turns}
