@@ -5,6 +5,7 @@
 //! processor may claim the frame of a page to page it out, and then holds the frame until it uses or drops it.
 #![tactic(auto)]
 
+mod free;
 pub mod laws;
 mod layout;
 mod lists;
