@@ -1,3 +1,4 @@
 pub mod Printing
 pub mod Pieces
 pub mod Words
+pub mod Completeness

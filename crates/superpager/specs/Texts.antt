@@ -2,6 +2,9 @@
 use Rattle.std.specs.Prelude.{ℕ, ◌≡◌, List, [], ◌∷◌, ◌++◌, codes, decimal, map, flat_map}
 use Rattle.std.proofs.Common.{Vec}
 use Rattle.std.specs.declared.alloc.Global.{Global}
+use Rattle.std.specs.List.{range_with_len}
+use Rattle.pager_model.specs.declared.entry.Entry.{Entry}
+use Rattle.pager_model.specs.PrintedText.{answers_of}
 use Rattle.pager_model.specs.TraceText.{line_of_words}
 
 -- the new text is the old one with these bytes at its end
@@ -19,3 +22,8 @@ counts_line free reserved used = line_of_words (codes "frames" ∷ decimal free 
 -- the bytes of texts
 abbrev pub texts_of : List (Vec ℕ Global) → List (List ℕ)
 texts_of texts = map (λ (t : Vec ℕ Global). t.items) texts
+
+-- where the texts were each processor's answers of a history, they are those of the history with one entry more
+abbrev pub IsOneMore : List (Vec ℕ Global) → List (Vec ℕ Global) → Entry → Type 0
+IsOneMore old new e =
+    (processors : ℕ) (history : List Entry) → texts_of old ≡ map (answers_of history) (range_with_len 0 processors) → texts_of new ≡ map (answers_of (history ++ e ∷ [])) (range_with_len 0 processors)

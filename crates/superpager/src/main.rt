@@ -13,6 +13,9 @@ use std::process::ExitCode;
 use std::{env, io};
 use trace_reader::TraceFault;
 
+#[cfg(test)]
+mod tests;
+
 fn main(rt: HostRuntime) -> ExitCode {
     let (status, refusal) = match run_words(&rt) {
         Ok(ended) => ended,

@@ -1,12 +1,10 @@
-//! Whole runs: what is printed, and the status where nothing is.
-mod examples;
-
+//! Whole runs: what is printed, and the status where nothing is. The examples of the folder `examples/` are run by the script there.
 use super::*;
 use io_core::{MemorySink, MemorySource, Source};
 use itoa::Buffer;
 use std::alloc::{AllocError, Global};
 use std::test::Fail;
-use trace_reader::TraceFault;
+use trace_reader::{LineCause, TraceFault};
 
 const ORDER: [&str; 1] = ["order"];
 
@@ -117,33 +115,55 @@ fn other_words_read_and_write_nothing(rt: HostRuntime) -> Result<(), Fail> {
     Ok(())
 }
 
+fn at_line(number: u64, cause: LineCause) -> TraceFault {
+    TraceFault::Line { number, cause }
+}
+
 #[test]
-fn what_is_no_trace_is_refused_and_nothing_written(rt: HostRuntime) -> Result<(), Fail> {
+fn what_is_refused_is_told_and_nothing_written(rt: HostRuntime) -> Result<(), Fail> {
     let table = [
-        ("nothing", b"".as_slice()),
-        ("no end", b"trace 1 512 1 1\n"),
-        ("a line behind the end", b"trace 1 512 1 1\nend\nend\n"),
-        ("no newline at the end", b"trace 1 512 1 1\nend"),
-        ("another version", b"trace 2 512 1 1\nend\n"),
-        ("no frames", b"trace 1 0 1 1\nend\n"),
-        ("two blanks", b"trace 1 512 1 1\n0  load 0 0\nend\n"),
+        (b"".as_slice(), TraceFault::NoEnd),
+        (b"trace 1 512 1 1\nend", TraceFault::NoEnd),
+        (b"trace 1 512 1 1\nend\nend\n", at_line(3, LineCause::After)),
+        (b"trace 2 512 1 1\nend\n", at_line(1, LineCause::Range)),
         (
-            "a page past the last",
-            b"trace 1 512 1 1\n0 map 0 1048576 1 fixed write\nend\n",
+            b"trace 1 512 1 1\n0 load 0 x\nend\n",
+            at_line(2, LineCause::Number),
+        ),
+        // Calls that aren't built: the first of them, and after a line that is none of the grammar.
+        (
+            b"trace 1 512 1 1\n0 load 0 0\n0 evict 0 0\n0 sync 0 0\nend\n",
+            at_line(3, LineCause::Form),
         ),
         (
-            "an address within a word",
-            b"trace 1 512 1 1\n0 load 0 1\nend\n",
+            b"trace 1 512 1 1\n0 sync 0 0\n0 load 0\nend\n",
+            at_line(3, LineCause::Form),
         ),
     ];
-    for (what, bytes) in table {
+    for (bytes, fault) in table {
         let mut source = source_of(rt.alloc(), bytes, 0)?;
         let mut sink = sink_of(rt.alloc(), 100, 0)?;
         let outcome = run(&rt, rt.alloc(), &ORDER, &mut source, &mut sink);
-        assert_eq!(rt; outcome.status, REFUSED, "{what}");
-        assert_eq!(rt; outcome.refusal, Some(TraceFault::Refused), "{what}");
-        assert!(rt; outcome.trace.is_none(), "{what}");
-        assert_eq!(rt; sink.bytes(), b"".as_slice(), "{what}");
+        assert_eq!(rt; outcome.status, REFUSED);
+        assert_eq!(rt; outcome.refusal, Some(fault));
+        assert!(rt; outcome.trace.is_none());
+        assert_eq!(rt; sink.bytes(), b"".as_slice());
+    }
+    Ok(())
+}
+
+#[test]
+fn a_failed_read_is_told_before_what_is_wrong_with_the_text(rt: HostRuntime) -> Result<(), Fail> {
+    for (bytes, failing) in [
+        (b"x\n0 load\n".as_slice(), 4),
+        (b"trace 1 512 1 1\nend\nend\n", 24),
+    ] {
+        let mut source = source_of(rt.alloc(), bytes, failing)?;
+        let mut sink = sink_of(rt.alloc(), 100, 0)?;
+        let outcome = run(&rt, rt.alloc(), &ORDER, &mut source, &mut sink);
+        assert_eq!(rt; outcome.status, READ_FAULT);
+        assert_eq!(rt; outcome.refusal, Some(TraceFault::ReadFault));
+        assert_eq!(rt; sink.bytes(), b"".as_slice());
     }
     Ok(())
 }

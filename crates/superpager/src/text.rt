@@ -5,7 +5,7 @@ ghost use Rattle.std.specs.List.{join_with_byte, range_with_len};
 ghost use Rattle.pager_model.specs.Legal.{entries_in};
 ghost use Rattle.pager_model.specs.PrintedText.{reply_words, answer_line, entry_text, answers_of, answers_text};
 ghost use Rattle.pager_model.specs.TraceText.{line_of_words};
-ghost use Rattle.superpager.specs.Texts.{Appends, numbers_text, counts_line, texts_of};
+ghost use Rattle.superpager.specs.Texts.{Appends, numbers_text, counts_line, texts_of, IsOneMore};
 
 use itoa::Buffer;
 use pager_model::{Entry, NoMemory, Numbered, Reply, Summary, What};
@@ -24,11 +24,23 @@ pub fn printed(
         ++ line_of_words (codes "end" ∷ [])) }
 {
     let mut text = Vec::new(alloc);
-    let answers = answers_by_processor(alloc, processors, history)?;
-    push_texts(&mut text, answers.as_slice())?;
+    push_answers(alloc, &mut text, processors, history)?;
     push_counts(&mut text, summary)?;
     push_bytes(&mut text, b"end\n")?;
     Ok(text)
+}
+
+/// The answers of each processor, ascending.
+fn push_answers(
+    alloc: Global,
+    text: &mut Vec<u8>,
+    processors: u32,
+    history: &[Numbered],
+) -> Result<(), NoMemory>
+    ensures { OnOk result (Appends text.old.items text.new.items (answers_text processors (entries_in history.now))) }
+{
+    let answers = answers_by_processor(alloc, processors, history)?;
+    push_texts(text, answers.as_slice())
 }
 
 /// For each processor the text of its answers. Each entry is looked at once.
@@ -41,17 +53,25 @@ fn answers_by_processor(
 {
     let mut texts = empty_texts(alloc, processors)?;
     for numbered in history {
-        let processor = numbered.entry.processor as usize;
-        if processor < texts.len() {
-            push_entry(&mut texts[processor], &numbered.entry)?;
-        }
+        push_to_own(&mut texts, &numbered.entry)?;
     }
     Ok(texts)
 }
 
+/// An entry's line is added to its processor's text.
+fn push_to_own(texts: &mut [Vec<u8>], entry: &Entry) -> Result<(), NoMemory>
+    ensures { OnOk result (IsOneMore texts.old texts.new entry.now) }
+{
+    let processor = entry.processor as usize;
+    if processor >= texts.len() {
+        return Ok(());
+    }
+    push_entry(&mut texts[processor], entry)
+}
+
 /// An empty text for each processor.
 fn empty_texts(alloc: Global, processors: u32) -> Result<Vec<Vec<u8>>, NoMemory>
-    ensures { IfOk result (λ texts. texts_of texts.items ≡ map (λ c. []) (range_with_len 0 processors)) }
+    ensures { IfOk result (λ texts. texts_of texts.items ≡ map (answers_of []) (range_with_len 0 processors)) }
 {
     let mut texts = Vec::with_capacity(alloc, processors as usize)?;
     for _ in 0..processors {
