@@ -2,3 +2,12 @@ pub mod Answering
 pub mod GivenRanges
 pub mod Clearing
 pub mod Taking
+pub mod Lists
+pub mod Following
+pub mod GoingOn
+pub mod Turning
+pub mod Passing
+pub mod Readying
+pub mod Turned
+pub mod Ending
+pub mod Starting

@@ -1,14 +1,13 @@
 -- What the fields of a machine keep true.
-use Rattle.std.specs.Prelude.{ℕ, zero, suc, ◌≡◌, ◌≢◌, ◌+◌, ◌-◌, ◌*◌, ◌<◌, ◌≤◌, true, false, Bool, List, [], ◌∷◌, length, map, replicate, sum_by, slice_index_or, slice_get, Option, Some, None}
+use Rattle.std.specs.Prelude.{ℕ, ◌≡◌, ◌≢◌, ◌+◌, ◌-◌, ◌*◌, ◌<◌, ◌≤◌, true, false, List, length, replicate, sum_by, slice_get, Option, Some, None}
 use Rattle.std.specs.List.{range_with_len}
 use Rattle.pager_model.specs.declared.call.Call.{Call}
-use Rattle.pager_model.specs.declared.entry.Entry.{Entry}
-use Rattle.pager_model.specs.declared.entry.Numbered.{Numbered}
 use Rattle.pager_model.specs.FrameStates.{FrameState}
 use Rattle.pager_model.specs.Flat.{space_of_call}
-use Rattle.pager_model.specs.Legal.{IsLegal, space_at, frames_at, entries_in}
+use Rattle.pager_model.specs.Legal.{space_at, frames_at, entries_in}
 use Rattle.pager_model.specs.Settings.{Given}
-use Rattle.space_core.specs.Standing.{Kept, CanBegin}
+use Rattle.pager_model.specs.SpaceStates.{empty_state}
+use Rattle.space_core.specs.Standing.{Kept, IsResting, StandsFor, CanBegin}
 use Rattle.pager_core.specs.declared.flight.Flight.{Flight}
 use Rattle.pager_core.specs.Rows.{row_of}
 use Rattle.pager_core.specs.Flights.{IsReady, IsAtRest}
@@ -27,6 +26,13 @@ pub record CanFly (spaces : ℕ) (call : Call) : Type 0 where
 abbrev pub all_left : Running → ℕ
 all_left run = sum_by (left_at run) (range_with_len 0 (length run.calls))
 
+-- a space as a machine begins with it: without regions, whatever count of faults its store begins with
+pub record IsNew (frames number : ℕ) (kept : Kept) : Type 0 where
+  pub number_is : kept.number ≡ number
+  pub frames_are : kept.frames ≡ frames
+  pub resting : IsResting kept
+  pub stands : (faults : ℕ) → StandsFor kept (empty_state true faults)
+
 -- a processor's flight: it is of this processor's call of its number, and isn't ended; and where it keeps a space it is ready there
 pub record IsFlying (run : Running) (spaces : List Kept) (c : ℕ) (f : Flight) : Type 0 where
   pub processor : f.processor ≡ c
@@ -43,6 +49,8 @@ pub record IsMachine (run : Running) (spaces : List Kept) (pool : FrameState) (c
   pub few_processors : length run.calls ≤ 16
   pub few_spaces : length spaces ≤ 16
   pub frames : pool ≡ frames_at run.given (entries_in run.history)
+  -- no processor has more calls than a trace has lines
+  pub few_calls : (c : ℕ) → length (calls_at run.calls c) ≤ 262144
   -- every call can be made
   pub calls : (c n : ℕ) (call : Call) → slice_get (calls_at run.calls c) n ≡ Some call → CanFly (length spaces) call
   pub flights : (c : ℕ) (f : Flight) → flight_at run.flights c ≡ Some f → IsFlying run spaces c f

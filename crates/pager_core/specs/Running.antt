@@ -49,6 +49,11 @@ progress_of_actor run c = progress_by_flight (calls_at run.calls c) (flight_at r
 abbrev pub HasEnded : Running → Type 0
 HasEnded run = (c : ℕ) → flight_at run.flights c ≡ None
 
+-- the space that a processor's flight keeps, where it has one
+abbrev pub kept_by : Option Flight → Option ℕ
+kept_by None = None
+kept_by (Some f) = (row_of f).keeps
+
 -- another processor's flight keeps the space
 pub record IsKeptByOther (flights : List (Option Flight)) (actor space : ℕ) : Type 0 where
   pub other : ℕ

@@ -1,4 +1,4 @@
-ghost use Rattle.std.specs.Prelude.{◌≡◌, ◌≢◌, ℕ, ◌+◌, ◌*◌, ◌%◌, ◌^◌, ◌<◌, ◌≤◌, ◌↔◌, [], Some, None, IfOk, IfSome, IfNone, IsTrue, length, map};
+ghost use Rattle.std.specs.Prelude.{◌≡◌, ◌≢◌, ℕ, ◌+◌, ◌*◌, ◌%◌, ◌^◌, ◌<◌, ◌≤◌, ◌↔◌, [], Some, None, IfOk, IfSome, IfNone, IsTrue, length, map, slice_get};
 ghost use Rattle.std.specs.List.{All, range_with_len};
 ghost use Rattle.pager_model.specs.Agreement.{OwnsBy};
 ghost use Rattle.pager_model.specs.declared.call.Line.{Line as Item};
@@ -6,11 +6,12 @@ ghost use Rattle.pager_model.specs.FrameStates.{free_count, reserved_count, used
 ghost use Rattle.pager_model.specs.Legal.{entries_in, frames_at};
 ghost use Rattle.pager_model.specs.Showing.{setting_of, calls_of};
 ghost use Rattle.pager_model.specs.SpaceStates.{SpaceState};
-ghost use Rattle.space_core.specs.Standing.{CanBegin};
+ghost use Rattle.space_core.specs.Standing.{Kept, CanBegin};
 ghost use Rattle.pager_core.specs.Flights.{IsReady};
+ghost use Rattle.pager_core.specs.Machines.{IsNew};
 ghost use Rattle.pager_core.specs.Rows.{row_of, space_under};
-ghost use Rattle.pager_core.specs.Running.{Running, progress_of_actor, flight_at, flight_of, first_flights, HasEnded, IsKeptByOther, MustWait, OneMore, IsLawful, IsWholeRun};
-ghost use Rattle.pager_core.specs.Steps.{AreAgreed, Makes};
+ghost use Rattle.pager_core.specs.Running.{Running, progress_of_actor, flight_at, flight_of, first_flights, kept_by, HasEnded, IsKeptByOther, MustWait, OneMore, IsLawful, IsWholeRun};
+ghost use Rattle.pager_core.specs.Steps.{AreAgreed, Makes, Passes};
 
 use crate::flight::{Flight, Needs};
 use frame_pool::Pool;
@@ -228,7 +229,11 @@ fn spaces_of(
     count: u32,
     frames: u32,
     processors: u32,
-) -> Result<Vec<Space>, NoMemory> {
+) -> Result<Vec<Space>, NoMemory>
+    requires { frames ≤ 32768 }
+    ensures count { IfOk result (λ spaces. length spaces.items ≡ count) }
+    ensures new { IfOk result (λ spaces. (s : ℕ) (kept : Kept) → slice_get spaces.items s ≡ Some kept → IsNew frames s kept) }
+{
     let mut spaces = Vec::with_capacity(alloc, count as usize)?;
     for space in 0..count {
         spaces.push(Space::create(alloc, space, frames, processors)?)?;
@@ -269,7 +274,9 @@ fn is_kept_by_other(flights: &[Option<Flight>], actor: u32, space: u32) -> bool
 }
 
 /// Whether the flight keeps the space.
-fn keeps(flight: &Option<Flight>, space: u32) -> bool {
+fn keeps(flight: &Option<Flight>, space: u32) -> bool
+    ensures { IsTrue result ↔ kept_by flight.now ≡ Some space }
+{
     match flight {
         Some(flight) => flight.keeps() == Some(space),
         None => false,
@@ -286,13 +293,27 @@ fn next_entry(flight: &mut Flight, space: &mut Space, pool: &mut Pool) -> Entry
     ensures { (st : SpaceState) → IsReady flight.old space.old st → Makes flight.old flight.new space.old space.new st pool.old pool.new result }
 {
     loop {
-        let made = match flight.needs() {
-            Needs::Space(_) => flight.step_space(space),
-            Needs::Both(_) => flight.step_both(space, pool),
-            Needs::Frames | Needs::Ended => unreachable!(),
-        };
-        if let Some(entry) = made {
+        if let Some(entry) = step(flight, space, pool) {
             return entry;
         }
+    }
+}
+
+/// Does the flight's next step.
+fn step(flight: &mut Flight, space: &mut Space, pool: &mut Pool) -> Option<Entry>
+    requires going { (row_of flight.old).reply ≡ None }
+    requires ready { (st : SpaceState) × IsReady flight.old space.old st }
+    requires agree { AreAgreed space.old pool.old }
+    requires owns { OwnsBy pool.old flight.old.processor (row_of flight.old).progress.doing }
+    requires room { pool.old.entries < 2 ^ 45 }
+    ensures entry { IfSome result (λ e. (st : SpaceState) → IsReady flight.old space.old st → Makes flight.old flight.new space.old space.new st pool.old pool.new e) }
+    ensures none { IfNone result ((st : SpaceState) → IsReady flight.old space.old st → Passes flight.old flight.new space.old space.new st) }
+    ensures same_pool { result ≡ None → pool.new ≡ pool.old }
+    ensures nearer { (row_of flight.new).steps < (row_of flight.old).steps }
+{
+    match flight.needs() {
+        Needs::Space(_) => flight.step_space(space),
+        Needs::Both(_) => flight.step_both(space, pool),
+        Needs::Frames | Needs::Ended => unreachable!(),
     }
 }

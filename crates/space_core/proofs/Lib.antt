@@ -1,0 +1,6 @@
+pub mod TableLemmas
+pub mod Serving
+pub mod Refusing
+pub mod Finding
+pub mod Changing
+pub mod Clearing

@@ -1,5 +1,5 @@
 -- What the calls of a space promise, for every state that the space stands for.
-use Rattle.std.specs.Prelude.{ℕ, ◌≡◌, ◌≢◌, ◌+◌, ◌<◌, ◌≤◌, true, false, Option, Some, None}
+use Rattle.std.specs.Prelude.{ℕ, ◌≡◌, ◌≢◌, ◌+◌, ◌<◌, ◌≤◌, true, false, Some, None}
 use Rattle.pager_model.specs.declared.call.Call.{Call}
 use Rattle.pager_model.specs.declared.call.Call.TheVariants.{Unmap}
 use Rattle.pager_model.specs.declared.entry.Want.{Want}
@@ -14,7 +14,7 @@ use Rattle.pager_model.specs.Regions.{in_range, region_at, wanted}
 use Rattle.pager_model.specs.SpaceStates.{SpaceState, Unmaps, space_after, access_page, WhatAllowed}
 use Rattle.space_core.specs.declared.space.Begun.{Begun}
 use Rattle.space_core.specs.declared.space.Begun.TheVariants.{Answered as HasAnswered, NeedsFrame, NeedsClear}
-use Rattle.space_core.specs.Standing.{Kept, StandsFor, StandsBut, IsResting, frame_at, rights_at, word_at, answer_entry, take_entry, clear_entry, is_allowed}
+use Rattle.space_core.specs.Standing.{Kept, StandsFor, StandsBut, IsResting, frame_at, rights_at, answer_entry, take_entry, clear_entry, is_allowed}
 
 -- The space allows the answer to a processor's call, whatever its number, and then stands for one entry more.
 pub record Answers (old new : Kept) (call : Call) (a : Answered) : Type 0 where

@@ -1,3 +1,5 @@
 pub mod Tables
+pub mod Pages
 pub mod Standing
 pub mod Beginning
+pub mod Keeping

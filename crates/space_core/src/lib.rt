@@ -1,6 +1,12 @@
 //! A space: its regions, the rights and frames of its pages, and its calls, each of which is an answer of flat memory.
 #![tactic(auto)]
 
+mod access;
+mod frames;
 mod space;
+mod table;
 
 pub use space::{Begun, Space};
+
+#[cfg(test)]
+mod tests;

@@ -1,33 +1,47 @@
 -- What a run of the program promises, by its status.
-use Rattle.std.specs.Prelude.{ℕ, ◌≡◌, ◌≢◌, ◌<◌, ◌≤◌, ◌⊎◌, List, [], ◌∷◌, ◌++◌, length, map, take, codes, Option, Some, None, IfSome}
+use Rattle.std.specs.Prelude.{ℕ, ◌≡◌, ◌≢◌, ◌<◌, ◌≤◌, ◌⊎◌, List, [], ◌∷◌, ◌++◌, length, map, take, codes, Option, Some, None, IsSome, IfSome, IsSomeAnd}
 use Rattle.std.specs.Borrow.{Bor}
 use Rattle.pager_model.specs.Plans.{Plan}
 use Rattle.pager_model.specs.TraceText.{IsTextOf}
+use Rattle.superpager.specs.declared.run.TheConstants.{DONE, USAGE, REFUSED, READ_FAULT, MEMORY, WRITE_FAULT}
+use Rattle.superpager.specs.Built.{AreBuilt, IsUnbuilt}
 use Rattle.trace_reader.specs.declared.fault.TraceFault.{TraceFault}
-use Rattle.trace_reader.specs.declared.fault.TraceFault.TheVariants.{Refused, ReadFault, NoMemory}
+use Rattle.trace_reader.specs.declared.fault.TraceFault.TheVariants.{ReadFault, TooLong, Line, NoEnd, TooManyCalls, TooFewStores, NoMemory}
+use Rattle.trace_reader.specs.Refusals.{refusal_of}
 
 -- the words are the one form
 abbrev pub IsOrder : List (Bor (List ℕ)) → Type 0
 IsOrder words = map (λ (w : Bor (List ℕ)). w.now) words ≡ codes "order" ∷ []
 
--- some trace has these bytes as its text
-abbrev pub IsText : List ℕ → Type 0
-IsText bytes = (plan : Plan) × IsTextOf bytes plan
+-- the bytes are the text of a trace whose calls are all built
+abbrev pub IsRunnable : List ℕ → Type 0
+IsRunnable bytes = (plan : Plan) × IsTextOf bytes plan × AreBuilt plan.calls
 
--- no trace has these bytes as its text
-abbrev pub IsNoText : List ℕ → Type 0
-IsNoText bytes = (plan : Plan) → IsTextOf bytes plan → ⊥
+-- the bytes are refused so: as no trace's text, or at the line of a call that isn't built
+abbrev pub IsRefused : List ℕ → TraceFault → Type 0
+IsRefused bytes fault = (refusal_of bytes ≡ Some fault) ⊎ IsUnbuilt bytes fault
+
+-- the bytes are a trace's text, and they were read to their end
+abbrev pub WasText : Option (List ℕ) → Option (List ℕ) → Type 0
+WasText before after = IfSome before (λ bytes. ((plan : Plan) × IsTextOf bytes plan) × (after ≡ Some []))
 
 -- the statuses that a run may end with
 abbrev pub IsStatus : ℕ → Type 0
-IsStatus status = (status ≡ 0) ⊎ ((2 ≤ status) × (status ≤ 6))
+IsStatus status =
+    (status ≡ DONE) ⊎ ((status ≡ USAGE) ⊎ ((status ≡ REFUSED) ⊎ ((status ≡ READ_FAULT) ⊎ ((status ≡ MEMORY) ⊎ (status ≡ WRITE_FAULT)))))
 
--- a refusal is told at a fault of the reader, and at want of memory it may be
-pub record IsRefusal (status : ℕ) (refusal : Option TraceFault) : Type 0 where
-  pub refused : status ≡ 3 → refusal ≡ Some Refused
-  pub read_fault : status ≡ 4 → refusal ≡ Some ReadFault
-  pub memory : status ≡ 5 → (refusal ≡ None) ⊎ (refusal ≡ Some NoMemory)
-  pub none : status ≢ 3 → status ≢ 4 → status ≢ 5 → refusal ≡ None
+-- the status of a refusal
+abbrev pub status_of : TraceFault → ℕ
+status_of ReadFault = READ_FAULT
+status_of NoMemory = MEMORY
+status_of fault = REFUSED
+
+-- A refusal is told with its own status: always where the text was refused or a read failed, and for want of memory where the reader
+-- had none.
+pub record IsTold (status : ℕ) (refusal : Option TraceFault) : Type 0 where
+  pub own_status : IfSome refusal (λ fault. status_of fault ≡ status)
+  pub refused : status ≡ REFUSED → IsSome refusal
+  pub read_fault : status ≡ READ_FAULT → IsSome refusal
 
 -- where the source tells its bytes, they were the text of the trace, and they were read to their end
 abbrev pub WasRead : Plan → Option (List ℕ) → Option (List ℕ) → Type 0

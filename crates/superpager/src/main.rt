@@ -1,6 +1,7 @@
 //! Replays a trace of memory calls and prints each answer.
 #![tactic(auto)]
 
+mod built;
 mod run;
 mod text;
 mod writing;
@@ -10,31 +11,28 @@ pub use run::{Outcome, run};
 use run::{DONE, MEMORY, READ_FAULT, REFUSED, USAGE, WRITE_FAULT};
 use std::process::ExitCode;
 use std::{env, io};
-
-#[cfg(test)]
-mod tests;
+use trace_reader::TraceFault;
 
 fn main(rt: HostRuntime) -> ExitCode {
-    let status = match run_words(&rt) {
-        Ok(status) => status,
-        Err(error) => unread_words(&error),
+    let (status, refusal) = match run_words(&rt) {
+        Ok(ended) => ended,
+        Err(error) => (unread_words(&error), None),
     };
     if status != DONE {
-        let message = message_of(status);
-        let _ = eprintln!(rt; "superpager: {message}");
+        let _ = tell(&rt, status, refusal);
     }
     ExitCode::from(status)
 }
 
-/// Runs with the words after the program's name, and answers the status.
-fn run_words(rt: &HostRuntime) -> io::Result<u8> {
+/// Runs with the words after the program's name, and answers the status and why no trace was run.
+fn run_words(rt: &HostRuntime) -> io::Result<(u8, Option<TraceFault>)> {
     let alloc = rt.alloc();
     let arguments: Vec<String> = env::args(rt)?.skip(1).collect(alloc)?;
     let words: Vec<&str> = arguments.iter().map(|word| word.as_str()).collect(alloc)?;
     let mut source = RealSource::of(rt.stdin());
     let mut sink = RealSink::of(rt.stdout());
     let outcome = run(rt, alloc, words.as_slice(), &mut source, &mut sink);
-    Ok(outcome.status)
+    Ok((outcome.status, outcome.refusal))
 }
 
 /// The status where the words could not be read: they were no text, or there was no memory for them.
@@ -45,7 +43,16 @@ fn unread_words(error: &io::Error) -> u8 {
     }
 }
 
-/// What is said of a status on standard error.
+/// Says on standard error why the program ends with this status.
+fn tell(rt: &HostRuntime, status: u8, refusal: Option<TraceFault>) -> io::Result<()> {
+    if let Some(fault) = refusal {
+        return eprintln!(rt; "superpager: {fault}");
+    }
+    let message = message_of(status);
+    eprintln!(rt; "superpager: {message}")
+}
+
+/// What is said of a status where no fault is told.
 fn message_of(status: u8) -> &'static str {
     match status {
         DONE => "done",

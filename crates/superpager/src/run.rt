@@ -1,29 +1,29 @@
 //! A run of the program, from the bytes read to the bytes written.
 
-ghost use Rattle.std.specs.Prelude.{◌≡◌, ◌≢◌, ℕ, ◌<◌, ◌↔◌, ◌⊎◌, [], ◌++◌, None, Some, IfOk, IfSome, IsSomeAnd, IsTrue};
+ghost use Rattle.std.specs.Prelude.{◌≡◌, ◌≢◌, ℕ, ◌<◌, ◌↔◌, ◌⊎◌, [], ◌++◌, None, Some, IfOk, IfSome, IsSomeAnd, IsTrue, ◌+◌, ◌^◌, position};
 ghost use Rattle.io_core.specs.Faults.{Rose};
-ghost use Rattle.pager_core.specs.Running.{IsWholeRun};
-ghost use Rattle.pager_model.specs.FrameStates.{free_count, reserved_count, used_count};
-ghost use Rattle.pager_model.specs.Legal.{entries_in, frames_at};
+ghost use Rattle.pager_model.specs.Legal.{entries_in};
 ghost use Rattle.pager_model.specs.Plans.{Plan};
 ghost use Rattle.pager_model.specs.PrintedText.{out_text};
-ghost use Rattle.pager_model.specs.Showing.{setting_of};
-ghost use Rattle.pager_model.specs.TraceText.{HasText, IsTextOf};
-ghost use Rattle.superpager.specs.Runs.{IsOrder, IsText, IsNoText, IsStatus, IsRefusal, WasRead, WroteAll, WrotePart};
+ghost use Rattle.pager_model.specs.Showing.{IsFiled};
+ghost use Rattle.replay_core.specs.Replays.{IsReplay};
+ghost use Rattle.superpager.specs.Built.{AreBuilt, line_waits};
+ghost use Rattle.superpager.specs.Runs.{IsOrder, IsRunnable, IsRefused, IsStatus, IsTold, WasText, WasRead, WroteAll, WrotePart, status_of};
 
+use crate::built::first_unbuilt;
 use crate::text::printed;
 use crate::writing::write_text;
 use io_core::{Sink, Source, WriteFailed};
-use pager_core::{Gathered, Machine};
 use pager_model::{NoMemory, Numbered, Trace};
+use replay_core::{Gathered, replay_file_order};
 use std::alloc::Global;
-use trace_reader::{TraceFault, read_trace};
+use trace_reader::{LineCause, TraceFault, read_trace};
 
 /// The run is done.
 pub const DONE: u8 = 0;
 /// The words are not the one form.
 pub const USAGE: u8 = 2;
-/// The input is no trace's text.
+/// The input is no trace's text, or a call of it isn't built.
 pub const REFUSED: u8 = 3;
 /// A read failed.
 pub const READ_FAULT: u8 = 4;
@@ -37,7 +37,7 @@ pub const WRITE_FAULT: u8 = 6;
 pub struct Outcome {
     /// The program's exit status: one of the constants of this module.
     pub status: u8,
-    /// Why no trace was read, where none was.
+    /// Why no trace was run, where none was: for want of memory only where the reader had none.
     pub refusal: Option<TraceFault>,
     /// The trace, where it was run.
     pub trace: Option<Trace>,
@@ -55,34 +55,37 @@ pub fn run<T: Source, K: Sink, R>(
     sink: &mut K,
 ) -> Outcome
     ensures statuses { IsStatus result.status }
-    ensures refusals { IsRefusal result.status result.refusal }
+    ensures told { IsTold result.status result.refusal }
 
     // The words are not the one form: nothing was read or written.
-    ensures order { IsOrder words.now → result.status ≢ 2 }
-    ensures usage { (IsOrder words.now → ⊥) → result.status ≡ 2 }
-    ensures unread { result.status ≡ 2 → source.new ≡ source.old }
+    ensures order { IsOrder words.now → result.status ≢ USAGE }
+    ensures usage { (IsOrder words.now → ⊥) → result.status ≡ USAGE }
+    ensures unread { result.status ≡ USAGE → source.new ≡ source.old }
 
     // Where no run was made nothing was written.
-    ensures unwritten { result.status ≢ 0 → result.status ≢ 6 → sink.new ≡ sink.old }
-    ensures no_trace { result.status ≢ 0 → result.status ≢ 6 → (result.trace ≡ None) × (result.history.items ≡ []) }
+    ensures unwritten { result.status ≢ DONE → result.status ≢ WRITE_FAULT → sink.new ≡ sink.old }
+    ensures no_trace { result.status ≢ DONE → result.status ≢ WRITE_FAULT → (result.trace ≡ None) × (result.history.items ≡ []) }
 
-    // No trace has the bytes as its text; a read failed; a write failed.
-    ensures refused { result.status ≡ 3 → IfSome (T.left source.old) IsNoText }
-    ensures read_fault { result.status ≡ 4 → Rose (T.faults source.old) (T.faults source.new) }
-    ensures write_fault { result.status ≡ 6 → Rose (K.faults sink.old) (K.faults sink.new) }
+    // The bytes are refused as they should be; a read failed; a write failed; the reader had memory.
+    ensures refused { result.status ≡ REFUSED → IfSome (T.left source.old) (λ bytes. IsSomeAnd result.refusal (IsRefused bytes)) }
+    ensures read_fault { result.status ≡ READ_FAULT → Rose (T.faults source.old) (T.faults source.new) }
+    ensures write_fault { result.status ≡ WRITE_FAULT → Rose (K.faults sink.old) (K.faults sink.new) }
+    ensures memory { result.status ≡ MEMORY → result.refusal ≡ None → WasText (T.left source.old) (T.left source.new) }
 
-    // Words of the form and a trace's text give a run, unless there is no memory or a read or a write fails.
-    ensures complete { IsOrder words.now → IsSomeAnd (T.left source.old) IsText
+    // Words of the form and the text of a trace whose calls are built give a run, unless there is no memory or a read or a write fails.
+    ensures complete { IsOrder words.now → IsSomeAnd (T.left source.old) IsRunnable
         → (Rose (T.faults source.old) (T.faults source.new) → ⊥)
         → (Rose (K.faults sink.old) (K.faults sink.new) → ⊥)
-        → (result.status ≡ 0) ⊎ (result.status ≡ 5) }
+        → (result.status ≡ DONE) ⊎ (result.status ≡ MEMORY) }
 
     // A run that is done, and one whose text was written in part.
-    ensures trace { (result.status ≡ 0) ⊎ (result.status ≡ 6)
-        → IsSomeAnd result.trace (λ trace. WasRead trace (T.left source.old) (T.left source.new) × IsWholeRun trace result.history.items) }
-    ensures wrote { result.status ≡ 0
+    ensures trace { (result.status ≡ DONE) ⊎ (result.status ≡ WRITE_FAULT)
+        → IsSomeAnd result.trace (λ trace. WasRead trace (T.left source.old) (T.left source.new) × IsReplay trace result.history.items) }
+    ensures filed { (result.status ≡ DONE) ⊎ (result.status ≡ WRITE_FAULT)
+        → IfSome result.trace (λ trace. IsFiled trace.calls (entries_in result.history.items)) }
+    ensures wrote { result.status ≡ DONE
         → IfSome result.trace (λ trace. WroteAll (out_text trace (entries_in result.history.items)) (K.taken sink.old) (K.taken sink.new)) }
-    ensures part { result.status ≡ 6
+    ensures part { result.status ≡ WRITE_FAULT
         → IfSome result.trace (λ trace. WrotePart (out_text trace (entries_in result.history.items)) (K.taken sink.old) (K.taken sink.new)) }
 {
     if !is_order(words) {
@@ -90,9 +93,7 @@ pub fn run<T: Source, K: Sink, R>(
     }
     match read_trace(alloc, source) {
         Ok(trace) => order(alloc, trace, sink),
-        Err(TraceFault::Refused) => stopped(alloc, REFUSED, Some(TraceFault::Refused)),
-        Err(TraceFault::ReadFault) => stopped(alloc, READ_FAULT, Some(TraceFault::ReadFault)),
-        Err(TraceFault::NoMemory) => stopped(alloc, MEMORY, Some(TraceFault::NoMemory)),
+        Err(fault) => refused(alloc, fault),
     }
 }
 
@@ -121,17 +122,48 @@ fn stopped(alloc: Global, status: u8, refusal: Option<TraceFault>) -> Outcome
     }
 }
 
-/// Runs the trace in the order of its lines, and writes what is printed.
-fn order<K: Sink>(alloc: Global, trace: Trace, sink: &mut K) -> Outcome
-    ensures statuses { (result.status ≡ 0) ⊎ ((result.status ≡ 5) ⊎ (result.status ≡ 6)) }
-    ensures refusal { result.refusal ≡ None }
-    ensures memory { result.status ≡ 5 → (sink.new ≡ sink.old) × (result.trace ≡ None) × (result.history.items ≡ []) }
-    ensures write_fault { result.status ≡ 6 → Rose (K.faults sink.old) (K.faults sink.new) }
-    ensures trace { (result.status ≡ 0) ⊎ (result.status ≡ 6)
-        → (result.trace ≡ Some trace) × IsWholeRun trace result.history.items }
-    ensures wrote { result.status ≡ 0 → WroteAll (out_text trace (entries_in result.history.items)) (K.taken sink.old) (K.taken sink.new) }
-    ensures part { result.status ≡ 6 → WrotePart (out_text trace (entries_in result.history.items)) (K.taken sink.old) (K.taken sink.new) }
+/// The outcome of a text that was not read.
+fn refused(alloc: Global, fault: TraceFault) -> Outcome
+    ensures status { result.status ≡ status_of fault }
+    ensures refusal { result.refusal ≡ Some fault }
+    ensures trace { result.trace ≡ None }
+    ensures history { result.history.items ≡ [] }
 {
+    let status = match fault {
+        TraceFault::ReadFault => READ_FAULT,
+        TraceFault::NoMemory => MEMORY,
+        _ => REFUSED,
+    };
+    stopped(alloc, status, Some(fault))
+}
+
+/// The line of the call at this place, which isn't built: calls begin at the second line.
+fn unbuilt_line(place: usize) -> TraceFault
+    requires { place < 2 ^ 32 }
+    ensures { result ≡ TraceFault.Line (place + 2) LineCause.Form }
+{
+    TraceFault::Line {
+        number: place as u64 + 2,
+        cause: LineCause::Form,
+    }
+}
+
+/// Runs the trace in the order of its lines, and writes what is printed; where a call isn't built, the trace is refused at its line.
+fn order<K: Sink>(alloc: Global, trace: Trace, sink: &mut K) -> Outcome
+    ensures statuses { (result.status ≡ DONE) ⊎ ((result.status ≡ MEMORY) ⊎ ((result.status ≡ REFUSED) ⊎ (result.status ≡ WRITE_FAULT))) }
+    ensures no_refusal { result.status ≢ REFUSED → result.refusal ≡ None }
+    ensures refused { result.status ≡ REFUSED → (place : ℕ) × (position line_waits trace.calls ≡ Some place)
+        × (result.refusal ≡ Some (TraceFault.Line (place + 2) LineCause.Form)) }
+    ensures no_run { result.status ≢ DONE → result.status ≢ WRITE_FAULT → (sink.new ≡ sink.old) × (result.trace ≡ None) × (result.history.items ≡ []) }
+    ensures write_fault { result.status ≡ WRITE_FAULT → Rose (K.faults sink.old) (K.faults sink.new) }
+    ensures trace { (result.status ≡ DONE) ⊎ (result.status ≡ WRITE_FAULT)
+        → (result.trace ≡ Some trace) × IsReplay trace result.history.items × IsFiled trace.calls (entries_in result.history.items) }
+    ensures wrote { result.status ≡ DONE → WroteAll (out_text trace (entries_in result.history.items)) (K.taken sink.old) (K.taken sink.new) }
+    ensures part { result.status ≡ WRITE_FAULT → WrotePart (out_text trace (entries_in result.history.items)) (K.taken sink.old) (K.taken sink.new) }
+{
+    if let Some(place) = first_unbuilt(trace.calls()) {
+        return stopped(alloc, REFUSED, Some(unbuilt_line(place)));
+    }
     let Ok((gathered, text)) = replayed(alloc, &trace) else {
         return stopped(alloc, MEMORY, None);
     };
@@ -158,11 +190,13 @@ fn ran(status: u8, trace: Trace, history: Vec<Numbered>) -> Outcome
 
 /// The whole run of a trace, and what is printed of it.
 fn replayed(alloc: Global, trace: &Trace) -> Result<(Gathered, Vec<u8>), NoMemory>
-    ensures run { IfOk result (λ r. IsWholeRun trace.now r.0.history.items) }
+    requires { AreBuilt trace.now.calls }
+    ensures run { IfOk result (λ r. IsReplay trace.now r.0.history.items) }
+    ensures filed { IfOk result (λ r. IsFiled trace.now.calls (entries_in r.0.history.items)) }
     ensures text { IfOk result (λ r. r.1.items ≡ out_text trace.now (entries_in r.0.history.items)) }
 {
     let processors = trace.processors();
-    let gathered = replay(alloc, trace)?;
+    let gathered = replay_file_order(alloc, trace)?;
     let text = printed(
         alloc,
         processors,
@@ -170,19 +204,4 @@ fn replayed(alloc: Global, trace: &Trace) -> Result<(Gathered, Vec<u8>), NoMemor
         &gathered.summary,
     )?;
     Ok((gathered, text))
-}
-
-/// The whole run of a trace.
-fn replay(alloc: Global, trace: &Trace) -> Result<Gathered, NoMemory>
-    requires { 0 < trace.now.processors }
-    ensures run { IfOk result (λ g. IsWholeRun trace.now g.history.items) }
-    ensures free { IfOk result (λ g. g.summary.free ≡ free_count (frames_at (setting_of trace.now) (entries_in g.history.items))) }
-    ensures reserved { IfOk result (λ g. g.summary.reserved ≡ reserved_count (frames_at (setting_of trace.now) (entries_in g.history.items))) }
-    ensures used { IfOk result (λ g. g.summary.used ≡ used_count (frames_at (setting_of trace.now) (entries_in g.history.items))) }
-{
-    let mut machine = Machine::create(alloc, trace)?;
-    while !machine.ended() {
-        machine.turn(0);
-    }
-    Ok(machine.finish())
 }

@@ -1,11 +1,11 @@
 //! The text that a run prints.
 
-ghost use Rattle.std.specs.Prelude.{◌≡◌, ℕ, ◌++◌, ◌∷◌, [], OnOk, IfOk, codes, decimal, flat_map};
+ghost use Rattle.std.specs.Prelude.{◌≡◌, ℕ, ◌++◌, ◌∷◌, [], OnOk, IfOk, codes, decimal, map, flat_map};
 ghost use Rattle.std.specs.List.{join_with_byte, range_with_len};
 ghost use Rattle.pager_model.specs.Legal.{entries_in};
 ghost use Rattle.pager_model.specs.PrintedText.{reply_words, answer_line, entry_text, answers_of, answers_text};
 ghost use Rattle.pager_model.specs.TraceText.{line_of_words};
-ghost use Rattle.superpager.specs.Texts.{Appends, numbers_text, counts_line};
+ghost use Rattle.superpager.specs.Texts.{Appends, numbers_text, counts_line, texts_of};
 
 use itoa::Buffer;
 use pager_model::{Entry, NoMemory, Numbered, Reply, Summary, What};
@@ -24,30 +24,48 @@ pub fn printed(
         ++ line_of_words (codes "end" ∷ [])) }
 {
     let mut text = Vec::new(alloc);
-    push_answers(&mut text, processors, history)?;
+    let answers = answers_by_processor(alloc, processors, history)?;
+    push_texts(&mut text, answers.as_slice())?;
     push_counts(&mut text, summary)?;
     push_bytes(&mut text, b"end\n")?;
     Ok(text)
 }
 
-/// The answers of each processor, ascending.
-fn push_answers(text: &mut Vec<u8>, processors: u32, history: &[Numbered]) -> Result<(), NoMemory>
-    ensures { OnOk result (Appends text.old.items text.new.items (answers_text processors (entries_in history.now))) }
+/// For each processor the text of its answers. Each entry is looked at once.
+fn answers_by_processor(
+    alloc: Global,
+    processors: u32,
+    history: &[Numbered],
+) -> Result<Vec<Vec<u8>>, NoMemory>
+    ensures { IfOk result (λ texts. texts_of texts.items ≡ map (answers_of (entries_in history.now)) (range_with_len 0 processors)) }
 {
-    for processor in 0..processors {
-        push_answers_of(text, processor, history)?;
+    let mut texts = empty_texts(alloc, processors)?;
+    for numbered in history {
+        let processor = numbered.entry.processor as usize;
+        if processor < texts.len() {
+            push_entry(&mut texts[processor], &numbered.entry)?;
+        }
     }
-    Ok(())
+    Ok(texts)
 }
 
-/// The answers of one processor.
-fn push_answers_of(text: &mut Vec<u8>, processor: u32, history: &[Numbered]) -> Result<(), NoMemory>
-    ensures { OnOk result (Appends text.old.items text.new.items (answers_of (entries_in history.now) processor)) }
+/// An empty text for each processor.
+fn empty_texts(alloc: Global, processors: u32) -> Result<Vec<Vec<u8>>, NoMemory>
+    ensures { IfOk result (λ texts. texts_of texts.items ≡ map (λ c. []) (range_with_len 0 processors)) }
 {
-    for numbered in history {
-        if numbered.entry.processor == processor {
-            push_entry(text, &numbered.entry)?;
-        }
+    let mut texts = Vec::with_capacity(alloc, processors as usize)?;
+    for _ in 0..processors {
+        texts.push(Vec::new(alloc))?;
+    }
+    Ok(texts)
+}
+
+/// Texts one after another.
+fn push_texts(text: &mut Vec<u8>, texts: &[Vec<u8>]) -> Result<(), NoMemory>
+    ensures { OnOk result (Appends text.old.items text.new.items (flat_map (λ t. t.items) texts.now)) }
+{
+    for piece in texts {
+        push_bytes(text, piece.as_slice())?;
     }
     Ok(())
 }

@@ -1,0 +1,99 @@
+-- The steps of a flight before the one that makes its entry.
+use Rattle.std.proofs.Common.{◌≡◌, ℕ, ◌≤◌, Some, None, IfSome, refl, ap, sym, subst, ◌∙◌, arith}
+use Rattle.pager_model.specs.declared.entry.Entry.{Entry}
+use Rattle.pager_model.specs.Agreement.{OwnsBy}
+use Rattle.pager_model.specs.FrameStates.{FrameState, frame_of}
+use Rattle.pager_model.specs.Order.{Progress, progress_after}
+use Rattle.pager_model.specs.SpaceStates.{SpaceState}
+use Rattle.space_core.specs.Standing.{Kept, frame_at}
+use Rattle.pager_core.specs.declared.flight.Flight.{Flight}
+use Rattle.pager_core.specs.Flights.{IsReady, LeftBy}
+use Rattle.pager_core.specs.declared.flight.Needs.{Needs}
+use Rattle.pager_core.specs.declared.flight.Needs.TheVariants.{Space, Both}
+use Rattle.pager_core.specs.Rows.{row_of, space_under}
+use Rattle.pager_core.specs.Steps.{AreAgreed, SameCall, Makes, Passes, after_named}
+
+-- after any number of steps that make no entry
+pub record HasPassed (old new : Flight) (was now : Kept) : Type 0 where
+  pub same_call : SameCall old new
+  pub same_space : now.number ≡ was.number
+  pub same_count : now.frames ≡ was.frames
+  pub same_frames : (page : ℕ) → frame_at now page ≡ frame_at was page
+  pub ready : (st : SpaceState) → IsReady old was st → IsReady new now st
+  pub same_progress : (row_of new).progress ≡ (row_of old).progress
+  pub no_reply : (row_of new).reply ≡ None
+  pub no_more : (row_of new).entries ≤ (row_of old).entries
+
+pub HasPassed-none : (f : Flight) (kept : Kept) → (row_of f).reply ≡ None → HasPassed f f kept kept
+HasPassed-none f kept going =
+    record {
+      same_call = record { processor = refl; number = refl; call = refl };
+      same_space = refl;
+      same_count = refl;
+      same_frames = λ page. refl;
+      ready = λ st is. is;
+      same_progress = refl;
+      no_reply = going;
+      no_more = omega arith;
+    }
+
+pub SameCall-on : (old mid new : Flight) → SameCall old mid → SameCall mid new → SameCall old new
+SameCall-on old mid new first second =
+    record { processor = second.processor ∙ first.processor; number = second.number ∙ first.number; call = second.call ∙ first.call }
+
+module _ (old mid new : Flight) (was here now : Kept) (passed : HasPassed old mid was here) where
+  -- one step more, from a state in which the flight was ready
+  pub HasPassed-more : (st : SpaceState) → IsReady old was st → ((st : SpaceState) → IsReady mid here st → Passes mid new here now st) → HasPassed old new was now
+  HasPassed-more st is passes =
+      let one = passes st (passed.ready st is) in
+      record {
+        same_call = SameCall-on old mid new passed.same_call one.same_call;
+        same_space = one.same_space ∙ passed.same_space;
+        same_count = one.same_count ∙ passed.same_count;
+        same_frames = λ page. one.same_frames page ∙ passed.same_frames page;
+        ready = λ t ready. (passes t (passed.ready t ready)).ready;
+        same_progress = one.same_progress ∙ passed.same_progress;
+        no_reply = one.no_reply;
+        no_more = (let some = one.no_more in let before = passed.no_more in omega (arith, some, before));
+      }
+
+  -- and then the entry
+  pub Makes-passed : (st : SpaceState) (before after : FrameState) (e : Entry) → Makes mid new here now st before after e → Makes old new was now st before after e
+  Makes-passed st before after e makes =
+      record {
+        same_call = SameCall-on old mid new passed.same_call makes.same_call;
+        same_space = makes.same_space ∙ passed.same_space;
+        same_count = makes.same_count ∙ passed.same_count;
+        processor = makes.processor ∙ passed.same_call.processor;
+        parts = makes.parts;
+        own_space = subst (λ n. IfSome e.space (λ s. s ≡ n)) passed.same_space makes.own_space;
+        space_allows = makes.space_allows;
+        frames_allow = makes.frames_allow;
+        frames_after = makes.frames_after;
+        in_order = subst (λ p. progress_after p e.space e.what ≡ Some (row_of new).progress) passed.same_progress makes.in_order;
+        reply = makes.reply;
+        answer = makes.answer;
+        left = subst (λ n. LeftBy (row_of new).keeps new now (after_named n st e)) passed.same_space makes.left;
+        fewer = (let fewer = makes.fewer in let before = passed.no_more in omega (arith, fewer, before));
+      }
+
+-- the space that was passed through agrees with the frames still
+pub AreAgreed-passed : (old mid : Flight) (was here : Kept) (frames : FrameState) → HasPassed old mid was here → AreAgreed was frames → AreAgreed here frames
+AreAgreed-passed old mid was here frames passed agreed =
+    record {
+      count = agreed.count ∙ sym passed.same_count;
+      pages = λ page. passed.same_frames page ∙ agreed.pages page ∙ ap (λ s. frame_of frames s page) (sym passed.same_space);
+    }
+
+-- and the processor owns what it did
+pub OwnsBy-passed : (old mid : Flight) (was here : Kept) (frames : FrameState) → HasPassed old mid was here → OwnsBy frames old.processor (row_of old).progress.doing → OwnsBy frames mid.processor (row_of mid).progress.doing
+OwnsBy-passed old mid was here frames passed owns =
+    subst (λ c. OwnsBy frames c (row_of mid).progress.doing) (sym passed.same_call.processor)
+    (subst (λ (p : Progress). OwnsBy frames old.processor p.doing) (sym passed.same_progress) owns)
+
+-- what a step is made under is the space that the flight is ready in
+pub needs_space : (n : Needs) (k number : ℕ) → n ≡ Space k → space_under n ≡ Some number → n ≡ Space number
+needs_space n k number is under = (let at : k ≡ number = (let x : Some k ≡ Some number = sym (ap space_under is) ∙ under in cc) in is ∙ ap Space at)
+
+pub needs_both : (n : Needs) (k number : ℕ) → n ≡ Both k → space_under n ≡ Some number → n ≡ Both number
+needs_both n k number is under = (let at : k ≡ number = (let x : Some k ≡ Some number = sym (ap space_under is) ∙ under in cc) in is ∙ ap Both at)

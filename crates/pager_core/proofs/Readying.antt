@@ -1,0 +1,131 @@
+-- Before a turn's steps: the flight is ready in its space, which agrees with the frames.
+use Rattle.std.proofs.Common.{◌≡◌, ℕ, suc, ◌+◌, ◌^◌, ◌<◌, ◌≤◌, List, [], ◌∷◌, length, fold, not, slice_get, Option, Some, None, refl, ap, sym, subst, ◌∙◌, inl, inr, arith}
+use Rattle.std.proofs.lemmas.Bool.{cases_eq}
+use Rattle.std.proofs.lemmas.Option.{slice_get_within}
+use Rattle.std.proofs.lemmas.List.Filters.{length-filter_both}
+use Rattle.std.proofs.Math.ListN.{length-map}
+use Rattle.pager_model.specs.declared.entry.Entry.{Entry}
+use Rattle.pager_model.specs.declared.entry.Numbered.{Numbered}
+use Rattle.pager_model.specs.Agreement.{OwnsBy}
+use Rattle.pager_model.specs.Entries.{names_frames, frames_part}
+use Rattle.pager_model.specs.Flat.{space_of_call}
+use Rattle.pager_model.specs.FrameStates.{FrameState, start_frames, frames_after, frame_of}
+use Rattle.pager_model.specs.Legal.{space_at, frames_at, entries_in}
+use Rattle.pager_model.specs.Settings.{Given}
+use Rattle.pager_model.proofs.Counting.{frames_after-entries}
+use Rattle.frame_pool.proofs.LegalHistories.{IsKept-legal, Agrees-legal, OwnsBy-legal}
+use Rattle.space_core.specs.Standing.{Kept}
+use Rattle.pager_core.specs.declared.flight.Flight.{Flight}
+use Rattle.pager_core.specs.Flights.{IsReady, IsAtRest, PhaseStands}
+use Rattle.pager_core.specs.Machines.{IsMachine}
+use Rattle.pager_core.specs.Rows.{row_of, row_in, space_under}
+use Rattle.pager_core.specs.Running.{Running, calls_at, flight_at, progress_by_flight, IsKeptByOther}
+use Rattle.pager_core.specs.Steps.{AreAgreed, Makes}
+use Rattle.pager_core.proofs.GoingOn.{under_own, keeps_own, at_start, lands}
+use Rattle.pager_core.proofs.Lists.{within}
+use Rattle.pager_core.proofs.Turning.{Turns, marked, told, all_left-turn}
+
+-- each entry on the frames is counted once
+fold-entries : (es : List Entry) (st : FrameState) → (fold frames_after st es).entries ≡ st.entries + length es
+fold-entries [] st = (let e : st.entries ≡ st.entries + 0 = omega arith in e)
+fold-entries (e ∷ es) st = fold-entries es (frames_after st e) ∙ (let one = frames_after-entries st e in let x : (frames_after st e).entries + length es ≡ st.entries + suc (length es) = omega (arith, one) in x)
+
+entries-few : (g : Given) (h : List Entry) → (frames_at g h).entries ≤ length h
+entries-few g h =
+    let all : (frames_at g h).entries ≡ 0 + length (frames_part h) = fold-entries (frames_part h) (start_frames g.frames (length g.marks)) in
+    let both = length-filter_both names_frames (λ e. not (names_frames e)) (λ e. refl) h in
+    omega (arith, all, both)
+
+module _ (run : Running) (spaces : List Kept) (pool : FrameState) (capacity c s : ℕ) (f : Flight) (machine : IsMachine run spaces pool capacity) (flies : flight_at run.flights c ≡ Some f) where
+  processor_within : c < length run.calls
+  processor_within = (let at = within run.flights c f flies in let known = machine.known in omega (arith, at, known))
+
+  pub is_under : space_under (row_of f).needs ≡ Some (space_of_call f.call)
+  is_under = under_own f.processor f.number (space_of_call f.call) f.phase (machine.flights c f flies).going
+
+  -- the number of a call is small
+  pub number-few : f.number + 1 ≤ 262144
+  number-few =
+      let below = slice_get_within (calls_at run.calls c) f.number f.call (machine.flights c f flies).of_call in
+      let few = machine.few_calls c in
+      omega (arith, below, few)
+
+  pub OwnsBy-machine : OwnsBy pool f.processor (row_of f).progress.doing
+  OwnsBy-machine =
+      let at = processor_within in
+      let marks = marked run (length spaces) machine.given in
+      let own = (machine.flights c f flies).processor in
+      let progress = machine.lawful.progress c at ∙ ap (λ x. Some (progress_by_flight (calls_at run.calls c) x)) flies in
+      subst (λ p. OwnsBy p f.processor (row_of f).progress.doing) (sym machine.frames)
+      (subst (λ n. OwnsBy (frames_at run.given (entries_in run.history)) n (row_of f).progress.doing) (sym own)
+      (OwnsBy-legal run.given (entries_in run.history) machine.lawful.legal c (row_of f).progress (omega (arith, at, marks)) progress))
+
+  pub entries-below : pool.entries < 2 ^ 45
+  entries-below =
+      let same : pool.entries ≡ (frames_at run.given (entries_in run.history)).entries = ap (λ (st : FrameState). st.entries) machine.frames in
+      let few = entries-few run.given (entries_in run.history) in
+      let count : length (entries_in run.history) ≡ length run.history = length-map run.history (λ (n : Numbered). n.entry) in
+      let room = machine.few in
+      omega (arith, same, few, count, room)
+
+  module _ (under : space_under (row_of f).needs ≡ Some s) where
+    own_space : space_of_call f.call ≡ s
+    own_space = (let e : Some (space_of_call f.call) ≡ Some s = sym is_under ∙ under in cc)
+
+    pub space_within : s < length spaces
+    space_within = (let at = own_space in let on = (machine.flights c f flies).can.on in omega (arith, at, on))
+
+    module _ (was : Kept) (at : slice_get spaces s ≡ Some was) (unkept : IsKeptByOther run.flights c s → ⊥) where
+      -- no flight keeps the space where the actor's doesn't
+      rests : (row_of f).keeps ≡ None → IsAtRest was (space_at run.given (entries_in run.history) s)
+      rests none =
+          machine.rest s was at (λ d g flies' keeps. elim (cases_eq d c) [
+            | inl is ↦
+                let same : f ≡ g = (let x : Some f ≡ Some g = sym flies ∙ subst (λ n. flight_at run.flights n ≡ Some g) is flies' in cc) in
+                let kept : None ≡ Some s = sym none ∙ ap (λ (x : Flight). (row_of x).keeps) same ∙ keeps in
+                cc
+            | inr other ↦ unkept (record { other = d; differs = other; flight = g; flies = flies'; keeps = keeps })
+          ])
+
+      ready_by : (o : Option ℕ) → (row_of f).keeps ≡ o → IsReady f was (space_at run.given (entries_in run.history) s)
+      ready_by (Some t) keeps =
+          let here : t ≡ s = keeps_own f.processor f.number (space_of_call f.call) t f.phase keeps ∙ own_space in
+          (machine.flights c f flies).keeps s was (keeps ∙ ap Some here) at
+      ready_by None keeps =
+          let start = at_start f.processor f.number (space_of_call f.call) f.phase (machine.flights c f flies).going keeps in
+          let rest = rests keeps in
+          record {
+            under = under ∙ ap Some (sym (machine.numbers s was at).0);
+            can = (machine.flights c f flies).can.can;
+            stands = rest.stands;
+            next = rest.next ∙ sym (ap (λ p. (row_in f.processor f.number (space_of_call f.call) p).next) start);
+            found = subst (PhaseStands f.call was) (sym start) rest.resting;
+          }
+
+      pub IsReady-machine : IsReady f was (space_at run.given (entries_in run.history) s)
+      IsReady-machine = ready_by (row_of f).keeps refl
+
+      pub AreAgreed-machine : AreAgreed was pool
+      AreAgreed-machine =
+          let ready = IsReady-machine in
+          let stores = told run (length spaces) machine.given in
+          let below = space_within in
+          record {
+            count = ap (λ (st : FrameState). length st.free) machine.frames ∙ (IsKept-legal run.given (entries_in run.history) machine.lawful.legal).sound.known ∙ sym (machine.numbers s was at).1;
+            pages = λ page.
+                sym (ready.stands.base page)
+                ∙ Agrees-legal run.given (entries_in run.history) machine.lawful.legal s page (omega (arith, stores, below))
+                ∙ ap (λ st. frame_of st s page) (sym machine.frames)
+                ∙ ap (λ n. frame_of pool n page) (sym (machine.numbers s was at).0);
+          }
+
+      -- after an entry something was left, so the history has room for it
+      pub room_left : (f' : Flight) (now : Kept) (after : FrameState) (e : Entry) → Makes f f' was now (space_at run.given (entries_in run.history) s) pool after e → length run.history < capacity
+      room_left f' now after e makes =
+          let flying = machine.flights c f flies in
+          let of_call : slice_get (calls_at run.calls c) f'.number ≡ Some f'.call = ap (slice_get (calls_at run.calls c)) makes.same_call.number ∙ flying.of_call ∙ ap Some (sym makes.same_call.call) in
+          let on = lands (calls_at run.calls c) f' of_call in
+          let turns : Turns run spaces pool after c s (length run.history) f f' was now e on.0 = record { flies = flies; under = under; at = at; unkept = unkept; makes = makes; lands = on.1; counted = refl } in
+          let less = all_left-turn run spaces pool after capacity c s (length run.history) f f' was now e on.0 machine turns in
+          let room = machine.room in
+          omega (arith, less, room)

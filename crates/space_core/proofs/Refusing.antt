@@ -1,0 +1,160 @@
+-- A refusal changes nothing that a space shows.
+use Rattle.std.proofs.Common.{◌≡◌, ◌≢◌, ℕ, Bool, true, false, if◌then◌else◌, List, [], ◌∷◌, Option, Some, None, refl, sym, ap, inl, inr, ◌∙◌, not}
+use Rattle.std.proofs.lemmas.Bool.{cases_Bool, cond-true, cond-false}
+use Rattle.std.proofs.lemmas.Option.{none-some}
+use Rattle.pager_model.specs.declared.call.Call.{Call}
+use Rattle.pager_model.specs.declared.call.Call.TheVariants.{Map, Grow, Unmap, Protect, Load, Store, Sync, Evict}
+use Rattle.pager_model.specs.declared.region.Region.{Region}
+use Rattle.pager_model.specs.declared.reply.Reply.{Reply}
+use Rattle.pager_model.specs.declared.reply.Reply.TheVariants.{Done, Unmapped, Denied, Overlap, OutOfSpace, NotGrowing, RegionsFull}
+use Rattle.pager_model.specs.Flat.{Flat, reply_of, is_lawful, after_call}
+use Rattle.pager_model.specs.Order.{is_plain, is_unmapped, is_answered_alone}
+use Rattle.pager_model.specs.Regions.{has_page, region_at, range_in, without_region, unmap_reply_at, map_reply, grow_reply, grow_reply_at}
+use Rattle.pager_model.specs.SpaceStates.{SpaceState, answered_flat, ReplyAllowed, base_after_answer, frees_its_page}
+use Rattle.space_core.specs.Beginning.{BeginsAnswered}
+use Rattle.space_core.specs.Standing.{Kept, StandsFor, IsResting, CanBegin}
+
+-- what a space shows of flat memory is the same
+record Unmoved (f g : Flat) : Type 0 where
+  regions : g.regions ≡ f.regions
+  rights : (p : ℕ) → g.rights p ≡ f.rights p
+  words : (p i : ℕ) → g.words p i ≡ f.words p i
+
+-- no region has the page, so none goes
+without-none : (page : ℕ) (rs : List Region) → region_at rs page ≡ None → without_region page rs ≡ rs
+without-none page [] h = refl
+without-none page (r ∷ rs) h =
+    elim (cases_Bool (has_page page r)) [
+      | inl has ↦ absurd (none-some r (sym h ∙ cond-true _ _ _ has))
+      | inr hasnt ↦ cond-true _ _ _ (ap not hasnt) ∙ ap (λ xs. r ∷ xs) (without-none page rs (sym (cond-false _ _ _ hasnt) ∙ h))
+    ]
+
+unmapped-none : (o : Option Region) → is_lawful (unmap_reply_at o) ≡ false → o ≡ None
+unmapped-none None h = refl
+unmapped-none (Some r) h = cc
+
+range_refused : (b : Bool) → is_lawful (if b then Done else Unmapped) ≡ false → b ≡ false
+range_refused true h = cc
+range_refused false h = refl
+
+after_refusal : (f : Flat) (call : Call) → is_lawful (reply_of f call) ≡ false → Unmoved f (after_call f call)
+after_refusal f (Map space page len kind rights) h = record { regions = cond-false _ _ _ h; rights = λ p. rw h refl; words = λ p i. refl }
+after_refusal f (Grow space page by) h = record { regions = cond-false _ _ _ h; rights = λ p. cond-false _ _ _ h; words = λ p i. refl }
+after_refusal f (Unmap space page) h =
+    let none = unmapped-none (region_at f.regions page) h in
+    record { regions = without-none page f.regions none; rights = λ p. refl; words = λ p i. rw none refl }
+after_refusal f (Protect space page len rights) h =
+    let out = range_refused (range_in page len (region_at f.regions page)) h in
+    record { regions = refl; rights = λ p. rw out refl; words = λ p i. refl }
+after_refusal f (Load space address) h = record { regions = refl; rights = λ p. refl; words = λ p i. refl }
+after_refusal f (Store space address word) h = record { regions = refl; rights = λ p. refl; words = λ p i. rw h refl }
+after_refusal f (Sync space page) h = record { regions = refl; rights = λ p. refl; words = λ p i. refl }
+after_refusal f (Evict space page) h = record { regions = refl; rights = λ p. refl; words = λ p i. refl }
+
+-- the refusals of a call that needs no frame and no store
+abbrev pub is_refusal : Reply → Bool
+is_refusal Unmapped = true
+is_refusal Denied = true
+is_refusal Overlap = true
+is_refusal OutOfSpace = true
+is_refusal NotGrowing = true
+is_refusal RegionsFull = true
+is_refusal reply = false
+
+refusal-lawful : (r : Reply) → is_refusal r ≡ true → is_lawful r ≡ false
+refusal-lawful Unmapped h = refl
+refusal-lawful Denied h = refl
+refusal-lawful Overlap h = refl
+refusal-lawful OutOfSpace h = refl
+refusal-lawful NotGrowing h = refl
+refusal-lawful RegionsFull h = refl
+refusal-lawful r h = cc
+
+answered_refused : (f : Flat) (call : Call) (r : Reply) → is_refusal r ≡ true → reply_of f call ≡ r → answered_flat f call r ≡ after_call f call
+answered_refused f call Unmapped h e = refl
+answered_refused f call Denied h e = refl
+answered_refused f call Overlap h e = refl
+answered_refused f call OutOfSpace h e = refl
+answered_refused f call NotGrowing h e = refl
+answered_refused f call RegionsFull h e = refl
+answered_refused f call r h e = cc
+
+allowed_refused : (st : SpaceState) (c : ℕ) (call : Call) (r : Reply) → is_refusal r ≡ true → reply_of st.flat call ≡ r → ReplyAllowed st c call r
+allowed_refused st c call Unmapped h e = (e, λ l. cc)
+allowed_refused st c call Denied h e = (e, λ l. cc)
+allowed_refused st c call Overlap h e = (e, λ l. cc)
+allowed_refused st c call OutOfSpace h e = (e, λ l. cc)
+allowed_refused st c call NotGrowing h e = (e, λ l. cc)
+allowed_refused st c call RegionsFull h e = (e, λ l. cc)
+allowed_refused st c call r h e = cc
+
+frees_nothing : (st : SpaceState) (call : Call) (r : Reply) → is_lawful r ≡ false → false ≡ frees_its_page st call r
+frees_nothing st (Evict space page) r h = rw h refl
+frees_nothing st call r h = refl
+
+plain_refusal : (r : Reply) → is_refusal r ≡ true → is_plain r ≡ true
+plain_refusal Unmapped h = refl
+plain_refusal Denied h = refl
+plain_refusal Overlap h = refl
+plain_refusal OutOfSpace h = refl
+plain_refusal NotGrowing h = refl
+plain_refusal RegionsFull h = refl
+plain_refusal r h = cc
+
+-- an unmap is refused by one reply alone
+abbrev pub IsAlone : Call → Reply → Type 0
+IsAlone (Unmap space page) r = r ≡ Unmapped
+IsAlone call r = Unit {0}
+
+alone_from : (call : Call) (r : Reply) → CanBegin call → is_refusal r ≡ true → IsAlone call r → is_answered_alone call r ≡ true
+alone_from (Map space page len kind rights) r can h a = plain_refusal r h
+alone_from (Grow space page by) r can h a = plain_refusal r h
+alone_from (Unmap space page) r can h a = ap is_unmapped a
+alone_from (Protect space page len rights) r can h a = plain_refusal r h
+alone_from (Load space address) r can h a = plain_refusal r h
+alone_from (Store space address word) r can h a = plain_refusal r h
+alone_from (Sync space page) r can h a = absurd can
+alone_from (Evict space page) r can h a = absurd can
+
+same_base : (base : ℕ → Option ℕ) (call : Call) (p : ℕ) → base_after_answer base false call p ≡ base p
+same_base base (Evict space page) p = refl
+same_base base call p = refl
+
+pub begins_refused : (old : Kept) (call : Call) (r : Reply) → CanBegin call → IsResting old → is_refusal r ≡ true → IsAlone call r → ((st : SpaceState) → StandsFor old st → reply_of st.flat call ≡ r) → BeginsAnswered old old call (record { reply = r; hit = false; size = None })
+begins_refused old call r can resting refused alone asked =
+    record {
+      alone = alone_from call r can refused alone;
+      same_number = refl;
+      same_frames = refl;
+      resting = resting;
+      answers = record {
+        allowed = λ st s c number. record { reply = allowed_refused st c call r refused (asked st s); parts = frees_nothing st call r (refusal-lawful r refused); hit = refl; size = refl };
+        stands = λ st s c number.
+            let e = answered_refused st.flat call r refused (asked st s) in
+            let u = after_refusal st.flat call (ap is_lawful (asked st s) ∙ refusal-lawful r refused) in
+            record {
+              told = s.told;
+              regions = ap (λ f. f.regions) e ∙ u.regions ∙ s.regions;
+              rights = λ p has. ap (λ f. f.rights p) e ∙ u.rights p ∙ s.rights p has;
+              base = λ p. same_base st.base call p ∙ s.base p;
+              words = λ p i out. ap (λ f. f.words p i) e ∙ u.words p i ∙ s.words p i out;
+            };
+      };
+    }
+
+refused_if : (b : Bool) (x y : Reply) → is_refusal x ≡ true → (y ≢ Done → is_refusal y ≡ true) → (if b then x else y) ≢ Done → is_refusal (if b then x else y) ≡ true
+refused_if true x y hx hy n = hx
+refused_if false x y hx hy n = hy n
+
+-- a map and a growth that aren't done are refused
+pub map_refused : (rs : List Region) (page len : ℕ) → map_reply rs page len ≢ Done → is_refusal (map_reply rs page len) ≡ true
+map_refused rs page len =
+    refused_if _ OutOfSpace _ refl (refused_if _ Overlap _ refl (refused_if _ RegionsFull Done refl (λ n. absurd (n refl))))
+
+grow_refused_at : (rs : List Region) (by : ℕ) (o : Option Region) → grow_reply_at rs by o ≢ Done → is_refusal (grow_reply_at rs by o) ≡ true
+grow_refused_at rs by None n = refl
+grow_refused_at rs by (Some r) n =
+    refused_if _ NotGrowing _ refl (refused_if _ OutOfSpace _ refl (refused_if _ Overlap Done refl (λ n. absurd (n refl)))) n
+
+pub grow_refused : (rs : List Region) (page by : ℕ) → grow_reply rs page by ≢ Done → is_refusal (grow_reply rs page by) ≡ true
+grow_refused rs page by = grow_refused_at rs by (region_at rs page)

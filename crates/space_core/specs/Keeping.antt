@@ -1,0 +1,20 @@
+-- What the fields of a space keep true.
+use Rattle.std.specs.Prelude.{ℕ, ◌≡◌, ◌<◌, ◌≤◌, List, Option, Some, None}
+use Rattle.std.specs.Option.{ForSome}
+use Rattle.pager_model.specs.declared.region.Region.{Region}
+use Rattle.pager_model.specs.Regions.{region_at}
+use Rattle.region_table.specs.Table.{IsTable}
+use Rattle.space_core.specs.Tables.{Table, frame_in, own_in}
+
+-- The region that is being unmapped is one of the regions, and none of its pages before the scan is resident.
+pub record IsClearing (regions : List Region) (table : Table) (scan : ℕ) (r : Region) : Type 0 where
+  pub is_region : region_at regions r.first ≡ Some r
+  pub begun : r.first ≤ scan
+  pub done : (p : ℕ) → r.first ≤ p → p < scan → frame_in table p ≡ None
+
+pub record IsKept (regions : List Region) (table : Table) (pending : Option ℕ) (clearing : Option Region) (scan : ℕ) : Type 0 where
+  pub ordered : IsTable regions
+  -- only a region's pages have rights of their own, so a new region's pages begin with its first rights
+  pub own : (p : ℕ) → region_at regions p ≡ None → own_in table p ≡ None
+  pub pending_in : ForSome pending (λ p. p < 1048576)
+  pub clearing_in : ForSome clearing (IsClearing regions table scan)

@@ -1,0 +1,74 @@
+-- What a table of pages keeps true, and what its functions do to it, page by page.
+use Rattle.std.specs.Prelude.{ℕ, ◌≡◌, ◌≢◌, ◌<◌, ◌≤◌, Bool, false, ◌&&◌, ◌==◌, if◌then◌else◌, length, Option, Some, None, slice_index_or}
+use Rattle.pager_model.specs.declared.call.Call.{Call}
+use Rattle.pager_model.specs.declared.call.Call.TheVariants.{Load, Store}
+use Rattle.pager_model.specs.declared.region.Rights.{Rights}
+use Rattle.pager_model.specs.Flat.{can_read, can_write}
+use Rattle.pager_model.specs.Frame.{Framed}
+use Rattle.pager_model.specs.Regions.{in_range}
+use Rattle.space_core.specs.Tables.{Table, frame_in, word_in, own_in}
+
+-- the frame of this number is kept at it
+pub record IsFrameAt (table : Table) (number : ℕ) : Type 0 where
+  pub frame : Framed
+  pub is : slice_index_or table.frames number None ≡ Some frame
+  pub number_is : frame.number ≡ number
+
+-- There is a place for each of the 1,048,576 pages, the number of a page names a frame that is there, and no two pages have one number.
+pub record IsPaged (table : Table) : Type 0 where
+  pub numbers : length table.numbers ≡ 1048576
+  pub own : length table.own ≡ 1048576
+  pub few : length table.frames ≤ 32768
+  pub found : (page number : ℕ) → frame_in table page ≡ Some number → IsFrameAt table number
+  pub apart : (p q number : ℕ) → frame_in table p ≡ Some number → frame_in table q ≡ Some number → p ≡ q
+
+-- no page is resident, and none has rights of its own
+pub record IsFresh (frames : ℕ) (table : Table) : Type 0 where
+  pub count : length table.frames ≡ frames
+  pub none_resident : (p : ℕ) → frame_in table p ≡ None
+  pub none_own : (p : ℕ) → own_in table p ≡ None
+
+pub record SameOwn (old new : Table) : Type 0 where
+  pub count : length new.frames ≡ length old.frames
+  pub own : (p : ℕ) → own_in new p ≡ own_in old p
+
+-- the page has this frame, or none, and every other page is as before
+pub record Moves (page : ℕ) (given : Option ℕ) (old new : Table) : Type 0 where
+  pub same : SameOwn old new
+  pub frame : (p : ℕ) → frame_in new p ≡ (if p == page then given else frame_in old p)
+  pub word : (p i : ℕ) → p ≢ page → word_in new p i ≡ word_in old p i
+
+-- the words of the page are zero, and every other page is as before
+pub record Clears (page : ℕ) (old new : Table) : Type 0 where
+  pub same : SameOwn old new
+  pub frame : (p : ℕ) → frame_in new p ≡ frame_in old p
+  pub word : (p i : ℕ) → word_in new p i ≡ (if p == page then 0 else word_in old p i)
+
+-- the page has this word, and every other word is as before
+pub record Writes (page index written : ℕ) (old new : Table) : Type 0 where
+  pub same : SameOwn old new
+  pub frame : (p : ℕ) → frame_in new p ≡ frame_in old p
+  pub word : (p i : ℕ) → word_in new p i ≡ (if (p == page) && (i == index) then written else word_in old p i)
+
+-- the pages of the range have these rights of their own, and all else is as before
+pub record Protects (first len : ℕ) (rights : Option Rights) (old new : Table) : Type 0 where
+  pub count : length new.frames ≡ length old.frames
+  pub frame : (p : ℕ) → frame_in new p ≡ frame_in old p
+  pub word : (p i : ℕ) → word_in new p i ≡ word_in old p i
+  pub own : (p : ℕ) → own_in new p ≡ (if in_range first len p then rights else own_in old p)
+
+-- the lowest resident page from a page on and before an end
+pub record IsFirstResident (table : Table) (from end page : ℕ) : Type 0 where
+  pub from_on : from ≤ page
+  pub before_end : page < end
+  pub resident : frame_in table page ≢ None
+  pub lowest : (p : ℕ) → from ≤ p → p < page → frame_in table p ≡ None
+
+abbrev pub NoneFrom : Table → ℕ → ℕ → Type 0
+NoneFrom table from end = (p : ℕ) → from ≤ p → p < end → frame_in table p ≡ None
+
+-- the rights allow the load or the store
+abbrev pub permits : Rights → Call → Bool
+permits rights (Load space address) = can_read rights
+permits rights (Store space address word) = can_write rights
+permits rights call = false

@@ -1,0 +1,84 @@
+//! Loads and stores as a space sees them: the page, the word in it, and what the rights of a page allow.
+
+ghost use Rattle.std.specs.Prelude.{◌≡◌, ◌+◌, ◌<◌, ◌≤◌, false, None};
+ghost use Rattle.pager_model.specs.Flat.{page_of, word_of};
+ghost use Rattle.pager_model.specs.PreferredSize.{IsWanted};
+ghost use Rattle.pager_model.specs.Regions.{is_wired, want_end};
+ghost use Rattle.space_core.specs.Pages.{permits};
+
+use pager_model::{Answered, Call, Kind, Region, Reply, Rights, Want};
+
+/// The number of pages of a space.
+pub const PAGES: u32 = 1 << 20;
+
+/// The bytes of a base page.
+const PAGE_BYTES: u64 = 8192;
+
+/// The bytes of a word.
+const WORD_BYTES: u64 = 8;
+
+/// The page of an address.
+pub fn page_of(address: u64) -> u32
+    requires { address < 8589934592 }
+    ensures page { result ≡ page_of address }
+    ensures in_space { result < 1048576 }
+{
+    (address / PAGE_BYTES) as u32
+}
+
+/// The number of an address's word in its page.
+pub fn word_of(address: u64) -> usize
+    ensures word { result ≡ word_of address }
+    ensures in_page { result < 1024 }
+{
+    (address % PAGE_BYTES / WORD_BYTES) as usize
+}
+
+/// Whether a page's rights allow the load or the store.
+pub fn permits(rights: Rights, call: &Call) -> bool
+    ensures { result ≡ permits rights call.now }
+{
+    match call {
+        Call::Load { .. } => !matches!(rights, Rights::NoAccess),
+        Call::Store { .. } => matches!(rights, Rights::Write),
+        _ => false,
+    }
+}
+
+/// Where a reservation for a page of the region may lie: within the region, and up to the next one where it may grow.
+pub fn want_in(region: &Region, page: u32, next: u32) -> Want
+    requires has_first { region.now.first ≤ page }
+    requires has_last { page < region.now.first + region.now.length }
+    requires in_space { region.now.first + region.now.length ≤ 1048576 }
+    requires above { page < next }
+    requires next_in_space { next ≤ 1048576 }
+    ensures want { result ≡ record {
+      low = region.now.first;
+      high = want_end region.now.kind region.now next;
+      cap = region.now.length;
+      wired = is_wired region.now.kind;
+    } }
+    ensures for_page { IsWanted result page }
+{
+    let high = match region.kind {
+        Kind::Growing => next,
+        Kind::Fixed | Kind::Wired => region.first + region.length,
+    };
+    Want {
+        low: region.first,
+        high,
+        cap: region.length,
+        wired: matches!(region.kind, Kind::Wired),
+    }
+}
+
+/// A reply, where no processor keeps a translation.
+pub fn answered(reply: Reply) -> Answered
+    ensures { result ≡ record { reply = reply; hit = false; size = None } }
+{
+    Answered {
+        reply,
+        hit: false,
+        size: None,
+    }
+}

@@ -1,0 +1,32 @@
+//! The words of one frame.
+
+ghost use Rattle.std.specs.Prelude.{◌≡◌, ◌<◌, length, replicate, slice_index_or, slice_set};
+
+use pager_model::Frame;
+
+/// A word of a frame.
+pub fn word(frame: &Frame, index: usize) -> u64
+    requires { index < 1024 }
+    ensures { result ≡ slice_index_or frame.now.words index 0 }
+{
+    frame.words()[index]
+}
+
+/// Writes a word of a frame.
+pub fn set_word(frame: &mut Frame, index: usize, word: u64)
+    requires { index < 1024 }
+    ensures count { length frame.old.words ≡ 1024 }
+    ensures written { frame.new ≡ record {
+      number = frame.old.number;
+      words = slice_set frame.old.words index word;
+    } }
+{
+    frame.words_mut()[index] = word;
+}
+
+/// Writes zero to every word of a frame.
+pub fn clear(frame: &mut Frame)
+    ensures { frame.new ≡ record { number = frame.old.number; words = replicate 1024 0 } }
+{
+    frame.words_mut().fill(0);
+}

@@ -1,0 +1,185 @@
+//! What a space keeps of its pages: which are resident, in which frames, and which rights a protect gave them.
+
+ghost use Rattle.std.specs.Prelude.{◌≡◌, ◌≢◌, ◌+◌, ◌<◌, ◌≤◌, ℕ, length, replicate, None, Some, IfOk, IfSome, IfNone};
+ghost use Rattle.space_core.specs.Tables.{frame_in, word_in, own_in};
+ghost use Rattle.space_core.specs.Pages.{IsFresh, Moves, Clears, Writes, Protects, IsFirstResident, NoneFrom};
+
+use crate::access::PAGES;
+use crate::frames::{clear, set_word, word};
+use pager_model::{Frame, NoMemory, Rights};
+use std::alloc::Global;
+use std::marker::Model;
+
+/// The pages of a space. A resident page is found by its number, and its frame by the frame's.
+#[derive(Drop)]
+pub struct PageTable {
+    /// For each page the number of its frame, where it is resident.
+    numbers: Vec<Option<u16>>,
+    /// For each page its own rights, where a protect gave it any.
+    own: Vec<Option<Rights>>,
+    /// For each number the frame, where a page has it.
+    frames: Vec<Option<Frame>>,
+}
+
+impl Model for PageTable {
+    ghost use Rattle.space_core.specs.Tables.{Table};
+    ghost use Rattle.space_core.specs.Pages.{IsPaged};
+
+    ghost Value = { Table };
+
+    ghost view = { λ t. record {
+      numbers = t.numbers.items;
+      own = t.own.items;
+      frames = t.frames.items;
+    } };
+
+    ghost invariant = { λ t. IsPaged (record {
+      numbers = t.numbers.items;
+      own = t.own.items;
+      frames = t.frames.items;
+    }) };
+}
+
+impl PageTable {
+    /// Room for the pages of a space and for so many frames: no page is resident, and none has rights of its own.
+    pub fn create(alloc: Global, frames: u32) -> Result<PageTable, NoMemory>
+        requires { frames ≤ 32768 }
+        ensures { IfOk result (IsFresh frames) }
+    {
+        Ok(PageTable {
+            numbers: empty_places(alloc, PAGES)?,
+            own: empty_places(alloc, PAGES)?,
+            frames: empty_places(alloc, frames)?,
+        })
+    }
+
+    /// The number of a page's frame, where it is resident.
+    pub fn number(&self, page: u32) -> Option<u32>
+        requires { page < 1048576 }
+        ensures { result ≡ frame_in self.now page }
+    {
+        match self.numbers[page as usize] {
+            Some(number) => Some(u32::from(number)),
+            None => None,
+        }
+    }
+
+    /// The rights that a protect gave a page.
+    pub fn own(&self, page: u32) -> Option<Rights>
+        requires { page < 1048576 }
+        ensures { result ≡ own_in self.now page }
+    {
+        self.own[page as usize]
+    }
+
+    /// A word of a page, which is zero where the page isn't resident.
+    pub fn word(&self, page: u32, index: usize) -> u64
+        requires page { page < 1048576 }
+        requires index { index < 1024 }
+        ensures { result ≡ word_in self.now page index }
+    {
+        let Some(number) = self.numbers[page as usize] else {
+            return 0;
+        };
+        match &self.frames[usize::from(number)] {
+            Some(frame) => word(frame, index),
+            None => 0,
+        }
+    }
+
+    /// The lowest resident page from `from` on and before `end`.
+    pub fn first_resident(&self, from: u32, end: u32) -> Option<u32>
+        requires { end ≤ 1048576 }
+        ensures some { IfSome result (IsFirstResident self.now from end) }
+        ensures none { IfNone result (NoneFrom self.now from end) }
+    {
+        for page in from..end {
+            if self.numbers[page as usize].is_some() {
+                return Some(page);
+            }
+        }
+        None
+    }
+
+    /// Puts a frame under a page.
+    pub fn put(&mut self, page: u32, frame: Frame)
+        requires page { page < 1048576 }
+        requires known { frame.number < length self.old.frames }
+        requires other { (p : ℕ) → frame_in self.old p ≢ Some frame.number }
+        ensures { Moves page (Some frame.number) self.old self.new }
+    {
+        let number = frame.number();
+        self.frames[number as usize] = Some(frame);
+        self.numbers[page as usize] = Some(number as u16);
+    }
+
+    /// Takes the frame of a page away, where it is resident.
+    pub fn take(&mut self, page: u32) -> Option<Frame>
+        requires { page < 1048576 }
+        ensures some { IfSome result (λ frame. frame_in self.old page ≡ Some frame.number) }
+        ensures none { IfNone result (frame_in self.old page ≡ None) }
+        ensures after { Moves page None self.old self.new }
+    {
+        let number = self.numbers[page as usize].take()?;
+        self.frames[usize::from(number)].take()
+    }
+
+    /// Writes zero to every word of a page, where it is resident.
+    pub fn clear(&mut self, page: u32)
+        requires { page < 1048576 }
+        ensures { Clears page self.old self.new }
+    {
+        let Some(number) = self.numbers[page as usize] else {
+            return;
+        };
+        if let Some(frame) = &mut self.frames[usize::from(number)] {
+            clear(frame);
+        }
+    }
+
+    /// Writes a word of a resident page.
+    pub fn set_word(&mut self, page: u32, index: usize, word: u64)
+        requires page { page < 1048576 }
+        requires index { index < 1024 }
+        requires resident { frame_in self.old page ≢ None }
+        ensures { Writes page index word self.old self.new }
+    {
+        let Some(number) = self.numbers[page as usize] else {
+            return;
+        };
+        if let Some(frame) = &mut self.frames[usize::from(number)] {
+            set_word(frame, index, word);
+        }
+    }
+
+    /// Gives the pages of a range these rights of their own, or none.
+    pub fn set_own(&mut self, first: u32, length: u32, rights: Option<Rights>)
+        requires { first + length ≤ 1048576 }
+        ensures { Protects first length rights self.old self.new }
+    {
+        fill(
+            &mut self.own[first as usize..(first + length) as usize],
+            rights,
+        );
+    }
+}
+
+/// So many places with nothing in them.
+fn empty_places<T: Drop>(alloc: Global, count: u32) -> Result<Vec<Option<T>>, NoMemory>
+    ensures { IfOk result (λ places. places.items ≡ replicate count None) }
+{
+    let mut places = Vec::with_capacity(alloc, count as usize)?;
+    for _ in 0..count {
+        places.push(None)?;
+    }
+    Ok(places)
+}
+
+/// Gives every page of a part the same rights of its own, or none.
+fn fill(own: &mut [Option<Rights>], rights: Option<Rights>)
+    ensures { own.new ≡ replicate (length own.old) rights }
+{
+    for page in own.iter_mut() {
+        *page = rights;
+    }
+}
