@@ -13,6 +13,7 @@ ghost use Rattle.reservations.specs.Parts.{told_parts};
 ghost use Rattle.frame_pool.specs.Laid.{IsIn, IsLaid};
 ghost use Rattle.frame_pool.specs.Placed.{CanBreak, FindsExtent, PlacesPage, with_reservation};
 
+use crate::free::{give, take};
 use crate::lists::{enlist, enlist_parts, unlist};
 use crate::records::{covering, lowest_as_wide, page_at, places, preferred};
 use buddy_extents::Free;
@@ -182,7 +183,7 @@ impl Layout {
         ensures found { IfSome result (λ f. FindsExtent self.new (extent_of size self.old) f.size f.first f.broken) }
         ensures none { IfNone result ((extent_of size self.old ≡ None) × (self.new ≡ self.old)) }
     {
-        if let Some(first) = self.free.take(size) {
+        if let Some(first) = take(&mut self.free, size) {
             return Some(Found {
                 size,
                 first,
@@ -191,7 +192,7 @@ impl Layout {
         }
         let id = self.to_break(size)?;
         self.break_at(id);
-        let first = self.free.take(size).unwrap();
+        let first = take(&mut self.free, size).unwrap();
         Some(Found {
             size,
             first,
@@ -266,10 +267,13 @@ impl Layout {
         unlist(&mut self.lists, &self.reservations, id);
         if self.reservations.vacate(id, page_at(&reservation, frame)) {
             self.reservations.dissolve(id);
-            self.free.give(Extent {
-                size: reservation.size,
-                first: id,
-            });
+            give(
+                &mut self.free,
+                Extent {
+                    size: reservation.size,
+                    first: id,
+                },
+            );
             return;
         }
         enlist(&mut self.lists, &self.reservations, id);
@@ -305,10 +309,13 @@ impl Layout {
         requires out { IsIn self.old frame → ⊥ }
         ensures { self.new ≡ put_back frame self.old }
     {
-        self.free.give(Extent {
-            size: Size::of(0).unwrap(),
-            first: frame,
-        });
+        give(
+            &mut self.free,
+            Extent {
+                size: Size::of(0).unwrap(),
+                first: frame,
+            },
+        );
     }
 }
 
@@ -329,7 +336,7 @@ fn give_parts(free: &mut Free, whole: &Reservation, parts: &[Part])
 {
     for part in parts {
         if part.empty {
-            free.give(part.extent);
+            give(free, part.extent);
         }
     }
 }

@@ -6,6 +6,7 @@
 //! out, and then holds the frame until it uses or drops it.
 #![tactic(auto)]
 
+mod free;
 pub mod laws;
 mod layout;
 mod lists;

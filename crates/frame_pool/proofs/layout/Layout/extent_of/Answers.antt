@@ -26,12 +26,12 @@ pub break_at-requires : goal.break_at-requires
 break_at-requires c =
     let s = c.self.inside in
     let laid = rw (← c.in_default.ensures.taken) at c.self.invariant.laid in
-    CanBreak-oldest (record { free = c.take.new.self; records = s.reservations.records; used = s.reservations.used }) c.args.size c.in_ok-id.id laid (sym c.in_ok-id.ensures)
+    CanBreak-oldest (record { free = c.take.new.free; records = s.reservations.records; used = s.reservations.used }) c.args.size c.in_ok-id.id laid (sym c.in_ok-id.ensures)
 
 pub unwrap-first-requires : goal.unwrap-first-requires
 unwrap-first-requires c =
     let s = c.self.inside in
-    let l : Layout = record { free = c.take.new.self; records = s.reservations.records; used = s.reservations.used } in
+    let l : Layout = record { free = c.take.new.free; records = s.reservations.records; used = s.reservations.used } in
     let laid : IsLaid l = rw c.in_default.ensures.taken c.self.invariant.laid in
     let chosen = c.take-2.ensures.chosen ∙ ap (λ (m : Layout). choice m.free c.args.size) (c.self-2.view_is ∙ c.break_at.ensures) in
     ap is_some chosen ∙ choice-oldest l c.args.size c.in_ok-id.id laid (sym c.in_ok-id.ensures)
@@ -50,7 +50,7 @@ pub returns-clause-found : goal.returns-clause-found
 returns-clause-found c =
     let was = c.self.inside in
     let s = c.self-2.inside in
-    let old : Layout = record { free = c.take.new.self; records = was.reservations.records; used = was.reservations.used } in
+    let old : Layout = record { free = c.take.new.free; records = was.reservations.records; used = was.reservations.used } in
     let l : Layout = record { free = s.free; records = s.reservations.records; used = s.reservations.used } in
     let first = c.unwrap-first.result in
     let found : Found = record { layout = l; size = c.args.size; first = first; broken = 1 } in

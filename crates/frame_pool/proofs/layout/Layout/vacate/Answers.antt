@@ -49,10 +49,10 @@ invariant_of-self c =
     let unused : c.vacate.new.self ≡ with_used inside.reservations frame false = at_place ∙ ap (λ f. with_used inside.reservations f false) c.page_at.ensures.joined in
     let empty = rw (found.0, unused) at c.vacate.ensures.last in
     let gone : c.dissolve.new.self ≡ with_record (with_used inside.reservations frame false) r.frame None = c.dissolve.ensures ∙ ap (λ st. with_record st r.frame None) unused in
-    let after = vacated l frame r true c.give.new.self c.dissolve.new.self (sym empty ∙ c.if-vacate.true) c.give.ensures gone in
+    let after = vacated l frame r true c.give.new.free c.dissolve.new.self (sym empty ∙ c.if-vacate.true) c.give.ensures gone in
     let used = rw (← c.self.view_is) at c.requires in
     let gives = Gives-vacate l r.frame frame r c.self.invariant.laid found.0 found.1 used in
-    let new : Layout = record { free = c.give.new.self; records = c.dissolve.new.self.records; used = c.dissolve.new.self.used } in
+    let new : Layout = record { free = c.give.new.free; records = c.dissolve.new.self.records; used = c.dissolve.new.self.used } in
     IsInOrder-gone l r.frame r c.self.invariant.laid found.0 inside.frames frame new inside.lists c.unlist.new.lists c.self.invariant found.1
     (subst IsLaid (sym after) gives.laid) (ap (λ (m : Layout). length m.free) after ∙ gives.long) (ap (λ (st : Records). st.used) gone) (ap (λ (st : Records). st.records) gone)
     c.unlist.ensures.room c.unlist.ensures.listed
@@ -68,7 +68,7 @@ returns-then-vacate c =
     let unused : c.vacate.new.self ≡ with_used inside.reservations frame false = at_place ∙ ap (λ f. with_used inside.reservations f false) c.page_at.ensures.joined in
     let empty = rw (found.0, unused) at c.vacate.ensures.last in
     let gone : c.dissolve.new.self ≡ with_record (with_used inside.reservations frame false) r.frame None = c.dissolve.ensures ∙ ap (λ st. with_record st r.frame None) unused in
-    let after = vacated l frame r true c.give.new.self c.dissolve.new.self (sym empty ∙ c.if-vacate.true) c.give.ensures gone in
+    let after = vacated l frame r true c.give.new.free c.dissolve.new.self (sym empty ∙ c.if-vacate.true) c.give.ensures gone in
     λ id. IfSome-from (record_at c.args.self.now id) _ (λ q stands has.
     let there = rw (← c.self.view_is) at stands in
     after ∙ ap (λ p. vacate_layout frame p l) (same_owner l r.frame r c.self.invariant.laid found.0 frame id q found.1 there has) ∙ ap (vacate_layout frame q) c.self.view_is)
