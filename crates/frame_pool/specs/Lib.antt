@@ -2,6 +2,7 @@ pub mod Laid
 pub mod Listed
 pub mod Placed
 pub mod Pooled
+pub mod LayoutState
 pub mod PoolState
 pub mod Victims
 pub mod Allowed

@@ -37,13 +37,14 @@ pub(crate) struct Layout {
 
 impl Model for Layout {
     ghost use Rattle.pager_model.specs.Layouts.{Layout};
+    ghost use Rattle.frame_pool.specs.LayoutState.{layout_in};
     ghost use Rattle.frame_pool.specs.Listed.{IsInOrder};
 
     ghost Value = { Layout };
 
-    ghost view = { λ l. record { free = l.free; records = l.reservations.records; used = l.reservations.used } };
+    ghost view = { layout_in };
 
-    ghost invariant = { λ l. IsInOrder l.frames (record { free = l.free; records = l.reservations.records; used = l.reservations.used }) l.lists };
+    ghost invariant = { λ l. IsInOrder l.frames (layout_in l) l.lists };
 }
 
 /// An extent of frames for a new reservation, and how many reservations were broken for it.
