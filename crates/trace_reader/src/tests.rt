@@ -321,10 +321,34 @@ const TEXTS: [(&[u8], u64, LineCause); 13] = [
 const MESSAGES: [(TraceFault, &str); 10] = [
     (TraceFault::ReadFault, "read fault"),
     (TraceFault::TooLong, "trace too long"),
-    (TraceFault::Line { number: 1, cause: Form }, "line 1: form"),
-    (TraceFault::Line { number: 262_146, cause: Number }, "line 262146: number"),
-    (TraceFault::Line { number: 3, cause: Range }, "line 3: range"),
-    (TraceFault::Line { number: u64::MAX, cause: After }, "line 18446744073709551615: after"),
+    (
+        TraceFault::Line {
+            number: 1,
+            cause: Form,
+        },
+        "line 1: form",
+    ),
+    (
+        TraceFault::Line {
+            number: 262_146,
+            cause: Number,
+        },
+        "line 262146: number",
+    ),
+    (
+        TraceFault::Line {
+            number: 3,
+            cause: Range,
+        },
+        "line 3: range",
+    ),
+    (
+        TraceFault::Line {
+            number: u64::MAX,
+            cause: After,
+        },
+        "line 18446744073709551615: after",
+    ),
     (TraceFault::NoEnd, "no end"),
     (TraceFault::TooManyCalls, "too many calls"),
     (
@@ -397,7 +421,10 @@ fn reads_each_form_to_the_ends_of_its_ranges(rt: HostRuntime) -> Result<(), Fail
         assert_eq!(rt; trace.daemon(), None);
         assert_eq!(rt; trace.calls(), [Line { processor, call }].as_slice());
     }
-    for first in [b"trace 1 512 1 1".as_slice(), b"trace 1 32768 16 16".as_slice()] {
+    for first in [
+        b"trace 1 512 1 1".as_slice(),
+        b"trace 1 32768 16 16".as_slice(),
+    ] {
         let text = between(rt.alloc(), b"", first, END)?;
         assert!(rt; parse(rt.alloc(), &text).is_ok());
     }
@@ -429,7 +456,8 @@ fn tells_the_first_line_at_fault_and_its_leftmost_place(rt: HostRuntime) -> Resu
 
 #[test]
 fn misses_the_end_of_a_text_cut_anywhere(rt: HostRuntime) {
-    let text = b"trace 1 512 1 1\n0 map 0 0 16 fixed read\n0 map 0 8 8 fixed write\n0 map 0 1048575 2 fixed write\n0 grow 0 0 1\n0 unmap 0 16\n0 store 0 0 1\n0 protect 0 8 9 write\n0 evict 0 15\nend\n".as_slice();
+    let text =
+        b"trace 1 512 1 1\n0 map 0 0 16 fixed read\n0 map 0 8 8 fixed write\n0 map 0 1048575 2 fixed write\n0 grow 0 0 1\n0 unmap 0 16\n0 store 0 0 1\n0 protect 0 8 9 write\n0 evict 0 15\nend\n".as_slice();
     assert!(rt; parse(rt.alloc(), text).is_ok());
     for end in 0..text.len() {
         let fault = parse(rt.alloc(), &text[..end]).err();
@@ -465,7 +493,10 @@ fn takes_as_many_calls_as_a_trace_may_have(rt: HostRuntime) -> Result<(), Fail> 
     let trace = parse(rt.alloc(), &all).ok().ok_or("refused")?;
     assert_eq!(rt; trace.calls().len(), MAX_CALLS);
     let more = between(rt.alloc(), &text, b"0 load 0 0", b"bad\n")?;
-    assert_eq!(rt; parse(rt.alloc(), &more).err(), Some(TraceFault::TooManyCalls));
+    assert_eq!(rt;
+        parse(rt.alloc(), &more).err(),
+        Some(TraceFault::TooManyCalls)
+    );
     let bad = between(rt.alloc(), &text, b"0 load 0 1", b"0 load 0 0\n")?;
     assert_eq!(rt; parse(rt.alloc(), &bad).err(), Some(line(262_146, Range)));
     Ok(())
