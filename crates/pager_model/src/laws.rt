@@ -2,8 +2,8 @@
 
 ghost use Rattle.std.specs.Prelude.{◌≡◌, ℕ, ◌∷◌, ◌++◌, ◌==◌, ◌<◌, [], Some, None, true, false, List, codes, nat_lt, option_map};
 ghost use Rattle.pager_model.specs.declared.entry.Entry.{Entry};
-ghost use Rattle.pager_model.specs.declared.call.Call.TheVariants.{Load, Store};
-ghost use Rattle.pager_model.specs.declared.region.Rights.TheVariants.{Read};
+ghost use Rattle.pager_model.specs.declared.call.Call.TheVariants.{Grow, Unmap, Protect, Load, Store, Sync, Evict};
+ghost use Rattle.pager_model.specs.declared.region.Rights.TheVariants.{NoAccess, Read};
 ghost use Rattle.pager_model.specs.declared.reply.Reply.TheVariants.{Done, Value, Denied, Unmapped};
 ghost use Rattle.pager_model.specs.Ages.{with_member, oldest_in};
 ghost use Rattle.pager_model.specs.Examples.{eight_pages, two_frames, one_taken, one_broken, one_given, one_carved, both_taken, want_eight, small_setting, legal_history, exchanged_history, small_plan, eight_places, eight_parts_used, one_turn, failing_load, made_up_fault, untold_space};
@@ -15,7 +15,7 @@ ghost use Rattle.pager_model.specs.FreeBlocks.{choice};
 ghost use Rattle.pager_model.specs.PreferredSize.{preferred_size};
 ghost use Rattle.pager_model.specs.PrintedText.{answers_text};
 ghost use Rattle.pager_model.specs.Records.{yield_of, kept_part};
-ghost use Rattle.pager_model.specs.TraceText.{text_of};
+ghost use Rattle.pager_model.specs.TraceText.{call_line, line_words, text_of};
 ghost use Rattle.pager_model.specs.Legal.{IsLegal, MayFollow};
 ghost use Rattle.pager_model.specs.Settings.{Given};
 
@@ -112,9 +112,15 @@ pub fn a_store_waits_for_its_frame()
     ensures exchanged { IsLegal small_setting exchanged_history → ⊥ }
 {}
 
-/// A trace of two calls has this text, and a legal history prints these answers.
+/// A trace of two calls has this text, a call of each other kind has this line, and a legal history prints these answers.
 pub fn small_texts()
     ensures trace { text_of small_plan ≡ codes "trace 1 512 1 1\n0 map 0 0 8 fixed write\n0 store 0 8192 5\nend\n" }
+    ensures grow { call_line (record { processor = 1; call = Grow 2 1048575 1048576 }) ≡ codes "1 grow 2 1048575 1048576\n" }
+    ensures unmap { call_line (record { processor = 15; call = Unmap 15 0 }) ≡ codes "15 unmap 15 0\n" }
+    ensures protect { call_line (record { processor = 0; call = Protect 0 300 1 NoAccess }) ≡ codes "0 protect 0 300 1 none\n" }
+    ensures load { call_line (record { processor = 0; call = Load 0 8589934584 }) ≡ codes "0 load 0 8589934584\n" }
+    ensures copies { line_words (record { processor = 0; call = Sync 1 3 }) ≡ codes "0" ∷ codes "sync" ∷ codes "1" ∷ codes "3" ∷ [] }
+    ensures evict { call_line (record { processor = 0; call = Evict 1 3 }) ≡ codes "0 evict 1 3\n" }
     ensures answers { answers_text 1 legal_history ≡ codes "0 0 done\n0 1 done\n0 2 unmapped\n" }
 {}
 

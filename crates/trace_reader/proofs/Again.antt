@@ -1,6 +1,6 @@
 -- A trace's text is cut into the lines and words that it was made of, and has no refusal.
-use Rattle.std.proofs.Common.{◌≡◌, ◌≢◌, ℕ, suc, ◌+◌, ◌^◌, ◌<◌, ◌≤◌, Bool, true, false, eqb, ltb, ◌&&◌, List, [], ◌∷◌, ◌++◌, length, flat_map, Option, Some, None, decimal, codes, refl, sym, ap, ◌∙◌, append_assoc, arith, lit≤, inl, inr}
-use Rattle.std.specs.List.{join_with_byte, slice_split, All, AllByRecursion, list_all}
+use Rattle.std.proofs.Common.{◌≡◌, ℕ, ◌+◌, ◌^◌, ◌<◌, ◌≤◌, true, false, eqb, ltb, List, [], ◌∷◌, ◌++◌, length, flat_map, None, decimal, codes, refl, sym, ap, ◌∙◌, append_assoc, arith, lit≤, inl, inr}
+use Rattle.std.specs.List.{join_with_byte, All, AllByRecursion, list_all}
 use Rattle.std.specs.Str.{bytes_eq}
 use Rattle.std.specs.Str.Parse.{AllDigits}
 use Rattle.std.proofs.lemmas.Bool.{and_parts, ltb-true, ne_eqb, cases_Bool}

@@ -1,6 +1,6 @@
 -- A trace is read back from its text, so that no two have one.
-use Rattle.std.proofs.Common.{◌≡◌, ℕ, ◌^◌, ◌<◌, ◌≤◌, Bool, cond, List, [], ◌∷◌, ◌++◌, get_or, drop, Option, None, decimal, codes, refl, sym, ap, ◌∙◌, arith}
-use Rattle.std.specs.List.{join_with_byte, AllByRecursion}
+use Rattle.std.proofs.Common.{◌≡◌, ℕ, ◌^◌, ◌<◌, ◌≤◌, cond, List, [], ◌∷◌, get_or, drop, None, decimal, codes, refl, sym, ap, ◌∙◌, arith}
+use Rattle.std.specs.List.{AllByRecursion}
 use Rattle.std.specs.Str.{bytes_eq}
 use Rattle.std.specs.Str.Parse.{digits_value}
 use Rattle.std.proofs.lemmas.List.Elements.{recursion_from_All}
@@ -12,7 +12,7 @@ use Rattle.pager_model.specs.declared.region.Kind.TheVariants.{Fixed, Growing, W
 use Rattle.pager_model.specs.declared.region.Rights.{Rights}
 use Rattle.pager_model.specs.declared.region.Rights.TheVariants.{NoAccess, Read, Write}
 use Rattle.pager_model.specs.Plans.{Plan}
-use Rattle.pager_model.specs.TraceText.{kind_word, rights_word, call_words, line_words, first_words, text_of, IsCall, IsLine, HasText}
+use Rattle.pager_model.specs.TraceText.{kind_word, rights_word, call_words, line_words, text_of, IsCall, IsLine, HasText}
 use Rattle.trace_reader.specs.Refusals.{lines_of, words_of}
 use Rattle.trace_reader.proofs.Again.{calls_text, call_again, call_words_again, call_is_not_end, first_again, first_words_again}
 use Rattle.trace_reader.proofs.Numbers.{decimal_value}

@@ -1,11 +1,10 @@
 -- A line without a fault is filled with numbers and words of its form, and so is a line of a trace. A text without a refusal is a trace's.
-use Rattle.std.proofs.Common.{◌≡◌, ◌≢◌, ℕ, ◌+◌, ◌%◌, ◌^◌, ◌<◌, ◌≤◌, ◌⊎◌, Bool, true, false, cond, eqb, ◌&&◌, ◌||◌, List, [], ◌∷◌, ◌++◌, length, get_or, flat_map, Option, Some, None, Result, Ok, Err, decimal, codes, refl, sym, ap, subst, ◌∙◌, append_assoc, arith, inl, inr}
-use Rattle.std.specs.List.{join_with_byte, list_any, All, AllByRecursion}
+use Rattle.std.proofs.Common.{◌≡◌, ◌≢◌, ℕ, ◌+◌, ◌%◌, ◌^◌, ◌<◌, ◌≤◌, ◌⊎◌, true, cond, eqb, List, [], ◌∷◌, ◌++◌, length, Option, Some, None, Result, Ok, Err, decimal, codes, refl, sym, ap, subst, ◌∙◌, append_assoc, arith, inl, inr}
+use Rattle.std.specs.List.{join_with_byte, list_any, AllByRecursion}
 use Rattle.std.specs.Option.{option_or}
 use Rattle.std.specs.Result.{result_err}
 use Rattle.std.specs.Str.{bytes_eq}
 use Rattle.std.proofs.lemmas.Bool.{and_parts, or_cases, cases_Bool, cases_lt, eq-eqb}
-use Rattle.std.proofs.lemmas.List.Concat.{flat_map-cons}
 use Rattle.std.proofs.lemmas.List.Elements.{All-from_recursion}
 use Rattle.std.proofs.lemmas.List.Splits.{join_with_byte-slice_split}
 use Rattle.std.proofs.lemmas.Slice.Eq.{bytes_eq-Decides}
@@ -16,13 +15,11 @@ use Rattle.pager_model.specs.declared.region.Kind.TheVariants.{Fixed, Growing, W
 use Rattle.pager_model.specs.declared.region.Rights.{Rights}
 use Rattle.pager_model.specs.declared.region.Rights.TheVariants.{NoAccess, Read, Write}
 use Rattle.pager_model.specs.Plans.{Plan}
-use Rattle.pager_model.specs.TraceText.{kind_word, rights_word, line_words, line_of_words, call_line, first_words, IsLine, IsTextOf}
+use Rattle.pager_model.specs.TraceText.{kind_word, rights_word, line_words, first_words, IsLine, IsTextOf}
 use Rattle.trace_reader.specs.declared.fault.LineCause.{LineCause}
-use Rattle.trace_reader.specs.declared.fault.LineCause.TheVariants as causes
-use Rattle.trace_reader.specs.declared.fault.TraceFault.{TraceFault}
 use Rattle.trace_reader.specs.declared.fault.TraceFault.TheVariants.{TooManyCalls}
 use Rattle.trace_reader.specs.declared.line.Head.{Head}
-use Rattle.trace_reader.specs.Forms.{Place, Word, OneOf, Number, number_in, may_stand, fits, leftmost, line_fault, first_form, any_kind, any_rights, map_form, grow_form, unmap_form, protect_form, load_form, store_form, sync_form, evict_form, call_forms}
+use Rattle.trace_reader.specs.Forms.{Place, Word, OneOf, Number, number_in, fits, leftmost, line_fault, first_form, map_form, grow_form, unmap_form, protect_form, load_form, store_form, sync_form, evict_form, call_forms}
 use Rattle.trace_reader.specs.Heads.{IsInRange}
 use Rattle.trace_reader.specs.Refusals.{lines_of, words_of, end_refusal, at_line, calls_refusal, forms_behind, refusal_of_lines, refusal_of}
 use Rattle.trace_reader.proofs.Again.{calls_text, calls_text-cons}
@@ -243,6 +240,12 @@ nothing_behind number (b ∷ next) (line ∷ lines) e = absurd cc
 abbrev SayCalls : ℕ → ℕ → ℕ → List (List ℕ) → Type 0
 SayCalls processors spaces before lines = (calls : List Line) × AllByRecursion (IsLine processors spaces) calls × (before + length calls ≤ 262144) × (join_with_byte 10 lines ≡ calls_text calls)
 
+one_call_more : (line behind : List ℕ) (call : Line) (calls : List Line) → words_of line ≡ line_words call → behind ≡ calls_text calls → line ++ 10 ∷ behind ≡ calls_text (call ∷ calls)
+one_call_more line behind call calls words is =
+    let whole : line ≡ join_with_byte 32 (line_words call) = sym (join_with_byte-slice_split 32 line) ∙ ap (join_with_byte 32) words in
+    let front : line ++ 10 ∷ behind ≡ join_with_byte 32 (line_words call) ++ 10 ∷ calls_text calls = ap (λ (l : List ℕ). l ++ 10 ∷ behind) whole ∙ ap (λ (t : List ℕ). join_with_byte 32 (line_words call) ++ 10 ∷ t) is in
+    front ∙ sym (append_assoc (join_with_byte 32 (line_words call)) (10 ∷ []) (calls_text calls)) ∙ sym (calls_text-cons call calls)
+
 calls_say : (processors spaces number before : ℕ) (lines : List (List ℕ)) → before ≤ 262144 → calls_refusal (call_forms processors spaces) number before lines ≡ None → SayCalls processors spaces before lines
 calls_say processors spaces number before [] few none = absurd cc
 calls_say processors spaces number before (line ∷ []) few none = absurd cc
@@ -261,8 +264,7 @@ calls_say processors spaces number before (line ∷ next ∷ lines) few none =
             | inr room ↦
                 let more : before ≢ 262144 = λ e. (let full : eqb before 262144 ≡ true = eq-eqb before 262144 e in cc) in
                 let rest = calls_say processors spaces (number + 1) (before + 1) (next ∷ lines) (omega arith) (rw room at both.1) in
-                let whole : line ≡ join_with_byte 32 (line_words says.0) = sym (join_with_byte-slice_split 32 line) ∙ ap (join_with_byte 32) says.2 in
-                (says.0 ∷ rest.0, (says.1, rest.1), omega (arith, rest.2), ap (λ (l : List ℕ). l ++ 10 ∷ join_with_byte 10 (next ∷ lines)) whole ∙ ap (λ (t : List ℕ). join_with_byte 32 (line_words says.0) ++ 10 ∷ t) rest.3 ∙ sym (append_assoc (join_with_byte 32 (line_words says.0)) (10 ∷ []) (calls_text rest.0)) ∙ sym (calls_text-cons says.0 rest.0))
+                (says.0 ∷ rest.0, (says.1, rest.1), omega (arith, rest.2), one_call_more line (join_with_byte 10 (next ∷ lines)) says.0 rest.0 says.2 rest.3)
           ]
     ]
 

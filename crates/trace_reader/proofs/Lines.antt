@@ -1,5 +1,5 @@
 -- A line that a trace may hold has no fault.
-use Rattle.std.proofs.Common.{◌≡◌, ℕ, ◌^◌, ◌<◌, ◌≤◌, ◌%◌, true, List, [], ◌∷◌, Option, None, Ok, decimal, codes, refl, arith, lit≤}
+use Rattle.std.proofs.Common.{◌≡◌, ℕ, ◌^◌, ◌<◌, ◌≤◌, ◌%◌, true, [], ◌∷◌, None, Ok, decimal, codes, refl, arith, lit≤}
 use Rattle.std.specs.Fmt.{digits}
 use Rattle.pager_model.specs.declared.call.Call.{Call}
 use Rattle.pager_model.specs.declared.call.Call.TheVariants.{Map, Grow, Unmap, Protect, Load, Store, Sync, Evict}

@@ -1,5 +1,5 @@
 -- The refusal of a text, line by line.
-use Rattle.std.proofs.Common.{◌≡◌, ◌≢◌, ℕ, ◌+◌, ◌<◌, ◌≤◌, Bool, true, false, cond, eqb, List, [], ◌∷◌, ◌++◌, length, Option, Some, None, codes, decimal, refl, sym, ap, ◌∙◌, append_assoc, flat_map, arith, inl, inr}
+use Rattle.std.proofs.Common.{◌≡◌, ◌≢◌, ℕ, ◌+◌, ◌<◌, ◌≤◌, true, false, List, [], ◌∷◌, ◌++◌, length, Some, None, codes, decimal, refl, sym, ap, ◌∙◌, append_assoc, flat_map, arith}
 use Rattle.std.specs.List.{join_with_byte, All}
 use Rattle.std.specs.Str.Parse.{digits_value}
 use Rattle.std.specs.Str.{bytes_eq}
@@ -12,7 +12,6 @@ use Rattle.pager_model.specs.declared.call.Line.{Line as Call}
 use Rattle.pager_model.specs.TraceText.{call_line, line_words, line_of_words, first_words, IsLine, IsTextOf}
 use Rattle.trace_reader.specs.declared.fault.LineCause.{LineCause}
 use Rattle.trace_reader.specs.declared.fault.LineCause.TheVariants as causes
-use Rattle.trace_reader.specs.declared.fault.TraceFault.{TraceFault}
 use Rattle.trace_reader.specs.declared.fault.TraceFault.TheVariants.{TooLong, Line, NoEnd, TooManyCalls}
 use Rattle.trace_reader.specs.Forms.{Place, line_fault, first_form, call_forms}
 use Rattle.trace_reader.specs.declared.line.Head.{Head}
@@ -20,7 +19,7 @@ use Rattle.trace_reader.specs.Heads.{IsInRange}
 use Rattle.trace_reader.proofs.Lines.{first_is_lawful}
 use Rattle.trace_reader.proofs.Numbers.{decimal_value}
 use Rattle.trace_reader.specs.Refusals.{lines_of, words_of, end_refusal, calls_refusal, forms_behind, refusal_of_lines, refusal_of}
-use Rattle.trace_reader.proofs.Splits.{pieces, some_piece}
+use Rattle.trace_reader.proofs.Splits.{some_piece}
 
 -- what the next line, in front of this rest, says of the refusal
 pub no_line : (forms : List (List Place)) (number calls : ℕ) (rest : List ℕ) → lines_of rest ≡ rest ∷ [] → calls_refusal forms number calls (lines_of rest) ≡ Some NoEnd

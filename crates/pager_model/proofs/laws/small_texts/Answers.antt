@@ -9,3 +9,27 @@ returns-clause-trace c = refl
 pub returns-clause-answers : goal.returns-clause-answers
 unfolding digits
 returns-clause-answers c = refl
+
+pub returns-clause-grow : goal.returns-clause-grow
+unfolding digits
+returns-clause-grow c = refl
+
+pub returns-clause-unmap : goal.returns-clause-unmap
+unfolding digits
+returns-clause-unmap c = refl
+
+pub returns-clause-protect : goal.returns-clause-protect
+unfolding digits
+returns-clause-protect c = refl
+
+pub returns-clause-load : goal.returns-clause-load
+unfolding digits
+returns-clause-load c = refl
+
+pub returns-clause-copies : goal.returns-clause-copies
+unfolding digits
+returns-clause-copies c = refl
+
+pub returns-clause-evict : goal.returns-clause-evict
+unfolding digits
+returns-clause-evict c = refl

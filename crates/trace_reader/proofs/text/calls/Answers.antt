@@ -1,9 +1,8 @@
-use Rattle.std.proofs.Common.{◌≡◌, ◌≢◌, ◌+◌, ◌<◌, ◌^◌, ℕ, List, true, false, [], ◌∷◌, ◌++◌, length, codes, flat_map, None, sym, ◌∙◌, ap, subst, rules, arith}
-use Rattle.std.specs.Str.{bytes_eq}
+use Rattle.std.proofs.Common.{◌≡◌, ◌≢◌, ◌+◌, ℕ, List, [], ◌∷◌, ◌++◌, length, codes, flat_map, None, sym, ◌∙◌, ap, arith}
 use Rattle.std.proofs.lemmas.Grind.{common_steps}
 use Rattle.std.proofs.lemmas.List.Elements.{All-push}
 use Rattle.std.proofs.lemmas.Slice.Eq.{bytes_eq-Decides}
-use Rattle.pager_model.specs.TraceText.{IsLine, call_line, line_words}
+use Rattle.pager_model.specs.TraceText.{IsLine, call_line}
 use Rattle.trace_reader.specs.Forms.{call_forms, line_fault}
 use Rattle.trace_reader.specs.Refusals.{words_of, lines_of, calls_refusal}
 use Rattle.trace_reader.proofs.Lines.{line_is_lawful}
