@@ -1,18 +1,22 @@
 -- What becomes of a space when the pages of a region give their frames up, and when the region then goes.
-use Rattle.std.proofs.Common.{◌≡◌, ◌≢◌, ℕ, ◌+◌, ◌<◌, ◌≤◌, true, false, if◌then◌else◌, List, Option, Some, None, is_some, refl, sym, ap, inl, inr, ◌∙◌, arith, subst}
+use Rattle.std.proofs.Common.{◌≡◌, ◌≢◌, ℕ, ◌+◌, ◌<◌, ◌≤◌, true, false, ◌&&◌, if◌then◌else◌, List, Option, Some, None, is_some, refl, sym, ap, inl, inr, ◌∙◌, arith, subst}
 use Rattle.std.proofs.lemmas.Bool.{cases_Bool, cases_eq, cases_lt, cond-true, cond-false, true≢false}
 use Rattle.std.proofs.lemmas.Bool.Decides.{nat_tests}
 use Rattle.std.proofs.lemmas.Option.{same_Some}
+use Rattle.pager_model.specs.declared.call.Call.TheVariants.{Map, Unmap}
+use Rattle.pager_model.specs.declared.region.Kind.{Kind}
 use Rattle.pager_model.specs.declared.region.Region.{Region}
+use Rattle.pager_model.specs.declared.region.Rights.{Rights}
 use Rattle.pager_model.specs.declared.reply.Reply.TheVariants.{Done}
-use Rattle.pager_model.specs.Flat.{goes}
+use Rattle.pager_model.specs.Flat.{goes, is_lawful}
 use Rattle.pager_model.specs.Regions.{has_page, in_range, region_at, without_region, unmap_reply_at}
-use Rattle.pager_model.specs.SpaceStates.{IsClearedAt}
+use Rattle.pager_model.specs.SpaceStates.{SpaceState, SpaceAllows, IsClearedAt, space_after}
 use Rattle.region_table.specs.Table.{IsTable}
 use Rattle.space_core.specs.Beginning.{ClearsOne, ClearsNone, IsRange, SameRegions, Unmapped as IsUnmapped}
 use Rattle.space_core.specs.Keeping.{IsKept, IsClearing}
+use Rattle.space_core.specs.NewPages.{IsNew, done}
 use Rattle.space_core.specs.Pages.{Moves, Protects, IsFirstResident, NoneFrom}
-use Rattle.space_core.specs.Standing.{Kept, rights_by, is_page}
+use Rattle.space_core.specs.Standing.{Kept, answer_entry, rights_by, is_page}
 use Rattle.space_core.specs.Tables.{Table, frame_in, word_in, own_in}
 use Rattle.space_core.proofs.Finding.{in_bounds, bounds_in, found_from, found_without}
 use Rattle.space_core.proofs.Serving.{kept}
@@ -178,4 +182,18 @@ module _ (number : ℕ) (regions : List Region) (t u : Table) (page : ℕ) (r : 
               base = λ p. s.base p ∙ sym (protects.frame p);
               words = λ p i out. ap (λ o. if goes o p then 0 else st.flat.words p i) e ∙ word_rest st.flat.words s.words p i;
             };
+      }
+
+-- A page of a region that was unmapped, and then of one that was mapped.
+module _ (st : SpaceState) (c d m n space page first len p : ℕ) (kind : Kind) (rights : Rights) (r : Region) (at : region_at st.flat.regions page ≡ Some r)
+    (unmaps : SpaceAllows st (answer_entry c m (Unmap space page) done))
+    (maps : SpaceAllows (space_after st (answer_entry c m (Unmap space page) done)) (answer_entry d n (Map space first len kind rights) done))
+    (was : in_range r.first r.length p ≡ true) (is : in_range first len p ≡ true) where
+  pub new_again : IsNew (space_after (space_after st (answer_entry c m (Unmap space page) done)) (answer_entry d n (Map space first len kind rights) done)) rights p
+  new_again =
+      let cleared = subst (λ (o : Option Region). IsClearedAt st c o) at (unmaps.1.reply.1 refl) in
+      record {
+        rights = ap (λ x. if is_lawful x && in_range first len p then rights else st.flat.rights p) maps.1.reply.0 ∙ cond-true _ _ _ is;
+        frame = cleared.none p was;
+        words = λ i. ap (λ o. if goes o p then 0 else st.flat.words p i) at ∙ cond-true _ _ _ was;
       }

@@ -3,3 +3,4 @@ pub mod Pages
 pub mod Standing
 pub mod Beginning
 pub mod Keeping
+pub mod NewPages
