@@ -54,6 +54,8 @@ pub record IsUnmapping (kept : Kept) (call : Call) (first len : ℕ) : Type 0 wh
   pub is_unmap : call ≡ Unmap space page
   pub region : Region
   pub at : region_at kept.regions page ≡ Some region
+  -- no other region comes before it there
+  pub at_first : region_at kept.regions first ≡ Some region
   pub first_is : region.first ≡ first
   pub length_is : region.length ≡ len
   pub in_space : first + len ≤ 1048576
