@@ -4,3 +4,4 @@ pub mod Standing
 pub mod Beginning
 pub mod Keeping
 pub mod NewPages
+pub mod Spares

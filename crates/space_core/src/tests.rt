@@ -1,9 +1,10 @@
 ghost use Rattle.std.specs.Prelude.{◌≡◌, ◌*◌};
 ghost use Rattle.pager_model.specs.Flat.{space_of_call};
+ghost use Rattle.space_core.specs.Spares.{HasSpare};
 ghost use Rattle.space_core.specs.Standing.{IsResting, CanBegin};
 
 use super::{Begun, Space};
-use pager_model::{Answered, Call, Frame, Kind, Reply, Rights, Want, frames_of};
+use pager_model::{Call, Frame, Kind, Reply, Rights, frames_of};
 use std::test::Fail;
 
 const SPACE: u32 = 3;
@@ -79,6 +80,27 @@ fn ask(space: &mut Space, call: &Call) -> Option<Reply>
     match space.begin(0, call) {
         Begun::Answered(answered) => Some(answered.reply),
         Begun::NeedsFrame { .. } | Begun::NeedsClear { .. } => None,
+    }
+}
+
+/// The reply to a call, where a page that needs a frame gets the last of the spare ones, and `None` where none is left or the call is
+/// an unmap.
+fn serve(space: &mut Space, spare: &mut Vec<Frame>, call: &Call) -> Option<Reply>
+    requires space { space_of_call call.now ≡ space.old.number }
+    requires can { CanBegin call.now }
+    requires spare { HasSpare space.old spare.old.items }
+    ensures number { space.new.number ≡ space.old.number }
+    ensures spare { HasSpare space.new spare.new.items }
+{
+    match space.begin(0, call) {
+        Begun::Answered(answered) => Some(answered.reply),
+        Begun::NeedsFrame { page, .. } => {
+            let frame = spare.pop()?;
+            space.place(page, frame);
+            space.read_in(page);
+            Some(space.finish(0, call).reply)
+        }
+        Begun::NeedsClear { .. } => None,
     }
 }
 
@@ -182,5 +204,40 @@ fn sixteen_spaces_are_made_at_once(rt: HostRuntime) -> Result<(), Fail> {
         };
         assert_eq!(rt; ask(&mut space, &call), Some(Reply::Unmapped));
     }
+    Ok(())
+}
+
+#[test]
+fn an_unmap_gives_the_frames_up_in_order(rt: HostRuntime) -> Result<(), Fail> {
+    let mut spare = frames_of(rt.alloc(), 4)?;
+    let mut space = Space::create(rt.alloc(), SPACE, 4, 1)?;
+    let done = Some(Reply::Done);
+    let region = map(16, 8, Kind::Fixed, Rights::Write);
+    assert_eq!(rt; serve(&mut space, &mut spare, &region), done);
+    assert_eq!(rt; serve(&mut space, &mut spare, &store(22, 7)), done);
+    assert_eq!(rt; serve(&mut space, &mut spare, &store(17, 5)), done);
+    let loaded = serve(&mut space, &mut spare, &load(22));
+    assert_eq!(rt; loaded, Some(Reply::Value(7)));
+    let loaded = serve(&mut space, &mut spare, &load(16));
+    assert_eq!(rt; loaded, Some(Reply::Value(0)));
+    assert_eq!(rt; space.resident(22), Some(3));
+
+    let Begun::NeedsClear { first, length } = space.begin(0, &unmap(20)) else {
+        return Err(Fail::from("the region's pages have no frames"));
+    };
+    for page in [16u32, 17, 22] {
+        let cleared = space.clear_next(first, length);
+        let given = cleared.map(|(cleared, _)| cleared);
+        assert_eq!(rt; given, Some(page));
+    }
+    if space.clear_next(first, length).is_some() {
+        return Err(Fail::from("a fourth page had a frame"));
+    }
+    assert_eq!(rt; space.unmap(20).reply, Reply::Done);
+
+    let region = map(16, 8, Kind::Fixed, Rights::Read);
+    assert_eq!(rt; ask(&mut space, &region), done);
+    assert_eq!(rt; ask(&mut space, &load(17)), None);
+    assert_eq!(rt; ask(&mut space, &store(17, 1)), Some(Reply::Denied));
     Ok(())
 }
