@@ -1,5 +1,5 @@
 -- What is left of the spare frames when the last of them is taken.
-use Rattle.std.proofs.Common.{◌≡◌, ℕ, true, ◌+◌, ◌<◌, ◌≤◌, List, [], ◌∷◌, ◌++◌, Option, Some, length, map, get_or, refl, sym, ap, ◌∙◌, arith, inl, inr, subst}
+use Rattle.std.proofs.Common.{◌≡◌, ℕ, true, ◌+◌, ◌<◌, List, [], ◌∷◌, ◌++◌, length, map, get_or, refl, sym, ap, ◌∙◌, arith}
 use Rattle.std.specs.List.{range_with_len}
 use Rattle.std.proofs.lemmas.Option.{none-some}
 use Rattle.std.proofs.lemmas.List.{get_or_append_left, get_or_at, length-append}
@@ -18,7 +18,7 @@ pub popped : (spare rest : List Framed) (frame : Framed) → spare ≡ map zero_
 popped spare rest frame lowest ends =
     let count : length spare ≡ length rest + 1 = ap length ends ∙ length-append rest (frame ∷ []) in
     let at : (i : ℕ) → i < length rest + 1 → get_or spare i frame ≡ zero_frame i = λ i within.
-        ap (λ (xs : List Framed). get_or xs i frame) lowest ∙ get_or-map-range_with_len zero_frame 0 (length spare) i i frame (omega arith) (omega arith) in
+    ap (λ (xs : List Framed). get_or xs i frame) lowest ∙ get_or-map-range_with_len zero_frame 0 (length spare) i i frame (omega arith) (omega arith) in
     let last : get_or spare (length rest) frame ≡ frame = ap (λ (xs : List Framed). get_or xs (length rest) frame) ends ∙ get_or_at rest frame [] frame (length rest) refl in
     record {
       number = ap (λ (f : Framed). f.number) (sym last ∙ at (length rest) (omega arith));
