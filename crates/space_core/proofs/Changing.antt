@@ -1,25 +1,24 @@
 -- What becomes of a space when a region is mapped, grows, or gets new rights, and what an unmap and an access need first.
-use Rattle.std.proofs.Common.{◌≡◌, ◌≢◌, ℕ, ◌+◌, ◌<◌, ◌≤◌, Bool, true, false, ◌&&◌, if◌then◌else◌, List, Option, Some, None, is_some, refl, sym, ap, inl, inr, ◌∙◌, arith}
+use Rattle.std.proofs.Common.{◌≡◌, ◌≢◌, ℕ, ◌+◌, ◌≤◌, Bool, true, false, ◌&&◌, if◌then◌else◌, List, Option, Some, None, is_some, refl, sym, ap, inl, inr, ◌∙◌, arith}
 use Rattle.std.specs.List.{list_any}
-use Rattle.std.proofs.lemmas.Bool.{cases_Bool, cases_lt, cond-true, cond-false, le-leb, lt-leb, true≢false}
+use Rattle.std.proofs.lemmas.Bool.{cases_Bool, cases_lt, cond-true, cond-false, true≢false}
 use Rattle.std.proofs.lemmas.Option.{none-some}
-use Rattle.pager_model.specs.declared.call.Call.TheVariants.{Map, Grow, Unmap, Protect}
+use Rattle.pager_model.specs.declared.call.Call.TheVariants.{Map, Grow, Unmap}
 use Rattle.pager_model.specs.declared.region.Kind.{Kind}
 use Rattle.pager_model.specs.declared.region.Region.{Region}
 use Rattle.pager_model.specs.declared.region.Rights.{Rights}
 use Rattle.pager_model.specs.declared.reply.Reply.{Reply}
-use Rattle.pager_model.specs.declared.reply.Reply.TheVariants.{Done, Unmapped, OutOfSpace, Overlap, NotGrowing}
+use Rattle.pager_model.specs.declared.reply.Reply.TheVariants.{Done, OutOfSpace, Overlap, NotGrowing}
 use Rattle.pager_model.specs.Flat.{is_lawful}
-use Rattle.pager_model.specs.Regions.{end_of, has_page, in_range, meets_range, region_at, with_region, grown_regions, map_reply, grow_reply, grow_reply_at, range_in}
+use Rattle.pager_model.specs.Regions.{end_of, has_page, in_range, meets_range, region_at, with_region, grown_regions, map_reply, grow_reply, grow_reply_at}
 use Rattle.region_table.specs.Table.{IsTable, region_of}
 use Rattle.space_core.specs.Beginning.{BeginsAnswered, BeginsClearing}
 use Rattle.space_core.specs.Keeping.{IsKept}
 use Rattle.space_core.specs.Pages.{Protects}
-use Rattle.space_core.specs.Standing.{Kept, IsResting, CanBegin, rights_by}
+use Rattle.space_core.specs.Standing.{Kept, rights_by}
 use Rattle.space_core.specs.Tables.{Table, own_in}
 use Rattle.space_core.proofs.Finding.{in_bounds, bounds_in, none_in, found_has, found_from, found_same, found_with, found_grown, grown}
 use Rattle.space_core.proofs.Serving.{kept}
-use Rattle.space_core.proofs.Refusing.{begins_refused}
 
 -- an unmap of a region that is there
 pub begins_clearing : (old : Kept) (page : ℕ) (r : Region) → IsTable old.regions → region_at old.regions page ≡ Some r → BeginsClearing old old (Unmap old.number page) r.first r.length
@@ -186,35 +185,6 @@ grow_found regions page by h = grow_found_at regions by (region_at regions page)
     grow_found_at regions by None h = cc
     grow_found_at regions by (Some r) h = (r, refl)
 
--- the pages of a range get rights of their own
-module _ (number : ℕ) (regions : List Region) (t u : Table) (page len : ℕ) (rights : Rights) (r : Region)
-    (within : range_in page len (region_at regions page) ≡ true) (protects : Protects page len (Some rights) t u) where
-  rights_protected : (p : ℕ) → rights_by (own_in u p) (region_at regions p) ≡ (if in_range page len p then rights else rights_by (own_in t p) (region_at regions p))
-  rights_protected p =
-      elim (cases_Bool (in_range page len p)) [
-        | inl ins ↦ ap (λ o. rights_by o (region_at regions p)) (protects.own p ∙ cond-true _ _ _ ins) ∙ sym (cond-true _ _ _ ins)
-        | inr out ↦ ap (λ o. rights_by o (region_at regions p)) (protects.own p ∙ cond-false _ _ _ out) ∙ sym (cond-false _ _ _ out)
-      ]
-
-  pub protects_range : BeginsAnswered (kept number regions t None None) (kept number regions u None None) (Protect number page len rights) (record { reply = Done; hit = false; size = None })
-  protects_range =
-      record {
-        alone = refl;
-        same_number = refl;
-        same_frames = protects.count;
-        resting = record { none_pending = refl; none_clearing = refl };
-        answers = record {
-          allowed = λ st s c n. record { reply = (ap (λ rs. if range_in page len (region_at rs page) then Done else Unmapped) s.regions ∙ cond-true _ _ _ within, λ l. tt); parts = refl; hit = refl; size = refl };
-          stands = λ st s c n. record {
-            told = s.told;
-            regions = s.regions;
-            rights = λ p has. rw (s.regions, within) (ap (λ x. if in_range page len p then rights else x) (s.rights p has) ∙ sym (rights_protected p));
-            base = λ p. s.base p ∙ sym (protects.frame p);
-            words = λ p i out. s.words p i out ∙ sym (protects.word p i);
-          };
-        };
-      }
-
 -- only a region's pages get rights of their own
 pub protect_own : (regions : List Region) (t u : Table) (page len : ℕ) (given : Option Rights) → IsTable regions → (r : Region) → region_at regions page ≡ Some r → page + len ≤ end_of r → Protects page len given t u → ((p : ℕ) → region_at regions p ≡ None → own_in t p ≡ None) → (p : ℕ) → region_at regions p ≡ None → own_in u p ≡ None
 protect_own regions t u page len given ordered r at within protects own p none =
@@ -225,18 +195,3 @@ protect_own regions t u page len given ordered r at within protects own p none =
           absurd (none-some r (sym none ∙ found_same 0 regions ordered.in_order page r at p has))
       | inr out ↦ protects.own p ∙ cond-false _ _ _ out ∙ own p none
     ]
-
-pub range_within : (page len : ℕ) (o : Option Region) (r : Region) → o ≡ Some r → page + len ≤ end_of r → range_in page len o ≡ true
-range_within page len o r e h = ap (range_in page len) e ∙ le-leb _ _ h
-
-pub range_outside : (page len : ℕ) (o : Option Region) (r : Region) → o ≡ Some r → end_of r < page + len → range_in page len o ≡ false
-range_outside page len o r e h = ap (range_in page len) e ∙ lt-leb _ _ h
-
-pub range_nowhere : (page len : ℕ) (o : Option Region) → o ≡ None → range_in page len o ≡ false
-range_nowhere page len o e = ap (range_in page len) e
-
--- a range that lies in no region is refused
-pub protect_refused : (old : Kept) (page len : ℕ) (rights : Rights) → CanBegin (Protect old.number page len rights) → IsResting old → range_in page len (region_at old.regions page) ≡ false → BeginsAnswered old old (Protect old.number page len rights) (record { reply = Unmapped; hit = false; size = None })
-protect_refused old page len rights can resting out =
-    begins_refused old (Protect old.number page len rights) Unmapped can resting refl tt
-    (λ st s. ap (λ rs. if range_in page len (region_at rs page) then Done else Unmapped) s.regions ∙ cond-false _ _ _ out)

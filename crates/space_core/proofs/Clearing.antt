@@ -1,127 +1,28 @@
 -- What becomes of a space when the pages of a region give their frames up, and when the region then goes.
-use Rattle.std.proofs.Common.{◌≡◌, ◌≢◌, ℕ, ◌+◌, ◌<◌, ◌≤◌, true, false, if◌then◌else◌, List, Option, Some, None, is_some, refl, sym, ap, inl, inr, ◌∙◌, arith, subst}
-use Rattle.std.proofs.lemmas.Bool.{cases_Bool, cases_eq, cases_lt, cond-true, cond-false, true≢false}
-use Rattle.std.proofs.lemmas.Bool.Decides.{nat_tests}
+use Rattle.std.proofs.Common.{◌≡◌, ℕ, ◌+◌, ◌≤◌, true, false, ◌&&◌, if◌then◌else◌, List, Option, Some, None, is_some, refl, sym, ap, inl, inr, ◌∙◌, arith, subst}
+use Rattle.std.proofs.lemmas.Bool.{cases_Bool, cond-true, cond-false, true≢false}
 use Rattle.std.proofs.lemmas.Option.{same_Some}
+use Rattle.pager_model.specs.declared.call.Call.TheVariants.{Map, Unmap}
+use Rattle.pager_model.specs.declared.region.Kind.{Kind}
 use Rattle.pager_model.specs.declared.region.Region.{Region}
+use Rattle.pager_model.specs.declared.region.Rights.{Rights}
 use Rattle.pager_model.specs.declared.reply.Reply.TheVariants.{Done}
-use Rattle.pager_model.specs.Flat.{goes}
+use Rattle.pager_model.specs.Flat.{goes, is_lawful}
 use Rattle.pager_model.specs.Regions.{has_page, in_range, region_at, without_region, unmap_reply_at}
-use Rattle.pager_model.specs.SpaceStates.{IsClearedAt}
+use Rattle.pager_model.specs.SpaceStates.{SpaceState, SpaceAllows, IsClearedAt, space_after}
 use Rattle.region_table.specs.Table.{IsTable}
-use Rattle.space_core.specs.Beginning.{ClearsOne, ClearsNone, IsRange, SameRegions, Unmapped as IsUnmapped}
-use Rattle.space_core.specs.Keeping.{IsKept, IsClearing}
-use Rattle.space_core.specs.Pages.{Moves, Protects, IsFirstResident, NoneFrom}
-use Rattle.space_core.specs.Standing.{Kept, rights_by, is_page}
+use Rattle.space_core.specs.Beginning.{IsRange, Unmapped as IsUnmapped}
+use Rattle.space_core.specs.NewPages.{IsNew, done}
+use Rattle.space_core.specs.Pages.{Protects}
+use Rattle.space_core.specs.Standing.{Kept, answer_entry, rights_by}
 use Rattle.space_core.specs.Tables.{Table, frame_in, word_in, own_in}
-use Rattle.space_core.proofs.Finding.{in_bounds, bounds_in, found_from, found_without}
+use Rattle.space_core.proofs.Finding.{found_from, found_without}
 use Rattle.space_core.proofs.Serving.{kept}
 use Rattle.space_core.proofs.TableLemmas.{word_in-absent}
 
 pub range_in_space : (old : Kept) (first len : ℕ) → IsTable old.regions → IsRange old first len → first + len ≤ 1048576
 range_in_space old first len ordered range =
     omega (arith, (found_from 0 old.regions ordered.in_order first range.region range.at).in_space, range.first_is, range.length_is)
-
--- The scan of a region's range, from a page on before which none of its pages is resident.
-module _ (number : ℕ) (regions : List Region) (t : Table) (pending : Option ℕ) (was : Option Region) (scan first len : ℕ) (r : Region)
-    (k : IsKept regions t pending was scan) (at : region_at regions first ≡ Some r) (first_is : r.first ≡ first) (length_is : r.length ≡ len)
-    (from : ℕ) (begun : first ≤ from) (scanned : (p : ℕ) → first ≤ p → p < from → frame_in t p ≡ None) where
-  its_own : region_at regions r.first ≡ Some r
-  its_own = ap (region_at regions) first_is ∙ at
-
-  in_same : (p : ℕ) → in_range r.first r.length p ≡ in_range first len p
-  in_same p = rw (first_is, length_is) refl
-
-  module _ (none : NoneFrom t from (first + len)) where
-    none_below : (p : ℕ) → first ≤ p → p < first + len → frame_in t p ≡ None
-    none_below p a b = elim (cases_lt p from) [ inl before ↦ scanned p a before | inr on ↦ none p on b ]
-
-    pub none_kept : IsKept regions t pending (Some r) (first + len)
-    none_kept =
-        record {
-          ordered = k.ordered;
-          own = k.own;
-          pending_in = k.pending_in;
-          clearing_in = λ s h. subst (λ (x : Region). IsClearing regions t (first + len) x) (same_Some _ _ h)
-              (record { is_region = its_own; begun = omega arith; done = λ p a b. none_below p (omega arith) b });
-        }
-
-    none_resident : (p : ℕ) → in_range first len p ≡ true → frame_in t p ≡ None
-    none_resident p has = let b = in_bounds first len p has in none_below p b.0 b.1
-
-    pub clears_none : ClearsNone (kept number regions t pending was) (kept number regions t pending (Some r)) first len
-    clears_none =
-        record {
-          none = none_resident;
-          clearing = λ s h. sym at ∙ h;
-          same_pending = refl;
-          same = record { number = refl; frames = refl; regions = refl; rights = λ p. refl };
-          same_frames = λ p. refl;
-          stands = λ st c s. record {
-            told = s.told;
-            regions = s.regions;
-            rights = s.rights;
-            base = λ p. elim (cases_Bool (in_range first len p)) [
-              | inl has ↦ cond-true _ _ _ has ∙ sym (none_resident p has)
-              | inr hasnt ↦ cond-false _ _ _ hasnt ∙ s.base p hasnt
-            ];
-            words = λ p i out. s.words p i (sym (in_same p) ∙ out);
-          };
-        }
-
-  module _ (u : Table) (page frame : ℕ) (is : IsFirstResident t from (first + len) page) (moves : Moves page None t u) where
-    frame_moved : (p : ℕ) → p ≢ page → frame_in u p ≡ frame_in t p
-    frame_moved p n = moves.frame p ∙ grind (arith, nat_tests)
-
-    frame_gone : frame_in u page ≡ None
-    frame_gone = moves.frame page ∙ grind (arith, nat_tests)
-
-    lowest : (p : ℕ) → first ≤ p → p < page → frame_in t p ≡ None
-    lowest p a b = elim (cases_lt p from) [ inl before ↦ scanned p a before | inr on ↦ is.lowest p on b ]
-
-    pub one_kept : IsKept regions u pending (Some r) (page + 1)
-    one_kept =
-        record {
-          ordered = k.ordered;
-          own = λ p h. moves.same.own p ∙ k.own p h;
-          pending_in = k.pending_in;
-          clearing_in = λ s h. subst (λ (x : Region). IsClearing regions u (page + 1) x) (same_Some _ _ h)
-              (record {
-                is_region = its_own;
-                begun = omega (arith, is.from_on);
-                done = λ p a b. elim (cases_eq p page) [
-                  | inl e ↦ ap (frame_in u) e ∙ frame_gone
-                  | inr n ↦ frame_moved p n ∙ lowest p (omega arith) (omega arith)
-                ];
-              });
-        }
-
-    within : in_range first len page ≡ true
-    within = bounds_in first len page (omega (arith, is.from_on)) is.before_end
-
-    outside : (p : ℕ) → in_range first len p ≡ false → p ≢ page
-    outside p out e = true≢false (sym within ∙ ap (in_range first len) (sym e) ∙ out)
-
-    pub clears_one : frame_in t page ≡ Some frame → ClearsOne (kept number regions t pending was) (kept number regions u pending (Some r)) first len page frame
-    clears_one had =
-        let same : SameRegions (kept number regions t pending was) (kept number regions u pending (Some r)) =
-        record { number = refl; frames = moves.same.count; regions = refl; rights = λ p. ap (λ o. rights_by o (region_at regions p)) (moves.same.own p) } in
-        record {
-          within = within;
-          had = had;
-          lowest = λ p has below. lowest p (in_bounds first len p has).0 below;
-          same_pending = refl;
-          same = same;
-          gone = frame_gone;
-          same_others = frame_moved;
-          stands = λ st s. record {
-            told = s.told;
-            regions = s.regions;
-            rights = λ p has. s.rights p has ∙ sym (same.rights p);
-            base = λ p out. s.base p out ∙ sym (frame_moved p (outside p out));
-            words = λ p i out. s.words p i out ∙ ap (λ w. if is_page p pending then 0 else w) (sym (moves.word p i (outside p out)));
-          };
-        }
 
 -- A region goes after none of its pages is resident.
 module _ (number : ℕ) (regions : List Region) (t u : Table) (page : ℕ) (r : Region) (ordered : IsTable regions)
@@ -178,4 +79,18 @@ module _ (number : ℕ) (regions : List Region) (t u : Table) (page : ℕ) (r : 
               base = λ p. s.base p ∙ sym (protects.frame p);
               words = λ p i out. ap (λ o. if goes o p then 0 else st.flat.words p i) e ∙ word_rest st.flat.words s.words p i;
             };
+      }
+
+-- A page of a region that was unmapped, and then of one that was mapped.
+module _ (st : SpaceState) (c d m n space page first len p : ℕ) (kind : Kind) (rights : Rights) (r : Region) (at : region_at st.flat.regions page ≡ Some r)
+    (unmaps : SpaceAllows st (answer_entry c m (Unmap space page) done))
+    (maps : SpaceAllows (space_after st (answer_entry c m (Unmap space page) done)) (answer_entry d n (Map space first len kind rights) done))
+    (was : in_range r.first r.length p ≡ true) (is : in_range first len p ≡ true) where
+  pub new_again : IsNew (space_after (space_after st (answer_entry c m (Unmap space page) done)) (answer_entry d n (Map space first len kind rights) done)) rights p
+  new_again =
+      let cleared = subst (λ (o : Option Region). IsClearedAt st c o) at (unmaps.1.reply.1 refl) in
+      record {
+        rights = ap (λ x. if is_lawful x && in_range first len p then rights else st.flat.rights p) maps.1.reply.0 ∙ cond-true _ _ _ is;
+        frame = cleared.none p was;
+        words = λ i. ap (λ o. if goes o p then 0 else st.flat.words p i) at ∙ cond-true _ _ _ was;
       }

@@ -4,3 +4,4 @@ pub mod Refusing
 pub mod Finding
 pub mod Changing
 pub mod Clearing
+pub mod Sparing

@@ -116,7 +116,7 @@ alone_from (Store space address word) r can h a = plain_refusal r h
 alone_from (Sync space page) r can h a = absurd can
 alone_from (Evict space page) r can h a = absurd can
 
-same_base : (base : ℕ → Option ℕ) (call : Call) (p : ℕ) → base_after_answer base false call p ≡ base p
+pub same_base : (base : ℕ → Option ℕ) (call : Call) (p : ℕ) → base_after_answer base false call p ≡ base p
 same_base base (Evict space page) p = refl
 same_base base call p = refl
 

@@ -3,3 +3,5 @@ pub mod Pages
 pub mod Standing
 pub mod Beginning
 pub mod Keeping
+pub mod NewPages
+pub mod Spares

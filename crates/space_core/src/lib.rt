@@ -3,6 +3,7 @@
 
 mod access;
 mod frames;
+pub mod laws;
 mod space;
 mod table;
 
