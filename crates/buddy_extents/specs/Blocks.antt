@@ -33,7 +33,7 @@ free_in nodes frames = map (is_free nodes) (range_with_len 0 frames)
 abbrev pub same_block : ℕ → ℕ → ℕ → Bool
 same_block order frame other = other / 2 ^ order == frame / 2 ^ order
 
--- the same of the free frames and those of a block that is in nobody's set
+-- of each frame whether it is free, or one of a block in hand, which isn't in the set
 unfoldable pub free_with : List Bool → ℕ → ℕ → ℕ → List Bool
 free_with nodes frames order frame = map (λ other. same_block order frame other || is_free nodes other) (range_with_len 0 frames)
 
