@@ -94,10 +94,10 @@ pub still_in : (start now : Running) (actor number : ℕ) → InCall start now a
 still_in start now actor number call made = elim call.went [
   | inl still ↦ still
   | inr next ↦
-    let calls : calls_at now.calls actor ≡ calls_at start.calls actor = ap (λ l. calls_at l actor) call.same_calls in
-    let there : number < length (calls_at now.calls actor) = subst (λ l. number < length l) (sym calls) call.there in
-    let more = made_after actor number (calls_at now.calls actor) (flight_at now.flights actor) (sym next) there in
-    absurd (omega (arith, more, made))
+      let calls : calls_at now.calls actor ≡ calls_at start.calls actor = ap (λ l. calls_at l actor) call.same_calls in
+      let there : number < length (calls_at now.calls actor) = subst (λ l. number < length l) (sym calls) call.there in
+      let more = made_after actor number (calls_at now.calls actor) (flight_at now.flights actor) (sym next) there in
+      absurd (omega (arith, more, made))
 ]
 
 -- and where it has answered another number, its next call comes
@@ -133,7 +133,7 @@ InCall-step start now after actor number call still more same lawful =
       piece = call.piece ++ last ∷ [];
       history = more.history ∙ ap (λ h. h ++ last ∷ []) call.history ∙ append_assoc start.history call.piece (last ∷ []);
       own = subst (AllByRecursion (λ (e : Entry). e.processor ≡ actor)) (sym (map-append (λ (n : Numbered). n.entry) call.piece (last ∷ [])))
-        (own_more actor (entries_in call.piece) more.entry call.own more.of_actor);
+          (own_more actor (entries_in call.piece) more.entry call.own more.of_actor);
     }
 
 pub MadeCall-end : (start now : Running) (actor number : ℕ) → InCall start now actor number → (progress_of_actor now actor).made ≢ number → MadeCall start now actor number

@@ -175,8 +175,8 @@ first_at : (calls : List (List Call)) (c : ℕ) → flight_at (first_flights cal
 first_at calls c = elim (cases_lt c (length calls)) [
   | inl known ↦ get_or-map-range_with_len (λ c. flight_of c 0 (calls_at calls c)) 0 (length calls) c c None known (omega arith)
   | inr past ↦
-    get_or_past (first_flights calls) c None (subst (λ n. n ≤ c) (sym (length-map-range_with_len (λ c. flight_of c 0 (calls_at calls c)) 0 (length calls))) past)
-    ∙ sym (ap (flight_of c 0) (get_or_past calls c [] past))
+      get_or_past (first_flights calls) c None (subst (λ n. n ≤ c) (sym (length-map-range_with_len (λ c. flight_of c 0 (calls_at calls c)) 0 (length calls))) past)
+      ∙ sym (ap (flight_of c 0) (get_or_past calls c [] past))
 ]
 
 pub Filed-start : (plan : Plan) (run : Running) → run.given ≡ setting_of plan → run.history ≡ [] → run.calls ≡ map (λ c. calls_of c plan.calls) (range_with_len 0 plan.processors) → run.flights ≡ first_flights run.calls → IsLawful run → Filed plan 0 run
@@ -245,14 +245,14 @@ module _ (plan : Plan) (k : ℕ) (run : Running) (line : Line) (now : Filed plan
         lawful = made.lawful;
         flights = λ d. elim (cases_eq d c) [
           | inl same ↦ subst (λ d. flight_at new.flights d ≡ flight_of d (count_of d (take (k + 1) plan.calls)) (calls_at new.calls d)) (sym same)
-            (made.next ∙ ap (λ m. flight_of c m (calls_at new.calls c)) (sym count_own))
+              (made.next ∙ ap (λ m. flight_of c m (calls_at new.calls c)) (sym count_own))
           | inr differs ↦
-            made.others d differs ∙ now.flights d ∙ ap (λ l. flight_of d (count_of d (take k plan.calls)) (calls_at l d)) (sym made.same_calls)
-            ∙ ap (λ m. flight_of d m (calls_at new.calls d)) (sym (count_other d differs))
+              made.others d differs ∙ now.flights d ∙ ap (λ l. flight_of d (count_of d (take k plan.calls)) (calls_at l d)) (sym made.same_calls)
+              ∙ ap (λ m. flight_of d m (calls_at new.calls d)) (sym (count_other d differs))
         ];
         filed = subst (λ h. IsFiled (take (k + 1) plan.calls) h) (sym (ap entries_in made.history ∙ map-append (λ (m : Numbered). m.entry) run.history made.piece))
-          (subst (λ l. IsFiled l (entries_in run.history ++ entries_in made.piece)) (sym take_line)
-          (IsFiled-push (take k plan.calls) line (entries_in run.history) (entries_in made.piece) now.filed seq));
+            (subst (λ l. IsFiled l (entries_in run.history ++ entries_in made.piece)) (sym take_line)
+            (IsFiled-push (take k plan.calls) line (entries_in run.history) (entries_in made.piece) now.filed seq));
       }
 
 -- after all lines no call is left
@@ -262,11 +262,11 @@ HasEnded-filed plan k run now all c =
     let n = count_of c (take k plan.calls) in
     elim (cases_lt c plan.processors) [
       | inl known ↦
-        let few : length (calls_at run.calls c) ≤ n = (let e : length (calls_at run.calls c) ≡ n = ap length (calls_known plan run.calls now.calls c known ∙ ap (calls_of c) (sym lines)) in omega (arith, e)) in
-        now.flights c ∙ ap (option_map (λ call. let f : Flight = record { processor = c; number = n; call = call; phase = Start } in f)) (slice_get_past (calls_at run.calls c) n few)
+          let few : length (calls_at run.calls c) ≤ n = (let e : length (calls_at run.calls c) ≡ n = ap length (calls_known plan run.calls now.calls c known ∙ ap (calls_of c) (sym lines)) in omega (arith, e)) in
+          now.flights c ∙ ap (option_map (λ call. let f : Flight = record { processor = c; number = n; call = call; phase = Start } in f)) (slice_get_past (calls_at run.calls c) n few)
       | inr past ↦
-        let none : calls_at run.calls c ≡ [] = get_or_past run.calls c [] (subst (λ n. n ≤ c) (sym (length-calls plan run.calls now.calls)) past) in
-        now.flights c ∙ ap (flight_of c n) none
+          let none : calls_at run.calls c ≡ [] = get_or_past run.calls c [] (subst (λ n. n ≤ c) (sym (length-calls plan run.calls now.calls)) past) in
+          now.flights c ∙ ap (flight_of c n) none
     ]
 
 -- and the whole run is the trace's
@@ -280,8 +280,8 @@ IsReplay-whole plan k run now whole =
       numbered = whole.numbered;
       legal = subst (λ g. IsLegal g (entries_in run.history)) g whole.legal;
       shows = λ c known.
-        let there : c < length run.calls = subst (λ n. c < n) (sym (length-calls plan run.calls now.calls)) known in
-        (whole.answers c there ∙ ap (enumerate_from 0) (calls_known plan run.calls now.calls c known), whole.whole c there);
+          let there : c < length run.calls = subst (λ n. c < n) (sym (length-calls plan run.calls now.calls)) known in
+          (whole.answers c there ∙ ap (enumerate_from 0) (calls_known plan run.calls now.calls c known), whole.whole c there);
       partition = subst (λ g. IsPartition g.frames (frames_at g (entries_in run.history))) g whole.partition;
       none_held = subst (λ g. NothingHeld (frames_at g (entries_in run.history))) g whole.none_held;
       agrees = subst (λ g. Agrees g (entries_in run.history)) g whole.agrees;
