@@ -1,5 +1,5 @@
 -- A machine at the start of a trace.
-use Rattle.std.proofs.Common.{◌≡◌, ℕ, zero, suc, ◌+◌, ◌-◌, ◌*◌, ◌<◌, ◌≤◌, Bool, true, false, cond, ◌==◌, not, List, [], ◌∷◌, ◌++◌, length, map, filter, replicate, get_or, slice_get, Option, Some, None, option_map, refl, ap, sym, subst, ◌∙◌, inl, inr, arith, All, take}
+use Rattle.std.proofs.Common.{◌≡◌, ℕ, zero, suc, ◌+◌, ◌*◌, ◌<◌, ◌≤◌, Bool, true, false, cond, ◌==◌, not, List, [], ◌∷◌, ◌++◌, length, map, filter, replicate, get_or, slice_get, Option, Some, None, option_map, refl, ap, sym, subst, ◌∙◌, inl, inr, arith, All, take}
 use Rattle.std.specs.List.{range_with_len, sum_by, enumerate_from}
 use Rattle.std.proofs.lemmas.Bool.{cases_eq, cases_lt}
 use Rattle.std.proofs.lemmas.List.{append-nil, map_push, get_or-replicate, get_or_past}

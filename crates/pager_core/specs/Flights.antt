@@ -1,8 +1,7 @@
 -- What stands in a space while a flight goes on in it.
-use Rattle.std.specs.Prelude.{ℕ, ◌≡◌, ◌≢◌, ◌<◌, true, Option, Some, None}
+use Rattle.std.specs.Prelude.{ℕ, ◌≡◌, ◌<◌, true, Option, Some, None}
 use Rattle.pager_model.specs.declared.call.Call.{Call}
 use Rattle.pager_model.specs.declared.entry.Want.{Want}
-use Rattle.pager_model.specs.declared.region.Region.{Region}
 use Rattle.pager_model.specs.PreferredSize.{IsWanted}
 use Rattle.pager_model.specs.Regions.{wanted}
 use Rattle.pager_model.specs.SpaceStates.{SpaceState, Anyone, access_page}

@@ -1,5 +1,5 @@
 -- A machine's view, from its fields.
-use Rattle.std.specs.Prelude.{ℕ, List, length, map}
+use Rattle.std.specs.Prelude.{length, map}
 use Rattle.pager_core.specs.declared.machine.Machine.TheInside.{Inside}
 use Rattle.pager_core.specs.Machines.{given_of}
 use Rattle.pager_core.specs.Running.{Running}

@@ -1,7 +1,6 @@
 -- The table of steps, one row a phase: what the next step is made under, which space's lock the flight keeps, where its processor is
 -- in the order of its entries, who makes the next entry of the space, and how much is left to do.
 use Rattle.std.specs.Prelude.{ℕ, ◌+◌, Option, Some, None}
-use Rattle.pager_model.specs.declared.call.Call.{Call}
 use Rattle.pager_model.specs.declared.reply.Reply.{Reply}
 use Rattle.pager_model.specs.Flat.{space_of_call}
 use Rattle.pager_model.specs.Order.{Doing, Idle, Cleared, Filling, Refusing, Progress}

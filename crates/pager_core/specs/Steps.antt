@@ -1,5 +1,5 @@
 -- What a step of a flight does, for every state that the space it is made under stands for.
-use Rattle.std.specs.Prelude.{ℕ, ◌≡◌, ◌<◌, ◌≤◌, Bool, true, false, if◌then◌else◌, Option, Some, None, IfSome, length}
+use Rattle.std.specs.Prelude.{ℕ, ◌≡◌, ◌<◌, ◌≤◌, true, false, if◌then◌else◌, Option, Some, None, IfSome, length}
 use Rattle.pager_model.specs.declared.call.Call.{Call}
 use Rattle.pager_model.specs.declared.entry.Entry.{Entry}
 use Rattle.pager_model.specs.declared.entry.What.{What}
@@ -12,7 +12,7 @@ use Rattle.pager_model.specs.Showing.{answer_in}
 use Rattle.pager_model.specs.SpaceStates.{SpaceState, space_after, SpaceAllows}
 use Rattle.space_core.specs.Standing.{Kept, frame_at}
 use Rattle.pager_core.specs.declared.flight.Flight.{Flight}
-use Rattle.pager_core.specs.Rows.{Row, row_of, mark_of_flight}
+use Rattle.pager_core.specs.Rows.{row_of, mark_of_flight}
 use Rattle.pager_core.specs.Flights.{IsReady, LeftBy}
 
 -- the state of a space after an entry that may name it

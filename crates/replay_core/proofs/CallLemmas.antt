@@ -1,13 +1,12 @@
 -- A processor makes one call to its end, while no other flight keeps a space.
-use Rattle.std.proofs.Common.{◌≡◌, ◌≢◌, ℕ, ◌+◌, ◌<◌, ◌≤◌, ◌⊎◌, inl, inr, List, [], ◌∷◌, ◌++◌, length, Option, Some, None, refl, sym, ap, subst, ◌∙◌, arith}
+use Rattle.std.proofs.Common.{◌≡◌, ◌≢◌, ℕ, ◌+◌, ◌<◌, inl, inr, List, [], ◌∷◌, ◌++◌, length, Option, Some, None, refl, sym, ap, subst, ◌∙◌, arith}
 use Rattle.std.proofs.lemmas.List.{append-nil, append_assoc, map-append}
-use Rattle.std.proofs.lemmas.Option.{none-some, same_Some, slice_get_past, slice_get_within}
+use Rattle.std.proofs.lemmas.Option.{none-some, same_Some, slice_get_within}
 use Rattle.std.specs.List.{AllByRecursion, slice_get}
 use Rattle.std.specs.Option.{option_map}
 use Rattle.pager_model.specs.declared.call.Call.{Call}
 use Rattle.pager_model.specs.declared.entry.Entry.{Entry}
 use Rattle.pager_model.specs.declared.entry.Numbered.{Numbered}
-use Rattle.pager_model.specs.declared.reply.Reply.{Reply}
 use Rattle.pager_model.specs.Legal.{entries_in}
 use Rattle.pager_model.specs.Order.{Progress, at_rest}
 use Rattle.pager_model.specs.Flat.{space_of_call}
@@ -17,7 +16,7 @@ use Rattle.pager_core.specs.declared.flight.Phase.TheVariants.{Start, Clear, Gon
 use Rattle.pager_core.specs.declared.machine.Turn.{Turn}
 use Rattle.pager_core.specs.declared.machine.Turn.TheVariants.{Ended as HasEnded, Stepped, Waits}
 use Rattle.pager_core.specs.Rows.{row_of, row_in}
-use Rattle.pager_core.specs.Running.{Running, calls_at, flight_at, flight_of, progress_of_actor, progress_by_flight, left_at, StillFlies, WentOn, OneMore, MustWait, IsLawful}
+use Rattle.pager_core.specs.Running.{Running, calls_at, flight_at, flight_of, progress_of_actor, progress_by_flight, StillFlies, WentOn, OneMore, MustWait, IsLawful}
 use Rattle.replay_core.specs.Replays.{NoneKeeps, IsAbout, MadeCall}
 
 -- A flight that isn't ended has made as many answers as its number says.

@@ -1,13 +1,13 @@
 -- The lines of a trace are made one after another: the history is made of their sequences, and each processor comes to its next call.
-use Rattle.std.proofs.Common.{◌≡◌, ◌≢◌, ℕ, zero, suc, ◌+◌, ◌<◌, ◌≤◌, ◌==◌, inl, inr, Bool, true, false, cond, List, [], ◌∷◌, ◌++◌, length, take, drop, get_or, filter, map, Option, Some, None, refl, sym, ap, subst, ◌∙◌, arith, length-append}
+use Rattle.std.proofs.Common.{◌≡◌, ◌≢◌, ℕ, zero, suc, ◌+◌, ◌<◌, ◌≤◌, ◌==◌, inl, inr, true, false, cond, List, [], ◌∷◌, ◌++◌, length, take, drop, get_or, filter, map, Option, Some, None, refl, sym, ap, subst, ◌∙◌, arith, length-append}
 use Rattle.std.proofs.Math.Seq.{take-length}
 use Rattle.std.proofs.lemmas.Bool.{cases_eq, cases_lt}
 use Rattle.std.proofs.lemmas.Bool.Decides.{nat_tests}
 use Rattle.std.proofs.lemmas.List.{append-nil, append_assoc, append_cancel_left, map-append, get_or_past, take_more, length-take-le, take-append-drop}
 use Rattle.std.proofs.lemmas.List.Elements.{filter-append, filter_map-append, All-get_or}
 use Rattle.std.proofs.lemmas.List.FromFn.{get_or-map-range_with_len, length-map-range_with_len}
-use Rattle.std.proofs.lemmas.Option.{none-some, same_Some, slice_get_past, slice_get_within, get_or_from_slice_get, slice_get-get_or}
-use Rattle.std.specs.List.{All, AllByRecursion, slice_get, enumerate_from, filter_map, range_with_len}
+use Rattle.std.proofs.lemmas.Option.{none-some, slice_get_past, slice_get_within, get_or_from_slice_get, slice_get-get_or}
+use Rattle.std.specs.List.{All, AllByRecursion, slice_get, enumerate_from, range_with_len}
 use Rattle.std.specs.Option.{option_map}
 use Rattle.pager_model.specs.declared.call.Call.{Call}
 use Rattle.pager_model.specs.declared.call.Line.{Line}
@@ -18,13 +18,12 @@ use Rattle.pager_model.specs.Entries.{is_of, entries_of}
 use Rattle.pager_model.specs.Legal.{IsLegal, frames_at, progress_in, progress_at, entries_in}
 use Rattle.pager_model.specs.Order.{Progress, at_rest, progress_from}
 use Rattle.pager_model.specs.Plans.{Plan}
-use Rattle.pager_model.specs.Settings.{Given, mark_of}
+use Rattle.pager_model.specs.Settings.{mark_of}
 use Rattle.pager_model.specs.Showing.{setting_of, answer_in, answers_in, calls_of, IsSequence, IsFiled}
 use Rattle.pager_model.proofs.Histories.{progress_from-append}
 use Rattle.pager_model.specs.TraceText.{IsLine}
 use Rattle.pager_core.specs.declared.flight.Flight.{Flight}
 use Rattle.pager_core.specs.declared.flight.Phase.TheVariants.{Start}
-use Rattle.pager_core.specs.Rows.{row_of}
 use Rattle.pager_core.specs.Running.{Running, calls_at, flight_at, flight_of, first_flights, progress_of_actor, progress_by_flight, HasEnded, IsLawful, IsWholeRun}
 use Rattle.replay_core.specs.Replays.{IsReplay, NoneKeeps, IsAbout, MadeCall}
 use Rattle.replay_core.proofs.CallLemmas.{IsNew-flight_of}

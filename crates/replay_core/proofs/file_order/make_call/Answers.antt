@@ -1,5 +1,4 @@
-use Rattle.std.proofs.Common.{◌≡◌, sym, ◌∙◌, subst}
-use Rattle.pager_core.specs.Running.{progress_of_actor}
+use Rattle.std.proofs.Common.{sym, ◌∙◌, subst}
 use Rattle.replay_core.specs.Replays.{MadeCall}
 use Rattle.replay_core.proofs.CallLemmas.{InCall-start, InCall-step, MadeCall-end, still_in, turn_steps}
 use Rattle.replay_core.proofs.file_order.make_call.Goals as goal

@@ -1,4 +1,4 @@
-use Rattle.std.proofs.Common.{◌≡◌, ℕ, ◌<◌, length, sym, ap, subst, ◌∙◌, arith}
+use Rattle.std.proofs.Common.{◌≡◌, length, sym, ap, subst, ◌∙◌, arith}
 use Rattle.pager_model.specs.declared.call.Call.TheVariants.{Map}
 use Rattle.pager_model.specs.declared.call.Line.{Line}
 use Rattle.pager_model.specs.declared.region.Kind.TheVariants.{Fixed}
