@@ -1,0 +1,9 @@
+//! Backing stores: what keeps the copies of a space's pages.
+//!
+//! A `Store` reads, writes and drops the copies of pages, and counts its faults. Contracts see one as the plain record `Stored` of
+//! specs/Stored.antt.
+#![tactic(auto)]
+
+mod store;
+
+pub use store::{Store, StoreFailed, WriteRefused};
