@@ -1,20 +1,22 @@
 -- What the calls of a space promise, for every state that the space stands for.
-use Rattle.std.specs.Prelude.{ℕ, ◌≡◌, ◌≢◌, ◌+◌, ◌<◌, ◌≤◌, true, false, Some, None}
+use Rattle.std.specs.Prelude.{ℕ, ◌≡◌, ◌≢◌, ◌+◌, ◌<◌, ◌≤◌, Bool, true, false, if◌then◌else◌, Some, None, IfSome}
 use Rattle.pager_model.specs.declared.call.Call.{Call}
-use Rattle.pager_model.specs.declared.call.Call.TheVariants.{Unmap}
+use Rattle.pager_model.specs.declared.call.Call.TheVariants.{Unmap, Evict}
 use Rattle.pager_model.specs.declared.entry.Want.{Want}
-use Rattle.pager_model.specs.declared.entry.What.TheVariants.{Answer}
+use Rattle.pager_model.specs.declared.entry.What.TheVariants.{Answer, Out, Failed, Give}
 use Rattle.pager_model.specs.declared.region.Region.{Region}
 use Rattle.pager_model.specs.declared.reply.Answered.{Answered}
-use Rattle.pager_model.specs.declared.reply.Reply.TheVariants.{Done}
+use Rattle.pager_model.specs.declared.reply.Reply.{Reply}
+use Rattle.pager_model.specs.declared.reply.Reply.TheVariants.{Done, Clean, Written, NoMemory}
 use Rattle.pager_model.specs.Flat.{reply_of, is_lawful}
 use Rattle.pager_model.specs.Order.{is_answered_alone, is_served}
 use Rattle.pager_model.specs.PreferredSize.{IsWanted}
 use Rattle.pager_model.specs.Regions.{in_range, region_at, wanted}
-use Rattle.pager_model.specs.SpaceStates.{SpaceState, Unmaps, space_after, access_page, WhatAllowed}
+use Rattle.pager_model.specs.SpaceStates.{SpaceState, Unmaps, space_after, access_page, Rises, WhatAllowed}
 use Rattle.space_core.specs.declared.space.Begun.{Begun}
-use Rattle.space_core.specs.declared.space.Begun.TheVariants.{Answered as HasAnswered, NeedsFrame, NeedsClear}
-use Rattle.space_core.specs.Standing.{Kept, StandsFor, StandsBut, IsResting, frame_at, rights_at, answer_entry, take_entry, clear_entry, is_allowed}
+use Rattle.space_core.specs.declared.space.Begun.TheVariants.{Answered as HasAnswered, NeedsFrame, NeedsClear, NeedsEvict, Failed as HasFailed}
+use Rattle.space_core.specs.Standing.{Kept, StandsFor, StandsBut, IsResting, MustWrite, frame_at, rights_at, dirty_at, answer_entry, evict_entry, take_entry, give_entry, clear_entry, out_entry, failed_entry, is_allowed, is_unwired, copied_page}
+use Rattle.store_core.specs.Stored.{keeps_at}
 
 -- The space allows the answer to a processor's call, whatever its number, and then stands for one entry more.
 pub record Answers (old new : Kept) (call : Call) (a : Answered) : Type 0 where
@@ -28,6 +30,16 @@ pub record SameRegions (old new : Kept) : Type 0 where
   pub regions : new.regions ≡ old.regions
   pub rights : (page : ℕ) → rights_at new page ≡ rights_at old page
 
+-- It is the same space, with the same regions and rights, and each page keeps its frame.
+pub record SameFrames (old new : Kept) : Type 0 where
+  pub same : SameRegions old new
+  pub frame : (page : ℕ) → frame_at new page ≡ frame_at old page
+
+-- There was no memory to write the copy of the page: the page is dirty, and the store doesn't keep it.
+pub record LacksMemory (kept : Kept) (page : ℕ) : Type 0 where
+  pub dirty : dirty_at kept page ≡ true
+  pub unkept : keeps_at kept.store page ≡ false
+
 -- The call is answered at once, with its effect, by an answer that needs no other entry before it.
 pub record BeginsAnswered (old new : Kept) (call : Call) (a : Answered) : Type 0 where
   pub alone : is_answered_alone call a.reply ≡ true
@@ -35,17 +47,26 @@ pub record BeginsAnswered (old new : Kept) (call : Call) (a : Answered) : Type 0
   pub same_frames : new.frames ≡ old.frames
   pub resting : IsResting new
   pub answers : Answers old new call a
+  pub memory : a.reply ≡ NoMemory → (page : ℕ) × (copied_page call ≡ Some page) × LacksMemory old page
 
--- The call is a lawful load or store at a page that isn't resident, with its region's want. Nothing changed.
-pub record BeginsNeedingFrame (old new : Kept) (call : Call) (page : ℕ) (want : Want) : Type 0 where
-  pub same : new ≡ old
+-- The call is a lawful load or store at a page that isn't resident, with its region's want.
+pub record NeedsItsFrame (kept : Kept) (call : Call) (page : ℕ) (want : Want) : Type 0 where
   pub page_is : access_page call ≡ Some page
   pub in_space : page < 1048576
-  pub allowed : is_allowed old call ≡ true
-  pub absent : frame_at old page ≡ None
-  pub wanted : wanted old.regions page ≡ Some want
+  pub allowed : is_allowed kept call ≡ true
+  pub absent : frame_at kept page ≡ None
+  pub wanted : wanted kept.regions page ≡ Some want
   pub for_page : IsWanted want page
-  pub lawful : (st : SpaceState) → StandsFor old st → is_lawful (reply_of st.flat call) ≡ true
+  pub lawful : (st : SpaceState) → StandsFor kept st → is_lawful (reply_of st.flat call) ≡ true
+
+-- It is so, and nothing changed.
+pub record BeginsNeedingFrame (old new : Kept) (call : Call) (page : ℕ) (want : Want) : Type 0 where
+  pub same : new ≡ old
+  pub needs : NeedsItsFrame old call page want
+
+-- the load or store needs no frame: it isn't allowed, or its page is resident
+abbrev pub NeedsNoFrame : Kept → Call → Type 0
+NeedsNoFrame kept call = is_allowed kept call ≡ true → IfSome (access_page call) (λ page. frame_at kept page ≢ None)
 
 -- the region that the unmap of a page is of, with this range
 pub record IsUnmapping (kept : Kept) (call : Call) (first len : ℕ) : Type 0 where
@@ -65,15 +86,50 @@ pub record BeginsClearing (old new : Kept) (call : Call) (first len : ℕ) : Typ
   pub same : new ≡ old
   pub unmapping : IsUnmapping old call first len
 
+-- The page is being evicted: it has a region that isn't wired, and a frame.
+pub record IsEvicting (kept : Kept) (page : ℕ) : Type 0 where
+  pub in_space : page < 1048576
+  pub paged : kept.paged ≡ Some page
+  pub unwired : is_unwired (region_at kept.regions page) ≡ true
+  pub resident : frame_at kept page ≢ None
+  pub none_pending : kept.pending ≡ None
+  pub none_clearing : kept.clearing ≡ None
+
+-- The call is a lawful evict of a resident page, whose copy was written where the page was dirty.
+pub record BeginsEvicting (old new : Kept) (call : Call) (page : ℕ) (written : Bool) : Type 0 where
+  pub is_evict : (space : ℕ) × (call ≡ Evict space page)
+  pub written : dirty_at old page ≡ written
+  pub evicting : IsEvicting new page
+  pub same : SameFrames old new
+  pub stands : (st : SpaceState) → StandsFor old st → StandsFor new st
+
+-- The write of a page's copy failed: the page stays dirty and resident, the store's count rose, and the space stands for the failure.
+pub record FailsToWrite (old new : Kept) (page count : ℕ) : Type 0 where
+  pub rose : Rises old.store.faults count
+  pub count_is : count ≡ new.store.faults
+  pub dirty : dirty_at new page ≡ true
+  pub resting : IsResting new
+  pub same : SameFrames old new
+  pub allowed : (st : SpaceState) → StandsFor old st → (c : ℕ) → WhatAllowed st false c (Failed page true count)
+  pub stands : (st : SpaceState) → StandsFor old st → (c : ℕ) → StandsFor new (space_after st (failed_entry c old.number page true count))
+
+-- The call is a lawful sync or evict of a dirty page, whose write failed.
+pub record BeginsFailing (old new : Kept) (call : Call) (page count : ℕ) : Type 0 where
+  pub must : MustWrite new call page
+  pub fails : FailsToWrite old new page count
+
 abbrev pub Begins : Kept → Kept → Call → Begun → Type 0
 Begins old new call (HasAnswered a) = BeginsAnswered old new call a
 Begins old new call (NeedsFrame page want) = BeginsNeedingFrame old new call page want
 Begins old new call (NeedsClear first len) = BeginsClearing old new call first len
+Begins old new call (NeedsEvict page written) = BeginsEvicting old new call page written
+Begins old new call (HasFailed page count) = BeginsFailing old new call page count
 
--- The page has this frame, is pending, and the space stands for one taking more.
+-- The page has this frame, is pending, and the space stands for one taking more, or for the use of a held frame.
 pub record Places (old new : Kept) (page frame : ℕ) : Type 0 where
   pub pending : new.pending ≡ Some page
   pub same_clearing : new.clearing ≡ old.clearing
+  pub same_paged : new.paged ≡ old.paged
   pub same : SameRegions old new
   pub resident : frame_at new page ≡ Some frame
   pub same_others : (p : ℕ) → p ≢ page → frame_at new p ≡ frame_at old p
@@ -83,17 +139,72 @@ pub record Places (old new : Kept) (page frame : ℕ) : Type 0 where
 pub record ReadsIn (old new : Kept) : Type 0 where
   pub done : new.pending ≡ None
   pub same_clearing : new.clearing ≡ old.clearing
-  pub same : SameRegions old new
-  pub same_frames : (p : ℕ) → frame_at new p ≡ frame_at old p
+  pub same_paged : new.paged ≡ old.paged
+  pub same : SameFrames old new
   pub stands : (st : SpaceState) → StandsFor old st → StandsFor new st
+
+-- The read of the pending page's copy failed: the page stays pending and clean, the store's count rose, and the space stands for the
+-- failure.
+pub record FailsToRead (old new : Kept) (page count : ℕ) : Type 0 where
+  pub rose : Rises old.store.faults count
+  pub count_is : count ≡ new.store.faults
+  pub clean : dirty_at new page ≡ false
+  pub same_pending : new.pending ≡ old.pending
+  pub same_clearing : new.clearing ≡ old.clearing
+  pub same_paged : new.paged ≡ old.paged
+  pub same : SameFrames old new
+  pub allowed : (st : SpaceState) → StandsFor old st → (c : ℕ) → WhatAllowed st false c (Failed page false count)
+  pub stands : (st : SpaceState) → StandsFor old st → (c : ℕ) → StandsFor new (space_after st (failed_entry c old.number page false count))
 
 -- The access is served.
 pub record Finishes (old new : Kept) (call : Call) (a : Answered) : Type 0 where
   pub served : is_served a.reply ≡ true
   pub resting : IsResting new
-  pub same : SameRegions old new
-  pub same_frames : (p : ℕ) → frame_at new p ≡ frame_at old p
+  pub same : SameFrames old new
   pub answers : Answers old new call a
+
+-- The page is equal to its copy, which was written where the page was dirty, and is clean, and the space stands for one paging out more.
+pub record WritesOut (old new : Kept) (page : ℕ) (written : Bool) : Type 0 where
+  pub written : dirty_at old page ≡ written
+  pub clean : dirty_at new page ≡ false
+  pub resting : IsResting new
+  pub same : SameFrames old new
+  pub allowed : (st : SpaceState) → StandsFor old st → (c : ℕ) → WhatAllowed st false c (Out page written)
+  pub stands : (st : SpaceState) → StandsFor old st → (c : ℕ) → StandsFor new (space_after st (out_entry c old.number page written))
+
+-- There was no memory for the page's copy, and the space stands for the same list of entries.
+pub record LeavesUnwritten (old new : Kept) (page : ℕ) : Type 0 where
+  pub lacks : LacksMemory old page
+  pub dirty : dirty_at new page ≡ true
+  pub resting : IsResting new
+  pub same : SameFrames old new
+  pub stands : (st : SpaceState) → StandsFor old st → StandsFor new st
+
+-- The page gave this frame up, and every other page keeps its own.
+pub record GaveUp (old new : Kept) (page frame : ℕ) : Type 0 where
+  pub had : frame_at old page ≡ Some frame
+  pub same : SameRegions old new
+  pub gone : frame_at new page ≡ None
+  pub same_others : (p : ℕ) → p ≢ page → frame_at new p ≡ frame_at old p
+
+-- The page gave its frame up, and the space stands for one giving more.
+pub record Removes (old new : Kept) (page frame : ℕ) : Type 0 where
+  pub gave : GaveUp old new page frame
+  pub resting : IsResting new
+  pub allowed : (st : SpaceState) → StandsFor old st → (c : ℕ) → WhatAllowed st true c (Give page frame)
+  pub stands : (st : SpaceState) → StandsFor old st → (c : ℕ) → StandsFor new (space_after st (give_entry c old.number page frame))
+
+-- written where the page was dirty, and else clean
+abbrev pub copied_reply : Bool → Reply
+copied_reply written = if written then Written else Clean
+
+-- The page that is being evicted gave its frame up, and the space stands for the evict's answer.
+pub record Evicts (old new : Kept) (page frame : ℕ) (a : Answered) : Type 0 where
+  pub gave : GaveUp old new page frame
+  pub replied : a.reply ≡ copied_reply (dirty_at old page)
+  pub resting : IsResting new
+  pub allowed : (st : SpaceState) → StandsFor old st → (c number : ℕ) → WhatAllowed st true c (Answer number (Evict old.number page) a)
+  pub stands : (st : SpaceState) → StandsFor old st → (c number : ℕ) → StandsFor new (space_after st (evict_entry c number old.number page a))
 
 -- a region has this range
 pub record IsRange (kept : Kept) (first len : ℕ) : Type 0 where
@@ -109,12 +220,10 @@ NoneResident kept first len = (p : ℕ) → in_range first len p ≡ true → fr
 -- The lowest resident page of the range gave this frame up, and the space stands for the same list of entries but for the range.
 pub record ClearsOne (old new : Kept) (first len page frame : ℕ) : Type 0 where
   pub within : in_range first len page ≡ true
-  pub had : frame_at old page ≡ Some frame
   pub lowest : (p : ℕ) → in_range first len p ≡ true → p < page → frame_at old p ≡ None
+  pub gave : GaveUp old new page frame
   pub same_pending : new.pending ≡ old.pending
-  pub same : SameRegions old new
-  pub gone : frame_at new page ≡ None
-  pub same_others : (p : ℕ) → p ≢ page → frame_at new p ≡ frame_at old p
+  pub same_paged : new.paged ≡ old.paged
   pub stands : (st : SpaceState) → StandsBut first len old st → StandsBut first len new st
 
 -- No page of the range is resident, and the space stands for one clearing more.
@@ -122,8 +231,8 @@ pub record ClearsNone (old new : Kept) (first len : ℕ) : Type 0 where
   pub none : NoneResident new first len
   pub clearing : (r : Region) → region_at old.regions first ≡ Some r → new.clearing ≡ Some r
   pub same_pending : new.pending ≡ old.pending
-  pub same : SameRegions old new
-  pub same_frames : (p : ℕ) → frame_at new p ≡ frame_at old p
+  pub same_paged : new.paged ≡ old.paged
+  pub same : SameFrames old new
   pub stands : (st : SpaceState) (c : ℕ) → StandsBut first len old st → StandsFor new (space_after st (clear_entry c old.number first len))
 
 -- The region that was cleared is gone, in each state in which its clearing was the last entry and this processor's.

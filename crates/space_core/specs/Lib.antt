@@ -2,6 +2,7 @@ pub mod Tables
 pub mod Pages
 pub mod Standing
 pub mod Beginning
+pub mod Saving
 pub mod Keeping
 pub mod NewPages
 pub mod Spares

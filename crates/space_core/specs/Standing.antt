@@ -1,19 +1,20 @@
 -- A space as contracts see it, and what it is for it to stand for its list of entries.
-use Rattle.std.specs.Prelude.{ℕ, ◌≡◌, Bool, true, false, ◌&&◌, ◌==◌, if◌then◌else◌, List, Option, Some, None, is_some}
+use Rattle.std.specs.Prelude.{ℕ, ◌≡◌, ◌≤◌, Bool, true, false, ◌&&◌, ◌==◌, not, if◌then◌else◌, List, slice_index_or, Option, Some, None, is_some}
 use Rattle.pager_model.specs.declared.call.Call.{Call}
 use Rattle.pager_model.specs.declared.call.Call.TheVariants.{Load, Store, Sync, Evict}
 use Rattle.pager_model.specs.declared.entry.Entry.{Entry}
-use Rattle.pager_model.specs.declared.entry.What.TheVariants.{Answer, Take, Clear}
+use Rattle.pager_model.specs.declared.entry.What.TheVariants.{Answer, Out, Failed, Take, Give, Clear}
 use Rattle.pager_model.specs.declared.entry.Want.{Want}
 use Rattle.pager_model.specs.declared.region.Region.{Region}
 use Rattle.pager_model.specs.declared.region.Rights.{Rights}
 use Rattle.pager_model.specs.declared.region.Rights.TheVariants.{NoAccess}
 use Rattle.pager_model.specs.declared.reply.Answered.{Answered}
 use Rattle.pager_model.specs.Flat.{page_of, can_read, can_write, space_of_call}
-use Rattle.pager_model.specs.Regions.{in_range, region_at}
+use Rattle.pager_model.specs.Regions.{in_range, region_at, is_wired}
 use Rattle.pager_model.specs.SpaceStates.{SpaceState}
 use Rattle.pager_model.specs.TraceText.{IsCall}
-use Rattle.space_core.specs.Tables.{Table, frame_in, word_in, own_in}
+use Rattle.space_core.specs.Tables.{Table, frame_in, word_in, own_in, dirty_in}
+use Rattle.store_core.specs.Stored.{Stored, copy_at}
 
 pub record Kept : Type 0 where
   -- the space's number
@@ -27,6 +28,10 @@ pub record Kept : Type 0 where
   pub pending : Option ℕ
   -- the region that is being unmapped, whose pages give their frames up
   pub clearing : Option Region
+  -- the page that is being evicted: it is equal to its copy, and gives its frame up next
+  pub paged : Option ℕ
+  -- the store of its pages' copies
+  pub store : Stored
 
 -- What is seen of a page.
 
@@ -43,39 +48,85 @@ rights_by (Some own) region = own
 abbrev pub rights_at : Kept → ℕ → Rights
 rights_at kept page = rights_by (own_in kept.table page) (region_at kept.regions page)
 
+abbrev pub dirty_at : Kept → ℕ → Bool
+dirty_at kept page = dirty_in kept.table page
+
 abbrev pub is_page : ℕ → Option ℕ → Bool
 is_page page None = false
 is_page page (Some p) = p == page
 
--- its word: of its frame, and zero where it isn't resident or not yet read in
+-- it is resident, and was read in
+abbrev pub is_settled : Kept → ℕ → Bool
+is_settled kept page = is_some (frame_at kept page) && not (is_page page kept.pending)
+
+-- a word of a copy, and zero where the copy is unknown
+abbrev pub word_in_copy : Option (List ℕ) → ℕ → ℕ
+word_in_copy None i = 0
+word_in_copy (Some words) i = slice_index_or words i 0
+
+-- its word: of its frame, and of its copy where it isn't resident or not yet read in
 abbrev pub word_at : Kept → ℕ → ℕ → ℕ
-word_at kept page i = if is_page page kept.pending then 0 else word_in kept.table page i
+word_at kept page i = if is_settled kept page then word_in kept.table page i else word_in_copy (copy_at kept.store page) i
+
+-- its copy is behind its words
+abbrev pub is_behind : Kept → ℕ → Bool
+is_behind kept page = dirty_at kept page && not (is_page page kept.paged)
 
 abbrev pub is_in : Option Region → ℕ → Bool
 is_in None page = false
 is_in (Some r) page = in_range r.first r.length page
 
--- no page is pending, and no region is being unmapped
+-- no page is pending or being evicted, and no region is being unmapped
 pub record IsResting (kept : Kept) : Type 0 where
   pub none_pending : kept.pending ≡ None
   pub none_clearing : kept.clearing ≡ None
+  pub none_paged : kept.paged ≡ None
 
--- A space stands for its list of entries, which leads to the state: its store tells its copies, the regions are the same, and page
--- by page the rights, the frames and the words are. Of the pages of a region that is being unmapped the words are open.
+-- the copy of flat memory is that of the store: both are unknown, or their words are the same
+abbrev pub IsCopy : Option (ℕ → ℕ) → Option (List ℕ) → Type 0
+IsCopy None None = Unit {0}
+IsCopy None (Some words) = ⊥
+IsCopy (Some f) None = ⊥
+IsCopy (Some f) (Some words) = (i : ℕ) → f i ≡ slice_index_or words i 0
+
+-- the page's copy is known, and the page is equal to it
+pub record IsCopied (kept : Kept) (page : ℕ) : Type 0 where
+  pub words : List ℕ
+  pub known : copy_at kept.store page ≡ Some words
+  pub equal : (i : ℕ) → word_at kept page i ≡ slice_index_or words i 0
+
+-- What a store that tells its copies adds, but for some pages that are set aside: the words of flat memory are the page's, the copies are the
+-- store's, and a page whose copy isn't behind is equal to it.
+pub record TellsWords (aside : ℕ → Bool) (kept : Kept) (state : SpaceState) : Type 0 where
+  pub tells : kept.store.tells ≡ true
+  pub words : (page i : ℕ) → aside page ≡ false → state.flat.words page i ≡ word_at kept page i
+  pub copies : (page : ℕ) → aside page ≡ false → is_page page kept.paged ≡ false → IsCopy (state.flat.copies page) (copy_at kept.store page)
+  pub copied : (page : ℕ) → aside page ≡ false → is_behind kept page ≡ false → IsCopied kept page
+
+-- What a space and the state that its list of entries leads to have in common, but for the words, the copies and the dirty flags of
+-- some pages that are open: the regions are the same, and page by page the rights and the dirty flags are; where the store tells its
+-- copies, so are words and copies; and a resident page has each word that an answer said of it since it was filled.
+pub record StandsBeside (aside : ℕ → Bool) (kept : Kept) (state : SpaceState) : Type 0 where
+  pub regions : state.flat.regions ≡ kept.regions
+  pub rights : (page : ℕ) → is_some (region_at kept.regions page) ≡ true → state.flat.rights page ≡ rights_at kept page
+  pub dirty : (page : ℕ) → aside page ≡ false → state.flat.dirty page ≡ dirty_at kept page
+  pub told : state.told ≡ true → TellsWords aside kept state
+  pub tied : (page i word : ℕ) → state.tied page i ≡ Some word → is_settled kept page ≡ true → word_in kept.table page i ≡ word
+  -- nothing was said of a pending page
+  pub untied : (page i : ℕ) → is_page page kept.pending ≡ true → state.tied page i ≡ None
+  -- no fault that was told is above those that the store had
+  pub highest : state.highest ≤ kept.store.faults
+
+-- A space stands for its list of entries, which leads to the state. Of the pages of a region that is being unmapped the words, the copies
+-- and the dirty flags are open.
 pub record StandsFor (kept : Kept) (state : SpaceState) : Type 0 where
-  pub told : state.told ≡ true
-  pub regions : state.flat.regions ≡ kept.regions
-  pub rights : (page : ℕ) → is_some (region_at kept.regions page) ≡ true → state.flat.rights page ≡ rights_at kept page
+  pub beside : StandsBeside (is_in kept.clearing) kept state
   pub base : (page : ℕ) → state.base page ≡ frame_at kept page
-  pub words : (page i : ℕ) → is_in kept.clearing page ≡ false → state.flat.words page i ≡ word_at kept page i
 
--- The same but for the frames of a range, of which any may be missing: some of its pages gave theirs up, and no entry says so yet.
+-- The same but for a range, of which any frames may be missing: some of its pages gave theirs up, and no entry says so yet.
 pub record StandsBut (first len : ℕ) (kept : Kept) (state : SpaceState) : Type 0 where
-  pub told : state.told ≡ true
-  pub regions : state.flat.regions ≡ kept.regions
-  pub rights : (page : ℕ) → is_some (region_at kept.regions page) ≡ true → state.flat.rights page ≡ rights_at kept page
+  pub beside : StandsBeside (in_range first len) kept state
   pub base : (page : ℕ) → in_range first len page ≡ false → state.base page ≡ frame_at kept page
-  pub words : (page i : ℕ) → in_range first len page ≡ false → state.flat.words page i ≡ word_at kept page i
 
 -- The entries of a space's calls.
 
@@ -83,11 +134,25 @@ abbrev pub answer_entry : ℕ → ℕ → Call → Answered → Entry
 answer_entry c number call answered =
     record { processor = c; space = Some (space_of_call call); frames = false; what = Answer number call answered }
 
+-- the answer of an evict whose page gives its frame up
+abbrev pub evict_entry : ℕ → ℕ → ℕ → ℕ → Answered → Entry
+evict_entry c number space page answered =
+    record { processor = c; space = Some space; frames = true; what = Answer number (Evict space page) answered }
+
 abbrev pub take_entry : ℕ → ℕ → ℕ → ℕ → Want → Entry
 take_entry c space page frame want = record { processor = c; space = Some space; frames = true; what = Take page frame want }
 
+abbrev pub give_entry : ℕ → ℕ → ℕ → ℕ → Entry
+give_entry c space page frame = record { processor = c; space = Some space; frames = true; what = Give page frame }
+
 abbrev pub clear_entry : ℕ → ℕ → ℕ → ℕ → Entry
 clear_entry c space first len = record { processor = c; space = Some space; frames = true; what = Clear first len }
+
+abbrev pub out_entry : ℕ → ℕ → ℕ → Bool → Entry
+out_entry c space page written = record { processor = c; space = Some space; frames = false; what = Out page written }
+
+abbrev pub failed_entry : ℕ → ℕ → ℕ → Bool → ℕ → Entry
+failed_entry c space page writing count = record { processor = c; space = Some space; frames = false; what = Failed page writing count }
 
 -- Calls.
 
@@ -97,9 +162,29 @@ is_allowed kept (Load space address) = is_some (region_at kept.regions (page_of 
 is_allowed kept (Store space address word) = is_some (region_at kept.regions (page_of address)) && can_write (rights_at kept (page_of address))
 is_allowed kept call = false
 
--- The calls that a space can begin: those that a line of a trace may hold, but for those that write a copy, which wait for the
--- backing stores.
+-- the page has a region, which isn't wired
+abbrev pub is_unwired : Option Region → Bool
+is_unwired None = false
+is_unwired (Some r) = not (is_wired r.kind)
+
+-- the page whose copy a call writes where it is dirty
+abbrev pub copied_page : Call → Option ℕ
+copied_page (Sync space page) = Some page
+copied_page (Evict space page) = Some page
+copied_page call = None
+
+-- the call is lawful for a page of this region
+abbrev pub may_copy : Call → Option Region → Bool
+may_copy (Sync space page) region = is_some region
+may_copy (Evict space page) region = is_unwired region
+may_copy call region = false
+
+-- The call is a lawful sync or evict of this page, which is dirty.
+pub record MustWrite (kept : Kept) (call : Call) (page : ℕ) : Type 0 where
+  pub is : copied_page call ≡ Some page
+  pub may : may_copy call (region_at kept.regions page) ≡ true
+  pub dirty : dirty_at kept page ≡ true
+
+-- the calls that a space can begin: those that a line of a trace may hold
 abbrev pub CanBegin : Call → Type 0
-CanBegin (Sync space page) = ⊥
-CanBegin (Evict space page) = ⊥
 CanBegin call = (spaces : ℕ) × IsCall spaces call

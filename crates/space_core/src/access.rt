@@ -1,10 +1,12 @@
 //! Loads and stores as a space sees them: the page, the word in it, and what the rights of a page allow.
 
-ghost use Rattle.std.specs.Prelude.{◌≡◌, ◌+◌, ◌<◌, ◌≤◌, false, None};
+ghost use Rattle.std.specs.Prelude.{◌≡◌, ◌+◌, ◌<◌, ◌≤◌, false, None, IfSome};
 ghost use Rattle.pager_model.specs.Flat.{page_of, word_of};
 ghost use Rattle.pager_model.specs.PreferredSize.{IsWanted};
 ghost use Rattle.pager_model.specs.Regions.{is_wired, want_end};
+ghost use Rattle.pager_model.specs.SpaceStates.{access_page};
 ghost use Rattle.space_core.specs.Pages.{permits};
+ghost use Rattle.space_core.specs.Standing.{CanBegin};
 
 use pager_model::{Answered, Call, Kind, Region, Reply, Rights, Want};
 
@@ -24,6 +26,18 @@ pub fn page_of(address: u64) -> u32
     ensures in_space { result < 1048576 }
 {
     (address / PAGE_BYTES) as u32
+}
+
+/// The page of a load or a store.
+pub fn accessed_page(call: &Call) -> Option<u32>
+    requires can { CanBegin call.now }
+    ensures page { result ≡ access_page call.now }
+    ensures in_space { IfSome result (λ page. page < 1048576) }
+{
+    match *call {
+        Call::Load { address, .. } | Call::Store { address, .. } => Some(page_of(address)),
+        _ => None,
+    }
 }
 
 /// The number of an address's word in its page.

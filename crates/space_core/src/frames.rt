@@ -1,6 +1,6 @@
 //! The words of one frame.
 
-ghost use Rattle.std.specs.Prelude.{◌≡◌, ◌<◌, length, replicate, slice_index_or, slice_set};
+ghost use Rattle.std.specs.Prelude.{◌≡◌, ◌<◌, length, slice_index_or, slice_set};
 
 use pager_model::Frame;
 
@@ -22,11 +22,4 @@ pub fn set_word(frame: &mut Frame, index: usize, word: u64)
     } }
 {
     frame.words_mut()[index] = word;
-}
-
-/// Writes zero to every word of a frame.
-pub fn clear(frame: &mut Frame)
-    ensures { frame.new ≡ record { number = frame.old.number; words = replicate 1024 0 } }
-{
-    frame.words_mut().fill(0);
 }

@@ -7,7 +7,7 @@ pub mod laws;
 mod space;
 mod table;
 
-pub use space::{Begun, Space};
+pub use space::{Begun, OutFault, Space};
 
 #[cfg(test)]
 mod tests;

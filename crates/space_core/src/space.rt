@@ -1,19 +1,23 @@
-ghost use Rattle.std.specs.Prelude.{◌≡◌, ◌≢◌, ℕ, ◌+◌, ◌<◌, ◌≤◌, ◌⊎◌, true, Some, None, IfOk, IfSome, IfNone, IsSome};
+ghost use Rattle.std.specs.Prelude.{◌≡◌, ◌≢◌, ℕ, ◌+◌, ◌<◌, ◌≤◌, ◌⊎◌, Bool, true, false, Some, None, IfOk, OnErr, IfSome, IfNone, IsSome};
 ghost use Rattle.pager_model.specs.declared.region.Region.{Region as Item};
 ghost use Rattle.pager_model.specs.Flat.{page_of, space_of_call};
 ghost use Rattle.pager_model.specs.Order.{is_access};
 ghost use Rattle.pager_model.specs.Regions.{region_at};
 ghost use Rattle.pager_model.specs.SpaceStates.{empty_state, access_page};
-ghost use Rattle.space_core.specs.Beginning.{Begins, Places, ReadsIn, Finishes, IsRange, NoneResident, ClearsOne, ClearsNone, Unmapped};
-ghost use Rattle.space_core.specs.Standing.{StandsFor, IsResting, frame_at, rights_by, is_allowed, CanBegin};
+ghost use Rattle.space_core.specs.Beginning.{Begins, NeedsItsFrame, NeedsNoFrame, Places, ReadsIn, FailsToRead, Finishes, WritesOut, FailsToWrite, LeavesUnwritten, Removes, IsEvicting, Evicts, copied_reply};
+ghost use Rattle.space_core.specs.Beginning.{IsRange, NoneResident, ClearsOne, ClearsNone, Unmapped};
+ghost use Rattle.space_core.specs.Saving.{Saves, FailsToSave, LacksRoom, unwritten_by};
+ghost use Rattle.space_core.specs.Standing.{StandsFor, IsResting, frame_at, dirty_at, rights_by, is_allowed, CanBegin};
 ghost use Rattle.space_core.specs.Tables.{own_in};
+ghost use Rattle.store_core.specs.Stored.{TellsZero};
 
-use crate::access::{answered, page_of, permits, want_in, word_of};
+use crate::access::{accessed_page, answered, page_of, permits, want_in, word_of};
 use crate::table::PageTable;
 use pager_model::{Answered, Call, Frame, Kind, NoMemory, Region, Reply, Rights, Want};
 use region_table::Regions;
 use std::alloc::Global;
 use std::marker::Model;
+use store_core::{Store, StoreFailed, WriteRefused};
 
 /// What a call needs first.
 #[derive(Clone, Copy, Debug, PartialEq, Eq)]
@@ -24,11 +28,24 @@ pub enum Begun {
     NeedsFrame { page: u32, want: Want },
     /// An unmap, whose region's pages have to give their frames up.
     NeedsClear { first: u32, length: u32 },
+    /// An evict of a page that has to give its frame up, and whose copy was written where it was dirty.
+    NeedsEvict { page: u32, written: bool },
+    /// A sync or an evict, where writing the page's copy failed; the store's count of faults is this now.
+    Failed { page: u32, count: u64 },
 }
 
-/// A space of 1,048,576 pages.
+/// Why a page was not paged out: it stays resident and dirty.
+#[derive(Clone, Copy, Debug, PartialEq, Eq)]
+pub enum OutFault {
+    /// Writing its copy failed, and the store's count of faults is this now.
+    Failed { count: u64 },
+    /// There was no memory for its copy.
+    NoMemory,
+}
+
+/// A space of 1,048,576 pages, over a store of their copies.
 #[derive(Drop)]
-pub struct Space {
+pub struct Space<S: Store + Send + Drop> {
     number: u32,
     regions: Regions,
     table: PageTable,
@@ -38,9 +55,12 @@ pub struct Space {
     clearing: Option<Region>,
     /// None of the clearing region's pages before this one is resident.
     scan: u32,
+    /// The page that is being evicted: it is equal to its copy, and gives its frame up next.
+    paged: Option<u32>,
+    store: S,
 }
 
-impl Model for Space {
+impl<S: Store + Send + Drop> Model for Space<S> {
     ghost use Rattle.std.specs.Prelude.{length};
     ghost use Rattle.space_core.specs.Keeping.{IsKept};
     ghost use Rattle.space_core.specs.Standing.{Kept};
@@ -54,33 +74,41 @@ impl Model for Space {
       table = s.table;
       pending = s.pending;
       clearing = s.clearing;
+      paged = s.paged;
+      store = S.seen s.store;
     } };
 
     ghost invariant = { λ s. IsKept s.regions s.table s.pending s.clearing s.scan };
 }
 
-impl Space {
-    /// A space without regions. All the memory that it ever takes is taken here. No translations are kept yet, so the number of
-    /// processors doesn't matter.
+impl<S: Store + Send + Drop> Space<S> {
+    /// A space without regions, over this store, which comes back for want of memory. All the memory that it ever takes is taken here, but
+    /// for that of the store's writes. No translations are kept yet, so the number of processors doesn't matter.
     pub fn create(
         alloc: Global,
         space: u32,
         frames: u32,
         _processors: u32,
-    ) -> Result<Space, NoMemory>
+        store: S,
+    ) -> Result<Space<S>, S>
         requires { frames ≤ 32768 }
-        ensures { IfOk result (λ s. (s.number ≡ space) × (s.frames ≡ frames) × IsResting s
-            × ((faults : ℕ) → StandsFor s (empty_state true faults))) }
+        ensures made { IfOk result (λ s. (s.number ≡ space) × (s.frames ≡ frames) × (s.store ≡ S.seen store) × IsResting s) }
+        ensures stands { IfOk result (λ s. (told : Bool) → (told ≡ true → TellsZero s.store) → StandsFor s (empty_state told s.store.faults)) }
+        ensures back { OnErr result (λ back. S.seen back ≡ S.seen store) }
     {
-        let table = PageTable::create(alloc, frames)?;
-        Ok(Space {
-            number: space,
-            regions: Regions::create(),
-            table,
-            pending: None,
-            clearing: None,
-            scan: 0,
-        })
+        match PageTable::create(alloc, frames) {
+            Ok(table) => Ok(Space {
+                number: space,
+                regions: Regions::create(),
+                table,
+                pending: None,
+                clearing: None,
+                scan: 0,
+                paged: None,
+                store,
+            }),
+            Err(NoMemory) => Err(store),
+        }
     }
 
     /// Begins a call on this space: the whole answer, or what it needs first.
@@ -106,11 +134,27 @@ impl Space {
                 rights,
                 ..
             } => self.begin_protect(page, length, rights),
-            Call::Load { address, .. } | Call::Store { address, .. } => {
-                self.begin_access(processor, call, page_of(address))
-            }
-            _ => unreachable!(),
+            Call::Load { .. } | Call::Store { .. } => self.begin_access(processor, call),
+            Call::Sync { page, .. } => self.begin_sync(page),
+            Call::Evict { page, .. } => self.begin_evict(page),
         }
+    }
+
+    /// The page of a load or a store that is allowed and isn't resident, with what its region wants of a frame for it. `None` exactly where
+    /// the call needs no frame.
+    pub fn wants(&self, call: &Call) -> Option<(u32, Want)>
+        requires space { space_of_call call.now ≡ self.now.number }
+        requires can { CanBegin call.now }
+        requires access { is_access call.now ≡ true }
+        ensures some { IfSome result (λ want. NeedsItsFrame self.now call.now want.0 want.1) }
+        ensures none { IfNone result (NeedsNoFrame self.now call.now) }
+    {
+        let page = accessed_page(call)?;
+        let region = self.regions.find(page)?;
+        if !permits(self.rights(page, region), call) || self.table.number(page).is_some() {
+            return None;
+        }
+        Some((page, want_in(&region, page, self.regions.next_start(page))))
     }
 
     /// Puts a frame under a page that isn't resident. No other page has a frame of this number.
@@ -127,13 +171,21 @@ impl Space {
         self.pending = Some(page);
     }
 
-    /// Reads the copy of the pending page in: its words are zero.
-    pub fn read_in(&mut self, page: u32)
+    /// Reads the copy of the pending page in. Where the store's read fails, the error is its count of faults, and the page stays pending.
+    pub fn read_in(&mut self, page: u32) -> Result<(), u64>
+        requires page { page < 1048576 }
         requires pending { self.old.pending ≡ Some page }
-        ensures { ReadsIn self.old self.new }
+        requires resident { frame_at self.old page ≢ None }
+        ensures read { IfOk result (λ _. ReadsIn self.old self.new) }
+        ensures failed { OnErr result (λ count. FailsToRead self.old self.new page count) }
     {
-        self.table.clear(page);
-        self.pending = None;
+        match self.table.read_copy(page, &mut self.store) {
+            Ok(()) => {
+                self.pending = None;
+                Ok(())
+            }
+            Err(StoreFailed) => Err(self.store.faults()),
+        }
     }
 
     /// Ends a load or a store that is allowed and whose page is resident: its word, or done.
@@ -150,6 +202,44 @@ impl Space {
             Call::Store { address, word, .. } => self.store(address, word),
             _ => unreachable!(),
         }
+    }
+
+    /// Makes a resident page equal to its copy, and tells whether it was dirty and its copy was written.
+    pub fn write_out(&mut self, page: u32) -> Result<bool, OutFault>
+        requires page { page < 1048576 }
+        requires resting { IsResting self.old }
+        requires resident { frame_at self.old page ≢ None }
+        ensures written { IfOk result (λ written. WritesOut self.old self.new page written) }
+        ensures failed { (count : ℕ) → result ≡ Err (OutFault.Failed count) → FailsToWrite self.old self.new page count }
+        ensures no_memory { result ≡ Err OutFault.NoMemory → LeavesUnwritten self.old self.new page }
+    {
+        let written = self.save(page)?;
+        self.table.set_clean(page);
+        Ok(written)
+    }
+
+    /// Takes the frame of a clean page away.
+    pub fn remove(&mut self, page: u32) -> Frame
+        requires page { page < 1048576 }
+        requires resident { frame_at self.old page ≢ None }
+        requires clean { dirty_at self.old page ≡ false }
+        requires none_clearing { self.old.clearing ≡ None }
+        requires none_paged { self.old.paged ≡ None }
+        requires no_other_pending { (p : ℕ) → self.old.pending ≡ Some p → p ≡ page }
+        ensures { Removes self.old self.new page result.number }
+    {
+        self.pending = None;
+        self.table.take(page).unwrap()
+    }
+
+    /// Takes the frame of the page away that is being evicted, and answers the evict.
+    pub fn evict(&mut self, page: u32) -> (Frame, Answered)
+        requires { IsEvicting self.old page }
+        ensures { Evicts self.old self.new page result.0.number result.1 }
+    {
+        let reply = copied(self.table.is_dirty(page));
+        self.paged = None;
+        (self.table.take(page).unwrap(), answered(reply))
     }
 
     /// The lowest resident page of a region's range, with its frame, which it gives up. `None` exactly where no page of the range is
@@ -183,6 +273,7 @@ impl Space {
             unreachable!();
         };
         self.table.set_own(region.first, region.length, None);
+        self.store.drop_pages(region.first, region.length);
         self.clearing = None;
         answered(Reply::Done)
     }
@@ -253,26 +344,101 @@ impl Space {
         Begun::Answered(answered(Reply::Done))
     }
 
-    /// Begins a load or a store at this page.
-    fn begin_access(&mut self, processor: u32, call: &Call, page: u32) -> Begun
+    /// Begins a load or a store.
+    fn begin_access(&mut self, processor: u32, call: &Call) -> Begun
         requires space { space_of_call call.now ≡ self.old.number }
         requires resting { IsResting self.old }
         requires can { CanBegin call.now }
-        requires page_is { access_page call.now ≡ Some page }
-        requires in_space { page < 1048576 }
+        requires access { is_access call.now ≡ true }
         ensures { Begins self.old self.new call.now result }
+    {
+        if let Some((page, want)) = self.wants(call) {
+            return Begun::NeedsFrame { page, want };
+        }
+        match self.refusal(call) {
+            Some(refusal) => Begun::Answered(answered(refusal)),
+            None => Begun::Answered(self.finish(processor, call)),
+        }
+    }
+
+    /// Why a load or a store is refused, where it is.
+    fn refusal(&self, call: &Call) -> Option<Reply>
+        requires space { space_of_call call.now ≡ self.now.number }
+        requires resting { IsResting self.now }
+        requires can { CanBegin call.now }
+        requires access { is_access call.now ≡ true }
+        ensures some { IfSome result (λ reply. Begins self.now self.now call.now (Begun.Answered (record { reply = reply; hit = false; size = None }))) }
+        ensures none { IfNone result (is_allowed self.now call.now ≡ true) }
+    {
+        let page = accessed_page(call)?;
+        let Some(region) = self.regions.find(page) else {
+            return Some(Reply::Unmapped);
+        };
+        if permits(self.rights(page, region), call) {
+            return None;
+        }
+        Some(Reply::Denied)
+    }
+
+    /// Writes the copy of a page where it is dirty, and answers.
+    fn begin_sync(&mut self, page: u32) -> Begun
+        requires resting { IsResting self.old }
+        requires can { CanBegin (Call.Sync self.old.number page) }
+        ensures { Begins self.old self.new (Call.Sync self.old.number page) result }
+    {
+        if self.regions.find(page).is_none() {
+            return Begun::Answered(answered(Reply::Unmapped));
+        }
+        match self.save(page) {
+            Ok(written) => {
+                self.table.set_clean(page);
+                Begun::Answered(answered(copied(written)))
+            }
+            Err(fault) => unwritten(page, fault),
+        }
+    }
+
+    /// Writes the copy of a page where it is dirty, and answers where the page has no frame to give up.
+    fn begin_evict(&mut self, page: u32) -> Begun
+        requires resting { IsResting self.old }
+        requires can { CanBegin (Call.Evict self.old.number page) }
+        ensures { Begins self.old self.new (Call.Evict self.old.number page) result }
     {
         let Some(region) = self.regions.find(page) else {
             return Begun::Answered(answered(Reply::Unmapped));
         };
-        if !permits(self.rights(page, region), call) {
+        if matches!(region.kind, Kind::Wired) {
             return Begun::Answered(answered(Reply::Denied));
         }
         if self.table.number(page).is_none() {
-            let want = want_in(&region, page, self.regions.next_start(page));
-            return Begun::NeedsFrame { page, want };
+            return Begun::Answered(answered(Reply::Clean));
         }
-        Begun::Answered(self.finish(processor, call))
+        match self.save(page) {
+            Ok(written) => {
+                self.paged = Some(page);
+                Begun::NeedsEvict { page, written }
+            }
+            Err(fault) => unwritten(page, fault),
+        }
+    }
+
+    /// Writes the copy of a page where it is dirty, tells whether it was, and leaves it so.
+    fn save(&mut self, page: u32) -> Result<bool, OutFault>
+        requires { page < 1048576 }
+        ensures saved { IfOk result (λ written. Saves self.old self.new page written) }
+        ensures failed { (count : ℕ) → result ≡ Err (OutFault.Failed count) → FailsToSave self.old self.new page count }
+        ensures no_memory { result ≡ Err OutFault.NoMemory → LacksRoom self.old self.new page }
+    {
+        if !self.table.is_dirty(page) {
+            return Ok(false);
+        }
+        match self.table.write_copy(page, &mut self.store) {
+            Ok(()) => Ok(true),
+            Err(WriteRefused::Failed) => Err(OutFault::Failed {
+                count: self.store.faults(),
+            }),
+            Err(WriteRefused::NoMemory) => Err(OutFault::NoMemory),
+        }
     }
 
     /// The rights of a page of a region: its own, or else the region's first.
@@ -314,5 +480,33 @@ impl Space {
         ensures { result ≡ frame_at self.now page }
     {
         self.table.number(page)
+    }
+
+    /// The store of its copies.
+    pub fn into_store(self) -> S
+        ensures { S.seen result ≡ self.store }
+    {
+        self.store
+    }
+}
+
+/// Written where the page was dirty, and else clean.
+fn copied(written: bool) -> Reply
+    ensures { result ≡ copied_reply written }
+{
+    if written {
+        Reply::Written
+    } else {
+        Reply::Clean
+    }
+}
+
+/// What a sync or an evict meets where the copy of its page was not written.
+fn unwritten(page: u32, fault: OutFault) -> Begun
+    ensures { result ≡ unwritten_by page fault }
+{
+    match fault {
+        OutFault::Failed { count } => Begun::Failed { page, count },
+        OutFault::NoMemory => Begun::Answered(answered(Reply::NoMemory)),
     }
 }

@@ -1,14 +1,17 @@
-//! What a space keeps of its pages: which are resident, in which frames, and which rights a protect gave them.
+//! What a space keeps of its pages: which are resident, in which frames, which are dirty, and which rights a protect gave them.
 
-ghost use Rattle.std.specs.Prelude.{◌≡◌, ◌≢◌, ◌+◌, ◌<◌, ◌≤◌, ℕ, length, replicate, None, Some, IfOk, IfSome, IfNone};
-ghost use Rattle.space_core.specs.Tables.{frame_in, word_in, own_in};
-ghost use Rattle.space_core.specs.Pages.{IsFresh, Moves, Clears, Writes, Protects, IsFirstResident, NoneFrom};
+ghost use Rattle.std.specs.Prelude.{◌≡◌, ◌≢◌, ◌+◌, ◌-◌, ◌^◌, ◌<◌, ◌≤◌, ℕ, List, true, false, length, replicate, None, Some, IfOk, IfSome, IfNone, OnErr};
+ghost use Rattle.pager_model.specs.SpaceStates.{Rises};
+ghost use Rattle.space_core.specs.Tables.{frame_in, word_in, own_in, dirty_in};
+ghost use Rattle.space_core.specs.Pages.{IsFresh, Moves, Refills, HasWords, Writes, Cleans, Protects, IsFirstResident, NoneFrom};
+ghost use Rattle.store_core.specs.Stored.{copy_at, keeps_at, SameCopies, SetsCopy};
 
 use crate::access::PAGES;
-use crate::frames::{clear, set_word, word};
+use crate::frames::{set_word, word};
 use pager_model::{Frame, NoMemory, Rights};
 use std::alloc::Global;
 use std::marker::Model;
+use store_core::{Store, StoreFailed, WriteRefused};
 
 /// The pages of a space. A resident page is found by its number, and its frame by the frame's.
 #[derive(Drop)]
@@ -19,6 +22,8 @@ pub struct PageTable {
     own: Vec<Option<Rights>>,
     /// For each number the frame, where a page has it.
     frames: Vec<Option<Frame>>,
+    /// For each number whether its page was stored to since it was last equal to its copy.
+    dirty: Vec<bool>,
 }
 
 impl Model for PageTable {
@@ -31,12 +36,14 @@ impl Model for PageTable {
       numbers = t.numbers.items;
       own = t.own.items;
       frames = t.frames.items;
+      dirty = t.dirty.items;
     } };
 
     ghost invariant = { λ t. IsPaged (record {
       numbers = t.numbers.items;
       own = t.own.items;
       frames = t.frames.items;
+      dirty = t.dirty.items;
     }) };
 }
 
@@ -50,6 +57,7 @@ impl PageTable {
             numbers: empty_places(alloc, PAGES)?,
             own: empty_places(alloc, PAGES)?,
             frames: empty_places(alloc, frames)?,
+            dirty: vec![in alloc; false; frames as usize]?,
         })
     }
 
@@ -110,6 +118,7 @@ impl PageTable {
     {
         let number = frame.number();
         self.frames[number as usize] = Some(frame);
+        self.dirty[number as usize] = false;
         self.numbers[page as usize] = Some(number as u16);
     }
 
@@ -124,20 +133,69 @@ impl PageTable {
         self.frames[usize::from(number)].take()
     }
 
-    /// Writes zero to every word of a page, where it is resident.
-    pub fn clear(&mut self, page: u32)
-        requires { page < 1048576 }
-        ensures { Clears page self.old self.new }
+    /// Reads the copy of a resident page from the store.
+    pub fn read_copy<S: Store>(&mut self, page: u32, store: &mut S) -> Result<(), StoreFailed>
+        requires page { page < 1048576 }
+        requires resident { frame_in self.old page ≢ None }
+        ensures table { Refills page self.old self.new }
+        ensures read { IfOk result (λ _. (words : List ℕ) → (S.seen store.old).tells ≡ true
+            → copy_at (S.seen store.old) page ≡ Some words → HasWords self.new page words) }
+        ensures same { SameCopies (S.seen store.old) (S.seen store.new) }
+        ensures rose { OnErr result (Rises (S.seen store.old).faults (S.seen store.new).faults) }
+        ensures never_falls { (S.seen store.old).faults ≤ (S.seen store.new).faults }
     {
         let Some(number) = self.numbers[page as usize] else {
-            return;
+            unreachable!()
         };
-        if let Some(frame) = &mut self.frames[usize::from(number)] {
-            clear(frame);
+        let Some(frame) = &mut self.frames[usize::from(number)] else {
+            unreachable!()
+        };
+        store.read(page, frame.words_mut())
+    }
+
+    /// Writes the words of a resident page to its copy in the store.
+    pub fn write_copy<S: Store>(&self, page: u32, store: &mut S) -> Result<(), WriteRefused>
+        requires page { page < 1048576 }
+        requires resident { frame_in self.now page ≢ None }
+        ensures wrote { IfOk result (λ _. (words : List ℕ) × HasWords self.now page words
+            × SetsCopy page (Some words) (S.seen store.old) (S.seen store.new)) }
+        ensures failed { result ≡ Err WriteRefused.Failed
+            → SetsCopy page None (S.seen store.old) (S.seen store.new) × Rises (S.seen store.old).faults (S.seen store.new).faults }
+        ensures no_memory { result ≡ Err WriteRefused.NoMemory
+            → (keeps_at (S.seen store.old) page ≡ false) × SameCopies (S.seen store.old) (S.seen store.new) }
+        ensures never_falls { (S.seen store.old).faults ≤ (S.seen store.new).faults }
+    {
+        let Some(number) = self.numbers[page as usize] else {
+            unreachable!()
+        };
+        let Some(frame) = &self.frames[usize::from(number)] else {
+            unreachable!()
+        };
+        store.write(page, frame.words())
+    }
+
+    /// Whether a page was stored to since it was last equal to its copy.
+    pub fn is_dirty(&self, page: u32) -> bool
+        requires { page < 1048576 }
+        ensures { result ≡ dirty_in self.now page }
+    {
+        match self.numbers[page as usize] {
+            Some(number) => self.dirty[usize::from(number)],
+            None => false,
         }
     }
 
-    /// Writes a word of a resident page.
+    /// A page is equal to its copy.
+    pub fn set_clean(&mut self, page: u32)
+        requires { page < 1048576 }
+        ensures { Cleans page self.old self.new }
+    {
+        if let Some(number) = self.numbers[page as usize] {
+            self.dirty[usize::from(number)] = false;
+        }
+    }
+
+    /// Writes a word of a resident page, which is dirty then.
     pub fn set_word(&mut self, page: u32, index: usize, word: u64)
         requires page { page < 1048576 }
         requires index { index < 1024 }
@@ -150,6 +208,7 @@ impl PageTable {
         if let Some(frame) = &mut self.frames[usize::from(number)] {
             set_word(frame, index, word);
         }
+        self.dirty[usize::from(number)] = true;
     }
 
     /// Gives the pages of a range these rights of their own, or none.
