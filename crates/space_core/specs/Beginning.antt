@@ -98,7 +98,7 @@ pub record IsEvicting (kept : Kept) (page : ℕ) : Type 0 where
 -- The call is a lawful evict of a resident page, whose copy was written where the page was dirty.
 pub record BeginsEvicting (old new : Kept) (call : Call) (page : ℕ) (written : Bool) : Type 0 where
   pub is_evict : (space : ℕ) × (call ≡ Evict space page)
-  pub written : dirty_at old page ≡ written
+  pub was : dirty_at old page ≡ written
   pub evicting : IsEvicting new page
   pub same : SameFrames old new
   pub stands : (st : SpaceState) → StandsFor old st → StandsFor new st
@@ -165,7 +165,7 @@ pub record Finishes (old new : Kept) (call : Call) (a : Answered) : Type 0 where
 
 -- The page is equal to its copy, which was written where the page was dirty, and is clean, and the space stands for one paging out more.
 pub record WritesOut (old new : Kept) (page : ℕ) (written : Bool) : Type 0 where
-  pub written : dirty_at old page ≡ written
+  pub was : dirty_at old page ≡ written
   pub clean : dirty_at new page ≡ false
   pub resting : IsResting new
   pub same : SameFrames old new

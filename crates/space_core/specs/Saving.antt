@@ -21,7 +21,7 @@ WroteWords old new page = (words : List ℕ) × HasWords old.table page words ×
 
 -- A dirty page's copy was written, and nothing was done for a clean one.
 pub record Saves (old new : Kept) (page : ℕ) (written : Bool) : Type 0 where
-  pub written : dirty_at old page ≡ written
+  pub was : dirty_at old page ≡ written
   pub same : new ≡ with_store old new.store
   pub wrote : written ≡ true → WroteWords old new page
   pub left : written ≡ false → new ≡ old

@@ -1,4 +1,4 @@
-ghost use Rattle.std.specs.Prelude.{◌≡◌, ◌≢◌, ℕ, ◌+◌, ◌<◌, ◌≤◌, ◌⊎◌, Bool, true, false, Some, None, IfOk, OnErr, IfSome, IfNone, IsSome};
+ghost use Rattle.std.specs.Prelude.{◌≡◌, ◌≢◌, ℕ, ◌+◌, ◌<◌, ◌≤◌, ◌⊎◌, Bool, true, false, Some, None, IfOk, IfErr, IfSome, IfNone, IsSome};
 ghost use Rattle.pager_model.specs.declared.region.Region.{Region as Item};
 ghost use Rattle.pager_model.specs.Flat.{page_of, space_of_call};
 ghost use Rattle.pager_model.specs.Order.{is_access};
@@ -94,7 +94,7 @@ impl<S: Store + Send + Drop> Space<S> {
         requires { frames ≤ 32768 }
         ensures made { IfOk result (λ s. (s.number ≡ space) × (s.frames ≡ frames) × (s.store ≡ S.seen store) × IsResting s) }
         ensures stands { IfOk result (λ s. (told : Bool) → (told ≡ true → TellsZero s.store) → StandsFor s (empty_state told s.store.faults)) }
-        ensures back { OnErr result (λ back. S.seen back ≡ S.seen store) }
+        ensures back { IfErr result (λ back. S.seen back ≡ S.seen store) }
     {
         match PageTable::create(alloc, frames) {
             Ok(table) => Ok(Space {
@@ -177,7 +177,7 @@ impl<S: Store + Send + Drop> Space<S> {
         requires pending { self.old.pending ≡ Some page }
         requires resident { frame_at self.old page ≢ None }
         ensures read { IfOk result (λ _. ReadsIn self.old self.new) }
-        ensures failed { OnErr result (λ count. FailsToRead self.old self.new page count) }
+        ensures failed { IfErr result (λ count. FailsToRead self.old self.new page count) }
     {
         match self.table.read_copy(page, &mut self.store) {
             Ok(()) => {
