@@ -173,7 +173,6 @@ impl<S: Store + Send + Drop> Space<S> {
 
     /// Reads the copy of the pending page in. Where the store's read fails, the error is its count of faults, and the page stays pending.
     pub fn read_in(&mut self, page: u32) -> Result<(), u64>
-        requires page { page < 1048576 }
         requires pending { self.old.pending ≡ Some page }
         requires resident { frame_at self.old page ≢ None }
         ensures read { IfOk result (λ _. ReadsIn self.old self.new) }
@@ -206,7 +205,6 @@ impl<S: Store + Send + Drop> Space<S> {
 
     /// Makes a resident page equal to its copy, and tells whether it was dirty and its copy was written.
     pub fn write_out(&mut self, page: u32) -> Result<bool, OutFault>
-        requires page { page < 1048576 }
         requires resting { IsResting self.old }
         requires resident { frame_at self.old page ≢ None }
         ensures written { IfOk result (λ written. WritesOut self.old self.new page written) }
@@ -220,7 +218,6 @@ impl<S: Store + Send + Drop> Space<S> {
 
     /// Takes the frame of a clean page away.
     pub fn remove(&mut self, page: u32) -> Frame
-        requires page { page < 1048576 }
         requires resident { frame_at self.old page ≢ None }
         requires clean { dirty_at self.old page ≡ false }
         requires none_clearing { self.old.clearing ≡ None }
@@ -424,7 +421,6 @@ impl<S: Store + Send + Drop> Space<S> {
 
     /// Writes the copy of a page where it is dirty, tells whether it was, and leaves it so.
     fn save(&mut self, page: u32) -> Result<bool, OutFault>
-        requires { page < 1048576 }
         ensures saved { IfOk result (λ written. Saves self.old self.new page written) }
         ensures failed { (count : ℕ) → result ≡ Err (OutFault.Failed count) → FailsToSave self.old self.new page count }
         ensures no_memory { result ≡ Err OutFault.NoMemory → LacksRoom self.old self.new page }
@@ -476,7 +472,6 @@ impl<S: Store + Send + Drop> Space<S> {
 
     /// The frame of a page, where it is resident.
     pub fn resident(&self, page: u32) -> Option<u32>
-        requires page { page < 1048576 }
         ensures { result ≡ frame_at self.now page }
     {
         self.table.number(page)

@@ -63,12 +63,12 @@ impl PageTable {
 
     /// The number of a page's frame, where it is resident.
     pub fn number(&self, page: u32) -> Option<u32>
-        requires { page < 1048576 }
-        ensures { result ≡ frame_in self.now page }
+        ensures number { result ≡ frame_in self.now page }
+        ensures in_space { IfSome result (λ _. page < 1048576) }
     {
-        match self.numbers[page as usize] {
-            Some(number) => Some(u32::from(number)),
-            None => None,
+        match self.numbers.get(page as usize) {
+            Some(Some(number)) => Some(u32::from(*number)),
+            _ => None,
         }
     }
 
@@ -124,18 +124,17 @@ impl PageTable {
 
     /// Takes the frame of a page away, where it is resident.
     pub fn take(&mut self, page: u32) -> Option<Frame>
-        requires { page < 1048576 }
         ensures some { IfSome result (λ frame. frame_in self.old page ≡ Some frame.number) }
         ensures none { IfNone result (frame_in self.old page ≡ None) }
         ensures after { Moves page None self.old self.new }
     {
-        let number = self.numbers[page as usize].take()?;
-        self.frames[usize::from(number)].take()
+        let number = self.number(page)?;
+        self.numbers[page as usize] = None;
+        self.frames[number as usize].take()
     }
 
     /// Reads the copy of a resident page from the store.
     pub fn read_copy<S: Store>(&mut self, page: u32, store: &mut S) -> Result<(), StoreFailed>
-        requires page { page < 1048576 }
         requires resident { frame_in self.old page ≢ None }
         ensures table { Refills page self.old self.new }
         ensures read { IfOk result (λ _. (words : List ℕ) → (S.seen store.old).tells ≡ true
@@ -144,10 +143,10 @@ impl PageTable {
         ensures rose { OnErr result (Rises (S.seen store.old).faults (S.seen store.new).faults) }
         ensures never_falls { (S.seen store.old).faults ≤ (S.seen store.new).faults }
     {
-        let Some(number) = self.numbers[page as usize] else {
+        let Some(number) = self.number(page) else {
             unreachable!()
         };
-        let Some(frame) = &mut self.frames[usize::from(number)] else {
+        let Some(frame) = &mut self.frames[number as usize] else {
             unreachable!()
         };
         store.read(page, frame.words_mut())
@@ -155,7 +154,6 @@ impl PageTable {
 
     /// Writes the words of a resident page to its copy in the store.
     pub fn write_copy<S: Store>(&self, page: u32, store: &mut S) -> Result<(), WriteRefused>
-        requires page { page < 1048576 }
         requires resident { frame_in self.now page ≢ None }
         ensures wrote { IfOk result (λ _. (words : List ℕ) × HasWords self.now page words
             × SetsCopy page (Some words) (S.seen store.old) (S.seen store.new)) }
@@ -165,10 +163,10 @@ impl PageTable {
             → (keeps_at (S.seen store.old) page ≡ false) × SameCopies (S.seen store.old) (S.seen store.new) }
         ensures never_falls { (S.seen store.old).faults ≤ (S.seen store.new).faults }
     {
-        let Some(number) = self.numbers[page as usize] else {
+        let Some(number) = self.number(page) else {
             unreachable!()
         };
-        let Some(frame) = &self.frames[usize::from(number)] else {
+        let Some(frame) = &self.frames[number as usize] else {
             unreachable!()
         };
         store.write(page, frame.words())
@@ -176,22 +174,21 @@ impl PageTable {
 
     /// Whether a page was stored to since it was last equal to its copy.
     pub fn is_dirty(&self, page: u32) -> bool
-        requires { page < 1048576 }
-        ensures { result ≡ dirty_in self.now page }
+        ensures dirty { result ≡ dirty_in self.now page }
+        ensures resident { result ≡ true → frame_in self.now page ≢ None }
     {
-        match self.numbers[page as usize] {
-            Some(number) => self.dirty[usize::from(number)],
+        match self.number(page) {
+            Some(number) => self.dirty[number as usize],
             None => false,
         }
     }
 
     /// A page is equal to its copy.
     pub fn set_clean(&mut self, page: u32)
-        requires { page < 1048576 }
         ensures { Cleans page self.old self.new }
     {
-        if let Some(number) = self.numbers[page as usize] {
-            self.dirty[usize::from(number)] = false;
+        if let Some(number) = self.number(page) {
+            self.dirty[number as usize] = false;
         }
     }
 
