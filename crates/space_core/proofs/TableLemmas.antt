@@ -77,6 +77,15 @@ frame-read t number x known read = sym (get_or_read t.frames number x known read
 pub found_within : (t : Table) → IsPaged t → (p number : ℕ) → frame_in t p ≡ Some number → number < length t.frames
 found_within t paged p number h = within t.frames number _ (paged.found p number h).is
 
+-- a resident page's number names a frame of that number
+pub frame-number : (t : Table) → IsPaged t → (p number : ℕ) (f : Framed) → frame_in t p ≡ Some number → slice_index_or t.frames number None ≡ Some f → f.number ≡ number
+frame-number t paged p number f has is =
+    let at = paged.found p number has in
+    ap (λ (g : Framed). g.number) (same_Some f at.frame (sym is ∙ at.is)) ∙ at.number_is
+
+pub frame-there : (t : Table) → IsPaged t → (p number : ℕ) → frame_in t p ≡ Some number → slice_index_or t.frames number None ≢ None
+frame-there t paged p number has none = none-some _ (sym none ∙ (paged.found p number has).is)
+
 frame_at-other : (t u : Table) (k n : ℕ) (f : Option Framed) → u.frames ≡ slice_set t.frames k f → n ≢ k → IsFrameAt t n → IsFrameAt u n
 frame_at-other t u k n f e other at =
     record { frame = at.frame; is = ap (λ fs. slice_index_or fs n None) e ∙ get_or-set_other t.frames k n f None other ∙ at.is; number_is = at.number_is }
@@ -213,7 +222,7 @@ module _ (t : Table) (paged : IsPaged t) (page k : ℕ) (f : Framed) (has : fram
 
   pub rewritten_has : HasWords rewritten page f.words
   unfolding there
-  rewritten_has i = word_in-found rewritten page i k (frame_rewritten page ∙ has) ∙ ap (λ x. word_in_frame x i) there.is
+  rewritten_has = has_words rewritten page k f (frame_rewritten page ∙ has) there.is
 
   pub refills : Refills page t rewritten
   refills =

@@ -1,9 +1,8 @@
 use Rattle.std.proofs.Common.{◌∙◌, sym, arith}
-use Rattle.std.proofs.lemmas.Option.{none-some}
 use Rattle.std.proofs.lemmas.Result.{IfOk-weaker}
 use Rattle.space_core.specs.Pages.{HasWords}
 use Rattle.space_core.specs.contracts.table.PageTable.{the_view}
-use Rattle.space_core.proofs.TableLemmas.{frame-read, found_within, has_words}
+use Rattle.space_core.proofs.TableLemmas.{frame-read, found_within, frame-there, has_words}
 use Rattle.space_core.proofs.table.PageTable.write_copy.Goals as goal
 
 pub index-requires : goal.index-requires
@@ -15,7 +14,7 @@ pub unreachable-requires-in_default-index : goal.unreachable-requires-in_default
 unreachable-requires-in_default-index g c =
     let t = the_view c.self.inside in
     let has = sym (rw (← c.self.view_is) at c.number.ensures.number) ∙ c.in-Some.is in
-    none-some _ (sym (sym (c.self.invariant.found _ _ has).is ∙ frame-read t _ _ (found_within _ c.self.invariant _ _ has) c.index.ensures ∙ c.in_default-index.is))
+    frame-there t c.self.invariant _ _ has (frame-read t _ _ (found_within _ c.self.invariant _ _ has) c.index.ensures ∙ c.in_default-index.is)
 
 pub returns-clause-wrote : goal.returns-clause-wrote
 returns-clause-wrote g c =
