@@ -9,3 +9,6 @@ mod store;
 
 pub use memory::MemoryStore;
 pub use store::{Store, StoreFailed, WriteRefused};
+
+#[cfg(test)]
+mod tests;

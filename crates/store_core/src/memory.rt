@@ -165,7 +165,8 @@ impl Store for MemoryStore {
         ensures capped { self.new.faults ≤ 2 ^ 64 - 1 }
 
         // When it fails, and how it goes on.
-        ensures fails { result ≢ Err WriteRefused.NoMemory → IsErr result ↔ Contains self.old.failing_writes (one_more self.old.writes) }
+        ensures fails { result ≢ Err WriteRefused.NoMemory
+            → (IsErr result ↔ Contains self.old.failing_writes (one_more self.old.writes)) }
         ensures ok_state { OnOk result (self.new ≡ record self.old {
           copies = self.new.copies;
           writes = one_more self.old.writes;
