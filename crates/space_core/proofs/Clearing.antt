@@ -1,5 +1,5 @@
 -- What becomes of a space when the pages of a region give their frames up, and when the region then goes.
-use Rattle.std.proofs.Common.{◌≡◌, ℕ, ◌+◌, ◌≤◌, true, false, ◌&&◌, if◌then◌else◌, List, Option, Some, None, is_some, refl, sym, ap, inl, inr, ◌∙◌, arith, subst}
+use Rattle.std.proofs.Common.{◌≡◌, ℕ, Bool, ◌+◌, ◌≤◌, true, false, ◌&&◌, if◌then◌else◌, List, Option, Some, None, is_some, refl, sym, ap, inl, inr, ◌∙◌, arith, subst}
 use Rattle.std.proofs.lemmas.Bool.{cases_Bool, cond-true, cond-false, true≢false}
 use Rattle.std.proofs.lemmas.Option.{same_Some}
 use Rattle.pager_model.specs.declared.call.Call.TheVariants.{Map, Unmap}
@@ -14,11 +14,11 @@ use Rattle.region_table.specs.Table.{IsTable}
 use Rattle.space_core.specs.Beginning.{IsRange, Unmapped as IsUnmapped}
 use Rattle.space_core.specs.NewPages.{IsNew, done}
 use Rattle.space_core.specs.Pages.{Protects}
-use Rattle.space_core.specs.Standing.{Kept, answer_entry, rights_by}
-use Rattle.space_core.specs.Tables.{Table, frame_in, word_in, own_in}
+use Rattle.space_core.specs.Standing.{Kept, IsCopy, IsCopied, answer_entry, rights_by, is_settled, word_at}
+use Rattle.space_core.specs.Tables.{Table, frame_in, own_in, dirty_in}
+use Rattle.store_core.specs.Stored.{Stored, copy_at, zero_words, DropsCopies}
 use Rattle.space_core.proofs.Finding.{found_from, found_without}
-use Rattle.space_core.proofs.Serving.{kept}
-use Rattle.space_core.proofs.TableLemmas.{word_in-absent}
+use Rattle.space_core.proofs.Serving.{kept, dirty_in-absent, zero_at}
 
 pub range_in_space : (old : Kept) (first len : ℕ) → IsTable old.regions → IsRange old first len → first + len ≤ 1048576
 range_in_space old first len ordered range =
@@ -51,35 +51,98 @@ module _ (number : ℕ) (regions : List Region) (t u : Table) (page : ℕ) (r : 
             (sym (ap is_some same) ∙ is, rw (same, mine) refl)
       ]
 
-  word_rest : (w : ℕ → ℕ → ℕ) → ((p i : ℕ) → has_page p r ≡ false → w p i ≡ word_in t p i) → (p i : ℕ) → (if has_page p r then 0 else w p i) ≡ word_in u p i
-  word_rest w before p i =
-      elim (cases_Bool (has_page p r)) [
-        | inl has ↦ cond-true _ _ _ has ∙ sym (protects.word p i ∙ word_in-absent t p i (none p has))
-        | inr hasnt ↦ cond-false _ _ _ hasnt ∙ before p i hasnt ∙ sym (protects.word p i)
-      ]
+  -- and with it the copies of its pages
+  module _ (old new : Stored) (drops : DropsCopies r.first r.length old new) where
+    abbrev cleared : Kept
+    cleared = kept number regions t None (Some r) None old
 
-  pub unmaps : IsUnmapped (kept number regions t None (Some r)) (kept number rest u None None) page (record { reply = Done; hit = false; size = None })
-  unmaps =
-      record {
-        done = refl;
-        same_number = refl;
-        same_frames = protects.count;
-        resting = record { none_pending = refl; none_clearing = refl };
-        allowed = λ st s c n q found next.
-            let e : region_at st.flat.regions page ≡ Some q = ap (λ rs. region_at rs page) s.regions ∙ found in
-            let same : r ≡ q = same_Some _ _ (sym at ∙ found) in
-            let empty : (p : ℕ) → in_range q.first q.length p ≡ true → st.base p ≡ None = λ p has. s.base p ∙ none p (ap (has_page p) same ∙ has) in
-            record { reply = (ap unmap_reply_at e, λ l. subst (λ (o : Option Region). IsClearedAt st c o) (sym e) (record { next = next; none = empty })); parts = refl; hit = refl; size = refl };
-        stands = λ st s c n.
-            let e : region_at st.flat.regions page ≡ Some r = ap (λ rs. region_at rs page) s.regions ∙ at in
-            record {
-              told = s.told;
-              regions = ap (without_region page) s.regions;
-              rights = λ p has. let kept_right = rights_rest p has in s.rights p kept_right.0 ∙ kept_right.1;
-              base = λ p. s.base p ∙ sym (protects.frame p);
-              words = λ p i out. ap (λ o. if goes o p then 0 else st.flat.words p i) e ∙ word_rest st.flat.words s.words p i;
-            };
-      }
+    abbrev left : Kept
+    left = kept number rest u None None None new
+
+    dirty_rest : (dirty : Bool) (p : ℕ) → (has_page p r ≡ false → dirty ≡ dirty_in t p) → (if has_page p r then false else dirty) ≡ dirty_in u p
+    dirty_rest dirty p was =
+        elim (cases_Bool (has_page p r)) [
+          | inl has ↦ cond-true _ _ _ has ∙ sym (protects.dirty p ∙ dirty_in-absent t p (none p has))
+          | inr hasnt ↦ cond-false _ _ _ hasnt ∙ was hasnt ∙ sym (protects.dirty p)
+        ]
+
+    settled_rest : (p : ℕ) → is_settled left p ≡ is_settled cleared p
+    settled_rest p = ap (λ o. is_some o && true) (protects.frame p)
+
+    -- where the store tells its copies
+    module _ (tells : old.tells ≡ true) where
+      copy_gone : (p : ℕ) → has_page p r ≡ true → copy_at new p ≡ Some zero_words
+      copy_gone p has = drops.copies tells p ∙ cond-true _ _ _ has
+
+      copy_left : (p : ℕ) → has_page p r ≡ false → copy_at new p ≡ copy_at old p
+      copy_left p hasnt = drops.copies tells p ∙ cond-false _ _ _ hasnt
+
+      -- the words of a region's pages are those of their copies, which were dropped
+      word_gone : (p i : ℕ) → has_page p r ≡ true → word_at left p i ≡ 0
+      word_gone p i has =
+          let unsettled : is_settled left p ≡ false = settled_rest p ∙ ap (λ o. is_some o && true) (none p has) in
+          cond-false _ _ _ unsettled ∙ rw (copy_gone p has) (zero_at 1024 i)
+
+      word_left : (p i : ℕ) → has_page p r ≡ false → word_at left p i ≡ word_at cleared p i
+      word_left p i hasnt =
+          elim (cases_Bool (is_settled cleared p)) [
+            | inl settled ↦ cond-true _ _ _ (settled_rest p ∙ settled) ∙ protects.word p i ∙ sym (cond-true _ _ _ settled)
+            | inr unsettled ↦ cond-false _ _ _ (settled_rest p ∙ unsettled) ∙ rw (copy_left p hasnt) refl ∙ sym (cond-false _ _ _ unsettled)
+          ]
+
+      word_rest : (w p i : ℕ) → (has_page p r ≡ false → w ≡ word_at cleared p i) → (if has_page p r then 0 else w) ≡ word_at left p i
+      word_rest w p i was =
+          elim (cases_Bool (has_page p r)) [
+            | inl has ↦ cond-true _ _ _ has ∙ sym (word_gone p i has)
+            | inr hasnt ↦ cond-false _ _ _ hasnt ∙ was hasnt ∙ sym (word_left p i hasnt)
+          ]
+
+      copies_rest : (o : Option (ℕ → ℕ)) (p : ℕ) → (has_page p r ≡ false → IsCopy o (copy_at old p)) → IsCopy (if has_page p r then Some (λ i. 0) else o) (copy_at new p)
+      copies_rest o p was =
+          elim (cases_Bool (has_page p r)) [
+            | inl has ↦ rw (has, copy_gone p has) (λ i. sym (zero_at 1024 i))
+            | inr hasnt ↦ rw (hasnt, copy_left p hasnt) (was hasnt)
+          ]
+
+      copied_rest : (p : ℕ) → (has_page p r ≡ false → IsCopied cleared p) → IsCopied left p
+      copied_rest p was =
+          elim (cases_Bool (has_page p r)) [
+            | inl has ↦ record { words = zero_words; known = copy_gone p has; equal = λ i. word_gone p i has ∙ sym (zero_at 1024 i) }
+            | inr hasnt ↦ let is = was hasnt in record { words = is.words; known = copy_left p hasnt ∙ is.known; equal = λ i. word_left p i hasnt ∙ is.equal i }
+          ]
+
+    pub unmaps : IsUnmapped cleared left page (record { reply = Done; hit = false; size = None })
+    unmaps =
+        record {
+          done = refl;
+          same_number = refl;
+          same_frames = protects.count;
+          resting = record { none_pending = refl; none_clearing = refl; none_paged = refl };
+          allowed = λ st s c n q found next.
+              let e : region_at st.flat.regions page ≡ Some q = ap (λ rs. region_at rs page) s.beside.regions ∙ found in
+              let same : r ≡ q = same_Some _ _ (sym at ∙ found) in
+              let empty : (p : ℕ) → in_range q.first q.length p ≡ true → st.base p ≡ None = λ p has. s.base p ∙ none p (ap (has_page p) same ∙ has) in
+              record { reply = (ap unmap_reply_at e, λ l. subst (λ (o : Option Region). IsClearedAt st c o) (sym e) (record { next = next; none = empty })); parts = refl; hit = refl; size = refl };
+          stands = λ st s c n.
+              let e : region_at st.flat.regions page ≡ Some r = ap (λ rs. region_at rs page) s.beside.regions ∙ at in
+              record {
+                beside = record {
+                  regions = ap (without_region page) s.beside.regions;
+                  rights = λ p has. let kept_right = rights_rest p has in s.beside.rights p kept_right.0 ∙ kept_right.1;
+                  dirty = λ p out. ap (λ o. if goes o p then false else st.flat.dirty p) e ∙ dirty_rest (st.flat.dirty p) p (s.beside.dirty p);
+                  told = λ told. let w = s.beside.told told in record {
+                    tells = drops.tells ∙ w.tells;
+                    words = λ p i out. ap (λ o. if goes o p then 0 else st.flat.words p i) e ∙ word_rest w.tells (st.flat.words p i) p i (w.words p i);
+                    copies = λ p out staying. rw e (copies_rest w.tells (st.flat.copies p) p (λ hasnt. w.copies p hasnt refl));
+                    copied = λ p out level. copied_rest w.tells p (λ hasnt. w.copied p hasnt (ap (λ b. b && true) (sym (protects.dirty p)) ∙ level));
+                  };
+                  tied = λ p i word said settled. protects.word p i ∙ s.beside.tied p i word said (sym (settled_rest p) ∙ settled);
+                  untied = s.beside.untied;
+                  highest = omega (arith, s.beside.highest, drops.faults);
+                };
+                base = λ p. s.base p ∙ sym (protects.frame p);
+              };
+        }
 
 -- A page of a region that was unmapped, and then of one that was mapped.
 module _ (st : SpaceState) (c d m n space page first len p : ℕ) (kind : Kind) (rights : Rights) (r : Region) (at : region_at st.flat.regions page ≡ Some r)
