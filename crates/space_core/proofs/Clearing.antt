@@ -1,6 +1,7 @@
 -- What becomes of a space when the pages of a region give their frames up, and when the region then goes.
-use Rattle.std.proofs.Common.{◌≡◌, ℕ, Bool, ◌+◌, ◌≤◌, true, false, ◌&&◌, if◌then◌else◌, List, Option, Some, None, is_some, refl, sym, ap, inl, inr, ◌∙◌, arith, subst}
-use Rattle.std.proofs.lemmas.Bool.{cases_Bool, cond-true, cond-false, true≢false}
+use Rattle.std.proofs.Common.{◌≡◌, ◌≢◌, ℕ, Bool, ◌+◌, ◌<◌, ◌≤◌, true, false, ◌&&◌, not, if◌then◌else◌, List, Option, Some, None, is_some, refl, sym, ap, inl, inr, ◌∙◌, arith, subst}
+use Rattle.std.proofs.lemmas.Bool.{cases_Bool, cases_lt, cond-true, cond-false, true≢false}
+use Rattle.std.proofs.lemmas.Bool.Decides.{nat_tests}
 use Rattle.std.proofs.lemmas.Option.{same_Some}
 use Rattle.pager_model.specs.declared.call.Call.TheVariants.{Map, Unmap}
 use Rattle.pager_model.specs.declared.region.Kind.{Kind}
@@ -11,18 +12,94 @@ use Rattle.pager_model.specs.Flat.{goes, is_lawful}
 use Rattle.pager_model.specs.Regions.{has_page, in_range, region_at, without_region, unmap_reply_at}
 use Rattle.pager_model.specs.SpaceStates.{SpaceState, SpaceAllows, IsClearedAt, space_after}
 use Rattle.region_table.specs.Table.{IsTable}
-use Rattle.space_core.specs.Beginning.{IsRange, Unmapped as IsUnmapped}
+use Rattle.space_core.specs.Beginning.{SameRegions, IsRange, ClearsOne, Unmapped as IsUnmapped}
 use Rattle.space_core.specs.NewPages.{IsNew, done}
-use Rattle.space_core.specs.Pages.{Protects}
-use Rattle.space_core.specs.Standing.{Kept, IsCopy, IsCopied, answer_entry, rights_by, is_settled, word_at}
+use Rattle.space_core.specs.Pages.{Moves, Protects, IsFirstResident}
+use Rattle.space_core.specs.Standing.{Kept, IsCopy, IsCopied, answer_entry, rights_by, is_page, is_settled, word_at}
 use Rattle.space_core.specs.Tables.{Table, frame_in, own_in, dirty_in}
 use Rattle.store_core.specs.Stored.{Stored, copy_at, zero_words, DropsCopies}
-use Rattle.space_core.proofs.Finding.{found_from, found_without}
+use Rattle.space_core.proofs.Finding.{in_bounds, found_from, found_without}
 use Rattle.space_core.proofs.Serving.{kept, dirty_in-absent, zero_at}
 
 pub range_in_space : (old : Kept) (first len : ℕ) → IsTable old.regions → IsRange old first len → first + len ≤ 1048576
 range_in_space old first len ordered range =
     omega (arith, (found_from 0 old.regions ordered.in_order first range.region range.at).in_space, range.first_is, range.length_is)
+
+-- A page of the range that is cleared gives its frame up.
+module _ (number : ℕ) (regions : List Region) (t u : Table) (pending : Option ℕ) (was is : Option Region) (paged : Option ℕ) (store : Stored)
+    (first len page : ℕ) (within : in_range first len page ≡ true) (moves : Moves page None t u) where
+  abbrev having : Kept
+  having = kept number regions t pending was paged store
+
+  abbrev lacking : Kept
+  lacking = kept number regions u pending is paged store
+
+  frame_gone : frame_in u page ≡ None
+  frame_gone = moves.frame page ∙ grind (arith, nat_tests)
+
+  frame_others : (p : ℕ) → p ≢ page → frame_in u p ≡ frame_in t p
+  frame_others p n = moves.frame p ∙ grind (arith, nat_tests)
+
+  dirty_others : (p : ℕ) → p ≢ page → dirty_in t p ≡ dirty_in u p
+  dirty_others p n = sym (moves.dirty p ∙ grind (arith, nat_tests))
+
+  same_taken : SameRegions having lacking
+  same_taken = record { number = refl; frames = moves.same.count; regions = refl; rights = λ p. ap (λ o. rights_by o (region_at regions p)) (moves.same.own p) }
+
+  outside : (p : ℕ) → in_range first len p ≡ false → p ≢ page
+  outside p out e = true≢false (sym within ∙ ap (in_range first len) (sym e) ∙ out)
+
+  settled_other : (p : ℕ) → is_settled lacking p ≡ true → p ≢ page
+  settled_other p settled e = true≢false (sym settled ∙ ap (is_settled lacking) e ∙ ap (λ o. is_some o && not (is_page page pending)) frame_gone)
+
+  settled_others : (p : ℕ) → p ≢ page → is_settled lacking p ≡ is_settled having p
+  settled_others p n = ap (λ o. is_some o && not (is_page p pending)) (frame_others p n)
+
+  word_others : (p i : ℕ) → p ≢ page → word_at having p i ≡ word_at lacking p i
+  word_others p i n =
+      elim (cases_Bool (is_settled having p)) [
+        | inl settled ↦ cond-true _ _ _ settled ∙ sym (cond-true _ _ _ (settled_others p n ∙ settled) ∙ moves.word p i n)
+        | inr unsettled ↦ cond-false _ _ _ unsettled ∙ sym (cond-false _ _ _ (settled_others p n ∙ unsettled))
+      ]
+
+  pub clears_one : (frame : ℕ) → frame_in t page ≡ Some frame → ((p : ℕ) → in_range first len p ≡ true → p < page → frame_in t p ≡ None) → ClearsOne having lacking first len page frame
+  clears_one frame had lowest =
+      record {
+        within = within;
+        lowest = lowest;
+        gave = record { had = had; same = same_taken; gone = frame_gone; same_others = frame_others };
+        same_pending = refl;
+        same_paged = refl;
+        stands = λ st s. record {
+          beside = record {
+            regions = s.beside.regions;
+            rights = λ p has. s.beside.rights p has ∙ sym (same_taken.rights p);
+            dirty = λ p out. s.beside.dirty p out ∙ dirty_others p (outside p out);
+            told = λ told. let w = s.beside.told told in record {
+              tells = w.tells;
+              words = λ p i out. w.words p i out ∙ word_others p i (outside p out);
+              copies = w.copies;
+              copied = λ p out level.
+                  let before = w.copied p out (ap (λ b. b && not (is_page p paged)) (dirty_others p (outside p out)) ∙ level) in
+                  record { words = before.words; known = before.known; equal = λ i. sym (word_others p i (outside p out)) ∙ before.equal i };
+            };
+            tied = λ p i word said settled.
+                let other = settled_other p settled in
+                moves.word p i other ∙ s.beside.tied p i word said (sym (settled_others p other) ∙ settled);
+            untied = s.beside.untied;
+            highest = s.beside.highest;
+          };
+          base = λ p out. s.base p out ∙ sym (frame_others p (outside p out));
+        };
+      }
+
+-- the lowest page from a page on is the lowest of the range, where none before it is resident
+pub none_below : (t : Table) (first len from end page : ℕ) → ((p : ℕ) → first ≤ p → p < from → frame_in t p ≡ None) → IsFirstResident t from end page → (p : ℕ) → in_range first len p ≡ true → p < page → frame_in t p ≡ None
+none_below t first len from end page before found p inside below =
+    elim (cases_lt p from) [
+      | inl l ↦ before p (in_bounds first len p inside).0 l
+      | inr past ↦ found.lowest p past below
+    ]
 
 -- A region goes after none of its pages is resident.
 module _ (number : ℕ) (regions : List Region) (t u : Table) (page : ℕ) (r : Region) (ordered : IsTable regions)
