@@ -27,4 +27,4 @@ returns g c =
     let none = rw region at cleared.3 in
     let clearing : c.self.inside.clearing ≡ Some c.in-Ok.region = cleared.2 ∙ ap Some region in
     rw (c.in-Ok.ensures.after, c.answered.ensures, ← c.self.view_is, pending, clearing, paged)
-    (unmaps c.self.inside.number c.self.inside.regions c.self.inside.table _ c.args.page c.in-Ok.region c.self.invariant.ordered c.in-Ok.ensures.region c.self.invariant.own none c.set_own.ensures _ _ c.drop_pages.ensures)
+    (unmaps c.self.inside.number c.self.inside.regions c.self.inside.table _ c.args.page c.in-Ok.region c.self.invariant.ordered c.in-Ok.ensures.region c.self.invariant.own none c.set_own.ensures _ _ c.drop_pages.ensures.dropped)
