@@ -110,6 +110,7 @@ module _ (number : ℕ) (regions : List Region) (t : Table) (page len : ℕ) (ki
         };
         memory = λ lacking. cc;
       }
+
 -- what is kept of regions that changed, where none is being unmapped
 pub changed_kept : (regions changed : List Region) (t u : Table) (pending : Option ℕ) (was clearing : Option Region) (scan scan' : ℕ) → IsKept regions t pending was scan → IsTable changed → ((p : ℕ) → region_at changed p ≡ None → own_in u p ≡ None) → clearing ≡ None → IsKept changed u pending clearing scan'
 changed_kept regions changed t u pending was clearing scan scan' k ordered own none =

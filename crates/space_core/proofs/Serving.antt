@@ -1,5 +1,5 @@
 -- What becomes of a space when a page gets a frame, and when a load or a store is served.
-use Rattle.std.proofs.Common.{◌≡◌, ◌≢◌, ℕ, ◌<◌, Bool, true, false, ◌&&◌, ◌==◌, not, if◌then◌else◌, List, [], Option, Some, None, is_some, length, replicate, slice_index_or, refl, sym, ap, inl, inr, ◌∙◌, ◌⊎◌, arith, subst}
+use Rattle.std.proofs.Common.{◌≡◌, ◌≢◌, ℕ, ◌<◌, Bool, true, false, ◌&&◌, ◌==◌, not, if◌then◌else◌, List, [], Option, Some, None, is_some, length, replicate, slice_index_or, refl, sym, ap, inl, inr, ◌∙◌, ◌⊎◌, arith}
 use Rattle.std.proofs.lemmas.Bool.{cases_Bool, cases_eq, cases_lt, and_parts, cond-true, cond-false, true≢false}
 use Rattle.std.proofs.lemmas.Bool.Decides.{nat_tests}
 use Rattle.std.proofs.lemmas.Option.{none-some, same_Some}
@@ -14,9 +14,9 @@ use Rattle.pager_model.specs.SpaceStates.{SpaceState, IsResident, IsValue, IsWor
 use Rattle.space_core.specs.Beginning.{Places, Finishes, SameRegions}
 use Rattle.space_core.specs.Keeping.{IsKept}
 use Rattle.space_core.specs.Pages.{SameOwn, IsFresh, Moves, Writes}
-use Rattle.space_core.specs.Standing.{Kept, StandsFor, IsCopied, rights_by, word_at, is_settled, is_behind, is_page, is_allowed, dirty_at}
+use Rattle.space_core.specs.Standing.{Kept, StandsFor, rights_by, word_at, is_settled, is_allowed}
 use Rattle.space_core.specs.Tables.{Table, frame_in, word_in, dirty_in, flag_in}
-use Rattle.store_core.specs.Stored.{Stored, copy_at, zero_words, TellsZero}
+use Rattle.store_core.specs.Stored.{Stored, zero_words, TellsZero}
 
 abbrev pub kept : ℕ → List Region → Table → Option ℕ → Option Region → Option ℕ → Stored → Kept
 kept number regions table pending clearing paged store =
@@ -202,10 +202,11 @@ module _ (number : ℕ) (regions : List Region) (t : Table) (store : Stored) (ad
           allowed = λ st s c n. record {
             reply = (
               word_asked st.told _ _ word
-              (λ tells. asked st s ∙ ap Value ((s.beside.told tells).words (page_of address) (word_of address) refl ∙ cond-true _ _ _ settled_here ∙ sym read))
-              (_, asked st s)
-              (λ w was. read ∙ s.beside.tied (page_of address) (word_of address) w was settled_here),
-              λ lawful. resident_from st.base (page_of address) _ (s.base (page_of address)) resident);
+                  (λ tells. asked st s ∙ ap Value ((s.beside.told tells).words (page_of address) (word_of address) refl ∙ cond-true _ _ _ settled_here ∙ sym read))
+                  (_, asked st s)
+                  (λ w was. read ∙ s.beside.tied (page_of address) (word_of address) w was settled_here),
+              λ lawful. resident_from st.base (page_of address) _ (s.base (page_of address)) resident,
+            );
             parts = refl;
             hit = refl;
             size = refl;

@@ -1,4 +1,4 @@
-use Rattle.std.proofs.Common.{◌≡◌, ◌∙◌, ap, sym, None}
+use Rattle.std.proofs.Common.{◌∙◌, ap, sym}
 use Rattle.pager_model.specs.declared.call.Call.TheVariants.{Grow}
 use Rattle.pager_model.specs.Regions.{grow_reply}
 use Rattle.space_core.specs.Standing.{Kept}
@@ -9,25 +9,23 @@ use Rattle.space_core.proofs.space.Space.begin_grow.Goals.{in-Ok, in-Err}
 
 pub invariant_of-self : goal.invariant_of-self
 invariant_of-self g c =
-    let clearing : c.self.inside.clearing ≡ None = ap (λ (k : Kept). k.clearing) c.self.view_is ∙ c.requires.resting.none_clearing in
+    let rest = rw (← c.self.view_is) at c.requires.resting in
     elim c.match-grow.branch [
       | in-Ok w ↦
           let at = grow_found c.self.inside.regions c.args.page c.args.by w.in-Ok.ensures.reply in
           rw w.in-Ok.ensures.after
           (changed_kept _ _ _ _ _ _ _ _ _ c.self.invariant (rw w.in-Ok.ensures.after at c.grow.ensures.ordered)
-          (grow_own c.self.inside.number c.self.inside.regions _ _ _ c.self.invariant.ordered w.in-Ok.ensures.reply c.self.invariant.own at.0 at.1) clearing)
+          (grow_own c.self.inside.number c.self.inside.regions _ _ _ c.self.invariant.ordered w.in-Ok.ensures.reply c.self.invariant.own at.0 at.1) rest.none_clearing)
       | in-Err w ↦ rw w.in-Err.ensures.unchanged c.self.invariant
     ]
 
 pub returns : goal.returns
 returns g c =
-    let pending : c.self.inside.pending ≡ None = ap (λ (k : Kept). k.pending) c.self.view_is ∙ c.requires.resting.none_pending in
-    let clearing : c.self.inside.clearing ≡ None = ap (λ (k : Kept). k.clearing) c.self.view_is ∙ c.requires.resting.none_clearing in
-    let paged : c.self.inside.paged ≡ None = ap (λ (k : Kept). k.paged) c.self.view_is ∙ c.requires.resting.none_paged in
+    let rest = rw (← c.self.view_is) at c.requires.resting in
     elim c.match-grow.branch [
       | in-Ok w ↦
           let at = grow_found c.self.inside.regions c.args.page c.args.by w.in-Ok.ensures.reply in
-          rw (w.result-is, w.answered.ensures, w.in-Ok.ensures.after, ← c.self.view_is, pending, clearing, paged)
+          rw (w.result-is, w.answered.ensures, w.in-Ok.ensures.after, ← c.self.view_is, rest.none_pending, rest.none_clearing, rest.none_paged)
           (grows_region c.self.inside.number c.self.inside.regions c.self.inside.table c.args.page c.args.by c.self.invariant.ordered w.in-Ok.ensures.reply c.self.invariant.own at.0 at.1 _)
       | in-Err w ↦
           let e = w.in-Err.ensures in

@@ -1,4 +1,4 @@
-use Rattle.std.proofs.Common.{◌≡◌, ◌∙◌, ap, sym, None}
+use Rattle.std.proofs.Common.{◌∙◌, ap, sym}
 use Rattle.pager_model.specs.declared.call.Call.TheVariants.{Map}
 use Rattle.pager_model.specs.Regions.{map_reply}
 use Rattle.space_core.specs.Standing.{Kept}
@@ -9,23 +9,21 @@ use Rattle.space_core.proofs.space.Space.begin_map.Goals.{in-Ok, in-Err}
 
 pub invariant_of-self : goal.invariant_of-self
 invariant_of-self g c =
-    let clearing : c.self.inside.clearing ≡ None = ap (λ (k : Kept). k.clearing) c.self.view_is ∙ c.requires.resting.none_clearing in
+    let rest = rw (← c.self.view_is) at c.requires.resting in
     elim c.match-map.branch [
       | in-Ok w ↦
           rw w.in-Ok.ensures.after
           (changed_kept _ _ _ _ _ _ _ _ _ c.self.invariant (rw w.in-Ok.ensures.after at c.map.ensures.ordered)
-          (map_own c.self.inside.number c.self.inside.regions _ _ _ _ _ w.in-Ok.ensures.reply c.self.invariant.own) clearing)
+          (map_own c.self.inside.number c.self.inside.regions c.self.inside.table c.args.page c.args.length c.args.kind c.args.rights w.in-Ok.ensures.reply c.self.invariant.own) rest.none_clearing)
       | in-Err w ↦ rw w.in-Err.ensures.unchanged c.self.invariant
     ]
 
 pub returns : goal.returns
 returns g c =
-    let pending : c.self.inside.pending ≡ None = ap (λ (k : Kept). k.pending) c.self.view_is ∙ c.requires.resting.none_pending in
-    let clearing : c.self.inside.clearing ≡ None = ap (λ (k : Kept). k.clearing) c.self.view_is ∙ c.requires.resting.none_clearing in
-    let paged : c.self.inside.paged ≡ None = ap (λ (k : Kept). k.paged) c.self.view_is ∙ c.requires.resting.none_paged in
+    let rest = rw (← c.self.view_is) at c.requires.resting in
     elim c.match-map.branch [
       | in-Ok w ↦
-          rw (w.result-is, w.answered.ensures, w.in-Ok.ensures.after, ← c.self.view_is, pending, clearing, paged)
+          rw (w.result-is, w.answered.ensures, w.in-Ok.ensures.after, ← c.self.view_is, rest.none_pending, rest.none_clearing, rest.none_paged)
           (maps c.self.inside.number c.self.inside.regions c.self.inside.table _ _ _ _ w.in-Ok.ensures.reply c.self.invariant.own _)
       | in-Err w ↦
           let e = w.in-Err.ensures in
