@@ -1,18 +1,20 @@
 -- A refusal changes nothing that a space shows.
-use Rattle.std.proofs.Common.{◌≡◌, ◌≢◌, ℕ, Bool, true, false, if◌then◌else◌, List, [], ◌∷◌, Option, Some, None, refl, sym, ap, inl, inr, ◌∙◌, ◌||◌, not, subst}
+use Rattle.std.proofs.Common.{◌≡◌, ◌≢◌, ℕ, Bool, true, false, if◌then◌else◌, List, [], ◌∷◌, Option, Some, None, is_some, refl, sym, ap, inl, inr, ◌∙◌, ◌||◌, not, subst}
 use Rattle.std.proofs.lemmas.Bool.{cases_Bool, cond-true, cond-false, true≢false}
-use Rattle.std.proofs.lemmas.Option.{none-some}
+use Rattle.std.proofs.lemmas.Option.{none-some, same_Some}
 use Rattle.pager_model.specs.declared.call.Call.{Call}
 use Rattle.pager_model.specs.declared.call.Call.TheVariants.{Map, Grow, Unmap, Protect, Load, Store, Sync, Evict}
 use Rattle.pager_model.specs.declared.region.Region.{Region}
 use Rattle.pager_model.specs.declared.reply.Reply.{Reply}
 use Rattle.pager_model.specs.declared.reply.Reply.TheVariants.{Done, Value, Unmapped, Denied, Overlap, OutOfSpace, NotGrowing, RegionsFull, NoMemory}
-use Rattle.pager_model.specs.Flat.{Flat, reply_of, is_lawful, after_call}
+use Rattle.pager_model.specs.Flat.{Flat, reply_of, is_lawful, after_call, access_reply, page_of, can_read, can_write}
 use Rattle.pager_model.specs.Order.{is_plain, is_no_memory, is_unmapped, is_answered_alone}
 use Rattle.pager_model.specs.Regions.{has_page, region_at, range_in, without_region, unmap_reply_at, map_reply, grow_reply, grow_reply_at}
-use Rattle.pager_model.specs.SpaceStates.{SpaceState, answered_flat, ReplyAllowed, said_at, base_after_answer, frees_its_page}
+use Rattle.pager_model.specs.SpaceStates.{SpaceState, answered_flat, ReplyAllowed, access_page, said_at, base_after_answer, frees_its_page}
 use Rattle.space_core.specs.Beginning.{BeginsAnswered}
-use Rattle.space_core.specs.Standing.{Kept, StandsFor, IsResting, IsCopy, CanBegin}
+use Rattle.space_core.specs.Standing.{Kept, StandsFor, IsResting, IsCopy, CanBegin, rights_at, rights_by}
+use Rattle.space_core.specs.Pages.{permits}
+use Rattle.space_core.specs.Tables.{own_in}
 use Rattle.store_core.specs.Stored.{copy_at}
 
 -- what a space shows of flat memory is the same
@@ -169,6 +171,25 @@ begins_refused old call r can resting refused alone asked =
       };
       memory = λ lacking. absurd (no_memory_refused r refused lacking);
     }
+
+access_denied : (o : Option Region) (allowed : Bool) (reply : Reply) → is_some o ≡ true → allowed ≡ false → access_reply o allowed reply ≡ Denied
+access_denied None allowed reply has refused = cc
+access_denied (Some r) allowed reply has refused = cond-false _ _ _ refused
+
+rights_here : (old : Kept) (q page : ℕ) (r : Region) → q ≡ page → region_at old.regions page ≡ Some r → (is_some (region_at old.regions q) ≡ true) × (rights_at old q ≡ rights_by (own_in old.table page) (Some r))
+rights_here old q page r same at = rw same (ap is_some at, ap (rights_by (own_in old.table page)) at)
+
+-- an access without the right is denied
+pub begins_denied : (old : Kept) (call : Call) (page : ℕ) (r : Region) → CanBegin call → IsResting old → access_page call ≡ Some page → region_at old.regions page ≡ Some r → permits (rights_by (own_in old.table page) (Some r)) call ≡ false → BeginsAnswered old old call (record { reply = Denied; hit = false; size = None })
+begins_denied old (Load space address) page r can resting is at refused =
+    let here = rights_here old (page_of address) page r (same_Some _ _ is) at in
+    begins_refused old (Load space address) Denied can resting refl tt (λ st s.
+    access_denied _ _ _ (ap (λ rs. is_some (region_at rs (page_of address))) s.beside.regions ∙ here.0) (ap can_read (s.beside.rights (page_of address) here.0 ∙ here.1) ∙ refused))
+begins_denied old (Store space address word) page r can resting is at refused =
+    let here = rights_here old (page_of address) page r (same_Some _ _ is) at in
+    begins_refused old (Store space address word) Denied can resting refl tt (λ st s.
+    access_denied _ _ _ (ap (λ rs. is_some (region_at rs (page_of address))) s.beside.regions ∙ here.0) (ap can_write (s.beside.rights (page_of address) here.0 ∙ here.1) ∙ refused))
+begins_denied old call page r can resting is at refused = absurd (none-some page is)
 
 refused_if : (b : Bool) (x y : Reply) → is_refusal x ≡ true → (y ≢ Done → is_refusal y ≡ true) → (if b then x else y) ≢ Done → is_refusal (if b then x else y) ≡ true
 refused_if true x y hx hy n = hx
