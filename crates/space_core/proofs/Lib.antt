@@ -1,3 +1,4 @@
+pub mod SameView
 pub mod TableLemmas
 pub mod Serving
 pub mod Refusing
