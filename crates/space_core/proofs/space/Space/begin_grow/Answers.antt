@@ -8,7 +8,7 @@ use Rattle.space_core.proofs.space.Space.begin_grow.Goals as goal
 use Rattle.space_core.proofs.space.Space.begin_grow.Goals.{in-Ok, in-Err}
 
 pub invariant_of-self : goal.invariant_of-self
-invariant_of-self c =
+invariant_of-self g c =
     let clearing : c.self.inside.clearing ≡ None = ap (λ (k : Kept). k.clearing) c.self.view_is ∙ c.requires.resting.none_clearing in
     elim c.match-grow.branch [
       | in-Ok w ↦
@@ -20,19 +20,20 @@ invariant_of-self c =
     ]
 
 pub returns : goal.returns
-returns c =
+returns g c =
     let pending : c.self.inside.pending ≡ None = ap (λ (k : Kept). k.pending) c.self.view_is ∙ c.requires.resting.none_pending in
     let clearing : c.self.inside.clearing ≡ None = ap (λ (k : Kept). k.clearing) c.self.view_is ∙ c.requires.resting.none_clearing in
+    let paged : c.self.inside.paged ≡ None = ap (λ (k : Kept). k.paged) c.self.view_is ∙ c.requires.resting.none_paged in
     elim c.match-grow.branch [
       | in-Ok w ↦
           let at = grow_found c.self.inside.regions c.args.page c.args.by w.in-Ok.ensures.reply in
-          rw (w.result-is, w.answered.ensures, w.in-Ok.ensures.after, ← c.self.view_is, pending, clearing)
-          (grows_region c.self.inside.number c.self.inside.regions c.self.inside.table c.args.page c.args.by c.self.invariant.ordered w.in-Ok.ensures.reply c.self.invariant.own at.0 at.1)
+          rw (w.result-is, w.answered.ensures, w.in-Ok.ensures.after, ← c.self.view_is, pending, clearing, paged)
+          (grows_region c.self.inside.number c.self.inside.regions c.self.inside.table c.args.page c.args.by c.self.invariant.ordered w.in-Ok.ensures.reply c.self.invariant.own at.0 at.1 _)
       | in-Err w ↦
           let e = w.in-Err.ensures in
           let refused = rw e.reply at (grow_refused c.self.inside.regions c.args.page c.args.by (λ done. e.refusal (sym e.reply ∙ done))) in
           let asked = ap (λ (k : Kept). grow_reply k.regions c.args.page c.args.by) (sym c.self.view_is) ∙ e.reply in
           rw (w.result-is, w.answered-in-Err.ensures, e.unchanged, c.self.view_is)
           (begins_refused c.args.self.now (Grow c.args.self.now.number c.args.page c.args.by) w.in-Err.refusal c.requires.can c.requires.resting refused tt
-          (λ st s. ap (λ rs. grow_reply rs c.args.page c.args.by) s.regions ∙ asked))
+          (λ st s. ap (λ rs. grow_reply rs c.args.page c.args.by) s.beside.regions ∙ asked))
     ]

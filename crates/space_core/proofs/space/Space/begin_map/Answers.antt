@@ -8,7 +8,7 @@ use Rattle.space_core.proofs.space.Space.begin_map.Goals as goal
 use Rattle.space_core.proofs.space.Space.begin_map.Goals.{in-Ok, in-Err}
 
 pub invariant_of-self : goal.invariant_of-self
-invariant_of-self c =
+invariant_of-self g c =
     let clearing : c.self.inside.clearing ≡ None = ap (λ (k : Kept). k.clearing) c.self.view_is ∙ c.requires.resting.none_clearing in
     elim c.match-map.branch [
       | in-Ok w ↦
@@ -19,18 +19,19 @@ invariant_of-self c =
     ]
 
 pub returns : goal.returns
-returns c =
+returns g c =
     let pending : c.self.inside.pending ≡ None = ap (λ (k : Kept). k.pending) c.self.view_is ∙ c.requires.resting.none_pending in
     let clearing : c.self.inside.clearing ≡ None = ap (λ (k : Kept). k.clearing) c.self.view_is ∙ c.requires.resting.none_clearing in
+    let paged : c.self.inside.paged ≡ None = ap (λ (k : Kept). k.paged) c.self.view_is ∙ c.requires.resting.none_paged in
     elim c.match-map.branch [
       | in-Ok w ↦
-          rw (w.result-is, w.answered.ensures, w.in-Ok.ensures.after, ← c.self.view_is, pending, clearing)
-          (maps c.self.inside.number c.self.inside.regions c.self.inside.table _ _ _ _ w.in-Ok.ensures.reply c.self.invariant.own)
+          rw (w.result-is, w.answered.ensures, w.in-Ok.ensures.after, ← c.self.view_is, pending, clearing, paged)
+          (maps c.self.inside.number c.self.inside.regions c.self.inside.table _ _ _ _ w.in-Ok.ensures.reply c.self.invariant.own _)
       | in-Err w ↦
           let e = w.in-Err.ensures in
           let refused = rw e.reply at (map_refused c.self.inside.regions c.args.page c.args.length (λ done. e.refusal (sym e.reply ∙ done))) in
           let asked = ap (λ (k : Kept). map_reply k.regions c.args.page c.args.length) (sym c.self.view_is) ∙ e.reply in
           rw (w.result-is, w.answered-in-Err.ensures, e.unchanged, c.self.view_is)
           (begins_refused c.args.self.now (Map c.args.self.now.number c.args.page c.args.length c.args.kind c.args.rights) w.in-Err.refusal c.requires.can c.requires.resting refused tt
-          (λ st s. ap (λ rs. map_reply rs c.args.page c.args.length) s.regions ∙ asked))
+          (λ st s. ap (λ rs. map_reply rs c.args.page c.args.length) s.beside.regions ∙ asked))
     ]
