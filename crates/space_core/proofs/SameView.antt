@@ -1,11 +1,12 @@
 -- What a space stands for page by page: what is seen the same of a page stands as before.
-use Rattle.std.proofs.Common.{◌≡◌, ◌≢◌, ℕ, ◌≤◌, Bool, true, false, ◌&&◌, not, if◌then◌else◌, Option, Some, None, is_some, refl, sym, ap, inl, inr, ◌∙◌, arith, subst}
-use Rattle.std.proofs.lemmas.Bool.{cases_Bool, cases_eq, cond-true, cond-false}
+use Rattle.std.proofs.Common.{nat_lt, ◌<◌, ◌⊎◌, ◌≡◌, ◌≢◌, ℕ, ◌≤◌, Bool, true, false, ◌&&◌, not, if◌then◌else◌, Option, Some, None, is_some, refl, sym, ap, inl, inr, ◌∙◌, arith, subst}
+use Rattle.std.proofs.lemmas.Bool.{cases_Bool, cases_eq, cond-true, cond-false, cond_both}
 use Rattle.pager_model.specs.declared.region.Region.{Region}
 use Rattle.pager_model.specs.Regions.{region_at}
-use Rattle.pager_model.specs.SpaceStates.{SpaceState}
+use Rattle.pager_model.specs.SpaceStates.{SpaceState, Next, Rises}
+use Rattle.space_core.specs.Beginning.{SameRegions}
 use Rattle.space_core.specs.Standing.{Kept, StandsBeside, StandsFor, TellsWords, IsCopy, IsCopied, frame_at, rights_at, dirty_at, is_page, is_in, is_settled, is_behind, word_at, word_in_copy}
-use Rattle.space_core.specs.Tables.{word_in}
+use Rattle.space_core.specs.Tables.{word_in, own_in}
 use Rattle.store_core.specs.Stored.{copy_at}
 
 -- what a space and a state have in common of one page, but for its frame
@@ -104,16 +105,23 @@ same_at aside old new st after s same_told p same state =
       untied = λ i pending. state.tied i ∙ was.untied i (sym same.pending ∙ pending);
     }
 
--- A space that is seen the same on every page stands for the same state.
-pub same_stands : (old new : Kept) (st : SpaceState) → SameWhole old new → new.clearing ≡ old.clearing → ((p : ℕ) → SameAt old new p) → StandsFor old st → StandsFor new st
-same_stands old new st same clearing at s =
-    let unmoved : (p : ℕ) → SameStateAt st st p = λ p. record { dirty = refl; words = λ i. refl; copies = refl; tied = λ i. refl } in
+-- the state with another next maker and another highest count of faults
+abbrev pub raised : SpaceState → Next → ℕ → SpaceState
+raised st next highest = record { flat = st.flat; base = st.base; next = next; told = st.told; tied = st.tied; highest = highest }
+
+-- A space that is seen the same on every page stands for the same state, whose highest count may have risen.
+pub raised_stands : (old new : Kept) (st : SpaceState) (next : Next) (highest : ℕ) → SameWhole old new → new.clearing ≡ old.clearing → highest ≤ new.store.faults → ((p : ℕ) → SameAt old new p) → StandsFor old st → StandsFor new (raised st next highest)
+raised_stands old new st next highest same clearing within at s =
+    let unmoved : (p : ℕ) → SameStateAt st (raised st next highest) p = λ p. record { dirty = refl; words = λ i. refl; copies = refl; tied = λ i. refl } in
     record {
-      beside = subst (λ (r : Option Region). StandsBeside (is_in r) new st) (sym clearing) (beside_from (is_in old.clearing) old new st st same (record { regions = refl; rights = λ p. refl; told = refl })
-          (omega (arith, s.beside.highest, same.faults)) s.beside
-          (λ p. same_at (is_in old.clearing) old new st st s.beside refl p (at p) (unmoved p)));
+      beside = subst (λ (r : Option Region). StandsBeside (is_in r) new (raised st next highest)) (sym clearing) (beside_from (is_in old.clearing) old new st (raised st next highest) same
+          (record { regions = refl; rights = λ p. refl; told = refl }) within s.beside
+          (λ p. same_at (is_in old.clearing) old new st (raised st next highest) s.beside refl p (at p) (unmoved p)));
       base = λ p. s.base p ∙ sym ((at p).frame);
     }
+
+pub same_stands : (old new : Kept) (st : SpaceState) → SameWhole old new → new.clearing ≡ old.clearing → ((p : ℕ) → SameAt old new p) → StandsFor old st → StandsFor new st
+same_stands old new st same clearing at s = raised_stands old new st st.next st.highest same clearing (omega (arith, s.beside.highest, same.faults)) at s
 
 -- A space where one page changed stands for a state where nothing but that page did.
 pub one_stands : (old new : Kept) (st after : SpaceState) (page : ℕ) → SameWhole old new → new.clearing ≡ old.clearing → SameRest st after → after.highest ≤ new.store.faults
@@ -130,3 +138,16 @@ one_stands old new st after page same clearing rest highest at state base s here
         | inr n ↦ base p n ∙ s.base p ∙ sym ((at p n).frame)
       ];
     }
+
+-- a count that rises over the store's is above each fault that was told
+pub rises_told : (highest before count : ℕ) → highest ≤ before → Rises before count → Rises highest count
+rises_told highest before count within rises = elim rises [ inl l ↦ inl (omega arith) | inr e ↦ inr e ]
+
+-- the highest count stays within the store's
+pub within_faults : (highest count faults : ℕ) → highest ≤ faults → count ≡ faults → (if nat_lt highest count then count else highest) ≤ faults
+within_faults highest count faults within is = cond_both (nat_lt highest count) count highest (λ n. n ≤ faults) (λ _. omega arith) (λ _. within)
+
+-- the space's number, its regions and their rights are the same where the table's own rights are
+pub same_regions : (old new : Kept) → new.number ≡ old.number → new.frames ≡ old.frames → new.regions ≡ old.regions → ((p : ℕ) → own_in new.table p ≡ own_in old.table p) → SameRegions old new
+same_regions old new number frames regions own =
+    record { number = number; frames = frames; regions = regions; rights = λ p. rw (own p, regions) refl }
