@@ -66,10 +66,8 @@ impl PageTable {
         ensures number { result ≡ frame_in self.now page }
         ensures in_space { IfSome result (λ _. page < 1048576) }
     {
-        match self.numbers.get(page as usize) {
-            Some(Some(number)) => Some(u32::from(*number)),
-            _ => None,
-        }
+        let number = (*self.numbers.get(page as usize)?)?;
+        Some(u32::from(number))
     }
 
     /// The rights that a protect gave a page.
@@ -86,10 +84,10 @@ impl PageTable {
         requires index { index < 1024 }
         ensures { result ≡ word_in self.now page index }
     {
-        let Some(number) = self.numbers[page as usize] else {
+        let Some(number) = self.number(page) else {
             return 0;
         };
-        match &self.frames[usize::from(number)] {
+        match &self.frames[number as usize] {
             Some(frame) => word(frame, index),
             None => 0,
         }
@@ -199,13 +197,13 @@ impl PageTable {
         requires resident { frame_in self.old page ≢ None }
         ensures { Writes page index word self.old self.new }
     {
-        let Some(number) = self.numbers[page as usize] else {
-            return;
+        let Some(number) = self.number(page) else {
+            unreachable!()
         };
-        if let Some(frame) = &mut self.frames[usize::from(number)] {
+        if let Some(frame) = &mut self.frames[number as usize] {
             set_word(frame, index, word);
         }
-        self.dirty[usize::from(number)] = true;
+        self.dirty[number as usize] = true;
     }
 
     /// Gives the pages of a range these rights of their own, or none.

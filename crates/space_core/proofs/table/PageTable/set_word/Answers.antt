@@ -1,43 +1,42 @@
 use Rattle.std.proofs.Common.{◌∙◌, sym, ap, Some, arith, refl}
-use Rattle.std.proofs.lemmas.Option.{none-some, same_Some}
-use Rattle.pager_model.specs.Frame.{Framed}
 use Rattle.space_core.specs.contracts.table.PageTable.{the_view}
-use Rattle.space_core.proofs.TableLemmas.{frame_in-read, frame-read, found_within, rewritten_paged, writes}
+use Rattle.space_core.proofs.TableLemmas.{frame-read, found_within, frame-number, frame-there, stored_paged, writes}
 use Rattle.space_core.proofs.table.PageTable.set_word.Goals as goal
 use Rattle.space_core.proofs.table.PageTable.set_word.Goals.{in-Some-index_mut, in_default-index_mut}
 
-pub returns-in_default : goal.returns-in_default
-returns-in_default c =
-    let none = frame_in-read (the_view c.self.inside) _ _ c.self.invariant c.requires.page c.index.ensures ∙ c.in_default.is in
-    absurd ((rw (← c.self.view_is) at c.requires.resident) none)
-
 pub index_mut-requires : goal.index_mut-requires
 index_mut-requires c =
-    let has = frame_in-read (the_view c.self.inside) _ _ c.self.invariant c.requires.page c.index.ensures ∙ c.in-Some.is ∙ ap Some (sym c.from.ensures) in
+    let has = sym (rw (← c.self.view_is) at c.number.ensures.number) ∙ c.in-Some.is in
     omega (arith, found_within _ c.self.invariant _ _ has)
+
+pub index_mut-requires-2 : goal.index_mut-requires-2
+index_mut-requires-2 c =
+    let has = sym (rw (← c.self.view_is) at c.number.ensures.number) ∙ c.in-Some.is in
+    elim c.match-index_mut.branch [
+      | in-Some-index_mut w ↦ rw w.self-inside-is (omega (arith, c.self.invariant.flags, found_within _ c.self.invariant _ _ has))
+      | in_default-index_mut w ↦ rw w.self-inside-is (omega (arith, c.self.invariant.flags, found_within _ c.self.invariant _ _ has))
+    ]
 
 pub invariant_of-self : goal.invariant_of-self
 invariant_of-self c =
     let t = the_view c.self.inside in
-    let has = frame_in-read t _ _ c.self.invariant c.requires.page c.index.ensures ∙ c.in-Some.is ∙ ap Some (sym c.from.ensures) in
-    let at = c.self.invariant.found _ _ has in
-    let is = sym at.is ∙ frame-read t _ _ (found_within _ c.self.invariant _ _ has) c.index_mut.ensures.value in
+    let has = sym (rw (← c.self.view_is) at c.number.ensures.number) ∙ c.in-Some.is in
+    let read = frame-read t _ _ (found_within _ c.self.invariant _ _ has) c.index_mut.ensures.value in
     elim c.match-index_mut.branch [
       | in-Some-index_mut w ↦
-          let same = same_Some _ _ (is ∙ w.in-Some-index_mut.is) in
-          rw (w.self-inside-is, w.set_word.ensures.written) (rewritten_paged t c.self.invariant _ _ _ has (ap (λ (f : Framed). f.number) (sym same) ∙ at.number_is))
-      | in_default-index_mut w ↦ absurd (none-some _ (sym (is ∙ w.in_default-index_mut.is)))
+          let is = read ∙ w.in-Some-index_mut.is in
+          rw (w.self-inside-is, w.set_word.ensures.written) (stored_paged t c.self.invariant _ _ _ has (frame-number t c.self.invariant _ _ _ has is))
+      | in_default-index_mut w ↦ absurd (frame-there t c.self.invariant _ _ has (read ∙ w.in_default-index_mut.is))
     ]
 
 pub returns : goal.returns
 returns c =
     let t = the_view c.self.inside in
-    let has = frame_in-read t _ _ c.self.invariant c.requires.page c.index.ensures ∙ c.in-Some.is ∙ ap Some (sym c.from.ensures) in
-    let at = c.self.invariant.found _ _ has in
-    let is = sym at.is ∙ frame-read t _ _ (found_within _ c.self.invariant _ _ has) c.index_mut.ensures.value in
+    let has = sym (rw (← c.self.view_is) at c.number.ensures.number) ∙ c.in-Some.is in
+    let read = frame-read t _ _ (found_within _ c.self.invariant _ _ has) c.index_mut.ensures.value in
     elim c.match-index_mut.branch [
       | in-Some-index_mut w ↦
-          let same = same_Some _ _ (is ∙ w.in-Some-index_mut.is) in
-          rw (w.self-inside-is, ← c.self.view_is, w.set_word.ensures.written) (writes t c.self.invariant _ _ _ has (ap (λ (f : Framed). f.number) (sym same) ∙ at.number_is) _ _ _ (at.is ∙ ap Some same) refl (omega (arith, w.set_word.ensures.count, c.requires.index)))
-      | in_default-index_mut w ↦ absurd (none-some _ (sym (is ∙ w.in_default-index_mut.is)))
+          let is = read ∙ w.in-Some-index_mut.is in
+          rw (w.self-inside-is, ← c.self.view_is, w.set_word.ensures.written) (writes t c.self.invariant _ _ _ has (frame-number t c.self.invariant _ _ _ has is) _ _ _ is refl (omega (arith, w.set_word.ensures.count, c.requires.index)))
+      | in_default-index_mut w ↦ absurd (frame-there t c.self.invariant _ _ has (read ∙ w.in_default-index_mut.is))
     ]
