@@ -26,12 +26,12 @@ zero_words = replicate 1024 0
 -- the copy of a page in a list of copies: that of its first entry, and zero where it has none
 abbrev pub copy_in : List Copy → ℕ → Option (List ℕ)
 copy_in [] page = Some zero_words
-copy_in (c ∷ copies) page = if c.page == page then c.words else copy_in copies page
+copy_in (c ∷ copies) page = if page == c.page then c.words else copy_in copies page
 
 -- the page is one of the pages, or they are every page
 abbrev pub is_among : Option (List ℕ) → ℕ → Bool
 is_among None page = true
-is_among (Some pages) page = list_any (λ p. p == page) pages
+is_among (Some pages) page = list_any (λ p. page == p) pages
 
 -- the copy of a page: its words, or nothing where they are unknown
 unfoldable pub copy_at : Stored → ℕ → Option (List ℕ)

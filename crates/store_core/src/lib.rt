@@ -1,9 +1,14 @@
 //! Backing stores: what keeps the copies of a space's pages.
 //!
 //! A `Store` reads, writes and drops the copies of pages, and counts its faults. Contracts see one as the plain record `Stored` of
-//! specs/Stored.antt.
+//! specs/Stored.antt. `MemoryStore` keeps the copies in memory.
 #![tactic(auto)]
 
+mod memory;
 mod store;
 
+pub use memory::MemoryStore;
 pub use store::{Store, StoreFailed, WriteRefused};
+
+#[cfg(test)]
+mod tests;

@@ -4,6 +4,8 @@ ghost use Rattle.std.specs.Prelude.{◌≡◌, ◌-◌, ◌^◌, ◌≤◌, true
 ghost use Rattle.pager_model.specs.SpaceStates.{Rises};
 ghost use Rattle.store_core.specs.Stored.{Stored, copy_at, keeps_at, SameCopies, SetsCopy, DropsCopies, TellsZero};
 
+use pager_model::NoMemory;
+
 /// A read failed. The store's count of faults rose.
 #[derive(Clone, Copy, Debug, PartialEq, Eq)]
 pub struct StoreFailed;
@@ -15,6 +17,17 @@ pub enum WriteRefused {
     Failed,
     /// There was no memory for a page that the store doesn't keep. Nothing changed.
     NoMemory,
+}
+
+impl From<NoMemory> for WriteRefused {
+    ghost use Rattle.std.specs.Prelude.{◌≡◌};
+    ghost use Rattle.store_core.specs.declared.store.WriteRefused.TheVariants.{NoMemory};
+
+    ghost from_gives = { λ _ refused. refused ≡ NoMemory };
+
+    fn from(_: NoMemory) -> WriteRefused {
+        WriteRefused::NoMemory
+    }
 }
 
 /// What keeps a copy of each page of a space. Each page begins with a copy of zero words.

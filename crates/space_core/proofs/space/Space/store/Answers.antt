@@ -4,17 +4,18 @@ use Rattle.space_core.proofs.Serving.{stores, same_kept}
 use Rattle.space_core.proofs.space.Space.store.Goals as goal
 
 pub set_word-requires-clause-resident : goal.set_word-requires-clause-resident
-set_word-requires-clause-resident c = rw (c.page_of.ensures.page, ap (λ (k : Kept). k.table) c.self.view_is) c.requires.resident
+set_word-requires-clause-resident g c = rw (c.page_of.ensures.page, ap (λ (k : Kept). k.table) c.self.view_is) c.requires.resident
 
 pub invariant_of-self : goal.invariant_of-self
-invariant_of-self c =
+invariant_of-self g c =
     let pending : c.self.inside.pending ≡ None = ap (λ (k : Kept). k.pending) c.self.view_is ∙ c.requires.resting.none_pending in
     rw pending (same_kept _ _ _ _ _ _ c.self.invariant c.set_word.ensures.same c.set_word.ensures.frame)
 
 pub returns : goal.returns
-returns c =
+returns g c =
     let pending : c.self.inside.pending ≡ None = ap (λ (k : Kept). k.pending) c.self.view_is ∙ c.requires.resting.none_pending in
     let clearing : c.self.inside.clearing ≡ None = ap (λ (k : Kept). k.clearing) c.self.view_is ∙ c.requires.resting.none_clearing in
+    let paged : c.self.inside.paged ≡ None = ap (λ (k : Kept). k.paged) c.self.view_is ∙ c.requires.resting.none_paged in
     let writes = rw (c.page_of.ensures.page, c.word_of.ensures.word) at c.set_word.ensures in
-    rw (← c.self.view_is, c.answered.ensures, pending, clearing)
-    (stores _ _ _ _ c.args.address c.args.word (rw (← c.self.view_is) at c.requires.resident) writes (rw (← c.self.view_is) at c.requires.allowed))
+    rw (← c.self.view_is, c.answered.ensures, pending, clearing, paged)
+    (stores _ _ _ _ _ c.args.address c.args.word (rw (← c.self.view_is) at c.requires.resident) writes (rw (← c.self.view_is) at c.requires.allowed))
