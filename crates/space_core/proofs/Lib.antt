@@ -1,3 +1,6 @@
+pub mod SameView
+pub mod Filling
+pub mod Copying
 pub mod TableLemmas
 pub mod Serving
 pub mod Refusing
