@@ -111,10 +111,17 @@ module _ (number : ℕ) (regions : List Region) (t : Table) (page len : ℕ) (ki
         memory = λ lacking. cc;
       }
 
--- what is kept of regions that changed, where none is being unmapped
-pub changed_kept : (regions changed : List Region) (t u : Table) (pending : Option ℕ) (was clearing : Option Region) (scan scan' : ℕ) → IsKept regions t pending was scan → IsTable changed → ((p : ℕ) → region_at changed p ≡ None → own_in u p ≡ None) → clearing ≡ None → IsKept changed u pending clearing scan'
-changed_kept regions changed t u pending was clearing scan scan' k ordered own none =
-    record { ordered = ordered; own = own; pending_in = k.pending_in; clearing_in = λ r h. absurd (none-some r (sym none ∙ h)) }
+-- what is kept of regions that changed, where no page is pending and no region is being unmapped
+pub changed_kept : (regions changed : List Region) (t u : Table) (pending : Option ℕ) (was clearing : Option Region) (scan scan' : ℕ) → IsKept regions t pending was scan → IsTable changed → ((p : ℕ) → region_at changed p ≡ None → own_in u p ≡ None) → pending ≡ None → clearing ≡ None → IsKept changed u pending clearing scan'
+changed_kept regions changed t u pending was clearing scan scan' k ordered own rests none =
+    record {
+      ordered = ordered;
+      own = own;
+      pending_in = k.pending_in;
+      pending_clean = λ p h. absurd (none-some p (sym rests ∙ h));
+      pending_alone = λ p h. none;
+      clearing_in = λ r h. absurd (none-some r (sym none ∙ h));
+    }
 
 -- a region grows
 module _ (number : ℕ) (regions : List Region) (t : Table) (page by : ℕ) (ordered : IsTable regions)

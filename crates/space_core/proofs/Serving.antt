@@ -123,15 +123,20 @@ module _ (number : ℕ) (regions : List Region) (t u : Table) (store : Stored) (
         };
       }
 
--- where no region is being unmapped, any page may get a frame or lose it
-pub placed_kept : (regions : List Region) (t u : Table) (p : Option ℕ) (page scan : ℕ) (clearing : Option Region) → IsKept regions t p clearing scan → SameOwn t u → page < 1048576 → clearing ≡ None → IsKept regions u (Some page) clearing scan
-placed_kept regions t u p page scan clearing k same in_space none =
+-- where no region is being unmapped, any page may get a frame
+pub placed_kept : (regions : List Region) (t u : Table) (p : Option ℕ) (page frame scan : ℕ) (clearing : Option Region) → IsKept regions t p clearing scan → Moves page (Some frame) t u → page < 1048576 → clearing ≡ None → IsKept regions u (Some page) clearing scan
+placed_kept regions t u p page frame scan clearing k moves in_space none =
     record {
       ordered = k.ordered;
-      own = λ q h. same.own q ∙ k.own q h;
+      own = λ q h. moves.same.own q ∙ k.own q h;
       pending_in = λ q h. omega (arith, same_Some _ _ h);
+      pending_clean = λ q h. clean q (same_Some _ _ h);
+      pending_alone = λ q h. none;
       clearing_in = λ r h. absurd (none-some r (sym none ∙ h));
     }
+  where
+    clean : (q : ℕ) → page ≡ q → dirty_in u q ≡ false
+    clean q e = moves.dirty q ∙ grind (arith, nat_tests)
 
 -- what is kept stays so where each page keeps its frame
 pub same_kept : (regions : List Region) (t u : Table) (p : Option ℕ) (clearing : Option Region) (scan : ℕ) → IsKept regions t p clearing scan → SameOwn t u → ((q : ℕ) → frame_in u q ≡ frame_in t q) → IsKept regions u None clearing scan
@@ -140,6 +145,8 @@ same_kept regions t u p clearing scan k same frame =
       ordered = k.ordered;
       own = λ q h. same.own q ∙ k.own q h;
       pending_in = λ q h. absurd (none-some q h);
+      pending_clean = λ q h. absurd (none-some q h);
+      pending_alone = λ q h. absurd (none-some q h);
       clearing_in = λ r h. let was = k.clearing_in r h in record { is_region = was.is_region; begun = was.begun; done = λ q a b. frame q ∙ was.done q a b };
     }
 

@@ -15,7 +15,7 @@ invariant_of-self g c =
           let at = grow_found c.self.inside.regions c.args.page c.args.by w.in-Ok.ensures.reply in
           rw w.in-Ok.ensures.after
           (changed_kept _ _ _ _ _ _ _ _ _ c.self.invariant (rw w.in-Ok.ensures.after at c.grow.ensures.ordered)
-          (grow_own c.self.inside.number c.self.inside.regions _ _ _ c.self.invariant.ordered w.in-Ok.ensures.reply c.self.invariant.own at.0 at.1) rest.none_clearing)
+          (grow_own c.self.inside.number c.self.inside.regions _ _ _ c.self.invariant.ordered w.in-Ok.ensures.reply c.self.invariant.own at.0 at.1) rest.none_pending rest.none_clearing)
       | in-Err w ↦ rw w.in-Err.ensures.unchanged c.self.invariant
     ]
 

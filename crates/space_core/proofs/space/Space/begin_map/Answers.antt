@@ -14,7 +14,7 @@ invariant_of-self g c =
       | in-Ok w ↦
           rw w.in-Ok.ensures.after
           (changed_kept _ _ _ _ _ _ _ _ _ c.self.invariant (rw w.in-Ok.ensures.after at c.map.ensures.ordered)
-          (map_own c.self.inside.number c.self.inside.regions c.self.inside.table c.args.page c.args.length c.args.kind c.args.rights w.in-Ok.ensures.reply c.self.invariant.own) rest.none_clearing)
+          (map_own c.self.inside.number c.self.inside.regions c.self.inside.table c.args.page c.args.length c.args.kind c.args.rights w.in-Ok.ensures.reply c.self.invariant.own) rest.none_pending rest.none_clearing)
       | in-Err w ↦ rw w.in-Err.ensures.unchanged c.self.invariant
     ]
 

@@ -13,4 +13,4 @@ pub invariant_of-self : goal.invariant_of-self
 invariant_of-self g c =
     let rest = rw (← c.self.view_is) at c.requires.resting in
     changed_kept _ _ _ _ _ _ _ _ _ c.self.invariant c.self.invariant.ordered
-    (protect_own c.self.inside.regions _ _ _ _ _ c.self.invariant.ordered c.in-Some.region (sym c.in-Some.ensures.value) (omega arith) c.set_own.ensures c.self.invariant.own) rest.none_clearing
+    (protect_own c.self.inside.regions _ _ _ _ _ c.self.invariant.ordered c.in-Some.region (sym c.in-Some.ensures.value) (omega arith) c.set_own.ensures c.self.invariant.own) rest.none_pending rest.none_clearing
