@@ -123,6 +123,12 @@ raised_stands old new st next highest same clearing within at s =
 pub same_stands : (old new : Kept) (st : SpaceState) → SameWhole old new → new.clearing ≡ old.clearing → ((p : ℕ) → SameAt old new p) → StandsFor old st → StandsFor new st
 same_stands old new st same clearing at s = raised_stands old new st st.next st.highest same clearing (omega (arith, s.beside.highest, same.faults)) at s
 
+-- whoever makes the next entry, a space stands for the state
+pub next_stands : (k : Kept) (st : SpaceState) (next : Next) → StandsFor k st → StandsFor k (raised st next st.highest)
+next_stands k st next s =
+    raised_stands k k st next st.highest (record { regions = refl; rights = λ p. refl; tells = refl; faults = omega arith }) refl s.beside.highest
+    (λ p. record { frame = refl; dirty = refl; pending = refl; paged = refl; word = λ i _. refl; copy = λ _. refl }) s
+
 -- A space where one page changed stands for a state where nothing but that page did.
 pub one_stands : (old new : Kept) (st after : SpaceState) (page : ℕ) → SameWhole old new → new.clearing ≡ old.clearing → SameRest st after → after.highest ≤ new.store.faults
     → ((p : ℕ) → p ≢ page → SameAt old new p) → ((p : ℕ) → p ≢ page → SameStateAt st after p) → ((p : ℕ) → p ≢ page → after.base p ≡ st.base p)
