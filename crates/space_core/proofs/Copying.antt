@@ -102,11 +102,9 @@ module _ (old : Kept) (resting : IsResting old) where
         tells = sets.tells;
         faults = saves.never_falls;
         others = λ tells p n. sets.copies tells p ∙ cond-false _ _ _ (ne_eqb p page n);
-        copied = λ st s told. (
-          wrote.0,
-          sets.copies (s.beside.told told).tells page ∙ cond-true _ _ _ (eq-eqb page page refl),
-          λ i. cond-true _ _ _ (settled_if page (dirty_resident old.table page saves.was)) ∙ wrote.1 i,
-        );
+        copied = λ st s told.
+            (wrote.0, sets.copies (s.beside.told told).tells page ∙ cond-true _ _ _ (eq-eqb page page refl),
+            λ i. cond-true _ _ _ (settled_if page (dirty_resident old.table page saves.was)) ∙ wrote.1 i);
       }
   saved new page false saves =
       let same : new.store ≡ old.store = ap (λ (k : Kept). k.store) (saves.left refl) in
