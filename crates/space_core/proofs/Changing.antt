@@ -17,6 +17,7 @@ use Rattle.space_core.specs.Keeping.{IsKept}
 use Rattle.space_core.specs.Pages.{Protects}
 use Rattle.space_core.specs.Standing.{Kept, rights_by}
 use Rattle.space_core.specs.Tables.{Table, own_in}
+use Rattle.store_core.specs.Stored.{Stored}
 use Rattle.space_core.proofs.Finding.{in_bounds, bounds_in, none_in, found_has, found_from, found_same, found_with, found_grown, grown}
 use Rattle.space_core.proofs.Serving.{kept}
 
@@ -80,29 +81,47 @@ module _ (number : ℕ) (regions : List Region) (t : Table) (page len : ℕ) (ki
             rw (done, hasnt, at) (before p (sym (ap is_some at) ∙ is))
       ]
 
-  pub maps : BeginsAnswered (kept number regions t None None) (kept number mapped t None None) (Map number page len kind rights) (record { reply = Done; hit = false; size = None })
-  maps =
+  pub maps : (store : Stored) → BeginsAnswered (kept number regions t None None None store) (kept number mapped t None None None store) (Map number page len kind rights) (record { reply = Done; hit = false; size = None })
+  maps store =
       record {
         alone = refl;
         same_number = refl;
         same_frames = refl;
-        resting = record { none_pending = refl; none_clearing = refl };
+        resting = record { none_pending = refl; none_clearing = refl; none_paged = refl };
         answers = record {
-          allowed = λ st s c n. record { reply = (ap (λ rs. map_reply rs page len) s.regions ∙ done, λ l. tt); parts = refl; hit = refl; size = refl };
+          allowed = λ st s c n. record { reply = (ap (λ rs. map_reply rs page len) s.beside.regions ∙ done, λ l. tt); parts = refl; hit = refl; size = refl };
           stands = λ st s c n. record {
-            told = s.told;
-            regions = rw (s.regions, done) refl;
-            rights = rw s.regions (rights_mapped st.flat.rights s.rights);
+            beside = record {
+              regions = rw (s.beside.regions, done) refl;
+              rights = rw s.beside.regions (rights_mapped st.flat.rights s.beside.rights);
+              dirty = s.beside.dirty;
+              told = λ tells. let w = s.beside.told tells in record {
+                tells = w.tells;
+                words = w.words;
+                copies = w.copies;
+                copied = λ p out level. let was = w.copied p out level in record { words = was.words; known = was.known; equal = was.equal };
+              };
+              tied = s.beside.tied;
+              untied = s.beside.untied;
+              highest = s.beside.highest;
+            };
             base = s.base;
-            words = s.words;
           };
         };
+        memory = λ lacking. cc;
       }
 
--- what is kept of regions that changed, where none is being unmapped
-pub changed_kept : (regions changed : List Region) (t u : Table) (pending : Option ℕ) (was clearing : Option Region) (scan scan' : ℕ) → IsKept regions t pending was scan → IsTable changed → ((p : ℕ) → region_at changed p ≡ None → own_in u p ≡ None) → clearing ≡ None → IsKept changed u pending clearing scan'
-changed_kept regions changed t u pending was clearing scan scan' k ordered own none =
-    record { ordered = ordered; own = own; pending_in = k.pending_in; clearing_in = λ r h. absurd (none-some r (sym none ∙ h)) }
+-- what is kept of regions that changed, where no page is pending and no region is being unmapped
+pub changed_kept : (regions changed : List Region) (t u : Table) (pending : Option ℕ) (was clearing : Option Region) (scan scan' : ℕ) → IsKept regions t pending was scan → IsTable changed → ((p : ℕ) → region_at changed p ≡ None → own_in u p ≡ None) → pending ≡ None → clearing ≡ None → IsKept changed u pending clearing scan'
+changed_kept regions changed t u pending was clearing scan scan' k ordered own rests none =
+    record {
+      ordered = ordered;
+      own = own;
+      pending_in = k.pending_in;
+      pending_clean = λ p h. absurd (none-some p (sym rests ∙ h));
+      pending_alone = λ p h. none;
+      clearing_in = λ r h. absurd (none-some r (sym none ∙ h));
+    }
 
 -- a region grows
 module _ (number : ℕ) (regions : List Region) (t : Table) (page by : ℕ) (ordered : IsTable regions)
@@ -158,23 +177,34 @@ module _ (number : ℕ) (regions : List Region) (t : Table) (page by : ℕ) (ord
       same_first None = refl
       same_first (Some rights) = refl
 
-  pub grows_region : BeginsAnswered (kept number regions t None None) (kept number larger t None None) (Grow number page by) (record { reply = Done; hit = false; size = None })
-  grows_region =
+  pub grows_region : (store : Stored) → BeginsAnswered (kept number regions t None None None store) (kept number larger t None None None store) (Grow number page by) (record { reply = Done; hit = false; size = None })
+  grows_region store =
       record {
         alone = refl;
         same_number = refl;
         same_frames = refl;
-        resting = record { none_pending = refl; none_clearing = refl };
+        resting = record { none_pending = refl; none_clearing = refl; none_paged = refl };
         answers = record {
-          allowed = λ st s c n. record { reply = (ap (λ rs. grow_reply rs page by) s.regions ∙ done, λ l. tt); parts = refl; hit = refl; size = refl };
+          allowed = λ st s c n. record { reply = (ap (λ rs. grow_reply rs page by) s.beside.regions ∙ done, λ l. tt); parts = refl; hit = refl; size = refl };
           stands = λ st s c n. record {
-            told = s.told;
-            regions = rw (s.regions, done) refl;
-            rights = rw (s.regions, done, at) (rights_grown st.flat.rights s.rights);
+            beside = record {
+              regions = rw (s.beside.regions, done) refl;
+              rights = rw (s.beside.regions, done, at) (rights_grown st.flat.rights s.beside.rights);
+              dirty = s.beside.dirty;
+              told = λ tells. let w = s.beside.told tells in record {
+                tells = w.tells;
+                words = w.words;
+                copies = w.copies;
+                copied = λ p out level. let was = w.copied p out level in record { words = was.words; known = was.known; equal = was.equal };
+              };
+              tied = s.beside.tied;
+              untied = s.beside.untied;
+              highest = s.beside.highest;
+            };
             base = s.base;
-            words = s.words;
           };
         };
+        memory = λ lacking. cc;
       }
 
 -- a growth is done only where a region has the page

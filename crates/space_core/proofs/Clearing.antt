@@ -1,6 +1,7 @@
 -- What becomes of a space when the pages of a region give their frames up, and when the region then goes.
-use Rattle.std.proofs.Common.{◌≡◌, ℕ, ◌+◌, ◌≤◌, true, false, ◌&&◌, if◌then◌else◌, List, Option, Some, None, is_some, refl, sym, ap, inl, inr, ◌∙◌, arith, subst}
-use Rattle.std.proofs.lemmas.Bool.{cases_Bool, cond-true, cond-false, true≢false}
+use Rattle.std.proofs.Common.{◌≡◌, ◌≢◌, ℕ, Bool, ◌+◌, ◌<◌, ◌≤◌, true, false, ◌&&◌, not, if◌then◌else◌, List, Option, Some, None, is_some, refl, sym, ap, inl, inr, ◌∙◌, arith, subst}
+use Rattle.std.proofs.lemmas.Bool.{cases_Bool, cases_lt, cond-true, cond-false, true≢false}
+use Rattle.std.proofs.lemmas.Bool.Decides.{nat_tests}
 use Rattle.std.proofs.lemmas.Option.{same_Some}
 use Rattle.pager_model.specs.declared.call.Call.TheVariants.{Map, Unmap}
 use Rattle.pager_model.specs.declared.region.Kind.{Kind}
@@ -11,18 +12,94 @@ use Rattle.pager_model.specs.Flat.{goes, is_lawful}
 use Rattle.pager_model.specs.Regions.{has_page, in_range, region_at, without_region, unmap_reply_at}
 use Rattle.pager_model.specs.SpaceStates.{SpaceState, SpaceAllows, IsClearedAt, space_after}
 use Rattle.region_table.specs.Table.{IsTable}
-use Rattle.space_core.specs.Beginning.{IsRange, Unmapped as IsUnmapped}
+use Rattle.space_core.specs.Beginning.{SameRegions, IsRange, ClearsOne, Unmapped as IsUnmapped}
 use Rattle.space_core.specs.NewPages.{IsNew, done}
-use Rattle.space_core.specs.Pages.{Protects}
-use Rattle.space_core.specs.Standing.{Kept, answer_entry, rights_by}
-use Rattle.space_core.specs.Tables.{Table, frame_in, word_in, own_in}
-use Rattle.space_core.proofs.Finding.{found_from, found_without}
-use Rattle.space_core.proofs.Serving.{kept}
-use Rattle.space_core.proofs.TableLemmas.{word_in-absent}
+use Rattle.space_core.specs.Pages.{Moves, Protects, IsFirstResident}
+use Rattle.space_core.specs.Standing.{Kept, IsCopy, IsCopied, answer_entry, rights_by, is_page, is_settled, word_at}
+use Rattle.space_core.specs.Tables.{Table, frame_in, own_in, dirty_in}
+use Rattle.store_core.specs.Stored.{Stored, copy_at, zero_words, DropsCopies}
+use Rattle.space_core.proofs.Finding.{in_bounds, found_from, found_without}
+use Rattle.space_core.proofs.Serving.{kept, dirty_in-absent, zero_at}
 
 pub range_in_space : (old : Kept) (first len : ℕ) → IsTable old.regions → IsRange old first len → first + len ≤ 1048576
 range_in_space old first len ordered range =
     omega (arith, (found_from 0 old.regions ordered.in_order first range.region range.at).in_space, range.first_is, range.length_is)
+
+-- A page of the range that is cleared gives its frame up.
+module _ (number : ℕ) (regions : List Region) (t u : Table) (pending : Option ℕ) (was is : Option Region) (paged : Option ℕ) (store : Stored)
+    (first len page : ℕ) (within : in_range first len page ≡ true) (moves : Moves page None t u) where
+  abbrev having : Kept
+  having = kept number regions t pending was paged store
+
+  abbrev lacking : Kept
+  lacking = kept number regions u pending is paged store
+
+  frame_gone : frame_in u page ≡ None
+  frame_gone = moves.frame page ∙ grind (arith, nat_tests)
+
+  frame_others : (p : ℕ) → p ≢ page → frame_in u p ≡ frame_in t p
+  frame_others p n = moves.frame p ∙ grind (arith, nat_tests)
+
+  dirty_others : (p : ℕ) → p ≢ page → dirty_in t p ≡ dirty_in u p
+  dirty_others p n = sym (moves.dirty p ∙ grind (arith, nat_tests))
+
+  same_taken : SameRegions having lacking
+  same_taken = record { number = refl; frames = moves.same.count; regions = refl; rights = λ p. ap (λ o. rights_by o (region_at regions p)) (moves.same.own p) }
+
+  outside : (p : ℕ) → in_range first len p ≡ false → p ≢ page
+  outside p out e = true≢false (sym within ∙ ap (in_range first len) (sym e) ∙ out)
+
+  settled_other : (p : ℕ) → is_settled lacking p ≡ true → p ≢ page
+  settled_other p settled e = true≢false (sym settled ∙ ap (is_settled lacking) e ∙ ap (λ o. is_some o && not (is_page page pending)) frame_gone)
+
+  settled_others : (p : ℕ) → p ≢ page → is_settled lacking p ≡ is_settled having p
+  settled_others p n = ap (λ o. is_some o && not (is_page p pending)) (frame_others p n)
+
+  word_others : (p i : ℕ) → p ≢ page → word_at having p i ≡ word_at lacking p i
+  word_others p i n =
+      elim (cases_Bool (is_settled having p)) [
+        | inl settled ↦ cond-true _ _ _ settled ∙ sym (cond-true _ _ _ (settled_others p n ∙ settled) ∙ moves.word p i n)
+        | inr unsettled ↦ cond-false _ _ _ unsettled ∙ sym (cond-false _ _ _ (settled_others p n ∙ unsettled))
+      ]
+
+  pub clears_one : (frame : ℕ) → frame_in t page ≡ Some frame → ((p : ℕ) → in_range first len p ≡ true → p < page → frame_in t p ≡ None) → ClearsOne having lacking first len page frame
+  clears_one frame had lowest =
+      record {
+        within = within;
+        lowest = lowest;
+        gave = record { had = had; same = same_taken; gone = frame_gone; same_others = frame_others };
+        same_pending = refl;
+        same_paged = refl;
+        stands = λ st s. record {
+          beside = record {
+            regions = s.beside.regions;
+            rights = λ p has. s.beside.rights p has ∙ sym (same_taken.rights p);
+            dirty = λ p out. s.beside.dirty p out ∙ dirty_others p (outside p out);
+            told = λ told. let w = s.beside.told told in record {
+              tells = w.tells;
+              words = λ p i out. w.words p i out ∙ word_others p i (outside p out);
+              copies = w.copies;
+              copied = λ p out level.
+                  let before = w.copied p out (ap (λ b. b && not (is_page p paged)) (dirty_others p (outside p out)) ∙ level) in
+                  record { words = before.words; known = before.known; equal = λ i. sym (word_others p i (outside p out)) ∙ before.equal i };
+            };
+            tied = λ p i word said settled.
+                let other = settled_other p settled in
+                moves.word p i other ∙ s.beside.tied p i word said (sym (settled_others p other) ∙ settled);
+            untied = s.beside.untied;
+            highest = s.beside.highest;
+          };
+          base = λ p out. s.base p out ∙ sym (frame_others p (outside p out));
+        };
+      }
+
+-- the lowest page from a page on is the lowest of the range, where none before it is resident
+pub none_below : (t : Table) (first len from end page : ℕ) → ((p : ℕ) → first ≤ p → p < from → frame_in t p ≡ None) → IsFirstResident t from end page → (p : ℕ) → in_range first len p ≡ true → p < page → frame_in t p ≡ None
+none_below t first len from end page before found p inside below =
+    elim (cases_lt p from) [
+      | inl l ↦ before p (in_bounds first len p inside).0 l
+      | inr past ↦ found.lowest p past below
+    ]
 
 -- A region goes after none of its pages is resident.
 module _ (number : ℕ) (regions : List Region) (t u : Table) (page : ℕ) (r : Region) (ordered : IsTable regions)
@@ -51,35 +128,98 @@ module _ (number : ℕ) (regions : List Region) (t u : Table) (page : ℕ) (r : 
             (sym (ap is_some same) ∙ is, rw (same, mine) refl)
       ]
 
-  word_rest : (w : ℕ → ℕ → ℕ) → ((p i : ℕ) → has_page p r ≡ false → w p i ≡ word_in t p i) → (p i : ℕ) → (if has_page p r then 0 else w p i) ≡ word_in u p i
-  word_rest w before p i =
-      elim (cases_Bool (has_page p r)) [
-        | inl has ↦ cond-true _ _ _ has ∙ sym (protects.word p i ∙ word_in-absent t p i (none p has))
-        | inr hasnt ↦ cond-false _ _ _ hasnt ∙ before p i hasnt ∙ sym (protects.word p i)
-      ]
+  -- and with it the copies of its pages
+  module _ (old new : Stored) (drops : DropsCopies r.first r.length old new) where
+    abbrev cleared : Kept
+    cleared = kept number regions t None (Some r) None old
 
-  pub unmaps : IsUnmapped (kept number regions t None (Some r)) (kept number rest u None None) page (record { reply = Done; hit = false; size = None })
-  unmaps =
-      record {
-        done = refl;
-        same_number = refl;
-        same_frames = protects.count;
-        resting = record { none_pending = refl; none_clearing = refl };
-        allowed = λ st s c n q found next.
-            let e : region_at st.flat.regions page ≡ Some q = ap (λ rs. region_at rs page) s.regions ∙ found in
-            let same : r ≡ q = same_Some _ _ (sym at ∙ found) in
-            let empty : (p : ℕ) → in_range q.first q.length p ≡ true → st.base p ≡ None = λ p has. s.base p ∙ none p (ap (has_page p) same ∙ has) in
-            record { reply = (ap unmap_reply_at e, λ l. subst (λ (o : Option Region). IsClearedAt st c o) (sym e) (record { next = next; none = empty })); parts = refl; hit = refl; size = refl };
-        stands = λ st s c n.
-            let e : region_at st.flat.regions page ≡ Some r = ap (λ rs. region_at rs page) s.regions ∙ at in
-            record {
-              told = s.told;
-              regions = ap (without_region page) s.regions;
-              rights = λ p has. let kept_right = rights_rest p has in s.rights p kept_right.0 ∙ kept_right.1;
-              base = λ p. s.base p ∙ sym (protects.frame p);
-              words = λ p i out. ap (λ o. if goes o p then 0 else st.flat.words p i) e ∙ word_rest st.flat.words s.words p i;
-            };
-      }
+    abbrev left : Kept
+    left = kept number rest u None None None new
+
+    dirty_rest : (dirty : Bool) (p : ℕ) → (has_page p r ≡ false → dirty ≡ dirty_in t p) → (if has_page p r then false else dirty) ≡ dirty_in u p
+    dirty_rest dirty p was =
+        elim (cases_Bool (has_page p r)) [
+          | inl has ↦ cond-true _ _ _ has ∙ sym (protects.dirty p ∙ dirty_in-absent t p (none p has))
+          | inr hasnt ↦ cond-false _ _ _ hasnt ∙ was hasnt ∙ sym (protects.dirty p)
+        ]
+
+    settled_rest : (p : ℕ) → is_settled left p ≡ is_settled cleared p
+    settled_rest p = ap (λ o. is_some o && true) (protects.frame p)
+
+    -- where the store tells its copies
+    module _ (tells : old.tells ≡ true) where
+      copy_gone : (p : ℕ) → has_page p r ≡ true → copy_at new p ≡ Some zero_words
+      copy_gone p has = drops.copies tells p ∙ cond-true _ _ _ has
+
+      copy_left : (p : ℕ) → has_page p r ≡ false → copy_at new p ≡ copy_at old p
+      copy_left p hasnt = drops.copies tells p ∙ cond-false _ _ _ hasnt
+
+      -- the words of a region's pages are those of their copies, which were dropped
+      word_gone : (p i : ℕ) → has_page p r ≡ true → word_at left p i ≡ 0
+      word_gone p i has =
+          let unsettled : is_settled left p ≡ false = settled_rest p ∙ ap (λ o. is_some o && true) (none p has) in
+          cond-false _ _ _ unsettled ∙ rw (copy_gone p has) (zero_at 1024 i)
+
+      word_left : (p i : ℕ) → has_page p r ≡ false → word_at left p i ≡ word_at cleared p i
+      word_left p i hasnt =
+          elim (cases_Bool (is_settled cleared p)) [
+            | inl settled ↦ cond-true _ _ _ (settled_rest p ∙ settled) ∙ protects.word p i ∙ sym (cond-true _ _ _ settled)
+            | inr unsettled ↦ cond-false _ _ _ (settled_rest p ∙ unsettled) ∙ rw (copy_left p hasnt) refl ∙ sym (cond-false _ _ _ unsettled)
+          ]
+
+      word_rest : (w p i : ℕ) → (has_page p r ≡ false → w ≡ word_at cleared p i) → (if has_page p r then 0 else w) ≡ word_at left p i
+      word_rest w p i was =
+          elim (cases_Bool (has_page p r)) [
+            | inl has ↦ cond-true _ _ _ has ∙ sym (word_gone p i has)
+            | inr hasnt ↦ cond-false _ _ _ hasnt ∙ was hasnt ∙ sym (word_left p i hasnt)
+          ]
+
+      copies_rest : (o : Option (ℕ → ℕ)) (p : ℕ) → (has_page p r ≡ false → IsCopy o (copy_at old p)) → IsCopy (if has_page p r then Some (λ i. 0) else o) (copy_at new p)
+      copies_rest o p was =
+          elim (cases_Bool (has_page p r)) [
+            | inl has ↦ rw (has, copy_gone p has) (λ i. sym (zero_at 1024 i))
+            | inr hasnt ↦ rw (hasnt, copy_left p hasnt) (was hasnt)
+          ]
+
+      copied_rest : (p : ℕ) → (has_page p r ≡ false → IsCopied cleared p) → IsCopied left p
+      copied_rest p was =
+          elim (cases_Bool (has_page p r)) [
+            | inl has ↦ record { words = zero_words; known = copy_gone p has; equal = λ i. word_gone p i has ∙ sym (zero_at 1024 i) }
+            | inr hasnt ↦ let is = was hasnt in record { words = is.words; known = copy_left p hasnt ∙ is.known; equal = λ i. word_left p i hasnt ∙ is.equal i }
+          ]
+
+    pub unmaps : IsUnmapped cleared left page (record { reply = Done; hit = false; size = None })
+    unmaps =
+        record {
+          done = refl;
+          same_number = refl;
+          same_frames = protects.count;
+          resting = record { none_pending = refl; none_clearing = refl; none_paged = refl };
+          allowed = λ st s c n q found next.
+              let e : region_at st.flat.regions page ≡ Some q = ap (λ rs. region_at rs page) s.beside.regions ∙ found in
+              let same : r ≡ q = same_Some _ _ (sym at ∙ found) in
+              let empty : (p : ℕ) → in_range q.first q.length p ≡ true → st.base p ≡ None = λ p has. s.base p ∙ none p (ap (has_page p) same ∙ has) in
+              record { reply = (ap unmap_reply_at e, λ l. subst (λ (o : Option Region). IsClearedAt st c o) (sym e) (record { next = next; none = empty })); parts = refl; hit = refl; size = refl };
+          stands = λ st s c n.
+              let e : region_at st.flat.regions page ≡ Some r = ap (λ rs. region_at rs page) s.beside.regions ∙ at in
+              record {
+                beside = record {
+                  regions = ap (without_region page) s.beside.regions;
+                  rights = λ p has. let kept_right = rights_rest p has in s.beside.rights p kept_right.0 ∙ kept_right.1;
+                  dirty = λ p out. ap (λ o. if goes o p then false else st.flat.dirty p) e ∙ dirty_rest (st.flat.dirty p) p (s.beside.dirty p);
+                  told = λ told. let w = s.beside.told told in record {
+                    tells = drops.tells ∙ w.tells;
+                    words = λ p i out. ap (λ o. if goes o p then 0 else st.flat.words p i) e ∙ word_rest w.tells (st.flat.words p i) p i (w.words p i);
+                    copies = λ p out staying. rw e (copies_rest w.tells (st.flat.copies p) p (λ hasnt. w.copies p hasnt refl));
+                    copied = λ p out level. copied_rest w.tells p (λ hasnt. w.copied p hasnt (ap (λ b. b && true) (sym (protects.dirty p)) ∙ level));
+                  };
+                  tied = λ p i word said settled. protects.word p i ∙ s.beside.tied p i word said (sym (settled_rest p) ∙ settled);
+                  untied = s.beside.untied;
+                  highest = omega (arith, s.beside.highest, drops.faults);
+                };
+                base = λ p. s.base p ∙ sym (protects.frame p);
+              };
+        }
 
 -- A page of a region that was unmapped, and then of one that was mapped.
 module _ (st : SpaceState) (c d m n space page first len p : ℕ) (kind : Kind) (rights : Rights) (r : Region) (at : region_at st.flat.regions page ≡ Some r)

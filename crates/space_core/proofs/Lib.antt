@@ -1,3 +1,8 @@
+pub mod SameView
+pub mod Filling
+pub mod Copying
+pub mod Syncing
+pub mod GivingUp
 pub mod TableLemmas
 pub mod Serving
 pub mod Refusing

@@ -1,24 +1,29 @@
 -- A refusal changes nothing that a space shows.
-use Rattle.std.proofs.Common.{◌≡◌, ◌≢◌, ℕ, Bool, true, false, if◌then◌else◌, List, [], ◌∷◌, Option, Some, None, refl, sym, ap, inl, inr, ◌∙◌, not}
-use Rattle.std.proofs.lemmas.Bool.{cases_Bool, cond-true, cond-false}
-use Rattle.std.proofs.lemmas.Option.{none-some}
+use Rattle.std.proofs.Common.{◌≡◌, ◌≢◌, ℕ, Bool, true, false, if◌then◌else◌, List, [], ◌∷◌, Option, Some, None, is_some, refl, sym, ap, inl, inr, ◌∙◌, ◌||◌, not, subst}
+use Rattle.std.proofs.lemmas.Bool.{cases_Bool, cond-true, cond-false, true≢false}
+use Rattle.std.proofs.lemmas.Option.{none-some, same_Some}
 use Rattle.pager_model.specs.declared.call.Call.{Call}
 use Rattle.pager_model.specs.declared.call.Call.TheVariants.{Map, Grow, Unmap, Protect, Load, Store, Sync, Evict}
 use Rattle.pager_model.specs.declared.region.Region.{Region}
 use Rattle.pager_model.specs.declared.reply.Reply.{Reply}
-use Rattle.pager_model.specs.declared.reply.Reply.TheVariants.{Done, Unmapped, Denied, Overlap, OutOfSpace, NotGrowing, RegionsFull}
-use Rattle.pager_model.specs.Flat.{Flat, reply_of, is_lawful, after_call}
-use Rattle.pager_model.specs.Order.{is_plain, is_unmapped, is_answered_alone}
+use Rattle.pager_model.specs.declared.reply.Reply.TheVariants.{Done, Value, Unmapped, Denied, Overlap, OutOfSpace, NotGrowing, RegionsFull, NoMemory}
+use Rattle.pager_model.specs.Flat.{Flat, reply_of, is_lawful, after_call, access_reply, page_of, can_read, can_write}
+use Rattle.pager_model.specs.Order.{is_plain, is_no_memory, is_unmapped, is_answered_alone}
 use Rattle.pager_model.specs.Regions.{has_page, region_at, range_in, without_region, unmap_reply_at, map_reply, grow_reply, grow_reply_at}
-use Rattle.pager_model.specs.SpaceStates.{SpaceState, answered_flat, ReplyAllowed, base_after_answer, frees_its_page}
+use Rattle.pager_model.specs.SpaceStates.{SpaceState, answered_flat, ReplyAllowed, access_page, said_at, base_after_answer, frees_its_page}
 use Rattle.space_core.specs.Beginning.{BeginsAnswered}
-use Rattle.space_core.specs.Standing.{Kept, StandsFor, IsResting, CanBegin}
+use Rattle.space_core.specs.Standing.{Kept, StandsFor, IsResting, IsCopy, CanBegin, rights_at, rights_by}
+use Rattle.space_core.specs.Pages.{permits}
+use Rattle.space_core.specs.Tables.{own_in}
+use Rattle.store_core.specs.Stored.{copy_at}
 
 -- what a space shows of flat memory is the same
 record Unmoved (f g : Flat) : Type 0 where
   regions : g.regions ≡ f.regions
   rights : (p : ℕ) → g.rights p ≡ f.rights p
   words : (p i : ℕ) → g.words p i ≡ f.words p i
+  copies : (p : ℕ) → g.copies p ≡ f.copies p
+  dirty : (p : ℕ) → g.dirty p ≡ f.dirty p
 
 -- no region has the page, so none goes
 without-none : (page : ℕ) (rs : List Region) → region_at rs page ≡ None → without_region page rs ≡ rs
@@ -38,18 +43,21 @@ range_refused true h = cc
 range_refused false h = refl
 
 after_refusal : (f : Flat) (call : Call) → is_lawful (reply_of f call) ≡ false → Unmoved f (after_call f call)
-after_refusal f (Map space page len kind rights) h = record { regions = cond-false _ _ _ h; rights = λ p. rw h refl; words = λ p i. refl }
-after_refusal f (Grow space page by) h = record { regions = cond-false _ _ _ h; rights = λ p. cond-false _ _ _ h; words = λ p i. refl }
+after_refusal f (Map space page len kind rights) h =
+    record { regions = cond-false _ _ _ h; rights = λ p. rw h refl; words = λ p i. refl; copies = λ p. refl; dirty = λ p. refl }
+after_refusal f (Grow space page by) h =
+    record { regions = cond-false _ _ _ h; rights = λ p. cond-false _ _ _ h; words = λ p i. refl; copies = λ p. refl; dirty = λ p. refl }
 after_refusal f (Unmap space page) h =
     let none = unmapped-none (region_at f.regions page) h in
-    record { regions = without-none page f.regions none; rights = λ p. refl; words = λ p i. rw none refl }
+    record { regions = without-none page f.regions none; rights = λ p. refl; words = λ p i. rw none refl; copies = λ p. rw none refl; dirty = λ p. rw none refl }
 after_refusal f (Protect space page len rights) h =
     let out = range_refused (range_in page len (region_at f.regions page)) h in
-    record { regions = refl; rights = λ p. rw out refl; words = λ p i. refl }
-after_refusal f (Load space address) h = record { regions = refl; rights = λ p. refl; words = λ p i. refl }
-after_refusal f (Store space address word) h = record { regions = refl; rights = λ p. refl; words = λ p i. rw h refl }
-after_refusal f (Sync space page) h = record { regions = refl; rights = λ p. refl; words = λ p i. refl }
-after_refusal f (Evict space page) h = record { regions = refl; rights = λ p. refl; words = λ p i. refl }
+    record { regions = refl; rights = λ p. rw out refl; words = λ p i. refl; copies = λ p. refl; dirty = λ p. refl }
+after_refusal f (Load space address) h = record { regions = refl; rights = λ p. refl; words = λ p i. refl; copies = λ p. refl; dirty = λ p. refl }
+after_refusal f (Store space address word) h =
+    record { regions = refl; rights = λ p. refl; words = λ p i. rw h refl; copies = λ p. refl; dirty = λ p. rw h refl }
+after_refusal f (Sync space page) h = record { regions = refl; rights = λ p. refl; words = λ p i. refl; copies = λ p. rw h refl; dirty = λ p. rw h refl }
+after_refusal f (Evict space page) h = record { regions = refl; rights = λ p. refl; words = λ p i. refl; copies = λ p. rw h refl; dirty = λ p. rw h refl }
 
 -- the refusals of a call that needs no frame and no store
 abbrev pub is_refusal : Reply → Bool
@@ -113,8 +121,19 @@ alone_from (Unmap space page) r can h a = ap is_unmapped a
 alone_from (Protect space page len rights) r can h a = plain_refusal r h
 alone_from (Load space address) r can h a = plain_refusal r h
 alone_from (Store space address word) r can h a = plain_refusal r h
-alone_from (Sync space page) r can h a = absurd can
-alone_from (Evict space page) r can h a = absurd can
+alone_from (Sync space page) r can h a = ap (λ b. b || is_no_memory r) (plain_refusal r h)
+alone_from (Evict space page) r can h a = ap (λ b. b || is_no_memory r) (plain_refusal r h)
+
+-- a refusal says no word
+said_refused : (p i : ℕ) (call : Call) (r : Reply) (tied : Option ℕ) → is_refusal r ≡ true → said_at p i call r tied ≡ tied
+said_refused p i (Load space address) (Value word) tied h = cc
+said_refused p i (Load space address) r tied h = refl
+said_refused p i (Store space address word) Done tied h = cc
+said_refused p i (Store space address word) r tied h = refl
+said_refused p i call r tied h = refl
+
+no_memory_refused : (r : Reply) → is_refusal r ≡ true → r ≢ NoMemory
+no_memory_refused r h e = true≢false (sym h ∙ ap is_refusal e)
 
 pub same_base : (base : ℕ → Option ℕ) (call : Call) (p : ℕ) → base_after_answer base false call p ≡ base p
 same_base base (Evict space page) p = refl
@@ -133,14 +152,44 @@ begins_refused old call r can resting refused alone asked =
             let e = answered_refused st.flat call r refused (asked st s) in
             let u = after_refusal st.flat call (ap is_lawful (asked st s) ∙ refusal-lawful r refused) in
             record {
-              told = s.told;
-              regions = ap (λ f. f.regions) e ∙ u.regions ∙ s.regions;
-              rights = λ p has. ap (λ f. f.rights p) e ∙ u.rights p ∙ s.rights p has;
+              beside = record {
+                regions = ap (λ f. f.regions) e ∙ u.regions ∙ s.beside.regions;
+                rights = λ p has. ap (λ f. f.rights p) e ∙ u.rights p ∙ s.beside.rights p has;
+                dirty = λ p out. ap (λ f. f.dirty p) e ∙ u.dirty p ∙ s.beside.dirty p out;
+                told = λ tells. let w = s.beside.told tells in record {
+                  tells = w.tells;
+                  words = λ p i out. ap (λ f. f.words p i) e ∙ u.words p i ∙ w.words p i out;
+                  copies = λ p out staying. subst (λ (o : Option (ℕ → ℕ)). IsCopy o (copy_at old.store p)) (sym (ap (λ f. f.copies p) e ∙ u.copies p)) (w.copies p out staying);
+                  copied = w.copied;
+                };
+                tied = λ p i word said. s.beside.tied p i word (sym (said_refused p i call r (st.tied p i) refused) ∙ said);
+                untied = λ p i pending. said_refused p i call r (st.tied p i) refused ∙ s.beside.untied p i pending;
+                highest = s.beside.highest;
+              };
               base = λ p. same_base st.base call p ∙ s.base p;
-              words = λ p i out. ap (λ f. f.words p i) e ∙ u.words p i ∙ s.words p i out;
             };
       };
+      memory = λ lacking. absurd (no_memory_refused r refused lacking);
     }
+
+access_denied : (o : Option Region) (allowed : Bool) (reply : Reply) → is_some o ≡ true → allowed ≡ false → access_reply o allowed reply ≡ Denied
+access_denied None allowed reply has refused = cc
+access_denied (Some r) allowed reply has refused = cond-false _ _ _ refused
+
+rights_here : (old : Kept) (q page : ℕ) (r : Region) → q ≡ page → region_at old.regions page ≡ Some r → (is_some (region_at old.regions q) ≡ true) × (rights_at old q ≡ rights_by (own_in old.table page) (Some r))
+rights_here old q page r same at = rw same (ap is_some at, ap (rights_by (own_in old.table page)) at)
+
+-- an access without the right is denied
+pub begins_denied : (old : Kept) (call : Call) (page : ℕ) (r : Region) → CanBegin call → IsResting old → access_page call ≡ Some page → region_at old.regions page ≡ Some r → permits (rights_by (own_in old.table page) (Some r)) call ≡ false → BeginsAnswered old old call (record { reply = Denied; hit = false; size = None })
+begins_denied old (Load space address) page r can resting is at refused =
+    let here = rights_here old (page_of address) page r (same_Some _ _ is) at in
+    begins_refused old (Load space address) Denied can resting refl tt (λ st s.
+    access_denied _ _ _ (ap (λ rs. is_some (region_at rs (page_of address))) s.beside.regions ∙ here.0) (ap can_read (s.beside.rights (page_of address) here.0 ∙ here.1) ∙ refused))
+begins_denied old (Store space address word) page r can resting is at refused =
+    let here = rights_here old (page_of address) page r (same_Some _ _ is) at in
+    begins_refused old (Store space address word) Denied can resting refl tt (λ st s.
+    access_denied _ _ _ (ap (λ rs. is_some (region_at rs (page_of address))) s.beside.regions ∙ here.0) (ap can_write (s.beside.rights (page_of address) here.0 ∙ here.1) ∙ refused))
+begins_denied old call page r can resting is at refused = absurd (none-some page is)
 
 refused_if : (b : Bool) (x y : Reply) → is_refusal x ≡ true → (y ≢ Done → is_refusal y ≡ true) → (if b then x else y) ≢ Done → is_refusal (if b then x else y) ≡ true
 refused_if true x y hx hy n = hx

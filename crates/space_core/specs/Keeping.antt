@@ -1,10 +1,10 @@
 -- What the fields of a space keep true.
-use Rattle.std.specs.Prelude.{ℕ, ◌≡◌, ◌<◌, ◌≤◌, List, Option, Some, None}
+use Rattle.std.specs.Prelude.{ℕ, ◌≡◌, ◌<◌, ◌≤◌, false, List, Option, Some, None}
 use Rattle.std.specs.Option.{ForSome}
 use Rattle.pager_model.specs.declared.region.Region.{Region}
 use Rattle.pager_model.specs.Regions.{region_at}
 use Rattle.region_table.specs.Table.{IsTable}
-use Rattle.space_core.specs.Tables.{Table, frame_in, own_in}
+use Rattle.space_core.specs.Tables.{Table, frame_in, own_in, dirty_in}
 
 -- The region that is being unmapped is one of the regions, and none of its pages before the scan is resident.
 pub record IsClearing (regions : List Region) (table : Table) (scan : ℕ) (r : Region) : Type 0 where
@@ -17,4 +17,8 @@ pub record IsKept (regions : List Region) (table : Table) (pending : Option ℕ)
   -- only a region's pages have rights of their own, so a new region's pages begin with its first rights
   pub own : (p : ℕ) → region_at regions p ≡ None → own_in table p ≡ None
   pub pending_in : ForSome pending (λ p. p < 1048576)
+  -- a page that was placed and not yet read in wasn't stored to
+  pub pending_clean : ForSome pending (λ p. dirty_in table p ≡ false)
+  -- no page is placed while a region is being unmapped
+  pub pending_alone : ForSome pending (λ p. clearing ≡ None)
   pub clearing_in : ForSome clearing (IsClearing regions table scan)

@@ -263,6 +263,7 @@ impl<S: Store + Send + Drop> Space<S> {
     /// Takes away the region that has the page, after its pages were cleared.
     pub fn unmap(&mut self, page: u32) -> Answered
         requires none_pending { self.old.pending ≡ None }
+        requires none_paged { self.old.paged ≡ None }
         requires cleared { (r : Item) × (region_at self.old.regions page ≡ Some r) × (self.old.clearing ≡ Some r) × NoneResident self.old r.first r.length }
         ensures { Unmapped self.old self.new page result }
     {

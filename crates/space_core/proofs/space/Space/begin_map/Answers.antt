@@ -1,4 +1,4 @@
-use Rattle.std.proofs.Common.{◌≡◌, ◌∙◌, ap, sym, None}
+use Rattle.std.proofs.Common.{◌∙◌, ap, sym}
 use Rattle.pager_model.specs.declared.call.Call.TheVariants.{Map}
 use Rattle.pager_model.specs.Regions.{map_reply}
 use Rattle.space_core.specs.Standing.{Kept}
@@ -8,29 +8,28 @@ use Rattle.space_core.proofs.space.Space.begin_map.Goals as goal
 use Rattle.space_core.proofs.space.Space.begin_map.Goals.{in-Ok, in-Err}
 
 pub invariant_of-self : goal.invariant_of-self
-invariant_of-self c =
-    let clearing : c.self.inside.clearing ≡ None = ap (λ (k : Kept). k.clearing) c.self.view_is ∙ c.requires.resting.none_clearing in
+invariant_of-self g c =
+    let rest = rw (← c.self.view_is) at c.requires.resting in
     elim c.match-map.branch [
       | in-Ok w ↦
           rw w.in-Ok.ensures.after
           (changed_kept _ _ _ _ _ _ _ _ _ c.self.invariant (rw w.in-Ok.ensures.after at c.map.ensures.ordered)
-          (map_own c.self.inside.number c.self.inside.regions _ _ _ _ _ w.in-Ok.ensures.reply c.self.invariant.own) clearing)
+          (map_own c.self.inside.number c.self.inside.regions c.self.inside.table c.args.page c.args.length c.args.kind c.args.rights w.in-Ok.ensures.reply c.self.invariant.own) rest.none_pending rest.none_clearing)
       | in-Err w ↦ rw w.in-Err.ensures.unchanged c.self.invariant
     ]
 
 pub returns : goal.returns
-returns c =
-    let pending : c.self.inside.pending ≡ None = ap (λ (k : Kept). k.pending) c.self.view_is ∙ c.requires.resting.none_pending in
-    let clearing : c.self.inside.clearing ≡ None = ap (λ (k : Kept). k.clearing) c.self.view_is ∙ c.requires.resting.none_clearing in
+returns g c =
+    let rest = rw (← c.self.view_is) at c.requires.resting in
     elim c.match-map.branch [
       | in-Ok w ↦
-          rw (w.result-is, w.answered.ensures, w.in-Ok.ensures.after, ← c.self.view_is, pending, clearing)
-          (maps c.self.inside.number c.self.inside.regions c.self.inside.table _ _ _ _ w.in-Ok.ensures.reply c.self.invariant.own)
+          rw (w.result-is, w.answered.ensures, w.in-Ok.ensures.after, ← c.self.view_is, rest.none_pending, rest.none_clearing, rest.none_paged)
+          (maps c.self.inside.number c.self.inside.regions c.self.inside.table _ _ _ _ w.in-Ok.ensures.reply c.self.invariant.own _)
       | in-Err w ↦
           let e = w.in-Err.ensures in
           let refused = rw e.reply at (map_refused c.self.inside.regions c.args.page c.args.length (λ done. e.refusal (sym e.reply ∙ done))) in
           let asked = ap (λ (k : Kept). map_reply k.regions c.args.page c.args.length) (sym c.self.view_is) ∙ e.reply in
           rw (w.result-is, w.answered-in-Err.ensures, e.unchanged, c.self.view_is)
           (begins_refused c.args.self.now (Map c.args.self.now.number c.args.page c.args.length c.args.kind c.args.rights) w.in-Err.refusal c.requires.can c.requires.resting refused tt
-          (λ st s. ap (λ rs. map_reply rs c.args.page c.args.length) s.regions ∙ asked))
+          (λ st s. ap (λ rs. map_reply rs c.args.page c.args.length) s.beside.regions ∙ asked))
     ]

@@ -9,7 +9,7 @@ use Rattle.space_core.proofs.space.Space.begin_unmap.Goals as goal
 use Rattle.space_core.proofs.space.Space.begin_unmap.Goals.{in-Some, in-None}
 
 pub returns : goal.returns
-returns c =
+returns g c =
     let same : c.self.inside.regions ≡ c.args.self.now.regions = ap (λ (k : Kept). k.regions) c.self.view_is in
     let found = rw same at c.find.ensures.value in
     elim c.match-find.branch [
@@ -18,5 +18,5 @@ returns c =
           let none : region_at c.args.self.now.regions c.args.page ≡ None = sym found ∙ w.in-None.is in
           rw (w.result-is, w.answered.ensures)
           (begins_refused c.args.self.now (Unmap c.args.self.now.number c.args.page) Unmapped c.requires.can c.requires.resting refl refl
-          (λ st s. ap (λ rs. unmap_reply_at (region_at rs c.args.page)) s.regions ∙ ap unmap_reply_at none))
+          (λ st s. ap (λ rs. unmap_reply_at (region_at rs c.args.page)) s.beside.regions ∙ ap unmap_reply_at none))
     ]

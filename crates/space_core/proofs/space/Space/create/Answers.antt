@@ -1,7 +1,5 @@
-use Rattle.std.proofs.Common.{refl}
 use Rattle.space_core.proofs.Serving.{begins_empty}
 use Rattle.space_core.proofs.space.Space.create.Goals as goal
 
-pub returns : goal.returns
-returns c =
-    rw c.create-2.ensures (refl, c.in_ok-table.ensures.count, record { none_pending = refl; none_clearing = refl }, begins_empty c.args.space c.args.frames c.in_ok-table.table c.in_ok-table.ensures)
+pub returns-in-Ok-clause-stands : goal.returns-in-Ok-clause-stands
+returns-in-Ok-clause-stands g c = rw c.create-in-Ok.ensures (begins_empty c.args.space c.args.frames c.in-Ok.table _ c.in-Ok.ensures)

@@ -1,10 +1,9 @@
-use Rattle.std.proofs.Common.{ap}
-use Rattle.space_core.specs.Standing.{Kept}
 use Rattle.space_core.proofs.Serving.{loads}
 use Rattle.space_core.proofs.space.Space.load.Goals as goal
 
 pub returns : goal.returns
-returns c =
-    rw c.answered.ensures
-    (loads c.args.self.now c.args.address c.requires.resting c.requires.resident c.word-word.result c.requires.allowed
-    (rw (c.page_of.ensures.page, c.word_of.ensures.word, ap (λ (k : Kept). k.table) c.self.view_is) at c.word-word.ensures))
+returns g c =
+    let rest = rw (← c.self.view_is) at c.requires.resting in
+    let read = rw (c.page_of.ensures.page, c.word_of.ensures.word) at c.word-word.ensures in
+    rw (c.answered.ensures, ← c.self.view_is, rest.none_pending, rest.none_clearing, rest.none_paged)
+    (loads _ _ _ _ c.args.address (rw (← c.self.view_is) at c.requires.resident) _ (rw (← c.self.view_is) at c.requires.allowed) read)

@@ -1,20 +1,19 @@
-use Rattle.std.proofs.Common.{◌≡◌, ◌∙◌, ap, None}
+use Rattle.std.proofs.Common.{ap}
 use Rattle.space_core.specs.Standing.{Kept}
 use Rattle.space_core.proofs.Serving.{stores, same_kept}
 use Rattle.space_core.proofs.space.Space.store.Goals as goal
 
 pub set_word-requires-clause-resident : goal.set_word-requires-clause-resident
-set_word-requires-clause-resident c = rw (c.page_of.ensures.page, ap (λ (k : Kept). k.table) c.self.view_is) c.requires.resident
+set_word-requires-clause-resident g c = rw (c.page_of.ensures.page, ap (λ (k : Kept). k.table) c.self.view_is) c.requires.resident
 
 pub invariant_of-self : goal.invariant_of-self
-invariant_of-self c =
-    let pending : c.self.inside.pending ≡ None = ap (λ (k : Kept). k.pending) c.self.view_is ∙ c.requires.resting.none_pending in
-    rw pending (same_kept _ _ _ _ _ _ c.self.invariant c.set_word.ensures.same c.set_word.ensures.frame)
+invariant_of-self g c =
+    let rest = rw (← c.self.view_is) at c.requires.resting in
+    rw rest.none_pending (same_kept _ _ _ _ _ _ c.self.invariant c.set_word.ensures.same c.set_word.ensures.frame)
 
 pub returns : goal.returns
-returns c =
-    let pending : c.self.inside.pending ≡ None = ap (λ (k : Kept). k.pending) c.self.view_is ∙ c.requires.resting.none_pending in
-    let clearing : c.self.inside.clearing ≡ None = ap (λ (k : Kept). k.clearing) c.self.view_is ∙ c.requires.resting.none_clearing in
+returns g c =
+    let rest = rw (← c.self.view_is) at c.requires.resting in
     let writes = rw (c.page_of.ensures.page, c.word_of.ensures.word) at c.set_word.ensures in
-    rw (← c.self.view_is, c.answered.ensures, pending, clearing)
-    (stores _ _ _ _ c.args.address c.args.word (rw (← c.self.view_is) at c.requires.resident) writes (rw (← c.self.view_is) at c.requires.allowed))
+    rw (← c.self.view_is, c.answered.ensures, rest.none_pending, rest.none_clearing, rest.none_paged)
+    (stores _ _ _ _ _ c.args.address c.args.word (rw (← c.self.view_is) at c.requires.resident) writes (rw (← c.self.view_is) at c.requires.allowed))

@@ -7,23 +7,25 @@ use Rattle.space_core.proofs.Finding.{found_page}
 use Rattle.space_core.proofs.space.Space.unmap.Goals as goal
 
 pub set_own-requires : goal.set_own-requires
-set_own-requires c = omega (arith, found_page c.self.inside.regions c.self.invariant.ordered.in_order c.args.page c.in-Ok.region c.in-Ok.ensures.region)
+set_own-requires g c = omega (arith, found_page c.self.inside.regions c.self.invariant.ordered.in_order c.args.page c.in-Ok.region c.in-Ok.ensures.region)
 
 pub invariant_of-self : goal.invariant_of-self
-invariant_of-self c =
+invariant_of-self g c =
+    let pending : c.self.inside.pending ≡ None = ap (λ (k : Kept). k.pending) c.self.view_is ∙ c.requires.none_pending in
     let cleared = rw (← c.self.view_is) at c.requires.cleared in
     let region : cleared.0 ≡ c.in-Ok.region = same_Some _ _ (sym cleared.1 ∙ c.in-Ok.ensures.region) in
     let none = rw region at cleared.3 in
     rw c.in-Ok.ensures.after
     (changed_kept _ _ _ _ _ _ _ _ _ c.self.invariant (rw c.in-Ok.ensures.after at c.unmap.ensures.ordered)
-    (unmap_own c.self.inside.number c.self.inside.regions c.self.inside.table _ c.args.page c.in-Ok.region c.self.invariant.ordered c.in-Ok.ensures.region c.self.invariant.own none c.set_own.ensures) refl)
+    (unmap_own c.self.inside.number c.self.inside.regions c.self.inside.table _ c.args.page c.in-Ok.region c.self.invariant.ordered c.in-Ok.ensures.region c.self.invariant.own none c.set_own.ensures) pending refl)
 
 pub returns : goal.returns
-returns c =
+returns g c =
     let pending : c.self.inside.pending ≡ None = ap (λ (k : Kept). k.pending) c.self.view_is ∙ c.requires.none_pending in
+    let paged : c.self.inside.paged ≡ None = ap (λ (k : Kept). k.paged) c.self.view_is ∙ c.requires.none_paged in
     let cleared = rw (← c.self.view_is) at c.requires.cleared in
     let region : cleared.0 ≡ c.in-Ok.region = same_Some _ _ (sym cleared.1 ∙ c.in-Ok.ensures.region) in
     let none = rw region at cleared.3 in
     let clearing : c.self.inside.clearing ≡ Some c.in-Ok.region = cleared.2 ∙ ap Some region in
-    rw (c.in-Ok.ensures.after, c.answered.ensures, ← c.self.view_is, pending, clearing)
-    (unmaps c.self.inside.number c.self.inside.regions c.self.inside.table _ c.args.page c.in-Ok.region c.self.invariant.ordered c.in-Ok.ensures.region c.self.invariant.own none c.set_own.ensures)
+    rw (c.in-Ok.ensures.after, c.answered.ensures, ← c.self.view_is, pending, clearing, paged)
+    (unmaps c.self.inside.number c.self.inside.regions c.self.inside.table _ c.args.page c.in-Ok.region c.self.invariant.ordered c.in-Ok.ensures.region c.self.invariant.own none c.set_own.ensures _ _ c.drop_pages.ensures.dropped)

@@ -1,0 +1,303 @@
+-- What becomes of a space when the copy of a page is written, or isn't, while the page keeps its frame.
+use Rattle.std.proofs.Common.{◌≡◌, ◌≢◌, ℕ, ◌≤◌, Bool, true, false, ◌&&◌, ◌==◌, if◌then◌else◌, not, List, Option, Some, None, is_some, slice_index_or, refl, sym, ap, inl, inr, ◌∙◌, arith, subst}
+use Rattle.std.proofs.lemmas.Bool.{cases_Bool, ne_eqb, eq-eqb, true≢false, false≢true, cond-true, cond-false}
+use Rattle.pager_model.specs.declared.region.Region.{Region}
+use Rattle.pager_model.specs.Flat.{Flat, out, lost}
+use Rattle.pager_model.specs.SpaceStates.{SpaceState, Next, Rises, space_after}
+use Rattle.pager_model.specs.SpaceStates.Next.{Only}
+use Rattle.space_core.specs.Beginning.{SameRegions, SameFrames, FailsToWrite, LeavesUnwritten, WritesOut}
+use Rattle.space_core.specs.Pages.{Cleans}
+use Rattle.space_core.specs.Saving.{Saves, FailsToSave, LacksRoom, WroteWords, with_store}
+use Rattle.space_core.specs.Standing.{Kept, StandsFor, IsResting, IsCopied, IsCopy, frame_at, rights_at, dirty_at, is_page, is_in, is_settled, is_behind, word_at, word_in_copy, failed_entry}
+use Rattle.space_core.specs.Tables.{Table, frame_in, word_in, dirty_in, flag_in}
+use Rattle.store_core.specs.Stored.{Stored, copy_at, SameCopies, SetsCopy}
+use Rattle.space_core.proofs.SameView.{BesideAt, SameWhole, SameAt, SameStateAt, one_stands, same_stands, rises_told, within_faults}
+use Rattle.space_core.proofs.Serving.{resident_from, dirty_in-absent}
+
+-- a dirty page is resident
+pub dirty_resident : (t : Table) (page : ℕ) → dirty_in t page ≡ true → frame_in t page ≢ None
+dirty_resident t page dirty none = true≢false (sym dirty ∙ dirty_in-absent t page none)
+
+-- the state in which the page was paged out, with the next maker
+abbrev pub outed : SpaceState → ℕ → Next → SpaceState
+outed st page next = record { flat = out st.flat page; base = st.base; next = next; told = st.told; tied = st.tied; highest = st.highest }
+
+-- a state has the same of the page, but that its copy is unknown
+record SameLost (old new : SpaceState) (p : ℕ) : Type 0 where
+  dirty : new.flat.dirty p ≡ old.flat.dirty p
+  words : (i : ℕ) → new.flat.words p i ≡ old.flat.words p i
+  copies : new.flat.copies p ≡ None
+  tied : (i : ℕ) → new.tied p i ≡ old.tied p i
+
+-- the page's copy in the store is known, and is what the page has
+abbrev pub HasCopy : Kept → Stored → ℕ → Type 0
+HasCopy kept store page = (words : List ℕ) × (copy_at store page ≡ Some words) × ((i : ℕ) → word_at kept page i ≡ slice_index_or words i 0)
+
+-- A space whose store alone changed is seen the same but for the copies.
+module _ (old new : Kept) (only : new ≡ with_store old new.store) where
+  pub store_resting : IsResting old → IsResting new
+  store_resting r =
+      record {
+        none_pending = ap (λ (k : Kept). k.pending) only ∙ r.none_pending;
+        none_clearing = ap (λ (k : Kept). k.clearing) only ∙ r.none_clearing;
+        none_paged = ap (λ (k : Kept). k.paged) only ∙ r.none_paged;
+      }
+
+  pub store_frames : SameFrames old new
+  store_frames =
+      record {
+        same = record {
+          number = ap (λ (k : Kept). k.number) only;
+          frames = ap (λ (k : Kept). k.frames) only;
+          regions = ap (λ (k : Kept). k.regions) only;
+          rights = λ p. ap (λ (k : Kept). rights_at k p) only;
+        };
+        frame = λ p. ap (λ (k : Kept). frame_at k p) only;
+      }
+
+  store_whole : new.store.tells ≡ old.store.tells → old.store.faults ≤ new.store.faults → SameWhole old new
+  store_whole tells faults =
+      record { regions = ap (λ (k : Kept). k.regions) only; rights = λ p. ap (λ (k : Kept). rights_at k p) only; tells = tells; faults = faults }
+
+  store_at : (p : ℕ) → (old.store.tells ≡ true → copy_at new.store p ≡ copy_at old.store p) → SameAt old new p
+  store_at p copy =
+      record {
+        frame = ap (λ (k : Kept). frame_at k p) only;
+        dirty = ap (λ (k : Kept). dirty_at k p) only;
+        pending = ap (λ (k : Kept). is_page p k.pending) only;
+        paged = ap (λ (k : Kept). is_page p k.paged) only;
+        word = λ i _. ap (λ (k : Kept). word_in k.table p i) only;
+        copy = copy;
+      }
+
+-- A page's copy was written, or was known before: it is equal to its page where the store tells it.
+pub record IsSaved (old : Kept) (store : Stored) (page : ℕ) : Type 0 where
+  pub tells : store.tells ≡ old.store.tells
+  pub faults : old.store.faults ≤ store.faults
+  pub others : old.store.tells ≡ true → (p : ℕ) → p ≢ page → copy_at store p ≡ copy_at old.store p
+  pub copied : (st : SpaceState) → StandsFor old st → st.told ≡ true → HasCopy old store page
+
+module _ (old : Kept) (resting : IsResting old) where
+  pub none_in : (p : ℕ) → is_in old.clearing p ≡ false
+  none_in p = ap (λ (r : Option Region). is_in r p) resting.none_clearing
+
+  none_pending : (p : ℕ) → is_page p old.pending ≡ false
+  none_pending p = ap (is_page p) resting.none_pending
+
+  none_paged : (p : ℕ) → is_page p old.paged ≡ false
+  none_paged p = ap (is_page p) resting.none_paged
+
+  pub settled_if : (p : ℕ) → frame_at old p ≢ None → is_settled old p ≡ true
+  settled_if p resident = rw resting.none_pending (some_if (frame_at old p) resident)
+    where
+      some_if : (o : Option ℕ) → o ≢ None → (is_some o && true) ≡ true
+      some_if None n = absurd (n refl)
+      some_if (Some x) n = refl
+
+  pub saved : (new : Kept) (page : ℕ) (written : Bool) → Saves old new page written → IsSaved old new.store page
+  saved new page true saves =
+      let wrote = saves.wrote refl in
+      let sets = wrote.2 in
+      record {
+        tells = sets.tells;
+        faults = saves.never_falls;
+        others = λ tells p n. sets.copies tells p ∙ cond-false _ _ _ (ne_eqb p page n);
+        copied = λ st s told.
+            (wrote.0, sets.copies (s.beside.told told).tells page ∙ cond-true _ _ _ (eq-eqb page page refl),
+            λ i. cond-true _ _ _ (settled_if page (dirty_resident old.table page saves.was)) ∙ wrote.1 i);
+      }
+  saved new page false saves =
+      let same : new.store ≡ old.store = ap (λ (k : Kept). k.store) (saves.left refl) in
+      record {
+        tells = ap (λ (s : Stored). s.tells) same;
+        faults = saves.never_falls;
+        others = λ tells p n. ap (λ s. copy_at s p) same;
+        copied = λ st s told.
+            let is = (s.beside.told told).copied page (none_in page) (ap (λ d. d && not (is_page page old.paged)) saves.was) in
+            (is.words, ap (λ s. copy_at s page) same ∙ is.known, is.equal);
+      }
+
+  -- The page's copy is saved, the page keeps its words and its frame, and nothing else is seen of the store.
+  module _ (new : Kept) (page : ℕ) (same : SameRegions old new) (clearing : new.clearing ≡ None) (pending : new.pending ≡ None)
+      (frame : (p : ℕ) → frame_at new p ≡ frame_at old p) (word : (p i : ℕ) → word_in new.table p i ≡ word_in old.table p i)
+      (is_saved : IsSaved old new.store page) where
+    whole : SameWhole old new
+    whole = record { regions = same.regions; rights = same.rights; tells = is_saved.tells; faults = is_saved.faults }
+
+    settled : (p : ℕ) → is_settled new p ≡ is_settled old p
+    settled p = rw (frame p, pending, resting.none_pending) refl
+
+    word_kept : (copy : HasCopy old new.store page) (i : ℕ) → word_at new page i ≡ word_at old page i
+    word_kept copy i =
+        elim (cases_Bool (is_settled old page)) [
+          | inl is ↦ cond-true _ _ _ (settled page ∙ is) ∙ word page i ∙ sym (cond-true _ _ _ is)
+          | inr isnt ↦ cond-false _ _ _ (settled page ∙ isnt) ∙ ap (λ copy. word_in_copy copy i) copy.1 ∙ sym (copy.2 i)
+        ]
+
+    copied : (copy : HasCopy old new.store page) → IsCopied new page
+    copied copy = record { words = copy.0; known = copy.1; equal = λ i. word_kept copy i ∙ copy.2 i }
+
+    at_other : ((p : ℕ) → p ≢ page → dirty_at new p ≡ dirty_at old p) → ((p : ℕ) → p ≢ page → is_page p new.paged ≡ false) → (p : ℕ) → p ≢ page → SameAt old new p
+    at_other dirty paged p n =
+        record {
+          frame = frame p;
+          dirty = dirty p n;
+          pending = ap (is_page p) pending ∙ sym (none_pending p);
+          paged = paged p n ∙ sym (none_paged p);
+          word = λ i _. word p i;
+          copy = λ tells. is_saved.others tells p n;
+        }
+
+    -- the page is clean then, as one that was paged out
+    pub copied_out : Cleans page old.table new.table → new.paged ≡ None → (st : SpaceState) (next : Next) → StandsFor old st → StandsFor new (outed st page next)
+    copied_out cleans unpaged st next s =
+        let b = s.beside in
+        let this : (page == page) ≡ true = eq-eqb page page refl in
+        one_stands old new st (outed st page next) page whole (clearing ∙ sym resting.none_clearing) (record { regions = refl; rights = λ p. refl; told = refl })
+        (omega (arith, b.highest, is_saved.faults))
+        (at_other (λ p n. cleans.dirty p ∙ cond-false _ _ _ (ne_eqb p page n)) (λ p n. ap (is_page p) unpaged))
+        (λ p n. record { dirty = cond-false _ _ _ (ne_eqb p page n); words = λ i. refl; copies = cond-false _ _ _ (ne_eqb p page n); tied = λ i. refl })
+        (λ p n. refl) s
+        (record {
+          dirty = λ out. cond-true _ _ _ this ∙ sym (cleans.dirty page ∙ cond-true _ _ _ this);
+          words = λ told out i. (b.told told).words page i out ∙ sym (word_kept (is_saved.copied st s told) i);
+          copies = λ told out _. let copy = is_saved.copied st s told in
+              rw (this, copy.1) (λ i. (b.told told).words page i out ∙ copy.2 i);
+          copied = λ told out _. copied (is_saved.copied st s told);
+          tied = λ i w tied is. word page i ∙ b.tied page i w tied (sym (settled page) ∙ is);
+          untied = λ i is. absurd (true≢false (sym is ∙ ap (is_page page) pending));
+        })
+        (s.base page ∙ sym (frame page))
+
+    -- the page is being evicted then
+    pub copied_aside : ((p : ℕ) → dirty_at new p ≡ dirty_at old p) → new.paged ≡ Some page → (st : SpaceState) → StandsFor old st → StandsFor new st
+    copied_aside dirty paged st s =
+        let b = s.beside in
+        let this : is_page page new.paged ≡ true = ap (is_page page) paged ∙ eq-eqb page page refl in
+        one_stands old new st st page whole (clearing ∙ sym resting.none_clearing) (record { regions = refl; rights = λ p. refl; told = refl })
+        (omega (arith, b.highest, is_saved.faults))
+        (at_other (λ p n. dirty p) (λ p n. ap (is_page p) paged ∙ ne_eqb page p (λ e. n (sym e))))
+        (λ p n. record { dirty = refl; words = λ i. refl; copies = refl; tied = λ i. refl })
+        (λ p n. refl) s
+        (record {
+          dirty = λ out. b.dirty page out ∙ sym (dirty page);
+          words = λ told out i. (b.told told).words page i out ∙ sym (word_kept (is_saved.copied st s told) i);
+          copies = λ told out staying. absurd (true≢false (sym this ∙ staying));
+          copied = λ told out _. copied (is_saved.copied st s told);
+          tied = λ i w tied is. word page i ∙ b.tied page i w tied (sym (settled page) ∙ is);
+          untied = λ i is. absurd (true≢false (sym is ∙ ap (is_page page) pending));
+        })
+        (s.base page ∙ sym (frame page))
+
+  -- The write failed, and the page's copy is unknown.
+  module _ (new : Kept) (page count : ℕ) (fails : FailsToSave old new page count) where
+    dirty_after : dirty_at new page ≡ true
+    dirty_after = ap (λ (k : Kept). dirty_at k page) fails.same ∙ fails.dirty
+
+    resident : frame_at old page ≢ None
+    resident = dirty_resident old.table page fails.dirty
+
+    settled_after : is_settled new page ≡ true
+    settled_after = ap (λ (k : Kept). is_settled k page) fails.same ∙ settled_if page resident
+
+    still_behind : is_behind new page ≡ true
+    still_behind = ap (λ (k : Kept). is_behind k page) fails.same ∙ rw (fails.dirty, none_paged page) refl
+
+    word_same : (i : ℕ) → word_in new.table page i ≡ word_in old.table page i
+    word_same i = ap (λ (k : Kept). word_in k.table page i) fails.same
+
+    lost_here : (st after : SpaceState) → after.told ≡ st.told → SameLost st after page → StandsFor old st → BesideAt (is_in old.clearing page) new after page
+    lost_here st after told_same at s =
+        let b = s.beside in
+        record {
+          dirty = λ out. at.dirty ∙ b.dirty page out ∙ sym (ap (λ (k : Kept). dirty_at k page) fails.same);
+          words = λ told out i. at.words i ∙ (b.told (sym told_same ∙ told)).words page i out ∙ cond-true _ _ _ (settled_if page resident) ∙ sym (word_same i) ∙ sym (cond-true _ _ _ settled_after);
+          copies = λ told out _. rw (at.copies, fails.lost.copies (b.told (sym told_same ∙ told)).tells page ∙ cond-true _ _ _ (eq-eqb page page refl)) tt;
+          copied = λ told out behind. absurd (true≢false (sym still_behind ∙ behind));
+          tied = λ i w tied is. word_same i ∙ b.tied page i w (sym (at.tied i) ∙ tied) (settled_if page resident);
+          untied = λ i is. absurd (true≢false (sym is ∙ ap (λ (k : Kept). is_page page k.pending) fails.same ∙ none_pending page));
+        }
+
+    pub fails_to_write : FailsToWrite old new page count
+    fails_to_write =
+        record {
+          rose = fails.rose;
+          count_is = fails.count_is;
+          dirty = dirty_after;
+          resting = store_resting old new fails.same resting;
+          same = store_frames old new fails.same;
+          allowed = λ st s c. (resident_from st.base page _ (s.base page) resident, s.beside.dirty page (none_in page) ∙ fails.dirty, rises_told _ _ _ s.beside.highest fails.rose);
+          stands = λ st s c.
+              one_stands old new st (space_after st (failed_entry c old.number page true count)) page
+              (store_whole old new fails.same fails.lost.tells fails.never_falls)
+              (ap (λ (k : Kept). k.clearing) fails.same) (record { regions = refl; rights = λ p. refl; told = refl })
+              (within_faults st.highest count _ (omega (arith, s.beside.highest, fails.never_falls)) fails.count_is)
+              (λ p n. store_at old new fails.same p (λ tells. fails.lost.copies tells p ∙ cond-false _ _ _ (ne_eqb p page n)))
+              (λ p n. record { dirty = refl; words = λ i. refl; copies = cond-false _ _ _ (ne_eqb p page n); tied = λ i. refl })
+              (λ p n. refl) s
+              (lost_here st (space_after st (failed_entry c old.number page true count)) refl
+              (record { dirty = refl; words = λ i. refl; copies = cond-true _ _ _ (eq-eqb page page refl); tied = λ i. refl }) s)
+              (s.base page ∙ sym ((store_frames old new fails.same).frame page));
+        }
+
+  -- there was no memory for the copy
+  pub leaves_unwritten : (new : Kept) (page : ℕ) → LacksRoom old new page → LeavesUnwritten old new page
+  leaves_unwritten new page lacks =
+      record {
+        lacks = record { dirty = lacks.dirty; unkept = lacks.unkept };
+        dirty = ap (λ (k : Kept). dirty_at k page) lacks.same ∙ lacks.dirty;
+        resting = store_resting old new lacks.same resting;
+        same = store_frames old new lacks.same;
+        stands = λ st s. same_stands old new st (store_whole old new lacks.same lacks.copies.tells lacks.never_falls)
+            (ap (λ (k : Kept). k.clearing) lacks.same) (λ p. store_at old new lacks.same p (λ tells. lacks.copies.copies tells p)) s;
+      }
+
+-- the page is clean, and all else of the space is as before
+pub record CleansPage (old new : Kept) (page : ℕ) : Type 0 where
+  pub same : SameRegions old new
+  pub pending : new.pending ≡ old.pending
+  pub clearing : new.clearing ≡ old.clearing
+  pub paged : new.paged ≡ old.paged
+  pub store : new.store ≡ old.store
+  pub table : Cleans page old.table new.table
+
+-- A page's copy is saved, and then the page is clean.
+module _ (old mid new : Kept) (page : ℕ) (written : Bool) (resting : IsResting old) (saves : Saves old mid page written) (cleans : CleansPage mid new page) where
+  rested : IsResting mid
+  rested = store_resting old mid saves.same resting
+
+  cleaned_table : Cleans page old.table new.table
+  cleaned_table = subst (λ (t : Table). Cleans page t new.table) (ap (λ (k : Kept). k.table) saves.same) cleans.table
+
+  pub cleaned_resting : IsResting new
+  cleaned_resting = record { none_pending = cleans.pending ∙ rested.none_pending; none_clearing = cleans.clearing ∙ rested.none_clearing; none_paged = cleans.paged ∙ rested.none_paged }
+
+  pub cleaned_same : SameFrames old new
+  cleaned_same =
+      let stored = store_frames old mid saves.same in
+      record {
+        same = record {
+          number = cleans.same.number ∙ stored.same.number;
+          frames = cleans.same.frames ∙ stored.same.frames;
+          regions = cleans.same.regions ∙ stored.same.regions;
+          rights = λ p. cleans.same.rights p ∙ stored.same.rights p;
+        };
+        frame = cleaned_table.frame;
+      }
+
+  pub cleaned_out : (st : SpaceState) (next : Next) → StandsFor old st → StandsFor new (outed st page next)
+  cleaned_out st next s =
+      copied_out old resting new page cleaned_same.same cleaned_resting.none_clearing cleaned_resting.none_pending cleaned_table.frame cleaned_table.word
+      (subst (λ (store : Stored). IsSaved old store page) (sym cleans.store) (saved old resting mid page written saves))
+      cleaned_table cleaned_resting.none_paged st next s
+
+  pub writes_out : frame_at old page ≢ None → WritesOut old new page written
+  writes_out resident =
+      record {
+        was = saves.was;
+        clean = cleaned_table.dirty page ∙ cond-true _ _ _ (eq-eqb page page refl);
+        resting = cleaned_resting;
+        same = cleaned_same;
+        allowed = λ st s c. (resident_from st.base page _ (s.base page) resident, s.beside.dirty page (none_in old resting page) ∙ saves.was);
+        stands = λ st s c. cleaned_out st (Only c) s;
+      }

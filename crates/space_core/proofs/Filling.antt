@@ -1,0 +1,121 @@
+-- What becomes of a space when the copy of its pending page is read in, or when that fails.
+use Rattle.std.proofs.Common.{◌≡◌, ◌≢◌, ℕ, ◌≤◌, Bool, true, false, ◌&&◌, ◌==◌, not, List, Option, Some, None, is_some, slice_index_or, refl, sym, ap, inl, inr, ◌∙◌, arith}
+use Rattle.std.proofs.lemmas.Bool.{cases_eq, ne_eqb, eq-eqb, true≢false, and_right, cond-true, cond-false}
+use Rattle.std.proofs.lemmas.Option.{none-some}
+use Rattle.pager_model.specs.SpaceStates.{SpaceState, Next, Rises}
+use Rattle.pager_model.specs.SpaceStates.Next.{Only}
+use Rattle.space_core.specs.Beginning.{SameRegions, ReadsIn, FailsToRead}
+use Rattle.space_core.specs.Keeping.{IsKept}
+use Rattle.space_core.specs.Pages.{Refills, HasWords}
+use Rattle.space_core.specs.Standing.{Kept, StandsFor, IsCopied, frame_at, dirty_at, is_page, is_in, is_settled, is_behind, word_at, word_in_copy}
+use Rattle.space_core.specs.Tables.{word_in}
+use Rattle.store_core.specs.Stored.{Stored, copy_at, SameCopies}
+use Rattle.space_core.proofs.SameView.{BesideAt, SameWhole, SameAt, SameStateAt, one_stands, raised_stands, rises_told, within_faults}
+use Rattle.space_core.proofs.Serving.{resident_from}
+use Rattle.space_core.proofs.TableLemmas.{some-isnt}
+
+-- The pending page may have any words after a read, and all else is seen the same.
+module _ (old new : Kept) (page : ℕ) (same : SameRegions old new) (clearing : new.clearing ≡ old.clearing) (paged : new.paged ≡ old.paged)
+    (pending : old.pending ≡ Some page) (resident : frame_at old page ≢ None) (clean : dirty_at old page ≡ false)
+    (refills : Refills page old.table new.table) (copies : SameCopies old.store new.store) (faults : old.store.faults ≤ new.store.faults) where
+  whole : SameWhole old new
+  whole = record { regions = same.regions; rights = same.rights; tells = copies.tells; faults = faults }
+
+  clean_after : dirty_at new page ≡ false
+  clean_after = refills.dirty page ∙ clean
+
+  is_pending : is_page page old.pending ≡ true
+  is_pending = ap (is_page page) pending ∙ eq-eqb page page refl
+
+  other_pending : (p : ℕ) → p ≢ page → is_page p old.pending ≡ false
+  other_pending p n = ap (is_page p) pending ∙ ne_eqb page p (λ e. n (sym e))
+
+  unsettled : is_settled old page ≡ false
+  unsettled = and_right _ _ (ap not is_pending)
+
+  unbehind : is_behind old page ≡ false
+  unbehind = ap (λ d. d && not (is_page page old.paged)) clean
+
+  -- the page was read in
+  module _ (done : new.pending ≡ None)
+      (read : (words : List ℕ) → old.store.tells ≡ true → copy_at old.store page ≡ Some words → HasWords new.table page words) where
+    at_other : (p : ℕ) → p ≢ page → SameAt old new p
+    at_other p n =
+        record {
+          frame = refills.frame p;
+          dirty = refills.dirty p;
+          pending = ap (is_page p) done ∙ sym (other_pending p n);
+          paged = ap (is_page p) paged;
+          word = λ i _. refills.word p i n;
+          copy = λ tells. copies.copies tells p;
+        }
+
+    settled : is_settled new page ≡ true
+    settled = rw (refills.frame page, done) (settled_from (frame_at old page) resident)
+      where
+        settled_from : (o : Option ℕ) → o ≢ None → (is_some o && true) ≡ true
+        settled_from None n = absurd (n refl)
+        settled_from (Some x) n = refl
+
+    here : (st : SpaceState) → StandsFor old st → BesideAt (is_in old.clearing page) new st page
+    here st s =
+        let b = s.beside in
+        let is : (told : st.told ≡ true) → is_in old.clearing page ≡ false → IsCopied old page = λ told out. (b.told told).copied page out unbehind in
+        let same_word : (told : st.told ≡ true) → (out : is_in old.clearing page ≡ false) → (i : ℕ) → word_at new page i ≡ slice_index_or ((is told out).words) i 0 = λ told out i.
+        cond-true _ _ _ settled ∙ read (is told out).words (b.told told).tells (is told out).known i in
+        record {
+          dirty = λ out. b.dirty page out ∙ sym (refills.dirty page);
+          words = λ told out i. (b.told told).words page i out ∙ (is told out).equal i ∙ sym (same_word told out i);
+          copies = λ told out staying. rw (copies.copies (b.told told).tells page) ((b.told told).copies page out (ap (is_page page) (sym paged) ∙ staying));
+          copied = λ told out _. record {
+            words = (is told out).words;
+            known = copies.copies (b.told told).tells page ∙ (is told out).known;
+            equal = same_word told out;
+          };
+          tied = λ i word tied _. absurd (none-some word (sym (b.untied page i is_pending) ∙ tied));
+          untied = λ i is. absurd (true≢false (sym is ∙ ap (is_page page) done));
+        }
+
+    pub reads_in : ReadsIn old new
+    reads_in =
+        record {
+          done = done;
+          same_clearing = clearing;
+          same_paged = paged;
+          same = record { same = same; frame = refills.frame };
+          stands = λ st s. one_stands old new st st page whole clearing (record { regions = refl; rights = λ p. refl; told = refl })
+              (omega (arith, s.beside.highest, faults)) at_other (λ p n. record { dirty = refl; words = λ i. refl; copies = refl; tied = λ i. refl }) (λ p n. refl)
+              s (here st s) (s.base page ∙ sym (refills.frame page));
+        }
+
+  -- the read failed
+  module _ (alone : old.clearing ≡ None) (count : ℕ) (waiting : new.pending ≡ old.pending) (rose : Rises old.store.faults new.store.faults) (count_is : count ≡ new.store.faults) where
+    at : (p : ℕ) → SameAt old new p
+    at p =
+        record {
+          frame = refills.frame p;
+          dirty = refills.dirty p;
+          pending = ap (is_page p) waiting;
+          paged = ap (is_page p) paged;
+          word = λ i is. elim (cases_eq p page) [ inl e ↦ absurd (true≢false (sym is ∙ rw e unsettled)) | inr n ↦ refills.word p i n ];
+          copy = λ tells. copies.copies tells p;
+        }
+
+    rose_to : Rises old.store.faults count
+    rose_to = rw count_is rose
+
+    pub fails_to_read : FailsToRead old new page count
+    fails_to_read =
+        record {
+          rose = rose_to;
+          count_is = count_is;
+          clean = clean_after;
+          same_pending = waiting;
+          same_clearing = clearing;
+          same_paged = paged;
+          same = record { same = same; frame = refills.frame };
+          allowed = λ st s c.
+              (resident_from st.base page _ (s.base page) resident, s.beside.dirty page (ap (λ r. is_in r page) alone) ∙ clean, rises_told _ _ _ s.beside.highest rose_to);
+          stands = λ st s c.
+              raised_stands old new st (Only c) _ whole clearing (within_faults st.highest count _ (omega (arith, s.beside.highest, faults)) count_is) at s;
+        }

@@ -1,0 +1,128 @@
+-- What becomes of a space when a clean page, or one that is being evicted, gives its frame up.
+use Rattle.std.proofs.Common.{◌≡◌, ◌≢◌, ℕ, Bool, true, false, ◌&&◌, ◌==◌, if◌then◌else◌, not, Option, Some, None, is_some, slice_index_or, refl, sym, ap, ◌∙◌, arith, subst}
+use Rattle.std.proofs.lemmas.Bool.{ne_eqb, eq-eqb, true≢false, and_right, cond-true, cond-false}
+use Rattle.std.proofs.lemmas.Option.{none-some, same_Some}
+use Rattle.pager_model.specs.declared.call.Call.TheVariants.{Evict}
+use Rattle.pager_model.specs.declared.region.Region.{Region}
+use Rattle.pager_model.specs.Flat.{Flat, reply_of, out}
+use Rattle.pager_model.specs.Regions.{region_at}
+use Rattle.pager_model.specs.SpaceStates.{SpaceState, Next, space_after}
+use Rattle.pager_model.specs.SpaceStates.Next.{Anyone}
+use Rattle.space_core.specs.Beginning.{SameRegions, GaveUp, Removes, Evicts, IsEvicting, copied_reply}
+use Rattle.space_core.specs.Pages.{Moves}
+use Rattle.space_core.specs.Standing.{Kept, StandsFor, IsResting, IsCopied, IsCopy, frame_at, dirty_at, is_page, is_in, is_settled, is_behind, is_unwired, word_at, word_in_copy, give_entry, evict_entry}
+use Rattle.space_core.specs.Tables.{word_in}
+use Rattle.store_core.specs.Stored.{Stored, copy_at}
+use Rattle.space_core.proofs.SameView.{BesideAt, SameWhole, SameRest, SameAt, SameStateAt, one_stands}
+use Rattle.space_core.proofs.Syncing.{evict_asked, evict_outs, allowed_copied, copied_lawful}
+
+-- Which page may be pending or on its way out: this one alone.
+pub record IsOnly (kept : Kept) (page : ℕ) : Type 0 where
+  pub none_clearing : kept.clearing ≡ None
+  pub pending : (p : ℕ) → p ≢ page → is_page p kept.pending ≡ false
+  pub paged : (p : ℕ) → p ≢ page → is_page p kept.paged ≡ false
+
+-- an evict's page gives its frame up
+abbrev evicted : ℕ → SpaceState → Flat → SpaceState
+evicted page st f = record { flat = f; base = λ p. if p == page then None else st.base p; next = Anyone; told = st.told; tied = st.tied; highest = st.highest }
+
+module _ (old new : Kept) (page frame : ℕ) (same : SameRegions old new) (only : IsOnly old page) (resting : IsResting new)
+    (store : new.store ≡ old.store) (had : frame_at old page ≡ Some frame) (moves : Moves page None old.table new.table) (unbehind : is_behind old page ≡ false) where
+  whole : SameWhole old new
+  whole = record { regions = same.regions; rights = same.rights; tells = ap (λ (s : Stored). s.tells) store; faults = omega (arith, ap (λ (s : Stored). s.faults) store) }
+
+  this : (page == page) ≡ true
+  this = eq-eqb page page refl
+
+  gone : frame_at new page ≡ None
+  gone = moves.frame page ∙ cond-true _ _ _ this
+
+  frame_other : (p : ℕ) → p ≢ page → frame_at new p ≡ frame_at old p
+  frame_other p n = moves.frame p ∙ cond-false _ _ _ (ne_eqb p page n)
+
+  clean_after : dirty_at new page ≡ false
+  clean_after = moves.dirty page ∙ cond-true _ _ _ this
+
+  pub gave_up : GaveUp old new page frame
+  gave_up = record { had = had; same = same; gone = gone; same_others = frame_other }
+
+  at_other : (p : ℕ) → p ≢ page → SameAt old new p
+  at_other p n =
+      record {
+        frame = frame_other p n;
+        dirty = moves.dirty p ∙ cond-false _ _ _ (ne_eqb p page n);
+        pending = ap (is_page p) resting.none_pending ∙ sym (only.pending p n);
+        paged = ap (is_page p) resting.none_paged ∙ sym (only.paged p n);
+        word = λ i _. moves.word p i n;
+        copy = λ _. ap (λ s. copy_at s p) store;
+      }
+
+  unsettled : is_settled new page ≡ false
+  unsettled = ap (λ o. is_some o && not (is_page page new.pending)) gone
+
+  out_of : is_in old.clearing page ≡ false
+  out_of = ap (λ (r : Option Region). is_in r page) only.none_clearing
+
+  -- the page without a frame has its copy's words, as before
+  copied_after : IsCopied old page → IsCopied new page
+  copied_after is =
+      let known = ap (λ s. copy_at s page) store ∙ is.known in
+      record { words = is.words; known = known; equal = λ i. cond-false _ _ _ unsettled ∙ ap (λ copy. word_in_copy copy i) known }
+
+  -- in each state in which the page lost its frame and is clean
+  pub gives_up : (st after : SpaceState) → SameRest st after → after.highest ≡ st.highest → ((p : ℕ) → p ≢ page → SameStateAt st after p) → ((p : ℕ) → p ≢ page → after.base p ≡ st.base p)
+      → after.base page ≡ None → after.flat.dirty page ≡ false → ((i : ℕ) → after.flat.words page i ≡ st.flat.words page i)
+      → (st.told ≡ true → IsCopied old page → ((i : ℕ) → st.flat.words page i ≡ word_at old page i) → IsCopy (after.flat.copies page) (copy_at old.store page))
+      → StandsFor old st → StandsFor new after
+  gives_up st after rest highest others base none clean words copies s =
+      let b = s.beside in
+      one_stands old new st after page whole (resting.none_clearing ∙ sym only.none_clearing) rest (omega (arith, highest, b.highest, whole.faults)) at_other others base s
+      (record {
+        dirty = λ _. clean ∙ sym clean_after;
+        words = λ told out i.
+            let was = b.told (sym rest.told ∙ told) in
+            let is = was.copied page out unbehind in
+            words i ∙ was.words page i out ∙ is.equal i ∙ sym ((copied_after is).equal i);
+        copies = λ told out _.
+            let was = b.told (sym rest.told ∙ told) in
+            subst (λ (t : Stored). IsCopy (after.flat.copies page) (copy_at t page)) (sym store)
+            (copies (sym rest.told ∙ told) (was.copied page out unbehind) (λ i. was.words page i out));
+        copied = λ told out _. copied_after ((b.told (sym rest.told ∙ told)).copied page out unbehind);
+        tied = λ i w tied is. absurd (true≢false (sym is ∙ unsettled));
+        untied = λ i is. absurd (true≢false (sym is ∙ ap (is_page page) resting.none_pending));
+      })
+      (none ∙ sym gone)
+
+  pub removes : dirty_at old page ≡ false → old.paged ≡ None → Removes old new page frame
+  removes clean unpaged =
+      record {
+        gave = gave_up;
+        resting = resting;
+        allowed = λ st s c. (s.base page ∙ had, s.beside.dirty page out_of ∙ clean);
+        stands = λ st s c. gives_up st (space_after st (give_entry c old.number page frame)) (record { regions = refl; rights = λ p. refl; told = refl }) refl
+            (λ p n. record { dirty = refl; words = λ i. refl; copies = refl; tied = λ i. refl })
+            (λ p n. cond-false _ _ _ (ne_eqb p page n)) (cond-true _ _ _ this) (s.beside.dirty page out_of ∙ clean) (λ i. refl)
+            (λ told is words. (s.beside.told told).copies page out_of (ap (is_page page) unpaged)) s;
+      }
+
+  -- the page's copy was written before, and the answer tells whether
+  pub evicts : (written : Bool) → dirty_at old page ≡ written → is_unwired (region_at old.regions page) ≡ true → Evicts old new page frame (record { reply = copied_reply written; hit = false; size = None })
+  evicts written was unwired =
+      let asked : (st : SpaceState) → StandsFor old st → reply_of st.flat (Evict old.number page) ≡ copied_reply written = λ st s.
+      evict_asked _ _ (ap (λ rs. is_unwired (region_at rs page)) s.beside.regions ∙ unwired) ∙ ap copied_reply (s.beside.dirty page out_of ∙ was) in
+      record {
+        gave = gave_up;
+        replied = ap copied_reply (sym was);
+        resting = resting;
+        allowed = λ st s c n. record {
+          reply = allowed_copied st c (Evict old.number page) written (asked st s) tt;
+          parts = sym (rw (copied_lawful written, s.base page, had) refl);
+          hit = refl;
+          size = refl;
+        };
+        stands = λ st s c n. subst (λ (f : Flat). StandsFor new (evicted page st f)) (sym (evict_outs st.flat old.number page written (asked st s)))
+            (gives_up st (evicted page st (out st.flat page)) (record { regions = refl; rights = λ p. refl; told = refl }) refl
+            (λ p n. record { dirty = cond-false _ _ _ (ne_eqb p page n); words = λ i. refl; copies = cond-false _ _ _ (ne_eqb p page n); tied = λ i. refl })
+            (λ p n. cond-false _ _ _ (ne_eqb p page n)) (cond-true _ _ _ this) (cond-true _ _ _ this) (λ i. refl)
+            (λ told is words. rw (this, is.known) (λ i. words i ∙ is.equal i)) s);
+      }

@@ -1,0 +1,140 @@
+-- What a sync and an evict are answered, and what they do, where a region has their page.
+use Rattle.std.proofs.Common.{◌≡◌, ◌≢◌, ℕ, Bool, true, false, ◌&&◌, ◌==◌, if◌then◌else◌, not, Option, Some, None, is_some, refl, sym, ap, ◌∙◌, subst}
+use Rattle.std.proofs.lemmas.Bool.{not-true}
+use Rattle.std.proofs.lemmas.Option.{same_Some}
+use Rattle.pager_model.specs.declared.call.Call.{Call}
+use Rattle.pager_model.specs.declared.call.Call.TheVariants.{Sync, Evict}
+use Rattle.pager_model.specs.declared.region.Region.{Region}
+use Rattle.pager_model.specs.declared.reply.Answered.{Answered}
+use Rattle.pager_model.specs.declared.reply.Reply.{Reply}
+use Rattle.pager_model.specs.declared.reply.Reply.TheVariants.{Written, NoMemory}
+use Rattle.pager_model.specs.Flat.{Flat, after_call, reply_of, is_lawful, out, sync_reply, evict_reply}
+use Rattle.pager_model.specs.Order.{is_answered_alone}
+use Rattle.pager_model.specs.Regions.{region_at}
+use Rattle.pager_model.specs.SpaceStates.{SpaceState, Next, MayFail, IsAsked, ReplyAllowed, HasItsPages, answered_flat, space_after, frees_its_page}
+use Rattle.pager_model.specs.SpaceStates.Next.{Anyone}
+use Rattle.space_core.specs.declared.space.OutFault.{OutFault}
+use Rattle.space_core.specs.declared.space.OutFault.TheVariants.{Failed as OutFailed, NoMemory as OutNoMemory}
+use Rattle.space_core.specs.Beginning.{Begins, BeginsAnswered, BeginsFailing, LeavesUnwritten, copied_reply}
+use Rattle.space_core.specs.Saving.{Saves, FailsToSave, LacksRoom, unwritten_by}
+use Rattle.space_core.specs.Standing.{Kept, answer_entry, StandsFor, IsResting, dirty_at, copied_page, may_copy, is_unwired}
+use Rattle.space_core.proofs.SameView.{next_stands}
+use Rattle.space_core.proofs.Copying.{CleansPage, cleaned_resting, cleaned_same, cleaned_out, fails_to_write, leaves_unwritten, none_in, outed}
+
+-- a page with a region is written where it is dirty
+sync_asked : (o : Option Region) (dirty : Bool) → is_some o ≡ true → sync_reply o dirty ≡ copied_reply dirty
+sync_asked None dirty h = cc
+sync_asked (Some r) dirty h = refl
+
+pub evict_asked : (o : Option Region) (dirty : Bool) → is_unwired o ≡ true → evict_reply o dirty ≡ copied_reply dirty
+evict_asked None dirty h = cc
+evict_asked (Some r) dirty h = rw (not-true _ h) refl
+
+pub copied_lawful : (written : Bool) → is_lawful (copied_reply written) ≡ true
+copied_lawful true = refl
+copied_lawful false = refl
+
+no_memory : (written : Bool) → copied_reply written ≢ NoMemory
+no_memory true h = cc
+no_memory false h = cc
+
+alone_sync : (space page : ℕ) (written : Bool) → is_answered_alone (Sync space page) (copied_reply written) ≡ true
+alone_sync space page true = refl
+alone_sync space page false = refl
+
+alone_evict : (space page : ℕ) (written : Bool) → is_answered_alone (Evict space page) (copied_reply written) ≡ true
+alone_evict space page true = refl
+alone_evict space page false = refl
+
+pub allowed_copied : (st : SpaceState) (c : ℕ) (call : Call) (written : Bool) → reply_of st.flat call ≡ copied_reply written → HasItsPages st c call → ReplyAllowed st c call (copied_reply written)
+allowed_copied st c call true asked has = (asked, λ l. has)
+allowed_copied st c call false asked has = (asked, λ l. has)
+
+copied_after : (f : Flat) (call : Call) (written : Bool) → answered_flat f call (copied_reply written) ≡ after_call f call
+copied_after f call true = refl
+copied_after f call false = refl
+
+-- a flat memory with the page written to its copy where the call was lawful
+abbrev out_if : Flat → ℕ → Bool → Flat
+out_if f page lawful =
+    record {
+      regions = f.regions;
+      rights = f.rights;
+      words = f.words;
+      copies = λ p. if lawful && (p == page) then Some (f.words p) else f.copies p;
+      dirty = λ p. if lawful && (p == page) then false else f.dirty p;
+    }
+
+-- a lawful sync does what paging out does, and so does a lawful evict
+pub sync_outs : (f : Flat) (space page : ℕ) (written : Bool) → reply_of f (Sync space page) ≡ copied_reply written → answered_flat f (Sync space page) (copied_reply written) ≡ out f page
+sync_outs f space page written asked =
+    copied_after f (Sync space page) written ∙ ap (out_if f page) (ap is_lawful asked ∙ copied_lawful written)
+
+pub evict_outs : (f : Flat) (space page : ℕ) (written : Bool) → reply_of f (Evict space page) ≡ copied_reply written → answered_flat f (Evict space page) (copied_reply written) ≡ out f page
+evict_outs f space page written asked =
+    copied_after f (Evict space page) written ∙ ap (out_if f page) (ap is_lawful asked ∙ copied_lawful written)
+
+-- the page's copy is saved, the page is clean then, and the sync is answered
+pub syncs : (old mid new : Kept) (page : ℕ) (written : Bool) → IsResting old → is_some (region_at old.regions page) ≡ true → Saves old mid page written → CleansPage mid new page → BeginsAnswered old new (Sync old.number page) (record { reply = copied_reply written; hit = false; size = None })
+syncs old mid new page written resting has saves cleans =
+    let same = cleaned_same old mid new page written resting saves cleans in
+    let asked : (st : SpaceState) → StandsFor old st → reply_of st.flat (Sync old.number page) ≡ copied_reply written = λ st s.
+    sync_asked _ _ (ap (λ rs. is_some (region_at rs page)) s.beside.regions ∙ has) ∙ ap copied_reply (s.beside.dirty page (none_in old resting page) ∙ saves.was) in
+    record {
+      alone = alone_sync old.number page written;
+      same_number = same.same.number;
+      same_frames = same.same.frames;
+      resting = cleaned_resting old mid new page written resting saves cleans;
+      answers = record {
+        allowed = λ st s c n. record { reply = allowed_copied st c (Sync old.number page) written (asked st s) tt; parts = refl; hit = refl; size = refl };
+        stands = λ st s c n. subst (λ (f : Flat). StandsFor new (record { flat = f; base = st.base; next = Anyone; told = st.told; tied = st.tied; highest = st.highest }))
+            (sym (sync_outs st.flat old.number page written (asked st s))) (cleaned_out old mid new page written resting saves cleans st Anyone s);
+      };
+      memory = λ lacking. absurd (no_memory written lacking);
+    }
+
+-- a sync or an evict of a dirty page meets want of memory
+may_fail : (call : Call) (page : ℕ) (st : SpaceState) → copied_page call ≡ Some page → may_copy call (region_at st.flat.regions page) ≡ true → st.flat.dirty page ≡ true → MayFail st call
+may_fail (Sync space p) page st is may dirty = rw (same_Some _ _ is) (sync_asked _ _ may ∙ ap copied_reply dirty)
+may_fail (Evict space p) page st is may dirty = rw (same_Some _ _ is) (evict_asked _ _ may ∙ ap copied_reply dirty)
+may_fail call page st is may dirty = cc
+
+lacking_alone : (call : Call) (page : ℕ) → copied_page call ≡ Some page → is_answered_alone call NoMemory ≡ true
+lacking_alone (Sync space p) page is = refl
+lacking_alone (Evict space p) page is = refl
+lacking_alone call page is = cc
+
+frees_none : (st : SpaceState) (call : Call) → false ≡ frees_its_page st call NoMemory
+frees_none st (Evict space p) = refl
+frees_none st call = refl
+
+-- want of memory changes nothing
+lacking_stands : (k : Kept) (st : SpaceState) (call : Call) (page : ℕ) → copied_page call ≡ Some page → StandsFor k st → (c n : ℕ) → StandsFor k (space_after st (answer_entry c n call (record { reply = NoMemory; hit = false; size = None })))
+lacking_stands k st (Sync space p) page is s c n = next_stands k st Anyone s
+lacking_stands k st (Evict space p) page is s c n = next_stands k st Anyone s
+lacking_stands k st call page is s c n = cc
+
+module _ (old new : Kept) (page : ℕ) (resting : IsResting old) where
+  lacking : (call : Call) → copied_page call ≡ Some page → may_copy call (region_at old.regions page) ≡ true → LacksRoom old new page → BeginsAnswered old new call (record { reply = NoMemory; hit = false; size = None })
+  lacking call is may lacks =
+      let leaves = leaves_unwritten old resting new page lacks in
+      let may_at : (st : SpaceState) → StandsFor old st → MayFail st call = λ st s.
+      may_fail call page st is (ap (λ rs. may_copy call (region_at rs page)) s.beside.regions ∙ may) (s.beside.dirty page (none_in old resting page) ∙ lacks.dirty) in
+      record {
+        alone = lacking_alone call page is;
+        same_number = leaves.same.same.number;
+        same_frames = leaves.same.same.frames;
+        resting = leaves.resting;
+        answers = record {
+          allowed = λ st s c n. record { reply = may_at st s; parts = frees_none st call; hit = refl; size = refl };
+          stands = λ st s c n. lacking_stands new st call page is (leaves.stands st s) c n;
+        };
+        memory = λ _. (page, is, leaves.lacks);
+      }
+
+  -- a sync or an evict whose copy was not written
+  pub begins_unwritten : (call : Call) (fault : OutFault) → copied_page call ≡ Some page → may_copy call (region_at old.regions page) ≡ true → ((count : ℕ) → fault ≡ OutFailed count → FailsToSave old new page count) → (fault ≡ OutNoMemory → LacksRoom old new page) → Begins old new call (unwritten_by page fault)
+  begins_unwritten call (OutFailed count) is may failed lacks =
+      let fails = fails_to_write old resting new page count (failed count refl) in
+      record { must = record { is = is; may = ap (λ rs. may_copy call (region_at rs page)) fails.same.same.regions ∙ may; dirty = fails.dirty }; fails = fails }
+  begins_unwritten call OutNoMemory is may failed lacks = lacking call is may (lacks refl)
