@@ -8,6 +8,7 @@ ghost use Rattle.space_core.specs.Standing.{IsResting, CanBegin};
 use super::{Begun, Space};
 use pager_model::{Call, Frame, Kind, Reply, Rights, frames_of};
 use std::alloc::Global;
+use std::process::Abort;
 use std::test::Fail;
 use store_core::MemoryStore;
 
@@ -181,11 +182,53 @@ fn clear(space: &mut Space<MemoryStore>, first: u32, length: u32) -> Result<Repl
     ensures spare { OnOk result ((spare : List Framed) → HasSpare space.old spare → HasSpare space.new spare) }
 {
     for _ in 0..=length {
-        if space.clear_next(first, length).is_none() {
+        let Some(_) = space.clear_next(first, length) else {
             return Ok(space.unmap(first).reply);
-        }
+        };
     }
     Err(Fail::from("more pages than the region has gave frames up"))
+}
+
+/// Whether a line of a trace may hold the call, and it is on the tests' space.
+fn is_ours(call: &Call) -> bool
+    ensures { result ≡ true → (space_of_call call.now ≡ SPACE) × CanBegin call.now }
+{
+    let in_place = match *call {
+        Call::Map { page, length, .. } | Call::Protect { page, length, .. } => {
+            page < 1 << 20 && 0 < length && length <= 1 << 20
+        }
+        Call::Grow { page, by, .. } => page < 1 << 20 && 0 < by && by <= 1 << 20,
+        Call::Unmap { page, .. } | Call::Sync { page, .. } | Call::Evict { page, .. } => {
+            page < 1 << 20
+        }
+        Call::Load { address, .. } | Call::Store { address, .. } => {
+            address % 8 == 0 && address < 1 << 33
+        }
+    };
+    in_place && call.space() == SPACE
+}
+
+/// A call, what it is answered, and the frame that its page gives up.
+type Step = (Call, Reply, Option<u32>);
+
+/// Asserts that the calls are answered so, one after another.
+fn serves(
+    rt: &impl Abort,
+    space: &mut Space<MemoryStore>,
+    spare: &mut Vec<Frame>,
+    steps: &[Step],
+) -> Result<(), Fail>
+    requires space { space.old.number ≡ SPACE }
+    requires spare { HasSpare space.old spare.old.items }
+    ensures number { OnOk result (space.new.number ≡ SPACE) }
+    ensures spare { OnOk result (HasSpare space.new spare.new.items) }
+{
+    for (call, reply, gave) in steps {
+        assert!(rt; is_ours(call));
+        let served = serve(space, spare, call)?;
+        assert_eq!(rt; served, (*reply, *gave), "{call:?}");
+    }
+    Ok(())
 }
 
 #[test]
@@ -295,26 +338,14 @@ fn sixteen_spaces_are_made_at_once(rt: HostRuntime) -> Result<(), Fail> {
 fn an_unmap_gives_the_frames_up_in_order(rt: HostRuntime) -> Result<(), Fail> {
     let (mut space, mut spare) = begun(rt.alloc(), 4, &[], &[])?;
     let region = map(16, 8, Kind::Fixed, Rights::Write);
-    assert_eq!(rt;
-        serve(&mut space, &mut spare, &region)?,
-        (Reply::Done, None)
-    );
-    assert_eq!(rt;
-        serve(&mut space, &mut spare, &store(22, 7))?,
-        (Reply::Done, None)
-    );
-    assert_eq!(rt;
-        serve(&mut space, &mut spare, &store(17, 5))?,
-        (Reply::Done, None)
-    );
-    assert_eq!(rt;
-        serve(&mut space, &mut spare, &load(22))?,
-        (Reply::Value(7), None)
-    );
-    assert_eq!(rt;
-        serve(&mut space, &mut spare, &load(16))?,
-        (Reply::Value(0), None)
-    );
+    let steps = [
+        (region, Reply::Done, None),
+        (store(22, 7), Reply::Done, None),
+        (store(17, 5), Reply::Done, None),
+        (load(22), Reply::Value(7), None),
+        (load(16), Reply::Value(0), None),
+    ];
+    serves(&rt, &mut space, &mut spare, &steps)?;
     assert_eq!(rt; space.resident(22), Some(3));
 
     let Begun::NeedsClear { first, length } = space.begin(0, &unmap(20)) else {
@@ -331,7 +362,8 @@ fn an_unmap_gives_the_frames_up_in_order(rt: HostRuntime) -> Result<(), Fail> {
     assert_eq!(rt; space.unmap(20).reply, Reply::Done);
 
     let region = map(16, 8, Kind::Fixed, Rights::Read);
-    assert_eq!(rt; ask(&mut space, &region), Some(Reply::Done));
+    let done = ask(&mut space, &region);
+    assert_eq!(rt; done, Some(Reply::Done));
     assert_eq!(rt; ask(&mut space, &load(17)), None);
     assert_eq!(rt; ask(&mut space, &store(17, 1)), Some(Reply::Denied));
     Ok(())
@@ -341,28 +373,19 @@ fn an_unmap_gives_the_frames_up_in_order(rt: HostRuntime) -> Result<(), Fail> {
 fn a_sync_writes_a_dirty_page_once(rt: HostRuntime) -> Result<(), Fail> {
     let (mut space, mut spare) = begun(rt.alloc(), 4, &[], &[])?;
     let region = map(16, 8, Kind::Wired, Rights::Write);
-    assert_eq!(rt;
-        serve(&mut space, &mut spare, &region)?,
-        (Reply::Done, None)
-    );
-    for (call, reply) in [
-        (sync(17), Reply::Clean),
-        (load(17), Reply::Value(0)),
-        (sync(17), Reply::Clean),
-        (store(17, 5), Reply::Done),
-        (sync(17), Reply::Written),
-        (sync(17), Reply::Clean),
-        (store(17, 5), Reply::Done),
-        (sync(17), Reply::Written),
-        (load(17), Reply::Value(5)),
-        (sync(24), Reply::Unmapped),
-    ] {
-        assert_eq!(rt;
-            serve(&mut space, &mut spare, &call)?,
-            (reply, None),
-            "{call:?}"
-        );
-    }
+    let steps = [
+        (region, Reply::Done, None),
+        (sync(17), Reply::Clean, None),
+        (load(17), Reply::Value(0), None),
+        (sync(17), Reply::Clean, None),
+        (store(17, 5), Reply::Done, None),
+        (sync(17), Reply::Written, None),
+        (sync(17), Reply::Clean, None),
+        (store(17, 5), Reply::Done, None),
+        (sync(17), Reply::Written, None),
+        (sync(24), Reply::Unmapped, None),
+    ];
+    serves(&rt, &mut space, &mut spare, &steps)?;
     Ok(())
 }
 
@@ -370,49 +393,62 @@ fn a_sync_writes_a_dirty_page_once(rt: HostRuntime) -> Result<(), Fail> {
 fn an_evict_gives_the_frame_up_and_a_fill_reads_the_word_back(rt: HostRuntime) -> Result<(), Fail> {
     let (mut space, mut spare) = begun(rt.alloc(), 4, &[], &[])?;
     let region = map(16, 8, Kind::Fixed, Rights::Write);
-    let wired = map(24, 8, Kind::Wired, Rights::Write);
-    for (call, reply, gave) in [
+    let steps = [
         (region, Reply::Done, None),
         (store(17, 5), Reply::Done, None),
-        (evict(17), Reply::Written, Some(3u32)),
+        (evict(17), Reply::Written, Some(3)),
         (evict(17), Reply::Clean, None),
-        (load(17), Reply::Value(5), None),
-        (evict(17), Reply::Clean, Some(2)),
-        (wired, Reply::Done, None),
-        (store(24, 6), Reply::Done, None),
-        (evict(24), Reply::Denied, None),
-        (evict(32), Reply::Unmapped, None),
-    ] {
-        assert_eq!(rt;
-            serve(&mut space, &mut spare, &call)?,
-            (reply, gave),
-            "{call:?}"
-        );
-    }
+    ];
+    serves(&rt, &mut space, &mut spare, &steps)?;
     assert_eq!(rt; space.resident(17), None);
-    assert_eq!(rt; space.resident(24), Some(1));
+    let steps = [
+        (load(17), Reply::Value(5), None),
+    ];
+    serves(&rt, &mut space, &mut spare, &steps)?;
+    assert_eq!(rt; space.resident(17), Some(2));
+    let steps = [
+        (evict(17), Reply::Clean, Some(2)),
+    ];
+    serves(&rt, &mut space, &mut spare, &steps)?;
+    Ok(())
+}
+
+#[test]
+fn a_wired_page_is_not_evicted(rt: HostRuntime) -> Result<(), Fail> {
+    let (mut space, mut spare) = begun(rt.alloc(), 4, &[], &[])?;
+    let region = map(16, 8, Kind::Wired, Rights::Write);
+    let steps = [
+        (region, Reply::Done, None),
+        (store(17, 5), Reply::Done, None),
+        (evict(17), Reply::Denied, None),
+        (evict(24), Reply::Unmapped, None),
+        (sync(17), Reply::Written, None),
+    ];
+    serves(&rt, &mut space, &mut spare, &steps)?;
+    assert_eq!(rt; space.resident(17), Some(3));
     Ok(())
 }
 
 #[test]
 fn a_failed_write_leaves_the_page_dirty_and_resident(rt: HostRuntime) -> Result<(), Fail> {
-    let (mut space, mut spare) = begun(rt.alloc(), 4, &[], &[1, 3])?;
+    let (mut space, mut spare) = begun(rt.alloc(), 4, &[], &[1, 2])?;
     let region = map(16, 8, Kind::Fixed, Rights::Write);
-    for (call, reply, frame) in [
+    let steps = [
         (region, Reply::Done, None),
-        (store(17, 5), Reply::Done, Some(3u32)),
-        (sync(17), fault(1), Some(3)),
-        (sync(17), Reply::Written, Some(3)),
-        (sync(17), Reply::Clean, Some(3)),
-        (store(17, 6), Reply::Done, Some(3)),
-        (evict(17), fault(2), Some(3)),
-        (load(17), Reply::Value(6), Some(3)),
-        (evict(17), Reply::Written, None),
-        (load(17), Reply::Value(6), Some(2)),
-    ] {
-        assert_eq!(rt; serve(&mut space, &mut spare, &call)?.0, reply, "{call:?}");
-        assert_eq!(rt; space.resident(17), frame, "{call:?}");
-    }
+        (store(17, 5), Reply::Done, None),
+        (sync(17), fault(1), None),
+        (evict(17), fault(2), None),
+    ];
+    serves(&rt, &mut space, &mut spare, &steps)?;
+    assert_eq!(rt; space.resident(17), Some(3));
+    let steps = [
+        (load(17), Reply::Value(5), None),
+        (sync(17), Reply::Written, None),
+        (sync(17), Reply::Clean, None),
+        (evict(17), Reply::Clean, Some(3)),
+        (load(17), Reply::Value(5), None),
+    ];
+    serves(&rt, &mut space, &mut spare, &steps)?;
     Ok(())
 }
 
@@ -420,19 +456,18 @@ fn a_failed_write_leaves_the_page_dirty_and_resident(rt: HostRuntime) -> Result<
 fn a_failed_read_gives_the_frame_back(rt: HostRuntime) -> Result<(), Fail> {
     let (mut space, mut spare) = begun(rt.alloc(), 4, &[1, 2], &[])?;
     let region = map(16, 8, Kind::Fixed, Rights::Write);
-    for (call, reply, gave) in [
+    let steps = [
         (region, Reply::Done, None),
-        (load(17), fault(1), Some(3u32)),
+        (load(17), fault(1), Some(3)),
+    ];
+    serves(&rt, &mut space, &mut spare, &steps)?;
+    assert_eq!(rt; space.resident(17), None);
+    let steps = [
         (store(17, 5), fault(2), Some(2)),
         (sync(17), Reply::Clean, None),
         (load(17), Reply::Value(0), None),
-    ] {
-        assert_eq!(rt;
-            serve(&mut space, &mut spare, &call)?,
-            (reply, gave),
-            "{call:?}"
-        );
-    }
+    ];
+    serves(&rt, &mut space, &mut spare, &steps)?;
     assert_eq!(rt; space.resident(17), Some(1));
     Ok(())
 }
@@ -442,23 +477,18 @@ fn an_unmap_drops_the_copies_of_its_pages(rt: HostRuntime) -> Result<(), Fail> {
     let (mut space, mut spare) = begun(rt.alloc(), 8, &[], &[])?;
     let region = map(16, 8, Kind::Fixed, Rights::Write);
     let beside = map(24, 8, Kind::Fixed, Rights::Write);
-    for (call, reply) in [
-        (region, Reply::Done),
-        (beside, Reply::Done),
-        (store(16, 4), Reply::Done),
-        (store(23, 5), Reply::Done),
-        (store(24, 6), Reply::Done),
-        (evict(16), Reply::Written),
-        (sync(23), Reply::Written),
-        (evict(24), Reply::Written),
-        (unmap(20), Reply::Done),
-        (load(23), Reply::Unmapped),
-        (region, Reply::Done),
-        (load(16), Reply::Value(0)),
-        (load(23), Reply::Value(0)),
-        (load(24), Reply::Value(6)),
-    ] {
-        assert_eq!(rt; serve(&mut space, &mut spare, &call)?.0, reply, "{call:?}");
-    }
+    let steps = [
+        (region, Reply::Done, None),
+        (beside, Reply::Done, None),
+        (store(23, 5), Reply::Done, None),
+        (store(24, 6), Reply::Done, None),
+        (evict(23), Reply::Written, Some(7)),
+        (evict(24), Reply::Written, Some(6)),
+        (unmap(20), Reply::Done, None),
+        (region, Reply::Done, None),
+        (load(23), Reply::Value(0), None),
+        (load(24), Reply::Value(6), None),
+    ];
+    serves(&rt, &mut space, &mut spare, &steps)?;
     Ok(())
 }
