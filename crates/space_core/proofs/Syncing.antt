@@ -1,16 +1,18 @@
 -- What a sync and an evict are answered, and what they do, where a region has their page.
-use Rattle.std.proofs.Common.{◌≡◌, ◌≢◌, ℕ, Bool, true, false, ◌&&◌, ◌==◌, if◌then◌else◌, not, Option, Some, None, is_some, ◌<◌, refl, sym, ap, inl, inr, ◌∙◌, arith, subst}
+use Rattle.std.proofs.Common.{◌≡◌, ◌≢◌, ℕ, Bool, true, false, ◌&&◌, ◌==◌, if◌then◌else◌, not, List, Option, Some, None, is_some, ◌<◌, refl, sym, ap, inl, inr, ◌∙◌, arith, subst}
 use Rattle.std.proofs.lemmas.Bool.{cases_eq, not-true, false≢true, eq-eqb, ne_eqb, cond-true, cond-false}
 use Rattle.std.proofs.lemmas.Option.{same_Some}
 use Rattle.pager_model.specs.declared.call.Call.{Call}
 use Rattle.pager_model.specs.declared.call.Call.TheVariants.{Sync, Evict}
+use Rattle.pager_model.specs.declared.region.Kind.{Kind}
+use Rattle.pager_model.specs.declared.region.Kind.TheVariants.{Fixed, Growing, Wired}
 use Rattle.pager_model.specs.declared.region.Region.{Region}
 use Rattle.pager_model.specs.declared.reply.Answered.{Answered}
 use Rattle.pager_model.specs.declared.reply.Reply.{Reply}
 use Rattle.pager_model.specs.declared.reply.Reply.TheVariants.{Written, Clean, NoMemory}
 use Rattle.pager_model.specs.Flat.{Flat, after_call, reply_of, is_lawful, out, sync_reply, evict_reply}
 use Rattle.pager_model.specs.Order.{is_answered_alone}
-use Rattle.pager_model.specs.Regions.{region_at}
+use Rattle.pager_model.specs.Regions.{region_at, is_wired}
 use Rattle.pager_model.specs.SpaceStates.{SpaceState, Next, MayFail, IsAsked, ReplyAllowed, HasItsPages, answered_flat, space_after, frees_its_page}
 use Rattle.pager_model.specs.SpaceStates.Next.{Anyone}
 use Rattle.space_core.specs.declared.space.OutFault.{OutFault}
@@ -141,6 +143,15 @@ module _ (old new : Kept) (page : ℕ) (resting : IsResting old) where
       let fails = fails_to_write old resting new page count (failed count refl) in
       record { must = record { is = is; may = ap (λ rs. may_copy call (region_at rs page)) fails.same.same.regions ∙ may; dirty = fails.dirty }; fails = fails }
   begins_unwritten call OutNoMemory is may failed lacks = lacking call is may (lacks refl)
+
+-- a region of no wired kind
+pub unwired_at : (regions : List Region) (page : ℕ) (r : Region) → region_at regions page ≡ Some r → r.kind ≢ Wired → is_unwired (region_at regions page) ≡ true
+unwired_at regions page r at other = ap is_unwired at ∙ not_wired r.kind other
+  where
+    not_wired : (k : Kind) → k ≢ Wired → not (is_wired k) ≡ true
+    not_wired Fixed other = refl
+    not_wired Growing other = refl
+    not_wired Wired other = absurd (other refl)
 
 -- nothing is done for a clean page
 saves_clean : (old : Kept) (page : ℕ) → dirty_at old page ≡ false → Saves old old page false
