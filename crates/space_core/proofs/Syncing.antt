@@ -7,17 +7,15 @@ use Rattle.pager_model.specs.declared.call.Call.TheVariants.{Sync, Evict}
 use Rattle.pager_model.specs.declared.region.Kind.{Kind}
 use Rattle.pager_model.specs.declared.region.Kind.TheVariants.{Fixed, Growing, Wired}
 use Rattle.pager_model.specs.declared.region.Region.{Region}
-use Rattle.pager_model.specs.declared.reply.Answered.{Answered}
-use Rattle.pager_model.specs.declared.reply.Reply.{Reply}
-use Rattle.pager_model.specs.declared.reply.Reply.TheVariants.{Written, Clean, NoMemory}
+use Rattle.pager_model.specs.declared.reply.Reply.TheVariants.{Clean, NoMemory}
 use Rattle.pager_model.specs.Flat.{Flat, after_call, reply_of, is_lawful, out, sync_reply, evict_reply}
 use Rattle.pager_model.specs.Order.{is_answered_alone}
 use Rattle.pager_model.specs.Regions.{region_at, is_wired}
-use Rattle.pager_model.specs.SpaceStates.{SpaceState, Next, MayFail, IsAsked, ReplyAllowed, HasItsPages, answered_flat, space_after, frees_its_page}
+use Rattle.pager_model.specs.SpaceStates.{SpaceState, MayFail, ReplyAllowed, HasItsPages, answered_flat, space_after, frees_its_page}
 use Rattle.pager_model.specs.SpaceStates.Next.{Anyone}
 use Rattle.space_core.specs.declared.space.OutFault.{OutFault}
 use Rattle.space_core.specs.declared.space.OutFault.TheVariants.{Failed as OutFailed, NoMemory as OutNoMemory}
-use Rattle.space_core.specs.Beginning.{Begins, BeginsAnswered, BeginsFailing, BeginsEvicting, SameRegions, copied_reply}
+use Rattle.space_core.specs.Beginning.{Begins, BeginsAnswered, BeginsEvicting, SameRegions, copied_reply}
 use Rattle.space_core.specs.Saving.{Saves, FailsToSave, LacksRoom, unwritten_by}
 use Rattle.space_core.specs.Standing.{Kept, answer_entry, StandsFor, IsResting, frame_at, dirty_at, copied_page, may_copy, is_unwired}
 use Rattle.space_core.specs.Tables.{frame_in, word_in, dirty_in}
