@@ -7,7 +7,7 @@ abbrev pub one_more : ℕ → ℕ
 one_more n = min (n + 1) (2 ^ 64 - 1)
 
 pub record MemoryState : Type 0 where
-  -- the copies of the pages that it keeps, each page once
+  -- the copies of the pages that it keeps
   pub copies : List Copy
   -- the numbers of the reads that fail, counted from 1
   pub failing_reads : List ℕ
