@@ -1,4 +1,4 @@
-ghost use Rattle.std.specs.Prelude.{◌≡◌, ◌<◌, ◌≤◌, ◌*◌, ◌%◌, List, true, IfOk, OnOk};
+ghost use Rattle.std.specs.Prelude.{◌≡◌, ◌<◌, ◌≤◌, ◌*◌, ◌^◌, ◌%◌, List, true, IfOk, OnOk};
 ghost use Rattle.pager_model.specs.Flat.{space_of_call};
 ghost use Rattle.pager_model.specs.Frame.{Framed};
 ghost use Rattle.pager_model.specs.TraceText.{IsCall};
@@ -197,9 +197,9 @@ fn is_range(page: u32, length: u32) -> bool
     page < 1_048_576 && 1 <= length && length <= 1_048_576
 }
 
-/// Whether it is a word's address.
-fn is_word(address: u64) -> bool
-    ensures { result ≡ true → (address % 8 ≡ 0) × (address < 8589934592) }
+/// Whether it is a word's address, for a word to be stored there.
+fn is_place(address: u64, _word: u64) -> bool
+    ensures { result ≡ true → (address % 8 ≡ 0) × (address < 8589934592) × (_word < 2 ^ 64) }
 {
     address % 8 == 0 && address < 8_589_934_592
 }
@@ -220,7 +220,8 @@ fn is_ours(call: &Call) -> bool
         Call::Unmap { page, .. } | Call::Sync { page, .. } | Call::Evict { page, .. } => {
             page < 1_048_576
         }
-        Call::Load { address, .. } | Call::Store { address, .. } => is_word(address),
+        Call::Load { address, .. } => is_place(address, 0),
+        Call::Store { address, word, .. } => is_place(address, word),
     }
 }
 
