@@ -65,6 +65,7 @@ pub record ClearsBut (first len : ℕ) (old new : Kept) : Type 0 where
   pub same_number : new.number ≡ old.number
   pub same_frames : new.frames ≡ old.frames
   pub none_pending : new.pending ≡ None
+  pub none_paged : new.paged ≡ None
   pub stands : (st : SpaceState) → StandsFor old st → StandsBut first len new st
 
 -- none did yet
@@ -75,6 +76,7 @@ clears_none_yet first len kept resting =
       same_number = refl;
       same_frames = refl;
       none_pending = resting.none_pending;
+      none_paged = resting.none_paged;
       stands = λ st stands.
           let beside = stands.beside in
           record {
@@ -105,6 +107,7 @@ clears_one_more first len page frame old mid new so_far one =
       same_number = one.gave.same.number ∙ so_far.same_number;
       same_frames = one.gave.same.frames ∙ so_far.same_frames;
       none_pending = one.same_pending ∙ so_far.none_pending;
+      none_paged = one.same_paged ∙ so_far.none_paged;
       stands = λ st stands. one.stands st (so_far.stands st stands);
     }
 

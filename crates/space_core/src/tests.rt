@@ -1,6 +1,7 @@
-ghost use Rattle.std.specs.Prelude.{◌≡◌, ◌≤◌, ◌*◌, List, None, IfOk, IfSome, OnOk};
+ghost use Rattle.std.specs.Prelude.{◌≡◌, ◌<◌, ◌≤◌, ◌*◌, ◌^◌, ◌%◌, List, true, IfOk, OnOk};
 ghost use Rattle.pager_model.specs.Flat.{space_of_call};
 ghost use Rattle.pager_model.specs.Frame.{Framed};
+ghost use Rattle.pager_model.specs.TraceText.{IsCall};
 ghost use Rattle.space_core.specs.Beginning.{IsRange};
 ghost use Rattle.space_core.specs.Spares.{HasSpare};
 ghost use Rattle.space_core.specs.Standing.{IsResting, CanBegin};
@@ -189,23 +190,39 @@ fn clear(space: &mut Space<MemoryStore>, first: u32, length: u32) -> Result<Repl
     Err(Fail::from("more pages than the region has gave frames up"))
 }
 
+/// Whether a space has these pages, which are one at least.
+fn is_range(page: u32, length: u32) -> bool
+    ensures { result ≡ true → (page < 1048576) × (1 ≤ length) × (length ≤ 1048576) }
+{
+    page < 1_048_576 && 1 <= length && length <= 1_048_576
+}
+
+/// Whether it is a word's address, for a word to be stored there.
+fn is_place(address: u64, _word: u64) -> bool
+    ensures { result ≡ true → (address % 8 ≡ 0) × (address < 8589934592) × (_word < 2 ^ 64) }
+{
+    address % 8 == 0 && address < 8_589_934_592
+}
+
 /// Whether a line of a trace may hold the call, and it is on the tests' space.
 fn is_ours(call: &Call) -> bool
-    ensures { result ≡ true → (space_of_call call.now ≡ SPACE) × CanBegin call.now }
+    ensures space { result ≡ true → space_of_call call.now ≡ SPACE }
+    ensures can { result ≡ true → IsCall 4 call.now }
 {
-    let in_place = match *call {
+    if call.space() != SPACE {
+        return false;
+    }
+    match *call {
         Call::Map { page, length, .. } | Call::Protect { page, length, .. } => {
-            page < 1 << 20 && 0 < length && length <= 1 << 20
+            is_range(page, length)
         }
-        Call::Grow { page, by, .. } => page < 1 << 20 && 0 < by && by <= 1 << 20,
+        Call::Grow { page, by, .. } => is_range(page, by),
         Call::Unmap { page, .. } | Call::Sync { page, .. } | Call::Evict { page, .. } => {
-            page < 1 << 20
+            page < 1_048_576
         }
-        Call::Load { address, .. } | Call::Store { address, .. } => {
-            address % 8 == 0 && address < 1 << 33
-        }
-    };
-    in_place && call.space() == SPACE
+        Call::Load { address, .. } => is_place(address, 0),
+        Call::Store { address, word, .. } => is_place(address, word),
+    }
 }
 
 /// A call, what it is answered, and the frame that its page gives up.

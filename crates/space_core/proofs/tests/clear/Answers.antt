@@ -2,7 +2,7 @@ use Rattle.space_core.proofs.Sparing.{clears_one_more, range_again, may_unmap, s
 use Rattle.space_core.proofs.tests.clear.Goals as goal
 
 pub unmap-requires-clause-cleared : goal.unmap-requires-clause-cleared
-unmap-requires-clause-cleared c = may_unmap c.args.first c.args.length c.loop.space c.clear_next.new.self c.loop.invariant.range c.in_default.ensures.none
+unmap-requires-clause-cleared c κs = may_unmap c.args.first c.args.length c.loop.space c.clear_next.new.self c.loop.invariant.range c.in_default.ensures.none
 
 pub returns-in_default-clause-spare : goal.returns-in_default-clause-spare
 returns-in_default-clause-spare c spare had =
