@@ -1,18 +1,15 @@
 -- What becomes of a space when the copy of its pending page is read in, or when that fails.
-use Rattle.std.proofs.Common.{◌≡◌, ◌≢◌, ℕ, ◌≤◌, Bool, true, false, ◌&&◌, ◌==◌, not, List, Option, Some, None, is_some, slice_index_or, refl, sym, ap, inl, inr, ◌∙◌, arith}
-use Rattle.std.proofs.lemmas.Bool.{cases_eq, ne_eqb, eq-eqb, true≢false, and_right, cond-true, cond-false}
+use Rattle.std.proofs.Common.{◌≡◌, ◌≢◌, ℕ, ◌≤◌, true, false, ◌&&◌, not, List, Some, None, slice_index_or, refl, sym, ap, inl, inr, ◌∙◌, arith}
+use Rattle.std.proofs.lemmas.Bool.{cases_eq, ne_eqb, eq-eqb, true≢false, and_right, cond-true}
 use Rattle.std.proofs.lemmas.Option.{none-some}
-use Rattle.pager_model.specs.SpaceStates.{SpaceState, Next, Rises}
+use Rattle.pager_model.specs.SpaceStates.{SpaceState, Rises}
 use Rattle.pager_model.specs.SpaceStates.Next.{Only}
 use Rattle.space_core.specs.Beginning.{SameRegions, ReadsIn, FailsToRead}
-use Rattle.space_core.specs.Keeping.{IsKept}
 use Rattle.space_core.specs.Pages.{Refills, HasWords}
-use Rattle.space_core.specs.Standing.{Kept, StandsFor, IsCopied, frame_at, dirty_at, is_page, is_in, is_settled, is_behind, word_at, word_in_copy}
-use Rattle.space_core.specs.Tables.{word_in}
-use Rattle.store_core.specs.Stored.{Stored, copy_at, SameCopies}
+use Rattle.space_core.specs.Standing.{Kept, StandsFor, IsCopied, frame_at, dirty_at, is_page, is_in, is_settled, is_behind, word_at}
+use Rattle.store_core.specs.Stored.{copy_at, SameCopies}
 use Rattle.space_core.proofs.SameView.{BesideAt, SameWhole, SameAt, settled_from, one_stands, raised_stands, rises_told, within_faults}
 use Rattle.space_core.proofs.Serving.{resident_from}
-use Rattle.space_core.proofs.TableLemmas.{some-isnt}
 
 -- The pending page may have any words after a read, and all else is seen the same.
 module _ (old new : Kept) (page : ℕ) (same : SameRegions old new) (clearing : new.clearing ≡ old.clearing) (paged : new.paged ≡ old.paged)

@@ -1,19 +1,17 @@
 -- What becomes of a space when a clean page, or one that is being evicted, gives its frame up.
-use Rattle.std.proofs.Common.{◌≡◌, ◌≢◌, ℕ, Bool, true, false, ◌&&◌, ◌==◌, if◌then◌else◌, not, Option, Some, None, is_some, slice_index_or, refl, sym, ap, ◌∙◌, arith, subst}
+use Rattle.std.proofs.Common.{◌≡◌, ◌≢◌, ℕ, Bool, true, false, ◌&&◌, ◌==◌, if◌then◌else◌, not, Option, Some, None, is_some, refl, sym, ap, ◌∙◌, arith, subst}
 use Rattle.std.proofs.lemmas.Bool.{ne_eqb, eq-eqb, true≢false, and_right, cond-true, cond-false}
-use Rattle.std.proofs.lemmas.Option.{none-some, same_Some}
 use Rattle.pager_model.specs.declared.call.Call.TheVariants.{Evict}
 use Rattle.pager_model.specs.declared.region.Region.{Region}
 use Rattle.pager_model.specs.Flat.{Flat, reply_of, out}
 use Rattle.pager_model.specs.Regions.{region_at}
-use Rattle.pager_model.specs.SpaceStates.{SpaceState, Next, space_after}
+use Rattle.pager_model.specs.SpaceStates.{SpaceState, space_after}
 use Rattle.pager_model.specs.SpaceStates.Next.{Anyone}
 use Rattle.space_core.specs.Beginning.{SameRegions, GaveUp, Removes, Evicts, IsEvicting, copied_reply}
 use Rattle.space_core.specs.Pages.{Moves}
-use Rattle.space_core.specs.Standing.{Kept, StandsFor, IsResting, IsCopied, IsCopy, frame_at, dirty_at, is_page, is_in, is_settled, is_behind, is_unwired, word_at, word_in_copy, give_entry, evict_entry}
-use Rattle.space_core.specs.Tables.{word_in}
+use Rattle.space_core.specs.Standing.{Kept, StandsFor, IsResting, IsCopied, IsCopy, frame_at, dirty_at, is_page, is_in, is_settled, is_behind, is_unwired, word_at, word_in_copy, give_entry}
 use Rattle.store_core.specs.Stored.{Stored, copy_at}
-use Rattle.space_core.proofs.SameView.{BesideAt, SameWhole, SameRest, SameAt, SameStateAt, one_stands}
+use Rattle.space_core.proofs.SameView.{SameWhole, SameRest, SameAt, SameStateAt, one_stands}
 use Rattle.space_core.proofs.Syncing.{evict_asked, evict_outs, allowed_copied, copied_lawful}
 
 -- Which page may be pending or on its way out: this one alone.

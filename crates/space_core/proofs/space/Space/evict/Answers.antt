@@ -1,5 +1,5 @@
-use Rattle.std.proofs.Common.{◌≡◌, ◌∙◌, ap, sym, refl, Option, Some, None}
-use Rattle.space_core.specs.Standing.{Kept, dirty_at}
+use Rattle.std.proofs.Common.{◌∙◌, ap, sym, refl}
+use Rattle.space_core.specs.Standing.{Kept}
 use Rattle.space_core.proofs.SameView.{same_regions}
 use Rattle.space_core.proofs.GivingUp.{evicts, evicting_only, evicting_unbehind}
 use Rattle.space_core.proofs.space.Space.evict.Goals as goal

@@ -1,6 +1,6 @@
-use Rattle.std.proofs.Common.{◌≡◌, ◌≢◌, ◌∙◌, ap, refl, Some, None}
-use Rattle.space_core.specs.Standing.{Kept, frame_at}
-use Rattle.space_core.proofs.Filling.{reads_in, fails_to_read}
+use Rattle.std.proofs.Common.{◌≡◌, ◌∙◌, ap, refl, Some}
+use Rattle.space_core.specs.Standing.{Kept}
+use Rattle.space_core.proofs.Filling.{fails_to_read}
 use Rattle.space_core.proofs.SameView.{same_regions}
 use Rattle.space_core.proofs.space.Space.read_in.Goals as goal
 

@@ -1,7 +1,5 @@
-use Rattle.std.proofs.Common.{◌≡◌, ◌∙◌, ap, refl, Option, Some, None}
-use Rattle.std.specs.Option.{IfSome}
-use Rattle.pager_model.specs.declared.region.Region.{Region}
-use Rattle.space_core.specs.Standing.{Kept, frame_at}
+use Rattle.std.proofs.Common.{◌∙◌, ap, refl}
+use Rattle.space_core.specs.Standing.{Kept}
 use Rattle.space_core.proofs.SameView.{same_regions}
 use Rattle.space_core.proofs.GivingUp.{removes, clean_only, clean_unbehind}
 use Rattle.space_core.proofs.space.Space.remove.Goals as goal
