@@ -175,17 +175,22 @@ fn serve(
     }
 }
 
-/// Unmaps the region of this range, whose pages give their frames up.
+/// Unmaps the region of this range, whose pages give their frames up, ascending.
 fn clear(space: &mut Space<MemoryStore>, first: u32, length: u32) -> Result<Reply, Fail>
     requires resting { IsResting space.old }
     requires range { IsRange space.old first length }
     ensures number { OnOk result (space.new.number ≡ space.old.number) }
     ensures spare { OnOk result ((spare : List Framed) → HasSpare space.old spare → HasSpare space.new spare) }
 {
+    let mut next = first;
     for _ in 0..=length {
-        let Some(_) = space.clear_next(first, length) else {
+        let Some((page, _)) = space.clear_next(first, length) else {
             return Ok(space.unmap(first).reply);
         };
+        if page < next {
+            return Err(Fail::from("a page came after a later one"));
+        }
+        next = page.saturating_add(1);
     }
     Err(Fail::from("more pages than the region has gave frames up"))
 }
@@ -355,35 +360,19 @@ fn sixteen_spaces_are_made_at_once(rt: HostRuntime) -> Result<(), Fail> {
 fn an_unmap_gives_the_frames_up_in_order(rt: HostRuntime) -> Result<(), Fail> {
     let (mut space, mut spare) = begun(rt.alloc(), 4, &[], &[])?;
     let region = map(16, 8, Kind::Fixed, Rights::Write);
+    let again = map(16, 8, Kind::Fixed, Rights::Read);
     let steps = [
         (region, Reply::Done, None),
         (store(22, 7), Reply::Done, None),
         (store(17, 5), Reply::Done, None),
         (load(22), Reply::Value(7), None),
         (load(16), Reply::Value(0), None),
+        (unmap(20), Reply::Done, None),
+        (again, Reply::Done, None),
+        (store(17, 1), Reply::Denied, None),
+        (load(17), Reply::Value(0), None),
     ];
-    serves(&rt, &mut space, &mut spare, &steps)?;
-    assert_eq!(rt; space.resident(22), Some(3));
-
-    let Begun::NeedsClear { first, length } = space.begin(0, &unmap(20)) else {
-        return Err(Fail::from("the region's pages have no frames"));
-    };
-    for page in [16u32, 17, 22] {
-        let cleared = space.clear_next(first, length);
-        let given = cleared.map(|(cleared, _)| cleared);
-        assert_eq!(rt; given, Some(page));
-    }
-    if space.clear_next(first, length).is_some() {
-        return Err(Fail::from("a fourth page had a frame"));
-    }
-    assert_eq!(rt; space.unmap(20).reply, Reply::Done);
-
-    let region = map(16, 8, Kind::Fixed, Rights::Read);
-    let done = ask(&mut space, &region);
-    assert_eq!(rt; done, Some(Reply::Done));
-    assert_eq!(rt; ask(&mut space, &load(17)), None);
-    assert_eq!(rt; ask(&mut space, &store(17, 1)), Some(Reply::Denied));
-    Ok(())
+    serves(&rt, &mut space, &mut spare, &steps)
 }
 
 #[test]
@@ -418,14 +407,10 @@ fn an_evict_gives_the_frame_up_and_a_fill_reads_the_word_back(rt: HostRuntime) -
     ];
     serves(&rt, &mut space, &mut spare, &steps)?;
     assert_eq!(rt; space.resident(17), None);
-    let steps = [
-        (load(17), Reply::Value(5), None),
-    ];
+    let steps = [(load(17), Reply::Value(5), None)];
     serves(&rt, &mut space, &mut spare, &steps)?;
     assert_eq!(rt; space.resident(17), Some(2));
-    let steps = [
-        (evict(17), Reply::Clean, Some(2)),
-    ];
+    let steps = [(evict(17), Reply::Clean, Some(2))];
     serves(&rt, &mut space, &mut spare, &steps)?;
     Ok(())
 }
@@ -473,10 +458,7 @@ fn a_failed_write_leaves_the_page_dirty_and_resident(rt: HostRuntime) -> Result<
 fn a_failed_read_gives_the_frame_back(rt: HostRuntime) -> Result<(), Fail> {
     let (mut space, mut spare) = begun(rt.alloc(), 4, &[1, 2], &[])?;
     let region = map(16, 8, Kind::Fixed, Rights::Write);
-    let steps = [
-        (region, Reply::Done, None),
-        (load(17), fault(1), Some(3)),
-    ];
+    let steps = [(region, Reply::Done, None), (load(17), fault(1), Some(3))];
     serves(&rt, &mut space, &mut spare, &steps)?;
     assert_eq!(rt; space.resident(17), None);
     let steps = [
