@@ -1,11 +1,11 @@
 //! A store in memory beside a plain table of copies, and what other stores may answer.
-mod broken;
 mod full;
+mod silent;
 mod table;
 
 use crate::{MemoryStore, Store, StoreFailed, WriteRefused};
-use broken::Broken;
 use full::Full;
+use silent::Silent;
 use std::process::Abort;
 use std::test::Fail;
 use table::{PAGES, Table, image};
@@ -104,11 +104,17 @@ fn a_store_may_find_no_memory(rt: HostRuntime) {
 }
 
 #[test]
-fn a_store_may_tell_nothing_and_fail_always(rt: HostRuntime) {
-    let mut store = Broken::new();
-    assert_eq!(rt; store.write(3, &image(1)), Err(WriteRefused::Failed));
-    reads_alike(&rt, &mut store, 3, Err(StoreFailed));
-    store.drop_pages(0, 8);
-    assert!(rt; !store.told());
-    assert_eq!(rt; store.faults(), 2);
+fn a_store_may_tell_nothing(rt: HostRuntime) {
+    let table = [
+        (false, Ok(()), Ok(None), 0),
+        (true, Err(WriteRefused::Failed), Err(StoreFailed), 2),
+    ];
+    for (fails, wrote, gave, faults) in table {
+        let mut store = Silent::of(fails);
+        assert_eq!(rt; store.write(3, &image(1)), wrote);
+        reads_alike(&rt, &mut store, 3, gave);
+        store.drop_pages(0, 8);
+        assert!(rt; !store.told());
+        assert_eq!(rt; store.faults(), faults);
+    }
 }
