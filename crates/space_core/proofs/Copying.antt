@@ -1,17 +1,17 @@
 -- What becomes of a space when the copy of a page is written, or isn't, while the page keeps its frame.
-use Rattle.std.proofs.Common.{◌≡◌, ◌≢◌, ℕ, ◌≤◌, Bool, true, false, ◌&&◌, ◌==◌, if◌then◌else◌, not, List, Option, Some, None, is_some, slice_index_or, refl, sym, ap, inl, inr, ◌∙◌, arith, subst}
-use Rattle.std.proofs.lemmas.Bool.{cases_Bool, ne_eqb, eq-eqb, true≢false, false≢true, cond-true, cond-false}
+use Rattle.std.proofs.Common.{◌≡◌, ◌≢◌, ℕ, ◌≤◌, Bool, true, false, ◌&&◌, ◌==◌, not, List, Option, Some, None, slice_index_or, refl, sym, ap, inl, inr, ◌∙◌, arith, subst}
+use Rattle.std.proofs.lemmas.Bool.{cases_Bool, ne_eqb, eq-eqb, true≢false, cond-true, cond-false}
 use Rattle.pager_model.specs.declared.region.Region.{Region}
-use Rattle.pager_model.specs.Flat.{Flat, out, lost}
-use Rattle.pager_model.specs.SpaceStates.{SpaceState, Next, Rises, space_after}
+use Rattle.pager_model.specs.Flat.{out}
+use Rattle.pager_model.specs.SpaceStates.{SpaceState, Next, space_after}
 use Rattle.pager_model.specs.SpaceStates.Next.{Only}
 use Rattle.space_core.specs.Beginning.{SameRegions, SameFrames, FailsToWrite, LeavesUnwritten, WritesOut}
 use Rattle.space_core.specs.Pages.{Cleans}
-use Rattle.space_core.specs.Saving.{Saves, FailsToSave, LacksRoom, WroteWords, with_store}
-use Rattle.space_core.specs.Standing.{Kept, StandsFor, IsResting, IsCopied, IsCopy, frame_at, rights_at, dirty_at, is_page, is_in, is_settled, is_behind, word_at, word_in_copy, failed_entry}
-use Rattle.space_core.specs.Tables.{Table, frame_in, word_in, dirty_in, flag_in}
-use Rattle.store_core.specs.Stored.{Stored, copy_at, SameCopies, SetsCopy}
-use Rattle.space_core.proofs.SameView.{BesideAt, SameWhole, SameAt, SameStateAt, one_stands, same_stands, rises_told, within_faults}
+use Rattle.space_core.specs.Saving.{Saves, FailsToSave, LacksRoom, with_store}
+use Rattle.space_core.specs.Standing.{Kept, StandsFor, IsResting, IsCopied, frame_at, rights_at, dirty_at, is_page, is_in, is_settled, is_behind, word_at, word_in_copy, failed_entry}
+use Rattle.space_core.specs.Tables.{Table, frame_in, word_in, dirty_in}
+use Rattle.store_core.specs.Stored.{Stored, copy_at}
+use Rattle.space_core.proofs.SameView.{BesideAt, SameWhole, SameAt, settled_from, one_stands, same_stands, rises_told, within_faults}
 use Rattle.space_core.proofs.Serving.{resident_from, dirty_in-absent}
 
 -- a dirty page is resident
@@ -87,12 +87,8 @@ module _ (old : Kept) (resting : IsResting old) where
   none_paged : (p : ℕ) → is_page p old.paged ≡ false
   none_paged p = ap (is_page p) resting.none_paged
 
-  pub settled_if : (p : ℕ) → frame_at old p ≢ None → is_settled old p ≡ true
-  settled_if p resident = rw resting.none_pending (some_if (frame_at old p) resident)
-    where
-      some_if : (o : Option ℕ) → o ≢ None → (is_some o && true) ≡ true
-      some_if None n = absurd (n refl)
-      some_if (Some x) n = refl
+  settled_if : (p : ℕ) → frame_at old p ≢ None → is_settled old p ≡ true
+  settled_if p resident = settled_from old p resident resting.none_pending
 
   pub saved : (new : Kept) (page : ℕ) (written : Bool) → Saves old new page written → IsSaved old new.store page
   saved new page true saves =
@@ -102,9 +98,11 @@ module _ (old : Kept) (resting : IsResting old) where
         tells = sets.tells;
         faults = saves.never_falls;
         others = λ tells p n. sets.copies tells p ∙ cond-false _ _ _ (ne_eqb p page n);
-        copied = λ st s told.
-            (wrote.0, sets.copies (s.beside.told told).tells page ∙ cond-true _ _ _ (eq-eqb page page refl),
-            λ i. cond-true _ _ _ (settled_if page (dirty_resident old.table page saves.was)) ∙ wrote.1 i);
+        copied = λ st s told. (
+          wrote.0,
+          sets.copies (s.beside.told told).tells page ∙ cond-true _ _ _ (eq-eqb page page refl),
+          λ i. cond-true _ _ _ (settled_if page (dirty_resident old.table page saves.was)) ∙ wrote.1 i,
+        );
       }
   saved new page false saves =
       let same : new.store ≡ old.store = ap (λ (k : Kept). k.store) (saves.left refl) in

@@ -10,7 +10,7 @@ use Rattle.space_core.specs.Pages.{Refills, HasWords}
 use Rattle.space_core.specs.Standing.{Kept, StandsFor, IsCopied, frame_at, dirty_at, is_page, is_in, is_settled, is_behind, word_at, word_in_copy}
 use Rattle.space_core.specs.Tables.{word_in}
 use Rattle.store_core.specs.Stored.{Stored, copy_at, SameCopies}
-use Rattle.space_core.proofs.SameView.{BesideAt, SameWhole, SameAt, SameStateAt, one_stands, raised_stands, rises_told, within_faults}
+use Rattle.space_core.proofs.SameView.{BesideAt, SameWhole, SameAt, settled_from, one_stands, raised_stands, rises_told, within_faults}
 use Rattle.space_core.proofs.Serving.{resident_from}
 use Rattle.space_core.proofs.TableLemmas.{some-isnt}
 
@@ -51,11 +51,7 @@ module _ (old new : Kept) (page : ℕ) (same : SameRegions old new) (clearing : 
         }
 
     settled : is_settled new page ≡ true
-    settled = rw (refills.frame page, done) (settled_from (frame_at old page) resident)
-      where
-        settled_from : (o : Option ℕ) → o ≢ None → (is_some o && true) ≡ true
-        settled_from None n = absurd (n refl)
-        settled_from (Some x) n = refl
+    settled = settled_from new page (λ none. resident (sym (refills.frame page) ∙ none)) done
 
     here : (st : SpaceState) → StandsFor old st → BesideAt (is_in old.clearing page) new st page
     here st s =

@@ -22,6 +22,29 @@ pub record IsOnly (kept : Kept) (page : ℕ) : Type 0 where
   pub pending : (p : ℕ) → p ≢ page → is_page p kept.pending ≡ false
   pub paged : (p : ℕ) → p ≢ page → is_page p kept.paged ≡ false
 
+-- a page may be removed that is pending, or where none is
+pub clean_only : (kept : Kept) (page : ℕ) → kept.clearing ≡ None → kept.paged ≡ None → ((p : ℕ) → kept.pending ≡ Some p → p ≡ page) → IsOnly kept page
+clean_only kept page none_clearing none_paged only =
+    record { none_clearing = none_clearing; pending = none_other kept.pending only; paged = λ p n. ap (is_page p) none_paged }
+  where
+    none_other : (o : Option ℕ) → ((p : ℕ) → o ≡ Some p → p ≡ page) → (p : ℕ) → p ≢ page → is_page p o ≡ false
+    none_other None only p n = refl
+    none_other (Some q) only p n = ne_eqb q p (λ e. n (sym e ∙ only q refl))
+
+pub clean_unbehind : (kept : Kept) (page : ℕ) → dirty_at kept page ≡ false → is_behind kept page ≡ false
+clean_unbehind kept page clean = ap (λ d. d && not (is_page page kept.paged)) clean
+
+pub evicting_only : (kept : Kept) (page : ℕ) → IsEvicting kept page → IsOnly kept page
+evicting_only kept page is =
+    record {
+      none_clearing = is.none_clearing;
+      pending = λ p n. ap (is_page p) is.none_pending;
+      paged = λ p n. ap (is_page p) is.paged ∙ ne_eqb page p (λ e. n (sym e));
+    }
+
+pub evicting_unbehind : (kept : Kept) (page : ℕ) → IsEvicting kept page → is_behind kept page ≡ false
+evicting_unbehind kept page is = and_right _ _ (ap not (ap (is_page page) is.paged ∙ eq-eqb page page refl))
+
 -- an evict's page gives its frame up
 abbrev evicted : ℕ → SpaceState → Flat → SpaceState
 evicted page st f = record { flat = f; base = λ p. if p == page then None else st.base p; next = Anyone; told = st.told; tied = st.tied; highest = st.highest }
@@ -74,6 +97,7 @@ module _ (old new : Kept) (page frame : ℕ) (same : SameRegions old new) (only 
       → after.base page ≡ None → after.flat.dirty page ≡ false → ((i : ℕ) → after.flat.words page i ≡ st.flat.words page i)
       → (st.told ≡ true → IsCopied old page → ((i : ℕ) → st.flat.words page i ≡ word_at old page i) → IsCopy (after.flat.copies page) (copy_at old.store page))
       → StandsFor old st → StandsFor new after
+  unfolding copied_after
   gives_up st after rest highest others base none clean words copies s =
       let b = s.beside in
       one_stands old new st after page whole (resting.none_clearing ∙ sym only.none_clearing) rest (omega (arith, highest, b.highest, whole.faults)) at_other others base s

@@ -1,11 +1,11 @@
 -- What a space stands for page by page: what is seen the same of a page stands as before.
-use Rattle.std.proofs.Common.{nat_lt, ◌<◌, ◌⊎◌, ◌≡◌, ◌≢◌, ℕ, ◌≤◌, Bool, true, false, ◌&&◌, not, if◌then◌else◌, Option, Some, None, is_some, refl, sym, ap, inl, inr, ◌∙◌, arith, subst}
+use Rattle.std.proofs.Common.{nat_lt, ◌≡◌, ◌≢◌, ℕ, ◌≤◌, Bool, true, false, ◌&&◌, if◌then◌else◌, Option, Some, None, is_some, refl, sym, ap, inl, inr, ◌∙◌, arith, subst}
 use Rattle.std.proofs.lemmas.Bool.{cases_Bool, cases_eq, cond-true, cond-false, cond_both}
 use Rattle.pager_model.specs.declared.region.Region.{Region}
 use Rattle.pager_model.specs.Regions.{region_at}
 use Rattle.pager_model.specs.SpaceStates.{SpaceState, Next, Rises}
 use Rattle.space_core.specs.Beginning.{SameRegions}
-use Rattle.space_core.specs.Standing.{Kept, StandsBeside, StandsFor, TellsWords, IsCopy, IsCopied, frame_at, rights_at, dirty_at, is_page, is_in, is_settled, is_behind, word_at, word_in_copy}
+use Rattle.space_core.specs.Standing.{Kept, StandsBeside, StandsFor, IsCopy, IsCopied, frame_at, rights_at, dirty_at, is_page, is_in, is_settled, is_behind, word_at, word_in_copy}
 use Rattle.space_core.specs.Tables.{word_in, own_in}
 use Rattle.store_core.specs.Stored.{copy_at}
 
@@ -18,7 +18,7 @@ pub record BesideAt (aside : Bool) (kept : Kept) (st : SpaceState) (p : ℕ) : T
   pub tied : (i word : ℕ) → st.tied p i ≡ Some word → is_settled kept p ≡ true → word_in kept.table p i ≡ word
   pub untied : (i : ℕ) → is_page p kept.pending ≡ true → st.tied p i ≡ None
 
-pub beside_at : (aside : ℕ → Bool) (kept : Kept) (st : SpaceState) → StandsBeside aside kept st → (p : ℕ) → BesideAt (aside p) kept st p
+beside_at : (aside : ℕ → Bool) (kept : Kept) (st : SpaceState) → StandsBeside aside kept st → (p : ℕ) → BesideAt (aside p) kept st p
 beside_at aside kept st s p =
     record {
       dirty = s.dirty p;
@@ -43,7 +43,7 @@ pub record SameRest (old new : SpaceState) : Type 0 where
   pub told : new.told ≡ old.told
 
 -- a space stands for a state where each page does
-pub beside_from : (aside : ℕ → Bool) (old new : Kept) (st after : SpaceState) → SameWhole old new → SameRest st after → after.highest ≤ new.store.faults → StandsBeside aside old st → ((p : ℕ) → BesideAt (aside p) new after p) → StandsBeside aside new after
+beside_from : (aside : ℕ → Bool) (old new : Kept) (st after : SpaceState) → SameWhole old new → SameRest st after → after.highest ≤ new.store.faults → StandsBeside aside old st → ((p : ℕ) → BesideAt (aside p) new after p) → StandsBeside aside new after
 beside_from aside old new st after same rest highest s at =
     record {
       regions = rest.regions ∙ s.regions ∙ sym same.regions;
@@ -76,10 +76,18 @@ pub record SameStateAt (old new : SpaceState) (p : ℕ) : Type 0 where
   pub copies : new.flat.copies p ≡ old.flat.copies p
   pub tied : (i : ℕ) → new.tied p i ≡ old.tied p i
 
-pub same_settled : (old new : Kept) (p : ℕ) → SameAt old new p → is_settled new p ≡ is_settled old p
+-- a resident page that isn't pending is settled
+pub settled_from : (kept : Kept) (p : ℕ) → frame_at kept p ≢ None → kept.pending ≡ None → is_settled kept p ≡ true
+settled_from kept p resident none = rw none (is_there (frame_at kept p) resident)
+  where
+    is_there : (o : Option ℕ) → o ≢ None → (is_some o && true) ≡ true
+    is_there None n = absurd (n refl)
+    is_there (Some x) n = refl
+
+same_settled : (old new : Kept) (p : ℕ) → SameAt old new p → is_settled new p ≡ is_settled old p
 same_settled old new p same = rw (same.frame, same.pending) refl
 
-pub same_word : (old new : Kept) (p : ℕ) → SameAt old new p → old.store.tells ≡ true → (i : ℕ) → word_at new p i ≡ word_at old p i
+same_word : (old new : Kept) (p : ℕ) → SameAt old new p → old.store.tells ≡ true → (i : ℕ) → word_at new p i ≡ word_at old p i
 same_word old new p same tells i =
     let settled = same_settled old new p same in
     elim (cases_Bool (is_settled old p)) [
@@ -88,7 +96,7 @@ same_word old new p same tells i =
     ]
 
 -- a page stands as before where it is seen the same
-pub same_at : (aside : ℕ → Bool) (old new : Kept) (st after : SpaceState) → StandsBeside aside old st → after.told ≡ st.told → (p : ℕ) → SameAt old new p → SameStateAt st after p → BesideAt (aside p) new after p
+same_at : (aside : ℕ → Bool) (old new : Kept) (st after : SpaceState) → StandsBeside aside old st → after.told ≡ st.told → (p : ℕ) → SameAt old new p → SameStateAt st after p → BesideAt (aside p) new after p
 same_at aside old new st after s same_told p same state =
     let was = beside_at aside old st s p in
     let tells : after.told ≡ true → old.store.tells ≡ true = λ told. (s.told (sym same_told ∙ told)).tells in

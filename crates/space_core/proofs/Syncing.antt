@@ -1,25 +1,28 @@
 -- What a sync and an evict are answered, and what they do, where a region has their page.
-use Rattle.std.proofs.Common.{◌≡◌, ◌≢◌, ℕ, Bool, true, false, ◌&&◌, ◌==◌, if◌then◌else◌, not, Option, Some, None, is_some, refl, sym, ap, ◌∙◌, subst}
-use Rattle.std.proofs.lemmas.Bool.{not-true}
+use Rattle.std.proofs.Common.{◌≡◌, ◌≢◌, ℕ, Bool, true, false, ◌&&◌, ◌==◌, if◌then◌else◌, not, List, Option, Some, None, is_some, ◌<◌, refl, sym, ap, inl, inr, ◌∙◌, arith, subst}
+use Rattle.std.proofs.lemmas.Bool.{cases_eq, not-true, false≢true, eq-eqb, ne_eqb, cond-true, cond-false}
 use Rattle.std.proofs.lemmas.Option.{same_Some}
 use Rattle.pager_model.specs.declared.call.Call.{Call}
 use Rattle.pager_model.specs.declared.call.Call.TheVariants.{Sync, Evict}
+use Rattle.pager_model.specs.declared.region.Kind.{Kind}
+use Rattle.pager_model.specs.declared.region.Kind.TheVariants.{Fixed, Growing, Wired}
 use Rattle.pager_model.specs.declared.region.Region.{Region}
-use Rattle.pager_model.specs.declared.reply.Answered.{Answered}
-use Rattle.pager_model.specs.declared.reply.Reply.{Reply}
-use Rattle.pager_model.specs.declared.reply.Reply.TheVariants.{Written, NoMemory}
+use Rattle.pager_model.specs.declared.reply.Reply.TheVariants.{Clean, NoMemory}
 use Rattle.pager_model.specs.Flat.{Flat, after_call, reply_of, is_lawful, out, sync_reply, evict_reply}
 use Rattle.pager_model.specs.Order.{is_answered_alone}
-use Rattle.pager_model.specs.Regions.{region_at}
-use Rattle.pager_model.specs.SpaceStates.{SpaceState, Next, MayFail, IsAsked, ReplyAllowed, HasItsPages, answered_flat, space_after, frees_its_page}
+use Rattle.pager_model.specs.Regions.{region_at, is_wired}
+use Rattle.pager_model.specs.SpaceStates.{SpaceState, MayFail, ReplyAllowed, HasItsPages, answered_flat, space_after, frees_its_page}
 use Rattle.pager_model.specs.SpaceStates.Next.{Anyone}
 use Rattle.space_core.specs.declared.space.OutFault.{OutFault}
 use Rattle.space_core.specs.declared.space.OutFault.TheVariants.{Failed as OutFailed, NoMemory as OutNoMemory}
-use Rattle.space_core.specs.Beginning.{Begins, BeginsAnswered, BeginsFailing, LeavesUnwritten, copied_reply}
+use Rattle.space_core.specs.Beginning.{Begins, BeginsAnswered, BeginsEvicting, SameRegions, copied_reply}
 use Rattle.space_core.specs.Saving.{Saves, FailsToSave, LacksRoom, unwritten_by}
-use Rattle.space_core.specs.Standing.{Kept, answer_entry, StandsFor, IsResting, dirty_at, copied_page, may_copy, is_unwired}
+use Rattle.space_core.specs.Standing.{Kept, answer_entry, StandsFor, IsResting, frame_at, dirty_at, copied_page, may_copy, is_unwired}
+use Rattle.space_core.specs.Tables.{frame_in, word_in, dirty_in}
+use Rattle.store_core.specs.Stored.{Stored}
+use Rattle.space_core.proofs.Serving.{dirty_in-absent}
 use Rattle.space_core.proofs.SameView.{next_stands}
-use Rattle.space_core.proofs.Copying.{CleansPage, cleaned_resting, cleaned_same, cleaned_out, fails_to_write, leaves_unwritten, none_in, outed}
+use Rattle.space_core.proofs.Copying.{CleansPage, cleaned_resting, cleaned_same, cleaned_out, fails_to_write, leaves_unwritten, none_in, IsSaved, saved, copied_aside, store_frames, store_resting}
 
 -- a page with a region is written where it is dirty
 sync_asked : (o : Option Region) (dirty : Bool) → is_some o ≡ true → sync_reply o dirty ≡ copied_reply dirty
@@ -138,3 +141,94 @@ module _ (old new : Kept) (page : ℕ) (resting : IsResting old) where
       let fails = fails_to_write old resting new page count (failed count refl) in
       record { must = record { is = is; may = ap (λ rs. may_copy call (region_at rs page)) fails.same.same.regions ∙ may; dirty = fails.dirty }; fails = fails }
   begins_unwritten call OutNoMemory is may failed lacks = lacking call is may (lacks refl)
+
+-- a region of no wired kind
+pub unwired_at : (regions : List Region) (page : ℕ) (r : Region) → region_at regions page ≡ Some r → r.kind ≢ Wired → is_unwired (region_at regions page) ≡ true
+unwired_at regions page r at other = ap is_unwired at ∙ not_wired r.kind other
+  where
+    not_wired : (k : Kind) → k ≢ Wired → not (is_wired k) ≡ true
+    not_wired Fixed other = refl
+    not_wired Growing other = refl
+    not_wired Wired other = absurd (other refl)
+
+-- nothing is done for a clean page
+saves_clean : (old : Kept) (page : ℕ) → dirty_at old page ≡ false → Saves old old page false
+saves_clean old page clean = record { was = clean; same = refl; wrote = λ e. absurd (false≢true e); left = λ _. refl; never_falls = omega arith }
+
+cleans_clean : (old : Kept) (page : ℕ) → dirty_at old page ≡ false → CleansPage old old page
+cleans_clean old page clean =
+    record {
+      same = record { number = refl; frames = refl; regions = refl; rights = λ p. refl };
+      pending = refl;
+      clearing = refl;
+      paged = refl;
+      store = refl;
+      table = record {
+        same = record { count = refl; own = λ p. refl };
+        frame = λ p. refl;
+        word = λ p i. refl;
+        dirty = λ p. elim (cases_eq p page) [
+          | inl e ↦ rw e (clean ∙ sym (cond-true _ _ _ (eq-eqb page page refl)))
+          | inr n ↦ sym (cond-false _ _ _ (ne_eqb p page n))
+        ];
+      };
+    }
+
+-- a page without a frame is clean, and its evict gives nothing up
+pub evicts_absent : (old : Kept) (page : ℕ) → IsResting old → is_unwired (region_at old.regions page) ≡ true → frame_at old page ≡ None → BeginsAnswered old old (Evict old.number page) (record { reply = Clean; hit = false; size = None })
+evicts_absent old page resting unwired absent =
+    let clean : dirty_at old page ≡ false = dirty_in-absent old.table page absent in
+    let asked : (st : SpaceState) → StandsFor old st → reply_of st.flat (Evict old.number page) ≡ Clean = λ st s.
+    evict_asked _ _ (ap (λ rs. is_unwired (region_at rs page)) s.beside.regions ∙ unwired) ∙ ap copied_reply (s.beside.dirty page (none_in old resting page) ∙ clean) in
+    record {
+      alone = refl;
+      same_number = refl;
+      same_frames = refl;
+      resting = resting;
+      answers = record {
+        allowed = λ st s c n. record { reply = (asked st s, λ l. tt); parts = sym (ap is_some (s.base page ∙ absent)); hit = refl; size = refl };
+        stands = λ st s c n. subst (λ (f : Flat). StandsFor old (record { flat = f; base = st.base; next = Anyone; told = st.told; tied = st.tied; highest = st.highest }))
+            (sym (evict_outs st.flat old.number page false (asked st s))) (cleaned_out old old old page false resting (saves_clean old page clean) (cleans_clean old page clean) st Anyone s);
+      };
+      memory = λ lacking. absurd (no_memory false lacking);
+    }
+
+-- the page is being evicted, and all else of the space is as before
+pub record PagesOut (old new : Kept) (page : ℕ) : Type 0 where
+  pub same : SameRegions old new
+  pub table : new.table ≡ old.table
+  pub pending : new.pending ≡ old.pending
+  pub clearing : new.clearing ≡ old.clearing
+  pub paged : new.paged ≡ Some page
+  pub store : new.store ≡ old.store
+
+-- the page's copy is saved, and the page gives its frame up next
+pub begins_evicting : (old mid new : Kept) (page : ℕ) (written : Bool) → IsResting old → page < 1048576 → is_unwired (region_at old.regions page) ≡ true → frame_at old page ≢ None → Saves old mid page written → PagesOut mid new page → BeginsEvicting old new (Evict old.number page) page written
+begins_evicting old mid new page written resting in_space unwired resident saves outs =
+    let stored = store_frames old mid saves.same in
+    let rested = store_resting old mid saves.same resting in
+    let table : new.table ≡ old.table = outs.table ∙ ap (λ (k : Kept). k.table) saves.same in
+    let pending = outs.pending ∙ rested.none_pending in
+    let clearing = outs.clearing ∙ rested.none_clearing in
+    let same : SameRegions old new = record {
+      number = outs.same.number ∙ stored.same.number;
+      frames = outs.same.frames ∙ stored.same.frames;
+      regions = outs.same.regions ∙ stored.same.regions;
+      rights = λ p. outs.same.rights p ∙ stored.same.rights p;
+    } in
+    let frame : (p : ℕ) → frame_at new p ≡ frame_at old p = λ p. ap (λ t. frame_in t p) table in
+    record {
+      is_evict = (old.number, refl);
+      was = saves.was;
+      evicting = record {
+        in_space = in_space;
+        paged = outs.paged;
+        unwired = ap (λ rs. is_unwired (region_at rs page)) same.regions ∙ unwired;
+        resident = λ none. resident (sym (frame page) ∙ none);
+        none_pending = pending;
+        none_clearing = clearing;
+      };
+      same = record { same = same; frame = frame };
+      stands = copied_aside old resting new page same clearing pending frame (λ p i. ap (λ t. word_in t p i) table)
+          (subst (λ (store : Stored). IsSaved old store page) (sym outs.store) (saved old resting mid page written saves)) (λ p. ap (λ t. dirty_in t p) table) outs.paged;
+    }

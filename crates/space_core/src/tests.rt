@@ -1,11 +1,16 @@
-ghost use Rattle.std.specs.Prelude.{◌≡◌, ◌*◌};
+ghost use Rattle.std.specs.Prelude.{◌≡◌, ◌≤◌, ◌*◌, List, None, IfOk, IfSome, OnOk};
 ghost use Rattle.pager_model.specs.Flat.{space_of_call};
+ghost use Rattle.pager_model.specs.Frame.{Framed};
+ghost use Rattle.space_core.specs.Beginning.{IsRange};
 ghost use Rattle.space_core.specs.Spares.{HasSpare};
 ghost use Rattle.space_core.specs.Standing.{IsResting, CanBegin};
 
 use super::{Begun, Space};
 use pager_model::{Call, Frame, Kind, Reply, Rights, frames_of};
+use std::alloc::Global;
+use std::process::Abort;
 use std::test::Fail;
+use store_core::MemoryStore;
 
 const SPACE: u32 = 3;
 
@@ -69,8 +74,51 @@ fn store(page: u16, word: u64) -> Call
     }
 }
 
-/// The reply to a call that needs no frame and no clearing, and `None` where it needs one.
-fn ask(space: &mut Space, call: &Call) -> Option<Reply>
+fn sync(page: u32) -> Call
+    ensures { result ≡ Call.Sync SPACE page }
+{
+    Call::Sync { space: SPACE, page }
+}
+
+fn evict(page: u32) -> Call
+    ensures { result ≡ Call.Evict SPACE page }
+{
+    Call::Evict { space: SPACE, page }
+}
+
+/// A space over a store in memory that fails at no read and no write.
+fn space_of(alloc: Global, number: u32, frames: u32) -> Result<Space<MemoryStore>, Fail>
+    requires { frames ≤ 32768 }
+    ensures { IfOk result (λ s. (s.number ≡ number) × IsResting s) }
+{
+    let store = MemoryStore::of(alloc, Vec::new(alloc), Vec::new(alloc));
+    match Space::create(alloc, number, frames, 1, store) {
+        Ok(space) => Ok(space),
+        Err(_) => Err(Fail::from("no memory for a space")),
+    }
+}
+
+/// A space and its frames, which are all spare, over a store in memory that fails at these reads and writes.
+fn begun(
+    alloc: Global,
+    frames: u32,
+    reads: &[u64],
+    writes: &[u64],
+) -> Result<(Space<MemoryStore>, Vec<Frame>), Fail>
+    requires { frames ≤ 32768 }
+    ensures number { IfOk result (λ made. made.0.number ≡ SPACE) }
+    ensures spare { IfOk result (λ made. HasSpare made.0 made.1.items) }
+{
+    let spare = frames_of(alloc, frames)?;
+    let store = MemoryStore::of(alloc, reads.to_vec(alloc)?, writes.to_vec(alloc)?);
+    match Space::create(alloc, SPACE, frames, 1, store) {
+        Ok(space) => Ok((space, spare)),
+        Err(_) => Err(Fail::from("no memory for a space")),
+    }
+}
+
+/// The reply to a call that needs no frame and no clearing, and `None` where it needs one or its store fails.
+fn ask(space: &mut Space<MemoryStore>, call: &Call) -> Option<Reply>
     requires space { space_of_call call.now ≡ space.old.number }
     requires resting { IsResting space.old }
     requires can { CanBegin call.now }
@@ -79,34 +127,113 @@ fn ask(space: &mut Space, call: &Call) -> Option<Reply>
 {
     match space.begin(0, call) {
         Begun::Answered(answered) => Some(answered.reply),
-        Begun::NeedsFrame { .. } | Begun::NeedsClear { .. } => None,
+        Begun::NeedsEvict { page, .. } => Some(space.evict(page).1.reply),
+        Begun::NeedsFrame { .. } | Begun::NeedsClear { .. } | Begun::Failed { .. } => None,
     }
 }
 
-/// The reply to a call, where a page that needs a frame gets the last of the spare ones, and `None` where none is left or the call is
-/// an unmap.
-fn serve(space: &mut Space, spare: &mut Vec<Frame>, call: &Call) -> Option<Reply>
+/// The reply where the store failed.
+fn fault(count: u64) -> Reply {
+    Reply::StoreFault {
+        space: SPACE,
+        count,
+    }
+}
+
+/// The reply to a call, where a page that needs a frame gets the last of the spare ones, with the frame that its page gave up, if the
+/// call evicts it or its copy can't be read. It fails where no frame is left.
+fn serve(
+    space: &mut Space<MemoryStore>,
+    spare: &mut Vec<Frame>,
+    call: &Call,
+) -> Result<(Reply, Option<u32>), Fail>
     requires space { space_of_call call.now ≡ space.old.number }
     requires can { CanBegin call.now }
     requires spare { HasSpare space.old spare.old.items }
-    ensures number { space.new.number ≡ space.old.number }
-    ensures spare { HasSpare space.new spare.new.items }
+    ensures number { OnOk result (space.new.number ≡ space.old.number) }
+    ensures spare { OnOk result (HasSpare space.new spare.new.items) }
 {
     match space.begin(0, call) {
-        Begun::Answered(answered) => Some(answered.reply),
+        Begun::Answered(answered) => Ok((answered.reply, None)),
         Begun::NeedsFrame { page, .. } => {
-            let frame = spare.pop()?;
+            let Some(frame) = spare.pop() else {
+                return Err(Fail::from("no frame is left"));
+            };
             space.place(page, frame);
-            space.read_in(page);
-            Some(space.finish(0, call).reply)
+            match space.read_in(page) {
+                Ok(()) => Ok((space.finish(0, call).reply, None)),
+                Err(count) => Ok((fault(count), Some(space.remove(page).number()))),
+            }
         }
-        Begun::NeedsClear { .. } => None,
+        Begun::NeedsClear { first, length } => Ok((clear(space, first, length)?, None)),
+        Begun::NeedsEvict { page, .. } => {
+            let (frame, answered) = space.evict(page);
+            Ok((answered.reply, Some(frame.number())))
+        }
+        Begun::Failed { count, .. } => Ok((fault(count), None)),
     }
+}
+
+/// Unmaps the region of this range, whose pages give their frames up.
+fn clear(space: &mut Space<MemoryStore>, first: u32, length: u32) -> Result<Reply, Fail>
+    requires resting { IsResting space.old }
+    requires range { IsRange space.old first length }
+    ensures number { OnOk result (space.new.number ≡ space.old.number) }
+    ensures spare { OnOk result ((spare : List Framed) → HasSpare space.old spare → HasSpare space.new spare) }
+{
+    for _ in 0..=length {
+        let Some(_) = space.clear_next(first, length) else {
+            return Ok(space.unmap(first).reply);
+        };
+    }
+    Err(Fail::from("more pages than the region has gave frames up"))
+}
+
+/// Whether a line of a trace may hold the call, and it is on the tests' space.
+fn is_ours(call: &Call) -> bool
+    ensures { result ≡ true → (space_of_call call.now ≡ SPACE) × CanBegin call.now }
+{
+    let in_place = match *call {
+        Call::Map { page, length, .. } | Call::Protect { page, length, .. } => {
+            page < 1 << 20 && 0 < length && length <= 1 << 20
+        }
+        Call::Grow { page, by, .. } => page < 1 << 20 && 0 < by && by <= 1 << 20,
+        Call::Unmap { page, .. } | Call::Sync { page, .. } | Call::Evict { page, .. } => {
+            page < 1 << 20
+        }
+        Call::Load { address, .. } | Call::Store { address, .. } => {
+            address % 8 == 0 && address < 1 << 33
+        }
+    };
+    in_place && call.space() == SPACE
+}
+
+/// A call, what it is answered, and the frame that its page gives up.
+type Step = (Call, Reply, Option<u32>);
+
+/// Asserts that the calls are answered so, one after another.
+fn serves(
+    rt: &impl Abort,
+    space: &mut Space<MemoryStore>,
+    spare: &mut Vec<Frame>,
+    steps: &[Step],
+) -> Result<(), Fail>
+    requires space { space.old.number ≡ SPACE }
+    requires spare { HasSpare space.old spare.old.items }
+    ensures number { OnOk result (space.new.number ≡ SPACE) }
+    ensures spare { OnOk result (HasSpare space.new spare.new.items) }
+{
+    for (call, reply, gave) in steps {
+        assert!(rt; is_ours(call));
+        let served = serve(space, spare, call)?;
+        assert_eq!(rt; served, (*reply, *gave), "{call:?}");
+    }
+    Ok(())
 }
 
 #[test]
 fn a_protect_splits_the_rights_of_a_region(rt: HostRuntime) -> Result<(), Fail> {
-    let mut space = Space::create(rt.alloc(), SPACE, 8, 1)?;
+    let mut space = space_of(rt.alloc(), SPACE, 8)?;
     let done = ask(&mut space, &map(16, 8, Kind::Fixed, Rights::Write));
     assert_eq!(rt; done, Some(Reply::Done));
     let done = ask(&mut space, &protect(18, 4, Rights::NoAccess));
@@ -137,7 +264,7 @@ fn a_protect_splits_the_rights_of_a_region(rt: HostRuntime) -> Result<(), Fail> 
 
 #[test]
 fn the_new_pages_of_a_growth_have_the_regions_first_rights(rt: HostRuntime) -> Result<(), Fail> {
-    let mut space = Space::create(rt.alloc(), SPACE, 8, 1)?;
+    let mut space = space_of(rt.alloc(), SPACE, 8)?;
     ask(&mut space, &map(16, 2, Kind::Growing, Rights::Read));
     ask(&mut space, &protect(16, 2, Rights::Write));
     let grown = ask(&mut space, &grow(17, 2));
@@ -152,7 +279,7 @@ fn the_new_pages_of_a_growth_have_the_regions_first_rights(rt: HostRuntime) -> R
 
 #[test]
 fn the_first_cause_refuses_a_map_and_a_growth(rt: HostRuntime) -> Result<(), Fail> {
-    let mut space = Space::create(rt.alloc(), SPACE, 8, 1)?;
+    let mut space = space_of(rt.alloc(), SPACE, 8)?;
     ask(&mut space, &map(16, 8, Kind::Fixed, Rights::Read));
     ask(&mut space, &map(1_048_568, 4, Kind::Growing, Rights::Read));
     ask(&mut space, &map(1_048_574, 1, Kind::Wired, Rights::Read));
@@ -182,7 +309,7 @@ fn the_first_cause_refuses_a_map_and_a_growth(rt: HostRuntime) -> Result<(), Fai
 
 #[test]
 fn a_page_without_a_region_is_unmapped_whatever_else_is_wrong(rt: HostRuntime) -> Result<(), Fail> {
-    let mut space = Space::create(rt.alloc(), SPACE, 8, 1)?;
+    let mut space = space_of(rt.alloc(), SPACE, 8)?;
     ask(&mut space, &map(16, 8, Kind::Fixed, Rights::Read));
     let unmapped = Some(Reply::Unmapped);
     assert_eq!(rt; ask(&mut space, &unmap(24)), unmapped);
@@ -197,7 +324,7 @@ fn a_page_without_a_region_is_unmapped_whatever_else_is_wrong(rt: HostRuntime) -
 #[test]
 fn sixteen_spaces_are_made_at_once(rt: HostRuntime) -> Result<(), Fail> {
     for number in 0..16 {
-        let mut space = Space::create(rt.alloc(), number, 32_768, 64)?;
+        let mut space = space_of(rt.alloc(), number, 32_768)?;
         let call = Call::Load {
             space: number,
             address: 0,
@@ -209,17 +336,16 @@ fn sixteen_spaces_are_made_at_once(rt: HostRuntime) -> Result<(), Fail> {
 
 #[test]
 fn an_unmap_gives_the_frames_up_in_order(rt: HostRuntime) -> Result<(), Fail> {
-    let mut spare = frames_of(rt.alloc(), 4)?;
-    let mut space = Space::create(rt.alloc(), SPACE, 4, 1)?;
-    let done = Some(Reply::Done);
+    let (mut space, mut spare) = begun(rt.alloc(), 4, &[], &[])?;
     let region = map(16, 8, Kind::Fixed, Rights::Write);
-    assert_eq!(rt; serve(&mut space, &mut spare, &region), done);
-    assert_eq!(rt; serve(&mut space, &mut spare, &store(22, 7)), done);
-    assert_eq!(rt; serve(&mut space, &mut spare, &store(17, 5)), done);
-    let loaded = serve(&mut space, &mut spare, &load(22));
-    assert_eq!(rt; loaded, Some(Reply::Value(7)));
-    let loaded = serve(&mut space, &mut spare, &load(16));
-    assert_eq!(rt; loaded, Some(Reply::Value(0)));
+    let steps = [
+        (region, Reply::Done, None),
+        (store(22, 7), Reply::Done, None),
+        (store(17, 5), Reply::Done, None),
+        (load(22), Reply::Value(7), None),
+        (load(16), Reply::Value(0), None),
+    ];
+    serves(&rt, &mut space, &mut spare, &steps)?;
     assert_eq!(rt; space.resident(22), Some(3));
 
     let Begun::NeedsClear { first, length } = space.begin(0, &unmap(20)) else {
@@ -236,8 +362,133 @@ fn an_unmap_gives_the_frames_up_in_order(rt: HostRuntime) -> Result<(), Fail> {
     assert_eq!(rt; space.unmap(20).reply, Reply::Done);
 
     let region = map(16, 8, Kind::Fixed, Rights::Read);
-    assert_eq!(rt; ask(&mut space, &region), done);
+    let done = ask(&mut space, &region);
+    assert_eq!(rt; done, Some(Reply::Done));
     assert_eq!(rt; ask(&mut space, &load(17)), None);
     assert_eq!(rt; ask(&mut space, &store(17, 1)), Some(Reply::Denied));
+    Ok(())
+}
+
+#[test]
+fn a_sync_writes_a_dirty_page_once(rt: HostRuntime) -> Result<(), Fail> {
+    let (mut space, mut spare) = begun(rt.alloc(), 4, &[], &[])?;
+    let region = map(16, 8, Kind::Wired, Rights::Write);
+    let steps = [
+        (region, Reply::Done, None),
+        (sync(17), Reply::Clean, None),
+        (load(17), Reply::Value(0), None),
+        (sync(17), Reply::Clean, None),
+        (store(17, 5), Reply::Done, None),
+        (sync(17), Reply::Written, None),
+        (sync(17), Reply::Clean, None),
+        (store(17, 5), Reply::Done, None),
+        (sync(17), Reply::Written, None),
+        (sync(24), Reply::Unmapped, None),
+    ];
+    serves(&rt, &mut space, &mut spare, &steps)?;
+    Ok(())
+}
+
+#[test]
+fn an_evict_gives_the_frame_up_and_a_fill_reads_the_word_back(rt: HostRuntime) -> Result<(), Fail> {
+    let (mut space, mut spare) = begun(rt.alloc(), 4, &[], &[])?;
+    let region = map(16, 8, Kind::Fixed, Rights::Write);
+    let steps = [
+        (region, Reply::Done, None),
+        (store(17, 5), Reply::Done, None),
+        (evict(17), Reply::Written, Some(3)),
+        (evict(17), Reply::Clean, None),
+    ];
+    serves(&rt, &mut space, &mut spare, &steps)?;
+    assert_eq!(rt; space.resident(17), None);
+    let steps = [
+        (load(17), Reply::Value(5), None),
+    ];
+    serves(&rt, &mut space, &mut spare, &steps)?;
+    assert_eq!(rt; space.resident(17), Some(2));
+    let steps = [
+        (evict(17), Reply::Clean, Some(2)),
+    ];
+    serves(&rt, &mut space, &mut spare, &steps)?;
+    Ok(())
+}
+
+#[test]
+fn a_wired_page_is_not_evicted(rt: HostRuntime) -> Result<(), Fail> {
+    let (mut space, mut spare) = begun(rt.alloc(), 4, &[], &[])?;
+    let region = map(16, 8, Kind::Wired, Rights::Write);
+    let steps = [
+        (region, Reply::Done, None),
+        (store(17, 5), Reply::Done, None),
+        (evict(17), Reply::Denied, None),
+        (evict(24), Reply::Unmapped, None),
+        (sync(17), Reply::Written, None),
+    ];
+    serves(&rt, &mut space, &mut spare, &steps)?;
+    assert_eq!(rt; space.resident(17), Some(3));
+    Ok(())
+}
+
+#[test]
+fn a_failed_write_leaves_the_page_dirty_and_resident(rt: HostRuntime) -> Result<(), Fail> {
+    let (mut space, mut spare) = begun(rt.alloc(), 4, &[], &[1, 2])?;
+    let region = map(16, 8, Kind::Fixed, Rights::Write);
+    let steps = [
+        (region, Reply::Done, None),
+        (store(17, 5), Reply::Done, None),
+        (sync(17), fault(1), None),
+        (evict(17), fault(2), None),
+    ];
+    serves(&rt, &mut space, &mut spare, &steps)?;
+    assert_eq!(rt; space.resident(17), Some(3));
+    let steps = [
+        (load(17), Reply::Value(5), None),
+        (sync(17), Reply::Written, None),
+        (sync(17), Reply::Clean, None),
+        (evict(17), Reply::Clean, Some(3)),
+        (load(17), Reply::Value(5), None),
+    ];
+    serves(&rt, &mut space, &mut spare, &steps)?;
+    Ok(())
+}
+
+#[test]
+fn a_failed_read_gives_the_frame_back(rt: HostRuntime) -> Result<(), Fail> {
+    let (mut space, mut spare) = begun(rt.alloc(), 4, &[1, 2], &[])?;
+    let region = map(16, 8, Kind::Fixed, Rights::Write);
+    let steps = [
+        (region, Reply::Done, None),
+        (load(17), fault(1), Some(3)),
+    ];
+    serves(&rt, &mut space, &mut spare, &steps)?;
+    assert_eq!(rt; space.resident(17), None);
+    let steps = [
+        (store(17, 5), fault(2), Some(2)),
+        (sync(17), Reply::Clean, None),
+        (load(17), Reply::Value(0), None),
+    ];
+    serves(&rt, &mut space, &mut spare, &steps)?;
+    assert_eq!(rt; space.resident(17), Some(1));
+    Ok(())
+}
+
+#[test]
+fn an_unmap_drops_the_copies_of_its_pages(rt: HostRuntime) -> Result<(), Fail> {
+    let (mut space, mut spare) = begun(rt.alloc(), 8, &[], &[])?;
+    let region = map(16, 8, Kind::Fixed, Rights::Write);
+    let beside = map(24, 8, Kind::Fixed, Rights::Write);
+    let steps = [
+        (region, Reply::Done, None),
+        (beside, Reply::Done, None),
+        (store(23, 5), Reply::Done, None),
+        (store(24, 6), Reply::Done, None),
+        (evict(23), Reply::Written, Some(7)),
+        (evict(24), Reply::Written, Some(6)),
+        (unmap(20), Reply::Done, None),
+        (region, Reply::Done, None),
+        (load(23), Reply::Value(0), None),
+        (load(24), Reply::Value(6), None),
+    ];
+    serves(&rt, &mut space, &mut spare, &steps)?;
     Ok(())
 }

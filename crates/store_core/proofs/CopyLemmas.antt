@@ -39,15 +39,15 @@ kept_entries page (e ∷ es) = rw (kept_entries page es, unsigned_tied page e.0)
     found false x rest = refl
 
 -- the same of a store with these copies
-copy_at-look : (copies : List Copy) (faults : ℕ) (es : Entries) → copies ≡ copies_of es
+copy_at-look : (copies : List Copy) (faults : ℕ) (es : Entries) → copies_of es ≡ copies
     → (page : ℕ) → copy_at (stored_copies copies faults) page ≡ unwrap_or (look es page) (Some zero_words)
 unfolding copy_at
-copy_at-look copies faults es is page = ap (λ cs. copy_in cs page) is ∙ copy_in_entries page es
+copy_at-look copies faults es is page = ap (λ cs. copy_in cs page) (sym is) ∙ copy_in_entries page es
 
-pub keeps_at-look : (copies : List Copy) (faults : ℕ) (es : Entries) → copies ≡ copies_of es
+pub keeps_at-look : (copies : List Copy) (faults : ℕ) (es : Entries) → copies_of es ≡ copies
     → (page : ℕ) → keeps_at (stored_copies copies faults) page ≡ is_some (look es page)
 unfolding keeps_at
-keeps_at-look copies faults es is page = ap (λ cs. list_any (λ p. page == p) (map (λ c. c.page) cs)) is ∙ kept_entries page es
+keeps_at-look copies faults es is page = ap (λ cs. list_any (λ p. page == p) (map (λ c. c.page) cs)) (sym is) ∙ kept_entries page es
 
 -- a store with the same copies
 pub same_copies : (copies more : List Copy) (faults rose : ℕ) → more ≡ copies → SameCopies (stored_copies copies faults) (stored_copies more rose)
@@ -64,7 +64,7 @@ unfolding copy_at
 tells_zero copies faults none = record { tells = refl; zero = λ p. ap (λ cs. copy_in cs p) none }
 
 -- a store's copies that are the entries es, and after a change of the map the entries fs
-module _ (copies more : List Copy) (faults rose : ℕ) (es fs : Entries) (was : copies ≡ copies_of es) (is : more ≡ copies_of fs) where
+module _ (copies more : List Copy) (faults rose : ℕ) (es fs : Entries) (was : copies_of es ≡ copies) (is : copies_of fs ≡ more) where
   -- an update at a page sets its copy, and keeps it
   pub sets_copy : (page : ℕ) (copy : Option (List ℕ)) → ((p : ℕ) → look fs p ≡ cond (is_at (nat_cmp page) p) (Some copy) (look es p))
       → SetsCopy page copy (stored_copies copies faults) (stored_copies more rose) × (keeps_at (stored_copies more rose) page ≡ true)

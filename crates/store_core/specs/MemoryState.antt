@@ -6,8 +6,9 @@ use Rattle.store_core.specs.Stored.{Copy, Stored}
 abbrev pub one_more : ℕ → ℕ
 one_more n = min (n + 1) (2 ^ 64 - 1)
 
+-- its copies, where it fails, and how often it was called
 pub record MemoryState : Type 0 where
-  -- the copies of the pages that it keeps, each page once
+  -- the copies of the pages that it keeps
   pub copies : List Copy
   -- the numbers of the reads that fail, counted from 1
   pub failing_reads : List ℕ

@@ -8,6 +8,7 @@ pub record Copy : Type 0 where
   pub page : ℕ
   pub words : Option (List ℕ)
 
+-- a backing store, as its calls answer for it
 pub record Stored : Type 0 where
   -- whether it tells what its copies are
   pub tells : Bool
@@ -20,6 +21,7 @@ pub record Stored : Type 0 where
   -- how many faults it has had
   pub faults : ℕ
 
+-- the copy of a page that has none of its own
 abbrev pub zero_words : List ℕ
 zero_words = replicate 1024 0
 

@@ -52,7 +52,7 @@ impl Model for MemoryStore {
 }
 
 impl MemoryStore {
-    /// A store whose copies are zero, which fails at the reads and the writes whose numbers, counted from 1, are in the lists.
+    /// A store whose copies are zero, which fails at the reads and the writes whose numbers, counted from 1, are in these lists.
     pub fn of(alloc: Global, reads: Vec<u64>, writes: Vec<u64>) -> MemoryStore
         ensures made { result ≡ record {
           copies = [];

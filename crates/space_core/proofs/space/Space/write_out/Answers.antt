@@ -1,6 +1,6 @@
 use Rattle.std.proofs.Common.{refl}
 use Rattle.space_core.proofs.SameView.{same_regions}
-use Rattle.space_core.proofs.Copying.{writes_out, fails_to_write, leaves_unwritten}
+use Rattle.space_core.proofs.Copying.{writes_out}
 use Rattle.space_core.proofs.space.Space.write_out.Goals as goal
 
 pub returns-clause-written : goal.returns-clause-written

@@ -37,5 +37,5 @@ returns-clause-read g c =
     let is = frame-read t _ _ (found_within _ c.self.invariant _ _ has) c.index_mut.ensures.value ∙ c.in-Some-index_mut.is in
     IfOk-weaker c.read.result _ _
     (λ _ read words tells known i.
-        rewritten_has t c.self.invariant _ _ _ has (frame-number t c.self.invariant _ _ _ has is) i ∙ ap (λ (ws : List ℕ). slice_index_or ws i 0) (take_at c.read.new.words _ 1024 (c.read.auto.words ∙ c.words_mut.ensures.count) ∙ rw known at read tells))
+    rewritten_has t c.self.invariant _ _ _ has (frame-number t c.self.invariant _ _ _ has is) i ∙ ap (λ (ws : List ℕ). slice_index_or ws i 0) (take_at c.read.new.words _ 1024 (c.read.auto.words ∙ c.words_mut.ensures.count) ∙ rw known at read tells))
     c.read.ensures.read

@@ -1,4 +1,4 @@
-use Rattle.std.proofs.Common.{rules, ◌≡◌, not, filter, refl, sym, ap, ◌∙◌}
+use Rattle.std.proofs.Common.{rules, ◌≡◌, not, filter, refl, ap, ◌∙◌}
 use Rattle.std.proofs.lemmas.Map.Made.{filter_same_pairs}
 use Rattle.pager_model.specs.Regions.{in_range}
 use Rattle.store_core.specs.MemoryState.{copies_of}
@@ -12,6 +12,6 @@ returns c =
     let copies : copies_of c.retain.new.self.entries ≡ filter (λ copy. not (in_range c.args.first c.args.length copy.page)) (copies_of c.self.inside.copies.entries) =
     ap copies_of left ∙ copies_of_filter (λ p. not (in_range c.args.first c.args.length p)) c.self.inside.copies.entries
     in record {
-      dropped = drops_copies _ _ _ _ _ _ (sym (ap (λ s. s.copies) c.self.view_is)) refl _ _ left (ap (λ s. s.faults) c.self.view_is);
+      dropped = drops_copies _ _ _ _ _ _ (ap (λ s. s.copies) c.self.view_is) refl _ _ left (ap (λ s. s.faults) c.self.view_is);
       state = rw (← c.self.view_is, copies) refl;
     }
