@@ -68,13 +68,18 @@ copied_answered f call reply are = copied_after f call are
 
 -- Who came before.
 
--- a dirty page is resident where any entry but the unmap of its range comes next
+-- a page is resident where any entry but the unmap of its range comes next
 resident : (next : Next) (c p : ℕ) (what : What) (base : ℕ → Option ℕ) → MayGoOn next c what → ((first len : ℕ) → IsUnmapAnswer first len what → ⊥) → IsResident base p ⊎ WasCleared next p → IsResident base p
 resident next c p what base may other (inl is) = is
 resident Anyone c p what base may other (inr was) = absurd was
 resident (Only d) c p what base may other (inr was) = absurd was
 resident (Unmaps d first len) c p what base may other (inr was) = absurd (other first len may.1)
 
+-- and so is each dirty page
+was_there : (st : SpaceState) (c : ℕ) (what : What) → KeepsCopies st → MayGoOn st.next c what → ((first len : ℕ) → IsUnmapAnswer first len what → ⊥) → (p : ℕ) → st.flat.dirty p ≡ true → IsResident st.base p
+was_there st c what keeps may other p is = resident st.next c p what st.base may other (keeps.dirty p is)
+
+-- the unmap of a range is lawful
 unmap_lawful : (first len : ℕ) (call : Call) (reply : Reply) → IsUnmapOf first len call reply → is_lawful reply ≡ true
 unmap_lawful first len (Unmap space page) Done is = refl
 unmap_lawful first len call reply is = absurd is
@@ -99,11 +104,11 @@ unlawful (StoreFault space count) is = refl
 unlawful NoMemory is = refl
 unlawful reply is = absurd is
 
-same_flat : (f : Flat) (call : Call) (reply : Reply) → IsWithoutService reply → answered_flat f call reply ≡ f
-same_flat f call (NoFrames wired claimed held) is = refl
-same_flat f call (StoreFault space count) is = refl
-same_flat f call NoMemory is = refl
-same_flat f call reply is = absurd is
+answered_same : (f : Flat) (call : Call) (reply : Reply) → IsWithoutService reply → answered_flat f call reply ≡ f
+answered_same f call (NoFrames wired claimed held) is = refl
+answered_same f call (StoreFault space count) is = refl
+answered_same f call NoMemory is = refl
+answered_same f call reply is = absurd is
 
 -- and every page its frame
 same_base : (st : SpaceState) (frames : Bool) (call : Call) (reply : Reply) → is_lawful reply ≡ false → frames ≡ frees_its_page st call reply → (p : ℕ) → base_after_answer st.base frames call p ≡ st.base p
@@ -148,26 +153,26 @@ evicted true false here dirty o gives is was = absurd (false≢true (gives refl)
 module _ (st : SpaceState) (keeps : KeepsCopies st) (frames : Bool) (c number : ℕ) where
   -- the pages that are dirty after an answer that does what its call does
   dirty_served : (call : Call) (answered : Answered) → MayGoOn st.next c (Answer number call answered) → IsServed st c call answered.reply → frames ≡ frees_its_page st call answered.reply → (p : ℕ) → (after_call st.flat call).dirty p ≡ true → IsResident (base_after_answer st.base frames call) p
-  dirty_served (Map space page len kind rights) answered may served parts p is = resident st.next c p _ st.base may (λ first len un. un) (keeps.dirty p is)
-  dirty_served (Grow space page by) answered may served parts p is = resident st.next c p _ st.base may (λ first len un. un) (keeps.dirty p is)
+  dirty_served (Map space page len kind rights) answered may served parts p is = was_there st c _ keeps may (λ first len un. un) p is
+  dirty_served (Grow space page by) answered may served parts p is = was_there st c _ keeps may (λ first len un. un) p is
   dirty_served (Unmap space page) answered may served parts p is =
       let before = still_dirty _ _ is in
       elim (keeps.dirty p before.0) [
         | inl there ↦ there
         | inr was ↦ absurd (true≢false (sym (goes_cleared st c p _ (served.pages (lawful_next st.next c p number _ answered may was)) was) ∙ before.1))
       ]
-  dirty_served (Protect space page len rights) answered may served parts p is = resident st.next c p _ st.base may (λ first len un. un) (keeps.dirty p is)
-  dirty_served (Load space address) answered may served parts p is = resident st.next c p _ st.base may (λ first len un. un) (keeps.dirty p is)
+  dirty_served (Protect space page len rights) answered may served parts p is = was_there st c _ keeps may (λ first len un. un) p is
+  dirty_served (Load space address) answered may served parts p is = was_there st c _ keeps may (λ first len un. un) p is
   dirty_served (Store space address word) answered may served parts p is =
       elim (dirty_or_here (is_lawful (reply_of st.flat (Store space address word))) (p == page_of address) (st.flat.dirty p) is) [
-        | inl before ↦ resident st.next c p _ st.base may (λ first len un. un) (keeps.dirty p before)
+        | inl before ↦ was_there st c _ keeps may (λ first len un. un) p before
         | inr here ↦ subst (IsResident st.base) (sym (eqb-true p (page_of address) here.1)) (served.pages (served.lawful ∙ here.0))
       ]
-  dirty_served (Sync space page) answered may served parts p is = resident st.next c p _ st.base may (λ first len un. un) (keeps.dirty p (still_dirty _ _ is).0)
+  dirty_served (Sync space page) answered may served parts p is = was_there st c _ keeps may (λ first len un. un) p (still_dirty _ _ is).0
   dirty_served (Evict space page) answered may served parts p is =
       evicted frames (is_lawful (reply_of st.flat (Evict space page))) (p == page) (st.flat.dirty p) (st.base p)
       (λ frees. sym served.lawful ∙ (and_parts (is_lawful answered.reply) (is_some (st.base page)) (sym parts ∙ frees)).0) is
-      (λ before. resident st.next c p _ st.base may (λ first len un. un) (keeps.dirty p before))
+      (λ before. was_there st c _ keeps may (λ first len un. un) p before)
 
   -- after one without service
   dirty_unserved : (call : Call) (answered : Answered) → MayGoOn st.next c (Answer number call answered) → IsWithoutService answered.reply → (p : ℕ) → st.flat.dirty p ≡ true → IsResident st.base p
@@ -182,7 +187,7 @@ module _ (st : SpaceState) (keeps : KeepsCopies st) (frames : Bool) (c number : 
   dirty_answered call answered may allowed p is =
       elim (answer_is st c call answered.reply allowed.reply) [
         | inl without ↦
-            let there = dirty_unserved call answered may without p (ap (λ (f : Flat). f.dirty p) (sym (same_flat st.flat call answered.reply without)) ∙ is) in
+            let there = dirty_unserved call answered may without p (ap (λ (f : Flat). f.dirty p) (sym (answered_same st.flat call answered.reply without)) ∙ is) in
             (there.0, same_base st frames call answered.reply (unlawful answered.reply without) allowed.parts p ∙ there.1)
         | inr served ↦ dirty_served call answered may served allowed.parts p (ap (λ (f : Flat). f.dirty p) (sym served.does) ∙ is)
       ]
@@ -216,11 +221,8 @@ other_copy f p page other =
       | inr not_here ↦ cond-false _ _ _ not_here
     ]
 
+-- each entry that a space allows keeps the copies
 module _ (st : SpaceState) (e : Entry) (keeps : KeepsCopies st) where
-  -- a dirty page is resident where another entry than an answer comes next
-  there : (what : What) → MayGoOn st.next e.processor what → ((first len : ℕ) → IsUnmapAnswer first len what → ⊥) → (p : ℕ) → st.flat.dirty p ≡ true → IsResident st.base p
-  there what may other p is = resident st.next e.processor p what st.base may other (keeps.dirty p is)
-
   KeepsCopies-after : (what : What) → MayGoOn st.next e.processor what → WhatAllowed st e.frames e.processor what → KeepsCopies (space_after st (record e { what = what }))
   KeepsCopies-after (Answer number call answered) may allowed =
       record {
@@ -230,34 +232,34 @@ module _ (st : SpaceState) (e : Entry) (keeps : KeepsCopies st) where
   KeepsCopies-after (Out page wrote) may allowed =
       record {
         clean = λ p is. written st.flat (out st.flat page) p (p == page) (keeps.clean p) (λ i. refl) refl refl is;
-        dirty = λ p is. inl (there (Out page wrote) may (λ first len un. un) p (still_dirty _ _ is).0);
+        dirty = λ p is. inl (was_there st e.processor _ keeps may (λ first len un. un) p (still_dirty _ _ is).0);
       }
   KeepsCopies-after (Failed page true count) may allowed =
       record {
         clean = λ p is.
             let other = differ st.flat p page true allowed.1 (λ dirty. true≢false (sym dirty ∙ is)) in
             equal_again st.flat (lost st.flat page) p (other_copy st.flat p page other) (λ i. refl) (keeps.clean p is);
-        dirty = λ p is. inl (there (Failed page true count) may (λ first len un. un) p is);
+        dirty = λ p is. inl (was_there st e.processor _ keeps may (λ first len un. un) p is);
       }
   KeepsCopies-after (Failed page false count) may allowed =
-      record { clean = keeps.clean; dirty = λ p is. inl (there (Failed page false count) may (λ first len un. un) p is) }
+      record { clean = keeps.clean; dirty = λ p is. inl (was_there st e.processor _ keeps may (λ first len un. un) p is) }
   KeepsCopies-after (Take page frame want) may allowed =
-      record { clean = keeps.clean; dirty = λ p is. inl (filled (p == page) frame _ (there (Take page frame want) may (λ first len un. un) p is)) }
+      record { clean = keeps.clean; dirty = λ p is. inl (filled (p == page) frame _ (was_there st e.processor _ keeps may (λ first len un. un) p is)) }
   KeepsCopies-after (Give page frame) may allowed =
       record {
         clean = keeps.clean;
         dirty = λ p is.
             let other = differ st.flat p page false allowed.1 (λ clean. true≢false (sym is ∙ clean)) in
-            inl (left (p == page) _ other (there (Give page frame) may (λ first len un. un) p is));
+            inl (left (p == page) _ other (was_there st e.processor _ keeps may (λ first len un. un) p is));
       }
   KeepsCopies-after (Clear first len) may allowed =
-      record { clean = keeps.clean; dirty = λ p is. cleared (in_range first len p) _ (there (Clear first len) may (λ first len un. un) p is) }
+      record { clean = keeps.clean; dirty = λ p is. cleared (in_range first len p) _ (was_there st e.processor _ keeps may (λ first len un. un) p is) }
   KeepsCopies-after (Claim victim page frame need) may allowed =
-      record { clean = keeps.clean; dirty = λ p is. inl (there (Claim victim page frame need) may (λ first len un. un) p is) }
+      record { clean = keeps.clean; dirty = λ p is. inl (was_there st e.processor _ keeps may (λ first len un. un) p is) }
   KeepsCopies-after (UseHeld page frame want) may allowed =
-      record { clean = keeps.clean; dirty = λ p is. inl (filled (p == page) frame _ (there (UseHeld page frame want) may (λ first len un. un) p is)) }
+      record { clean = keeps.clean; dirty = λ p is. inl (filled (p == page) frame _ (was_there st e.processor _ keeps may (λ first len un. un) p is)) }
   KeepsCopies-after (Unclaim frame) may allowed =
-      record { clean = keeps.clean; dirty = λ p is. inl (there (Unclaim frame) may (λ first len un. un) p is) }
+      record { clean = keeps.clean; dirty = λ p is. inl (was_there st e.processor _ keeps may (λ first len un. un) p is) }
   KeepsCopies-after what may allowed = absurd allowed
 
 -- Legal histories.
@@ -271,13 +273,13 @@ pub KeepsCopies-legal : (g : Given) (history : List Entry) (s : ℕ) → IsLegal
 KeepsCopies-legal g history s legal =
     IsLegal-keeps g (λ h. KeepsCopies (space_at g h s))
     (λ before e keeps may.
-        elim (cases_Bool (names_space s e)) [
-          | inl named ↦
-              let st = space_at g before s in
-              let allowed = of_named e.space s (λ t. SpaceAllows (space_at g before t) e) named may.by_space in
-              subst KeepsCopies (sym (space_at-named g before e s named)) (KeepsCopies-after st e keeps e.what allowed.0 allowed.1)
-          | inr other ↦ subst KeepsCopies (sym (space_at-other g before e s other)) keeps
-        ])
+    elim (cases_Bool (names_space s e)) [
+      | inl named ↦
+          let st = space_at g before s in
+          let allowed = of_named e.space s (λ t. SpaceAllows (space_at g before t) e) named may.by_space in
+          subst KeepsCopies (sym (space_at-named g before e s named)) (KeepsCopies-after st e keeps e.what allowed.0 allowed.1)
+      | inr other ↦ subst KeepsCopies (sym (space_at-other g before e s other)) keeps
+    ])
     (record { clean = λ p is. record { copy = λ i. 0; known = refl; equal = λ i. refl }; dirty = λ p is. absurd (false≢true is) })
     history legal
 
@@ -309,8 +311,8 @@ module _ (st : SpaceState) (e : Entry) (allowed : SpaceAllows st e) where
       })
 
   module _ (number : ℕ) (call : Call) (answered : Answered) (is : e.what ≡ Answer number call answered) (without : IsWithoutService answered.reply) where
-    pub same_memory : (space_after st e).flat ≡ st.flat
-    same_memory = ap (flat_after st.flat) is ∙ same_flat st.flat call answered.reply without
+    pub same_flat : (space_after st e).flat ≡ st.flat
+    same_flat = ap (flat_after st.flat) is ∙ answered_same st.flat call answered.reply without
 
     pub same_frames : (space_after st e).base ≡ st.base
     same_frames =

@@ -34,7 +34,7 @@ pub record LosesItsCopy (page : ℕ) (before after : SpaceState) : Type 0 where
   pub same_rights : after.flat.rights ≡ before.flat.rights
   pub same_frames : after.base ≡ before.base
 
--- no frame, no store or no memory served the call
+-- the reply is for want of a frame or of memory, or for a store's fault
 abbrev pub IsWithoutService : Reply → Type 0
 IsWithoutService (NoFrames wired claimed held) = Unit {0}
 IsWithoutService (StoreFault space count) = Unit {0}

@@ -49,7 +49,7 @@ pub fn a_clean_page_equals_its_copy()
         → EqualsItsCopy (space_at g history s).flat page }
 {}
 
-/// A dirty page is resident, after every legal history, but for one whose frame went before the unmap that comes next.
+/// A dirty page is resident, after every legal history, but for one of a range that was cleared, whose unmap comes next.
 pub fn a_dirty_page_is_resident()
     ensures { (g : Given) (history : List Entry) (s page : ℕ)
         → IsLegal g history
@@ -57,7 +57,7 @@ pub fn a_dirty_page_is_resident()
         → IsResident (space_at g history s).base page ⊎ WasCleared (space_at g history s).next page }
 {}
 
-/// A page is written to its copy, or in vain, only where it is dirty.
+/// A page is written to its copy, or fails to be, only where it is dirty.
 pub fn a_clean_page_is_never_written()
     ensures written { (st : SpaceState) (e : Entry) (page : ℕ) → SpaceAllows st e → e.what ≡ Out page true → st.flat.dirty page ≡ true }
     ensures failed { (st : SpaceState) (e : Entry) (page count : ℕ) → SpaceAllows st e → e.what ≡ Failed page true count → st.flat.dirty page ≡ true }
@@ -68,9 +68,9 @@ pub fn a_failed_write_loses_the_copy_alone()
     ensures { (st : SpaceState) (e : Entry) (page count : ℕ) → SpaceAllows st e → e.what ≡ Failed page true count → LosesItsCopy page st (space_after st e) }
 {}
 
-/// An answer for want of a frame, of the store or of memory changes nothing in memory, and leaves every page its frame.
+/// An answer for want of a frame or of memory, or for a store's fault, changes nothing in the flat memory and leaves every page its frame.
 pub fn an_answer_without_service_changes_nothing()
-    ensures memory { (st : SpaceState) (e : Entry) (number : ℕ) (call : MemoryCall) (a : Answered)
+    ensures flat { (st : SpaceState) (e : Entry) (number : ℕ) (call : MemoryCall) (a : Answered)
         → SpaceAllows st e
         → e.what ≡ Answer number call a
         → IsWithoutService a.reply
