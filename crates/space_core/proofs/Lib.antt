@@ -10,3 +10,4 @@ pub mod Finding
 pub mod Changing
 pub mod Clearing
 pub mod Sparing
+pub mod CopyLaws

@@ -6,3 +6,4 @@ pub mod Saving
 pub mod Keeping
 pub mod NewPages
 pub mod Spares
+pub mod Copies
