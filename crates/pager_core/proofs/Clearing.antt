@@ -1,21 +1,22 @@
 -- A region's pages give their frames up, the lowest first, until none is resident.
-use Rattle.std.proofs.Common.{◌≡◌, ◌≢◌, ℕ, zero, suc, ◌+◌, ◌<◌, ◌≤◌, Bool, true, false, cond, eqb, leb, ltb, ◌&&◌, List, ◌∷◌, is_some, Some, None, refl, ap, sym, subst, ◌∙◌, inl, inr, arith}
+use Rattle.std.proofs.Common.{◌≡◌, ◌≢◌, ℕ, zero, suc, ◌+◌, ◌<◌, ◌≤◌, Bool, true, false, cond, eqb, leb, ltb, ◌&&◌, List, ◌∷◌, is_some, None, refl, ap, sym, subst, ◌∙◌, inl, inr, arith}
 use Rattle.std.specs.List.{range_with_len, count_by}
 use Rattle.std.proofs.lemmas.List.Sums.{sum_by-cons}
 use Rattle.std.proofs.lemmas.Bool.{cases_eq, cond-true, cond-false, and_parts, and_from, and_right, eq-eqb, ne_eqb, le-leb, leb-true, lt-ltb, ltb-true}
-use Rattle.pager_model.specs.declared.entry.What.TheVariants.{Clear as ClearWhat}
+use Rattle.pager_model.specs.declared.entry.What.TheVariants.{Clear as ClearEntry}
 use Rattle.pager_model.specs.Flat.{space_of_call}
 use Rattle.pager_model.specs.FrameStates.{FrameState, frame_of, counted, give_page, give_range}
 use Rattle.pager_model.specs.Layouts.{covering}
 use Rattle.pager_model.specs.Regions.{region_at}
-use Rattle.pager_model.specs.SpaceStates.{SpaceState, space_after, MayGoOn, IsRegionOf}
+use Rattle.pager_model.specs.SpaceStates.{SpaceState, IsRegionOf}
 use Rattle.space_core.specs.Beginning.{IsUnmapping, ClearsOne, ClearsNone}
-use Rattle.space_core.specs.Standing.{Kept, StandsFor, StandsBut, frame_at, is_in, clear_entry}
+use Rattle.space_core.specs.Standing.{Kept, IsResting, StandsBeside, StandsFor, StandsBut, frame_at, is_in, clear_entry}
 use Rattle.pager_core.specs.declared.flight.Flight.{Flight}
 use Rattle.pager_core.specs.declared.flight.Phase.TheVariants.{Clear, Gone}
 use Rattle.pager_core.specs.Flights.{IsReady}
 use Rattle.pager_core.specs.Steps.{Makes}
 use Rattle.pager_core.proofs.Answering.{in_phase, by_phase, Some-same}
+use Rattle.pager_core.proofs.Making.{Leads, Makes-going}
 use Rattle.pager_core.proofs.GivenRanges.{give_range-none, give_range-lowest, entries-given}
 
 -- Counting over a range.
@@ -62,6 +63,7 @@ pub record IsClearing (was : Kept) (before : FrameState) (now : Kept) (pool : Fr
   pub same_frames : now.frames ≡ was.frames
   pub same_regions : now.regions ≡ was.regions
   pub same_pending : now.pending ≡ was.pending
+  pub same_paged : now.paged ≡ was.paged
   pub stands : (st : SpaceState) → StandsBut first len was st → StandsBut first len now st
   pub agrees : (p : ℕ) → frame_at now p ≡ frame_of pool was.number p
   pub leads : give_range pool was.number first len ≡ give_range before was.number first len
@@ -74,15 +76,16 @@ module _ (was kept now : Kept) (before pool after : FrameState) (first len page 
       → ((s p : ℕ) → frame_of after s p ≡ cond (eqb own s && eqb p page) None (frame_of pool s p))
       → IsClearing was before now after first len
   IsClearing-next so_far clears same given places = record {
-    same_number = clears.same.number ∙ so_far.same_number;
-    same_frames = clears.same.frames ∙ so_far.same_frames;
-    same_regions = clears.same.regions ∙ so_far.same_regions;
+    same_number = clears.gave.same.number ∙ so_far.same_number;
+    same_frames = clears.gave.same.frames ∙ so_far.same_frames;
+    same_regions = clears.gave.same.regions ∙ so_far.same_regions;
     same_pending = clears.same_pending ∙ so_far.same_pending;
+    same_paged = clears.same_paged ∙ so_far.same_paged;
     stands = λ st is. clears.stands st (so_far.stands st is);
     agrees = agrees;
     leads = ap (λ t. give_range t was.number first len) given_own
         ∙ give_range-lowest was.number pool first len page low high
-        (λ p over under. sym (so_far.agrees p) ∙ below p over under) (ap is_some (sym (so_far.agrees page) ∙ clears.had))
+        (λ p over under. sym (so_far.agrees p) ∙ below p over under) (ap is_some (sym (so_far.agrees page) ∙ clears.gave.had))
         (λ p over under. ap (λ (t : FrameState). frame_of t was.number p) (sym given_own) ∙ sym (agrees p) ∙ up_to p over under)
         ∙ so_far.leads;
     same_entries = ap (λ (t : FrameState). t.entries) given ∙ entries-given pool page (covering own page pool.records) ∙ so_far.same_entries;
@@ -102,8 +105,8 @@ module _ (was kept now : Kept) (before pool after : FrameState) (first len page 
 
       agrees : (p : ℕ) → frame_at now p ≡ frame_of after was.number p
       agrees p = elim (cases_eq p page) [
-        | inl here ↦ ap (frame_at now) here ∙ clears.gone ∙ sym (places was.number p ∙ cond-true _ _ _ (and_from _ _ (eq-eqb own was.number same) (eq-eqb p page here)))
-        | inr other ↦ clears.same_others p other ∙ so_far.agrees p ∙ sym (places was.number p ∙ cond-false _ _ _ (and_right _ _ (ne_eqb p page other)))
+        | inl here ↦ ap (frame_at now) here ∙ clears.gave.gone ∙ sym (places was.number p ∙ cond-true _ _ _ (and_from _ _ (eq-eqb own was.number same) (eq-eqb p page here)))
+        | inr other ↦ clears.gave.same_others p other ∙ so_far.agrees p ∙ sym (places was.number p ∙ cond-false _ _ _ (and_right _ _ (ne_eqb p page other)))
       ]
 
       below : (p : ℕ) → first ≤ p → p < page → frame_at kept p ≡ None
@@ -111,8 +114,8 @@ module _ (was kept now : Kept) (before pool after : FrameState) (first len page 
 
       up_to : (p : ℕ) → first ≤ p → p ≤ page → frame_at now p ≡ None
       up_to p over under = elim (cases_eq p page) [
-        | inl here ↦ ap (frame_at now) here ∙ clears.gone
-        | inr other ↦ clears.same_others p other ∙ below p over (omega (arith, under, other))
+        | inl here ↦ ap (frame_at now) here ∙ clears.gave.gone
+        | inr other ↦ clears.gave.same_others p other ∙ below p over (omega (arith, under, other))
       ]
 
 -- then fewer pages of the range are resident
@@ -120,66 +123,86 @@ pub fewer_resident : (kept now : Kept) (first len page frame : ℕ) → ClearsOn
 fewer_resident kept now first len page frame clears =
     let parts = and_parts (leb first page) (ltb page (first + len)) clears.within in
     count-fewer (λ p. is_some (frame_at kept p)) (λ p. is_some (frame_at now p)) page first len (leb-true first page parts.0) (ltb-true page (first + len) parts.1)
-    (λ p other. ap is_some (clears.same_others p other)) (ap is_some clears.had) (ap is_some clears.gone)
+    (λ p other. ap is_some (clears.gave.same_others p other)) (ap is_some clears.gave.had) (ap is_some clears.gave.gone)
 
--- in a space at rest no words are open
-StandsBut-rest : (kept : Kept) (st : SpaceState) (first len : ℕ) → kept.clearing ≡ None → StandsFor kept st → StandsBut first len kept st
-StandsBut-rest kept st first len none stands = record {
-  told = stands.told;
-  regions = stands.regions;
-  rights = stands.rights;
+-- in a space at rest nothing is open
+StandsBut-rest : (kept : Kept) (st : SpaceState) (first len : ℕ) → IsResting kept → StandsFor kept st → StandsBut first len kept st
+StandsBut-rest kept st first len resting stands = record {
+  beside = record {
+    regions = beside.regions;
+    rights = beside.rights;
+    dirty = λ page out. beside.dirty page (closed page);
+    told = λ is. (let tells = beside.told is in record {
+      tells = tells.tells;
+      words = λ page i out. tells.words page i (closed page);
+      copies = λ page out rests. tells.copies page (closed page) rests;
+      copied = λ page out even. tells.copied page (closed page) even;
+    });
+    tied = beside.tied;
+    untied = beside.untied;
+    highest = beside.highest;
+  };
   base = λ page out. stands.base page;
-  words = λ page i out. stands.words page i (ap (λ o. is_in o page) none);
 }
+  where
+    beside : StandsBeside (is_in kept.clearing) kept st
+    beside = stands.beside
+
+    closed : (page : ℕ) → is_in kept.clearing page ≡ false
+    closed page = ap (λ o. is_in o page) resting.none_clearing
 
 -- the flight's space is the call's
 pub on_clear : (f : Flight) (first len : ℕ) (was : Kept) (st : SpaceState) → f.phase ≡ Clear first len → IsReady f was st → space_of_call f.call ≡ was.number
 on_clear f first len was st phase =
     by_phase f (Clear first len) phase (λ g. IsReady g was st → space_of_call f.call ≡ was.number) (λ ready. Some-same _ _ ready.under)
 
+-- Clear: the pages of the region gave their frames up
+Leads-clear : (f : Flight) (first len : ℕ) → Leads f (Clear first len) (Gone first len) (space_of_call f.call) true (ClearEntry first len)
+Leads-clear f first len = record {
+  goes_on = tt;
+  parts = ((space_of_call f.call, refl), refl);
+  in_order = refl;
+  next = refl;
+  needs = refl;
+  keeps = refl;
+  reply = refl;
+  answer = refl;
+  between = refl;
+  fewer = omega arith;
+}
+
 -- No page of the range is left.
 module _ (f : Flight) (first len : ℕ) (was kept now : Kept) (before pool : FrameState) where
   Makes-clear :
       (st : SpaceState) → IsReady (in_phase f (Clear first len)) was st → IsClearing was before kept pool first len → ClearsNone kept now first len
       → Makes (in_phase f (Clear first len)) (in_phase f (Gone first len)) was now st before (counted pool) (clear_entry f.processor (space_of_call f.call) first len)
-  Makes-clear st ready so_far clears = record {
-    same_call = record { processor = refl; number = refl; call = refl };
-    same_space = same_number;
-    same_count = clears.same.frames ∙ so_far.same_frames;
-    processor = refl;
-    parts = ((space_of_call f.call, refl), refl);
-    own_space = on;
-    space_allows = (
-      subst (λ next. MayGoOn next f.processor (ClearWhat first len)) (sym ready.next) tt,
-      subst (λ o. IsRegionOf o first len) (sym (ap (λ rs. region_at rs first) ready.stands.regions ∙ is.at_first)) (is.first_is, is.length_is),
-    );
-    frames_allow = λ named. tt;
-    frames_after = ap counted
-        (sym (give_range-none was.number pool first len (λ p over under. sym (so_far.agrees p) ∙ sym (clears.same_frames p) ∙ clears.none p (and_from _ _ (le-leb first p over) (lt-ltb p (first + len) under))))
-        ∙ so_far.leads
-        ∙ ap (λ s. give_range before s first len) (sym on));
-    in_order = refl;
-    reply = refl;
-    answer = refl;
-    left = (on ∙ sym same_number, subst (IsReady (in_phase f (Gone first len)) now) (sym (cond-true (eqb (space_of_call f.call) was.number) (space_after st (clear_entry f.processor (space_of_call f.call) first len)) st (eq-eqb _ _ on))) next);
-    fewer = omega arith;
-  }
+  Makes-clear st ready so_far clears =
+      Makes-going f (Clear first len) (Gone first len) (space_of_call f.call) true (ClearEntry first len) was now st ready (Leads-clear f first len)
+      on (clears.same.same.number ∙ so_far.same_number) (clears.same.same.frames ∙ so_far.same_frames)
+      (subst (λ o. IsRegionOf o first len) (sym (ap (λ rs. region_at rs first) ready.stands.beside.regions ∙ is.at_first)) (is.first_is, is.length_is))
+      (clears.stands st f.processor (so_far.stands st (StandsBut-rest was st first len ready.found.resting ready.stands)))
+      tt
+      (record {
+        unmapping = unmapping;
+        none_pending = clears.same_pending ∙ so_far.same_pending ∙ ready.found.resting.none_pending;
+        none_paged = clears.same_paged ∙ so_far.same_paged ∙ ready.found.resting.none_paged;
+        clearing = clears.clearing is.region (ap (λ rs. region_at rs first) so_far.same_regions ∙ is.at_first);
+        none = clears.none;
+      })
+      before (counted pool) (λ named. tt)
+      (ap counted
+      (sym (give_range-none was.number pool first len (λ p over under. sym (so_far.agrees p) ∙ sym (clears.same.frame p) ∙ clears.none p (and_from _ _ (le-leb first p over) (lt-ltb p (first + len) under))))
+      ∙ so_far.leads
+      ∙ ap (λ s. give_range before s first len) (sym on)))
     where
       on : space_of_call f.call ≡ was.number
       on = Some-same _ _ ready.under
 
-      same_number : now.number ≡ was.number
-      same_number = clears.same.number ∙ so_far.same_number
-
       same_regions : now.regions ≡ was.regions
-      same_regions = clears.same.regions ∙ so_far.same_regions
+      same_regions = clears.same.same.regions ∙ so_far.same_regions
 
       is : IsUnmapping was f.call first len
       is = ready.found.unmapping
-
-      stands : StandsFor now (space_after st (clear_entry f.processor (space_of_call f.call) first len))
-      stands = subst (λ n. StandsFor now (space_after st (clear_entry f.processor n first len))) (so_far.same_number ∙ sym on)
-          (clears.stands st f.processor (so_far.stands st (StandsBut-rest was st first len ready.found.resting.none_clearing ready.stands)))
 
       unmapping : IsUnmapping now f.call first len
       unmapping = record {
@@ -194,23 +217,7 @@ module _ (f : Flight) (first len : ℕ) (was kept now : Kept) (before pool : Fra
         in_space = is.in_space;
       }
 
-      next : IsReady (in_phase f (Gone first len)) now (space_after st (clear_entry f.processor (space_of_call f.call) first len))
-      next = record {
-        under = ap Some (on ∙ sym same_number);
-        can = ready.can;
-        stands = stands;
-        next = refl;
-        found = record {
-          unmapping = unmapping;
-          none_pending = clears.same_pending ∙ so_far.same_pending ∙ ready.found.resting.none_pending;
-          clearing = clears.clearing is.region (ap (λ rs. region_at rs first) so_far.same_regions ∙ is.at_first);
-          none = clears.none;
-        };
-      }
-
-pub range_cleared : (f : Flight) (first len own : ℕ) (was kept now : Kept) (before pool after : FrameState) → f.phase ≡ Clear first len → own ≡ space_of_call f.call → IsClearing was before kept pool first len → ClearsNone kept now first len → after ≡ counted pool → (st : SpaceState) → IsReady f was st → Makes f (in_phase f (Gone first len)) was now st before after (clear_entry f.processor own first len)
-range_cleared f first len own was kept now before pool after phase same so_far clears counts st =
-    subst (λ n. IsReady f was st → Makes f (in_phase f (Gone first len)) was now st before after (clear_entry f.processor n first len)) (sym same)
-    (subst (λ t. IsReady f was st → Makes f (in_phase f (Gone first len)) was now st before t (clear_entry f.processor (space_of_call f.call) first len)) (sym counts)
-    (by_phase f (Clear first len) phase (λ g. IsReady g was st → Makes g (in_phase f (Gone first len)) was now st before (counted pool) (clear_entry f.processor (space_of_call f.call) first len))
-    (λ ready. Makes-clear f first len was kept now before pool st ready so_far clears)))
+pub range_cleared : (f : Flight) (first len : ℕ) (was kept now : Kept) (before pool : FrameState) → f.phase ≡ Clear first len → IsClearing was before kept pool first len → ClearsNone kept now first len → (st : SpaceState) → IsReady f was st → Makes f (in_phase f (Gone first len)) was now st before (counted pool) (clear_entry f.processor (space_of_call f.call) first len)
+range_cleared f first len was kept now before pool phase so_far clears st =
+    by_phase f (Clear first len) phase (λ g. IsReady g was st → Makes g (in_phase f (Gone first len)) was now st before (counted pool) (clear_entry f.processor (space_of_call f.call) first len))
+    (λ ready. Makes-clear f first len was kept now before pool st ready so_far clears)

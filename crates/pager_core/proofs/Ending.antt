@@ -15,7 +15,7 @@ use Rattle.pager_core.proofs.Turning.{mark-zero, marked}
 
 module _ (run : Running) (spaces : List Kept) (pool : FrameState) (capacity : ℕ) (machine : IsMachine run spaces pool capacity) (ended : HasEnded run) where
   mark_none : (c : ℕ) → mark_of run.given c ≡ 0
-  mark_none c = ap (λ g. mark_of g c) machine.given ∙ mark-zero run.given.frames (length run.calls) (length spaces) c
+  mark_none c = mark-zero run.given (length run.calls) c machine.marks
 
   rests : (c : ℕ) → c < length run.calls → progress_at run.given (entries_in run.history) c ≡ Some (at_rest 0 (length (calls_at run.calls c)))
   rests c below = machine.lawful.progress c below ∙ ap (λ x. Some (progress_by_flight (calls_at run.calls c) x)) (ended c)
@@ -35,6 +35,6 @@ module _ (run : Running) (spaces : List Kept) (pool : FrameState) (capacity : �
         whole = whole;
         partition = IsPartition-legal run.given (entries_in run.history) machine.lawful.legal;
         none_held = NothingHeld-legal run.given (entries_in run.history) machine.lawful.legal
-            (λ c below. subst (λ m. IsWhole m (entries_of c (entries_in run.history))) (sym (mark_none c)) (whole c (let all = marked run (length spaces) machine.given in omega (arith, all, below))));
+            (λ c below. subst (λ m. IsWhole m (entries_of c (entries_in run.history))) (sym (mark_none c)) (whole c (let all = marked run.given (length run.calls) machine.marks in omega (arith, all, below))));
         agrees = machine.lawful.agrees;
       }

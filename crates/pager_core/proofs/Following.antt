@@ -1,18 +1,27 @@
 -- The entry of a step may follow the history, and what it leads to.
-use Rattle.std.proofs.Common.{◌≡◌, ◌≢◌, ℕ, ◌<◌, true, false, cond, eqb, List, [], ◌∷◌, ◌++◌, length, Option, Some, None, IfSome, refl, ap, sym, subst, ◌∙◌, arith}
+use Rattle.std.proofs.Common.{◌≡◌, ◌≢◌, ℕ, ◌+◌, ◌<◌, ◌≤◌, Bool, true, false, ◌&&◌, cond, eqb, List, [], ◌∷◌, ◌++◌, length, Option, Some, None, IfSome, refl, ap, sym, subst, ◌∙◌, arith}
+use Rattle.std.proofs.lemmas.Bool.{false≢true}
 use Rattle.std.proofs.lemmas.Bool.Decides.{nat_tests}
+use Rattle.std.proofs.lemmas.Option.{none-some, same_Some}
+use Rattle.frame_pool.specs.declared.pool.Victim.{Victim as Claimed}
 use Rattle.pager_model.specs.declared.entry.Entry.{Entry}
-use Rattle.pager_model.specs.Entries.{names_space, is_space, entries_of}
-use Rattle.pager_model.specs.FrameStates.{FrameState, frames_after, FramesAllow}
-use Rattle.pager_model.specs.Legal.{space_at, frames_at, progress_at, progress_in, MayFollow}
-use Rattle.pager_model.specs.Order.{progress_by}
+use Rattle.pager_model.specs.declared.entry.Need.{Need}
+use Rattle.pager_model.specs.declared.entry.What.{What}
+use Rattle.pager_model.specs.declared.entry.What.TheVariants.{Answer, Out, Failed, Take, Give, Clear, Claim, UseHeld, DropHeld, Got, Unclaim, Refused, Rest}
+use Rattle.pager_model.specs.Entries.{names_space, is_space, entries_of, IsOn}
+use Rattle.pager_model.specs.Flat.{space_of_call}
+use Rattle.pager_model.specs.FrameStates.{FrameState, frames_after, frame_of, FramesAllow}
+use Rattle.pager_model.specs.Legal.{IsLegal, space_at, frames_at, progress_at, progress_in, MayFollow}
+use Rattle.pager_model.specs.Order.{Progress, Doing, Purpose, ForAccess, Victim, Idle, Uncopied, Claiming, may_answer, leads, victim_in, progress_after, progress_by}
 use Rattle.pager_model.specs.Settings.{Given, mark_of}
-use Rattle.pager_model.specs.SpaceStates.{space_after, SpaceAllows}
-use Rattle.pager_model.proofs.Histories.{space_at-named, space_at-other, frames_at-named, frames_at-other}
+use Rattle.pager_model.specs.SpaceStates.{SpaceState, space_after, SpaceAllows}
+use Rattle.pager_model.proofs.Histories.{space_at-named, space_at-other, frames_at-named, frames_at-other, IsLegal-keeps}
 use Rattle.space_core.specs.Standing.{Kept}
 use Rattle.pager_core.specs.declared.flight.Flight.{Flight}
-use Rattle.pager_core.specs.Rows.{row_of}
+use Rattle.pager_core.specs.declared.flight.Phase.TheVariants.{Out as OutPhase}
+use Rattle.pager_core.specs.Rows.{at, row_of, row_in, access_of, victim_of}
 use Rattle.pager_core.specs.Steps.{Makes, after_named, after_frames}
+use Rattle.pager_core.proofs.GoingOn.{idle_by}
 
 -- two facts of the value of an option
 both_some : {P Q R : ℕ → Type 0} (o : Option ℕ) → ((s : ℕ) → P s → Q s → R s) → IfSome o P → IfSome o Q → IfSome o R
@@ -40,9 +49,75 @@ frames_at-after g h e =
     elim e.frames as (λ b. e.frames ≡ b → frames_at g (h ++ e ∷ []) ≡ cond b (frames_after (frames_at g h) e) (frames_at g h))
     [ true ↦ λ is. frames_at-named g h e is | false ↦ λ is. frames_at-other g h e is ] refl
 
+-- A space that isn't known has no entries, and so no resident page.
+unnamed_past : (o : Option ℕ) (n s : ℕ) → IfSome o (λ t. t < n) → n ≤ s → is_space o s ≡ false
+unnamed_past None n s below past = refl
+unnamed_past (Some t) n s below past = differs t s (λ is. absurd (omega (arith, below, past, is)))
+
+pub base-unknown : (g : Given) (h : List Entry) → IsLegal g h → (s page : ℕ) → length g.told ≤ s → (space_at g h s).base page ≡ None
+base-unknown g h legal = IsLegal-keeps g (λ h. (s page : ℕ) → length g.told ≤ s → (space_at g h s).base page ≡ None)
+    (λ h e before may s page past. ap (λ (st : SpaceState). st.base page) (space_at-other g h e s (unnamed_past e.space (length g.told) s may.space past)) ∙ before s page past)
+    (λ s page past. refl) h legal
+
+-- Between two calls only a claim leads to a place at which a frame is to be claimed.
+
+abbrev is_claiming : Doing → Bool
+is_claiming (Claiming purpose victim) = true
+is_claiming doing = false
+
+abbrev claims : Option Progress → Bool
+claims None = false
+claims (Some p) = is_claiming p.doing
+
+claims-leads : (b : Bool) (made : ℕ) (doing : Doing) → claims (Some (at made doing)) ≡ false → claims (leads b made doing) ≡ false
+claims-leads true made doing none = none
+claims-leads false made doing none = refl
+
+abbrev victim_to : Option Progress → Option Victim
+victim_to None = None
+victim_to (Some p) = victim_in p.doing
+
+from_idle : (n : ℕ) (space : Option ℕ) (what : What) (m : ℕ) (purpose : Purpose) (v : Victim) → progress_after (at n Idle) space what ≡ Some (at m (Claiming purpose v)) → (need : Need) × (what ≡ Claim v.space v.page v.frame (Some need))
+from_idle n (Some s) (Claim victim page frame (Some need)) m purpose v goes =
+    (need, ap (λ (x : Victim). Claim x.space x.page x.frame (Some need)) (same_Some (record { space = victim; page = page; frame = frame }) v (ap victim_to goes)))
+from_idle n (Some s) (Claim victim page frame None) m purpose v goes = absurd (none-some _ goes)
+from_idle n None (Claim victim page frame need) m purpose v goes = absurd (none-some _ goes)
+from_idle n space (Answer number call answered) m purpose v goes =
+    absurd (false≢true (sym (claims-leads (eqb number n && may_answer Idle call answered.reply) (n + 1) Idle refl) ∙ ap claims goes))
+from_idle n (Some s) (Failed page writing count) m purpose v goes = absurd (false≢true (sym (claims-leads writing n (Uncopied s page count) refl) ∙ ap claims goes))
+from_idle n None (Failed page writing count) m purpose v goes = absurd (none-some _ goes)
+from_idle n (Some s) (Take page frame want) m purpose v goes = absurd (false≢true (ap claims goes))
+from_idle n None (Take page frame want) m purpose v goes = absurd (none-some _ goes)
+from_idle n (Some s) (Clear first len) m purpose v goes = absurd (false≢true (ap claims goes))
+from_idle n None (Clear first len) m purpose v goes = absurd (none-some _ goes)
+from_idle n space (Refused wired claimed held) m purpose v goes = absurd (false≢true (ap claims goes))
+from_idle n (Some s) (Out page written) m purpose v goes = absurd (none-some _ goes)
+from_idle n None (Out page written) m purpose v goes = absurd (none-some _ goes)
+from_idle n (Some s) (Give page frame) m purpose v goes = absurd (none-some _ goes)
+from_idle n None (Give page frame) m purpose v goes = absurd (none-some _ goes)
+from_idle n (Some s) (UseHeld page frame want) m purpose v goes = absurd (none-some _ goes)
+from_idle n None (UseHeld page frame want) m purpose v goes = absurd (none-some _ goes)
+from_idle n (Some s) (Unclaim frame) m purpose v goes = absurd (none-some _ goes)
+from_idle n None (Unclaim frame) m purpose v goes = absurd (none-some _ goes)
+from_idle n space (DropHeld frame) m purpose v goes = absurd (none-some _ goes)
+from_idle n space (Got frame) m purpose v goes = absurd (none-some _ goes)
+from_idle n space (Rest short) m purpose v goes = absurd (none-some _ goes)
+
+-- so the victim of a flight whose frame was just claimed has it
+pub victim_resident : (f f' : Flight) (was now : Kept) (st : SpaceState) (before after : FrameState) (e : Entry) (v : Claimed) → Makes f f' was now st before after e → f'.phase ≡ OutPhase v → frame_of before v.space v.page ≡ Some v.frame
+victim_resident f f' was now st before after e v makes is =
+    let left : (row_of f').entries ≡ 7 = ap (λ p. (row_in f'.processor f'.number (space_of_call f'.call) f'.call f'.claimed p).entries) is in
+    let to : (row_of f').progress ≡ at f'.number (Claiming (ForAccess (access_of f'.call f'.claimed)) (victim_of v)) = ap (λ p. (row_in f'.processor f'.number (space_of_call f'.call) f'.call f'.claimed p).progress) is in
+    let fewer = makes.fewer in
+    let from : (row_of f).progress ≡ at f.number Idle = idle_by f.processor f.number (space_of_call f.call) f.call f.claimed f.phase (omega (arith, left, fewer)) in
+    let claim = from_idle f.number e.space e.what f'.number (ForAccess (access_of f'.call f'.claimed)) (victim_of v) (sym (ap (λ p. progress_after p e.space e.what) from) ∙ makes.in_order ∙ ap Some to) in
+    let named = subst (IsOn e.space e.frames) claim.1 makes.parts in
+    let allowed = subst (FramesAllow true before 0 e.processor e.space) claim.1 (makes.frames_allow named.1) in
+    allowed.2.place
+
 module _ (g : Given) (h : List Entry) (f f' : Flight) (was now : Kept) (before after : FrameState) (e : Entry) (s : ℕ) where
   -- the entry of a step may follow
-  pub MayFollow-step : Makes f f' was now (space_at g h s) before after e → was.number ≡ s → g.evicts ≡ false → mark_of g f.processor ≡ 0 → f.processor < length g.marks → s < length g.told → before ≡ frames_at g h → progress_at g h f.processor ≡ Some (row_of f).progress → MayFollow g h e
+  pub MayFollow-step : Makes f f' was now (space_at g h s) before after e → was.number ≡ s → g.evicts ≡ true → mark_of g f.processor ≡ 0 → f.processor < length g.marks → s < length g.told → before ≡ frames_at g h → progress_at g h f.processor ≡ Some (row_of f).progress → MayFollow g h e
   MayFollow-step makes at evicts mark processor space frames progress =
       record {
         parts = makes.parts;
@@ -51,8 +126,8 @@ module _ (g : Given) (h : List Entry) (f f' : Flight) (was now : Kept) (before a
         by_space = both_some e.space (λ t named allowed. subst (λ n. SpaceAllows (space_at g h n) e) (sym (named ∙ at)) allowed) makes.own_space makes.space_allows;
         by_frames = λ is.
             subst (λ v. FramesAllow v (frames_at g h) (mark_of g e.processor) e.processor e.space e.what) (sym evicts)
-            (subst (λ st. FramesAllow false st (mark_of g e.processor) e.processor e.space e.what) frames
-            (subst (λ m. FramesAllow false before m e.processor e.space e.what) (sym (ap (mark_of g) makes.processor ∙ mark))
+            (subst (λ st. FramesAllow true st (mark_of g e.processor) e.processor e.space e.what) frames
+            (subst (λ m. FramesAllow true before m e.processor e.space e.what) (sym (ap (mark_of g) makes.processor ∙ mark))
             (makes.frames_allow is)));
         ordered = ((row_of f').progress, subst (λ c. progress_by (progress_in g c (entries_of c h)) e ≡ Some (row_of f').progress) (sym makes.processor) (ap (λ p. progress_by p e) progress ∙ makes.in_order));
       }

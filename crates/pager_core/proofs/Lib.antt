@@ -1,7 +1,14 @@
 pub mod Answering
+pub mod Making
+pub mod Failing
+pub mod Evicting
+pub mod Refusing
 pub mod GivenRanges
 pub mod Clearing
 pub mod Taking
+pub mod Claiming
+pub mod PagingOut
+pub mod Holding
 pub mod Lists
 pub mod Following
 pub mod GoingOn
@@ -10,4 +17,5 @@ pub mod Passing
 pub mod Readying
 pub mod Turned
 pub mod Ending
+pub mod Stores
 pub mod Starting

@@ -1,5 +1,6 @@
 -- The steps of a flight before the one that makes its entry.
-use Rattle.std.proofs.Common.{◌≡◌, ℕ, ◌≤◌, Some, None, IfSome, refl, ap, sym, subst, ◌∙◌, arith}
+use Rattle.std.proofs.Common.{◌≡◌, ℕ, ◌<◌, ◌≤◌, length, Some, None, IfSome, refl, ap, sym, subst, ◌∙◌, arith}
+use Rattle.frame_pool.specs.Laid.{IsSound}
 use Rattle.pager_model.specs.declared.entry.Entry.{Entry}
 use Rattle.pager_model.specs.Agreement.{OwnsBy}
 use Rattle.pager_model.specs.FrameStates.{FrameState, frame_of}
@@ -74,6 +75,7 @@ module _ (old mid new : Flight) (was here now : Kept) (passed : HasPassed old mi
         reply = makes.reply;
         answer = makes.answer;
         left = subst (λ n. LeftBy (row_of new).keeps new now (after_named n st e)) passed.same_space makes.left;
+        between = makes.between;
         fewer = (let fewer = makes.fewer in let before = passed.no_more in omega (arith, fewer, before));
       }
 
@@ -83,6 +85,7 @@ AreAgreed-passed old mid was here frames passed agreed =
     record {
       count = agreed.count ∙ sym passed.same_count;
       pages = λ page. passed.same_frames page ∙ agreed.pages page ∙ ap (λ s. frame_of frames s page) (sym passed.same_space);
+      sound = subst (λ n. IsSound n (length frames.held) frames) (sym passed.same_count) agreed.sound;
     }
 
 -- and the processor owns what it did
@@ -90,6 +93,10 @@ pub OwnsBy-passed : (old mid : Flight) (was here : Kept) (frames : FrameState) �
 OwnsBy-passed old mid was here frames passed owns =
     subst (λ c. OwnsBy frames c (row_of mid).progress.doing) (sym passed.same_call.processor)
     (subst (λ (p : Progress). OwnsBy frames old.processor p.doing) (sym passed.same_progress) owns)
+
+-- and the frames know it
+pub known-passed : (old mid : Flight) (was here : Kept) (frames : FrameState) → HasPassed old mid was here → old.processor < length frames.held → mid.processor < length frames.held
+known-passed old mid was here frames passed known = subst (λ c. c < length frames.held) (sym passed.same_call.processor) known
 
 -- what a step is made under is the space that the flight is ready in
 pub needs_space : (n : Needs) (k number : ℕ) → n ≡ Space k → space_under n ≡ Some number → n ≡ Space number

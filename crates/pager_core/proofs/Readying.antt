@@ -1,7 +1,7 @@
 -- Before a turn's steps: the flight is ready in its space, which agrees with the frames.
 use Rattle.std.proofs.Common.{◌≡◌, ℕ, suc, ◌+◌, ◌^◌, ◌<◌, ◌≤◌, List, [], ◌∷◌, length, fold, not, slice_get, Option, Some, None, refl, ap, sym, subst, ◌∙◌, inl, inr, arith}
 use Rattle.std.proofs.lemmas.Bool.{cases_eq}
-use Rattle.std.proofs.lemmas.Option.{slice_get_within}
+use Rattle.std.proofs.lemmas.Option.{same_Some, slice_get_within}
 use Rattle.std.proofs.lemmas.List.Filters.{length-filter_both}
 use Rattle.std.proofs.Math.ListN.{length-map}
 use Rattle.pager_model.specs.declared.entry.Entry.{Entry}
@@ -13,17 +13,18 @@ use Rattle.pager_model.specs.FrameStates.{FrameState, start_frames, frames_after
 use Rattle.pager_model.specs.Legal.{space_at, frames_at, entries_in}
 use Rattle.pager_model.specs.Settings.{Given}
 use Rattle.pager_model.proofs.Counting.{frames_after-entries}
-use Rattle.frame_pool.proofs.LegalHistories.{IsKept-legal, Agrees-legal, OwnsBy-legal}
+use Rattle.frame_pool.specs.Laid.{IsSound}
+use Rattle.frame_pool.proofs.LegalHistories.{IsKept-legal, OwnsBy-legal}
 use Rattle.space_core.specs.Standing.{Kept}
 use Rattle.pager_core.specs.declared.flight.Flight.{Flight}
-use Rattle.pager_core.specs.Flights.{IsReady, IsAtRest, PhaseStands}
+use Rattle.pager_core.specs.Flights.{IsReady, IsAtRest}
 use Rattle.pager_core.specs.Machines.{IsMachine}
-use Rattle.pager_core.specs.Rows.{row_of, row_in, space_under}
+use Rattle.pager_core.specs.Rows.{row_of, space_under}
 use Rattle.pager_core.specs.Running.{Running, calls_at, flight_at, progress_by_flight, IsKeptByOther}
 use Rattle.pager_core.specs.Steps.{AreAgreed, Makes}
-use Rattle.pager_core.proofs.GoingOn.{under_own, keeps_own, at_start, lands}
+use Rattle.pager_core.proofs.GoingOn.{under_some, keeps_under, anywhere, lands}
 use Rattle.pager_core.proofs.Lists.{within}
-use Rattle.pager_core.proofs.Turning.{Turns, marked, told, all_left-turn}
+use Rattle.pager_core.proofs.Turning.{Turns, marked, all_left-turn}
 
 -- each entry on the frames is counted once
 fold-entries : (es : List Entry) (st : FrameState) → (fold frames_after st es).entries ≡ st.entries + length es
@@ -40,8 +41,8 @@ module _ (run : Running) (spaces : List Kept) (pool : FrameState) (capacity c s 
   processor_within : c < length run.calls
   processor_within = (let at = within run.flights c f flies in let known = machine.known in omega (arith, at, known))
 
-  pub is_under : space_under (row_of f).needs ≡ Some (space_of_call f.call)
-  is_under = under_own f.processor f.number (space_of_call f.call) f.phase (machine.flights c f flies).going
+  pub is_under : (t : ℕ) × (space_under (row_of f).needs ≡ Some t)
+  is_under = under_some f.processor f.number (space_of_call f.call) f.call f.claimed f.phase (machine.flights c f flies).going
 
   -- the number of a call is small
   pub number-few : f.number + 1 ≤ 262144
@@ -50,10 +51,22 @@ module _ (run : Running) (spaces : List Kept) (pool : FrameState) (capacity c s 
       let few = machine.few_calls c in
       omega (arith, below, few)
 
+  sound : IsSound run.given.frames (length run.given.marks) pool
+  sound = subst (IsSound run.given.frames (length run.given.marks)) (sym machine.frames) (IsKept-legal run.given (entries_in run.history) machine.lawful.legal).sound
+
+  -- the frames know the processor
+  pub known-machine : f.processor < length pool.held
+  known-machine =
+      let at = processor_within in
+      let marks = marked run.given (length run.calls) machine.marks in
+      let own = (machine.flights c f flies).processor in
+      let held = sound.processors_known in
+      omega (arith, at, marks, own, held)
+
   pub OwnsBy-machine : OwnsBy pool f.processor (row_of f).progress.doing
   OwnsBy-machine =
       let at = processor_within in
-      let marks = marked run (length spaces) machine.given in
+      let marks = marked run.given (length run.calls) machine.marks in
       let own = (machine.flights c f flies).processor in
       let progress = machine.lawful.progress c at ∙ ap (λ x. Some (progress_by_flight (calls_at run.calls c) x)) flies in
       subst (λ p. OwnsBy p f.processor (row_of f).progress.doing) (sym machine.frames)
@@ -69,11 +82,8 @@ module _ (run : Running) (spaces : List Kept) (pool : FrameState) (capacity c s 
       omega (arith, same, few, count, room)
 
   module _ (under : space_under (row_of f).needs ≡ Some s) where
-    own_space : space_of_call f.call ≡ s
-    own_space = (let e : Some (space_of_call f.call) ≡ Some s = sym is_under ∙ under in cc)
-
     pub space_within : s < length spaces
-    space_within = (let at = own_space in let on = (machine.flights c f flies).can.on in omega (arith, at, on))
+    space_within = (machine.flights c f flies).under s under
 
     module _ (was : Kept) (at : slice_get spaces s ≡ Some was) (unkept : IsKeptByOther run.flights c s → ⊥) where
       -- no flight keeps the space where the actor's doesn't
@@ -89,17 +99,18 @@ module _ (run : Running) (spaces : List Kept) (pool : FrameState) (capacity c s 
 
       ready_by : (o : Option ℕ) → (row_of f).keeps ≡ o → IsReady f was (space_at run.given (entries_in run.history) s)
       ready_by (Some t) keeps =
-          let here : t ≡ s = keeps_own f.processor f.number (space_of_call f.call) t f.phase keeps ∙ own_space in
+          let here : t ≡ s = same_Some t s (sym (keeps_under f.processor f.number (space_of_call f.call) t f.call f.claimed f.phase keeps) ∙ under) in
           (machine.flights c f flies).keeps s was (keeps ∙ ap Some here) at
       ready_by None keeps =
-          let start = at_start f.processor f.number (space_of_call f.call) f.phase (machine.flights c f flies).going keeps in
+          let flying = machine.flights c f flies in
           let rest = rests keeps in
+          let found = anywhere f.processor f.number (space_of_call f.call) f.call f.claimed f.phase was refl flying.going keeps flying.fits.phase rest.resting in
           record {
             under = under ∙ ap Some (sym (machine.numbers s was at).0);
-            can = (machine.flights c f flies).can.can;
+            fits = flying.fits;
             stands = rest.stands;
-            next = rest.next ∙ sym (ap (λ p. (row_in f.processor f.number (space_of_call f.call) p).next) start);
-            found = subst (PhaseStands f.call was) (sym start) rest.resting;
+            next = rest.next ∙ sym found.0;
+            found = found.1;
           }
 
       pub IsReady-machine : IsReady f was (space_at run.given (entries_in run.history) s)
@@ -108,15 +119,15 @@ module _ (run : Running) (spaces : List Kept) (pool : FrameState) (capacity c s 
       pub AreAgreed-machine : AreAgreed was pool
       AreAgreed-machine =
           let ready = IsReady-machine in
-          let stores = told run (length spaces) machine.given in
-          let below = space_within in
+          let number = machine.numbers s was at in
           record {
-            count = ap (λ (st : FrameState). length st.free) machine.frames ∙ (IsKept-legal run.given (entries_in run.history) machine.lawful.legal).sound.known ∙ sym (machine.numbers s was at).1;
+            count = sound.known ∙ sym number.1;
             pages = λ page.
                 sym (ready.stands.base page)
-                ∙ Agrees-legal run.given (entries_in run.history) machine.lawful.legal s page (omega (arith, stores, below))
+                ∙ (IsKept-legal run.given (entries_in run.history) machine.lawful.legal).agrees s page
                 ∙ ap (λ st. frame_of st s page) (sym machine.frames)
-                ∙ ap (λ n. frame_of pool n page) (sym (machine.numbers s was at).0);
+                ∙ ap (λ n. frame_of pool n page) (sym number.0);
+            sound = subst (λ n. IsSound n (length pool.held) pool) (sym number.1) (subst (λ n. IsSound run.given.frames n pool) (sym sound.processors_known) sound);
           }
 
       -- after an entry something was left, so the history has room for it

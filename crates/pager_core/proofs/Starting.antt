@@ -1,48 +1,40 @@
 -- A machine at the start of a trace.
-use Rattle.std.proofs.Common.{◌≡◌, ℕ, zero, suc, ◌+◌, ◌*◌, ◌<◌, ◌≤◌, Bool, true, false, cond, ◌==◌, not, List, [], ◌∷◌, ◌++◌, length, map, filter, replicate, get_or, slice_get, Option, Some, None, option_map, refl, ap, sym, subst, ◌∙◌, inl, inr, arith, All, take}
+use Rattle.std.proofs.Common.{◌≡◌, ℕ, zero, suc, ◌+◌, ◌*◌, ◌<◌, ◌≤◌, Bool, true, false, cond, ◌==◌, not, List, [], ◌∷◌, ◌++◌, length, map, filter, replicate, get_or, slice_get, Option, Some, None, option_map, refl, ap, sym, subst, ◌∙◌, inl, inr, arith, take}
 use Rattle.std.specs.List.{range_with_len, sum_by, enumerate_from}
 use Rattle.std.proofs.lemmas.Bool.{cases_eq, cases_lt}
-use Rattle.std.proofs.lemmas.List.{append-nil, map_push, get_or-replicate, get_or_past}
+use Rattle.std.proofs.lemmas.List.{map_push, get_or_past, length-take-le}
 use Rattle.std.proofs.lemmas.List.FromFn.{length-map-range_with_len, get_or-map-range_with_len}
 use Rattle.std.proofs.lemmas.List.Filters.{length-filter_both}
 use Rattle.std.proofs.lemmas.List.Sums.{sum_by-cons}
-use Rattle.std.proofs.lemmas.Option.{slice_get_within}
+use Rattle.std.proofs.lemmas.Option.{same_Some}
 use Rattle.std.proofs.Math.ListN.{length-map, length-replicate}
 use Rattle.pager_model.specs.declared.call.Call.{Call}
 use Rattle.pager_model.specs.declared.call.Call.TheVariants.{Map, Grow, Unmap, Protect, Load, Store, Sync, Evict}
 use Rattle.pager_model.specs.declared.call.Line.{Line}
 use Rattle.pager_model.specs.Flat.{space_of_call}
 use Rattle.pager_model.specs.FrameStates.{FrameState, start_frames}
-use Rattle.pager_model.specs.Legal.{space_at}
 use Rattle.pager_model.specs.Order.{Progress, at_rest}
 use Rattle.pager_model.specs.Plans.{Plan}
-use Rattle.pager_model.specs.Settings.{Given, faults_at_entry}
-use Rattle.pager_model.specs.Showing.{setting_of, daemon_marks, calls_of}
-use Rattle.pager_model.specs.SpaceStates.{empty_state}
+use Rattle.pager_model.specs.Settings.{Given, is_told, faults_at_entry}
+use Rattle.pager_model.specs.Showing.{calls_of}
 use Rattle.pager_model.specs.TraceText.{HasText, IsCall}
 use Rattle.frame_pool.proofs.LegalHistories.{Agrees-legal}
-use Rattle.space_core.specs.Standing.{Kept, StandsFor, CanBegin}
+use Rattle.space_core.specs.Standing.{Kept}
+use Rattle.store_core.specs.Stored.{Stored}
 use Rattle.pager_core.specs.declared.flight.Flight.{Flight}
 use Rattle.pager_core.specs.declared.flight.Phase.TheVariants.{Start}
-use Rattle.pager_core.specs.Flights.{IsAtRest}
-use Rattle.pager_core.specs.Machines.{given_of, CanFly, IsNew, all_left, IsFlying, IsMachine}
-use Rattle.pager_core.specs.Rows.{row_of}
-use Rattle.pager_core.specs.Running.{Running, calls_at, flight_at, flight_of, first_flights, progress_by_flight, entries_left, left_at, IsLawful}
+use Rattle.pager_core.specs.Machines.{CanFly, IsNew, all_left, IsFlying, IsMachine}
+use Rattle.pager_core.specs.Rows.{row_of, is_between}
+use Rattle.pager_core.specs.Running.{Running, calls_at, flight_at, flight_of, first_flights, progress_by_flight, setting_over, entries_left, left_at, IsLawful}
 use Rattle.pager_core.proofs.Following.{differs, same_number}
-use Rattle.pager_core.proofs.Lists.{within, sum_by-same, slice_get-push, map_range-push}
+use Rattle.pager_core.proofs.Lists.{within, sum_by-same, map_range-push}
+use Rattle.pager_core.proofs.Stores.{marks-start}
 use Rattle.pager_core.proofs.Turning.{mark-zero}
 
 -- What is made one by one.
 
 pub calls-push : {V : Type 0} (items : V → List Call) (vs vs' : List V) (v : V) (lines : List Line) (n : ℕ) → vs' ≡ vs ++ v ∷ [] → map items vs ≡ map (λ c. calls_of c lines) (range_with_len 0 n) → items v ≡ calls_of n lines → map items vs' ≡ map (λ c. calls_of c lines) (range_with_len 0 (n + 1))
 calls-push items vs vs' v lines n more are is = map_range-push (λ c. calls_of c lines) (map items vs) (map items vs') (items v) n (ap (map items) more ∙ map_push items vs v) are is
-
-pub IsNew-push : (frames n : ℕ) (xs xs' : List Kept) (x : Kept) → xs' ≡ xs ++ x ∷ [] → length xs ≡ n → ((s : ℕ) (kept : Kept) → slice_get xs s ≡ Some kept → IsNew frames s kept) → IsNew frames n x → (s : ℕ) (kept : Kept) → slice_get xs' s ≡ Some kept → IsNew frames s kept
-IsNew-push frames n xs xs' x more count are is s kept at =
-    elim (slice_get-push xs x s kept (subst (λ l. slice_get l s ≡ Some kept) more at)) [
-      | inl before ↦ are s kept before
-      | inr last ↦ subst (λ k. IsNew frames k kept) (sym (last.0 ∙ count)) (subst (IsNew frames n) last.1 is)
-    ]
 
 -- The calls of a processor.
 
@@ -123,9 +115,9 @@ sum_by-eight f g a (suc n) at_most =
 
 -- A processor's first flight.
 
-first_in : (c : ℕ) (o : Option Call) (f : Flight) → option_map (λ call. record { processor = c; number = 0; call = call; phase = Start }) o ≡ Some f → (call : Call) × (o ≡ Some call) × (record { processor = c; number = 0; call = call; phase = Start } ≡ f)
+first_in : (c : ℕ) (o : Option Call) (f : Flight) → option_map (λ call. record { processor = c; number = 0; call = call; phase = Start; claimed = false }) o ≡ Some f → (call : Call) × (o ≡ Some call) × (record { processor = c; number = 0; call = call; phase = Start; claimed = false } ≡ f)
 first_in c None f is = absurd (let e : None ≡ Some f = is in cc)
-first_in c (Some call) f is = (call, refl, (let e : Some (let x : Flight = record { processor = c; number = 0; call = call; phase = Start } in x) ≡ Some f = is in cc))
+first_in c (Some call) f is = (call, refl, (let e : Some (let x : Flight = record { processor = c; number = 0; call = call; phase = Start; claimed = false } in x) ≡ Some f = is in cc))
 
 first_progress : (c : ℕ) (calls : List Call) → progress_by_flight calls (flight_of c 0 calls) ≡ at_rest 0 0
 first_progress c [] = refl
@@ -135,12 +127,19 @@ first_left : (c : ℕ) (calls : List Call) → entries_left calls (flight_of c 0
 first_left c [] = omega arith
 first_left c (call ∷ calls) = omega arith
 
-module _ (plan : Plan) (trace : HasText plan) (can : All (λ (line : Line). CanBegin line.call) plan.calls) (calls : List (List Call)) (are : calls ≡ map (λ c. calls_of c plan.calls) (range_with_len 0 plan.processors)) (spaces : List Kept) (count : length spaces ≡ plan.spaces) (new : (s : ℕ) (kept : Kept) → slice_get spaces s ≡ Some kept → IsNew plan.frames s kept) where
+-- A trace over stores, of which the spaces use the first.
+module _ (plan : Plan) (trace : HasText plan) (stores : List Stored) (enough : plan.spaces ≤ length stores) (unused : List Stored) (calls : List (List Call)) (are : calls ≡ map (λ c. calls_of c plan.calls) (range_with_len 0 plan.processors)) (spaces : List Kept) (count : length spaces ≡ plan.spaces) (new : (s : ℕ) (kept : Kept) → slice_get spaces s ≡ Some kept → IsNew plan.frames s (is_told (setting_over plan stores) s) (faults_at_entry (setting_over plan stores) s) kept) where
   abbrev start : Running
-  start = record { given = given_of plan.frames (length calls) (length spaces); calls = calls; flights = first_flights calls; history = [] }
+  start = record { given = setting_over plan stores; calls = calls; flights = first_flights calls; history = []; unused = unused }
 
   processors : length calls ≡ plan.processors
   processors = ap length are ∙ length-map-range_with_len (λ c. calls_of c plan.calls) 0 plan.processors
+
+  marks : start.given.marks ≡ replicate (length calls) 0
+  marks = sym (marks-start plan trace) ∙ ap (λ n. replicate n 0) (sym processors)
+
+  as_many : {X : Type 0} (f : Stored → X) → length (map f (take plan.spaces stores)) ≡ length spaces
+  as_many f = length-map (take plan.spaces stores) f ∙ length-take-le plan.spaces stores enough ∙ sym count
 
   calls_in : (c : ℕ) → c < plan.processors → calls_at calls c ≡ calls_of c plan.calls
   calls_in c below = ap (λ l. calls_at l c) are ∙ get_or-map-range_with_len (λ k. calls_of k plan.calls) 0 plan.processors c c [] below (omega arith)
@@ -158,7 +157,9 @@ module _ (plan : Plan) (trace : HasText plan) (can : All (λ (line : Line). CanB
   can_fly c n call at = elim (cases_lt c plan.processors) [
     | inl below ↦
         call_of_line (CanFly (length spaces)) c plan.calls
-        (λ i d within. record { on = (let on = call_on plan.spaces (get_or plan.calls i d).call (trace.lines i d within).1 in omega (arith, on, count)); can = can i d within })
+        (λ i d within.
+        let line = (trace.lines i d within).1 in
+        record { on = (let on = call_on plan.spaces (get_or plan.calls i d).call line in omega (arith, on, count)); can = (plan.spaces, line) })
         n call (sym (ap (λ l. slice_get l n) (calls_in c below)) ∙ at)
     | inr past ↦ (let e : None ≡ Some call = sym (ap (λ l. slice_get l n) (calls_past c past)) ∙ at in cc)
   ]
@@ -170,7 +171,7 @@ module _ (plan : Plan) (trace : HasText plan) (can : All (λ (line : Line). CanB
   known = length-map-range_with_len (λ c. flight_of c 0 (calls_at calls c)) 0 (length calls)
 
   -- a flight is of its processor's first call
-  first : (c : ℕ) (f : Flight) → flight_at (first_flights calls) c ≡ Some f → (call : Call) × (slice_get (calls_at calls c) 0 ≡ Some call) × (record { processor = c; number = 0; call = call; phase = Start } ≡ f)
+  first : (c : ℕ) (f : Flight) → flight_at (first_flights calls) c ≡ Some f → (call : Call) × (slice_get (calls_at calls c) 0 ≡ Some call) × (record { processor = c; number = 0; call = call; phase = Start; claimed = false } ≡ f)
   first c f flies =
       let below = within (first_flights calls) c f flies in
       let all = known in
@@ -179,13 +180,16 @@ module _ (plan : Plan) (trace : HasText plan) (can : All (λ (line : Line). CanB
   flights : (c : ℕ) (f : Flight) → flight_at (first_flights calls) c ≡ Some f → IsFlying start spaces c f
   flights c f flies =
       let is = first c f flies in
-      let flying : IsFlying start spaces c (record { processor = c; number = 0; call = is.0; phase = Start }) =
+      let can = can_fly c 0 is.0 is.1 in
+      let flying : IsFlying start spaces c (record { processor = c; number = 0; call = is.0; phase = Start; claimed = false }) =
       record {
         processor = refl;
         of_call = is.1;
-        can = can_fly c 0 is.0 is.1;
+        on = can.on;
+        fits = record { can = can.can; phase = tt };
+        under = λ s under. subst (λ n. n < length spaces) (same_Some (space_of_call is.0) s under) can.on;
         going = refl;
-        keeps = λ s kept keeps at. cc;
+        keeps = λ s kept keeps at. (let e : None ≡ Some s = keeps in cc);
       } in
       subst (IsFlying start spaces c) is.2 flying
 
@@ -219,55 +223,38 @@ module _ (plan : Plan) (trace : HasText plan) (can : All (λ (line : Line). CanB
         legal = tt;
         numbered = refl;
         agrees = Agrees-legal start.given [] tt;
-        progress = λ c below. ap (λ m. Some (at_rest m 0)) (mark-zero plan.frames (length calls) (length spaces) c) ∙ ap Some (sym (first_progress c (calls_at calls c)) ∙ ap (progress_by_flight (calls_at calls c)) (sym (first_flight c below)));
+        progress = λ c below. ap (λ m. Some (at_rest m 0)) (mark-zero start.given (length calls) c marks) ∙ ap Some (sym (first_progress c (calls_at calls c)) ∙ ap (progress_by_flight (calls_at calls c)) (sym (first_flight c below)));
         answers = λ c below. ap (λ (p : Progress). enumerate_from 0 (take p.made (calls_at calls c))) (sym (first_progress c (calls_at calls c)) ∙ ap (progress_by_flight (calls_at calls c)) (sym (first_flight c below)));
-      }
-
-  rest : (s : ℕ) (kept : Kept) → slice_get spaces s ≡ Some kept → IsAtRest kept (space_at start.given [] s)
-  rest s kept at =
-      let below = slice_get_within spaces s kept at in
-      let is = new s kept at in
-      record {
-        resting = is.resting;
-        stands = subst (λ b. StandsFor kept (empty_state b (faults_at_entry start.given s))) (sym (get_or-replicate (length spaces) s true false below)) (is.stands (faults_at_entry start.given s));
-        next = refl;
+        between = λ c f flies. ap (λ (x : Flight). is_between x.phase) (sym (first c f flies).2);
+        flying = λ c f flies. (let is = flights c f flies in record { call = is.of_call; going = is.going });
+        one_keeper = λ s c d f g flies flies' keeps keeps'. absurd (keeps_none c f s flies keeps);
       }
 
   IsMachine-start : (capacity : ℕ) → 8 * length plan.calls ≤ capacity → IsMachine start spaces (start_frames plan.frames plan.processors) capacity
   IsMachine-start capacity enough =
       record {
         lawful = lawful;
-        given = refl;
+        marks = marks;
+        told = as_many (λ (s : Stored). s.told);
+        faults = as_many (λ (s : Stored). s.faults);
+        evicts = refl;
         known = known;
-        few_processors = (let all = processors in omega (arith, all, trace.processors_in.1));
-        few_spaces = omega (arith, count, trace.spaces_in.1);
-        frames = ap (start_frames plan.frames) (sym (length-replicate (length calls) 0 ∙ processors));
+        frames = ap (start_frames plan.frames) (sym (ap length marks ∙ length-replicate (length calls) 0 ∙ processors));
         few_calls = λ c. (let own = length-at c in let lines = length-calls c plan.calls in omega (arith, own, lines, trace.few));
         calls = can_fly;
         flights = flights;
         numbers = λ s kept at. ((new s kept at).number_is, (new s kept at).frames_are);
-        rest = λ s kept at none. rest s kept at;
-        one_keeper = λ s c d f g flies flies' keeps keeps'. absurd (keeps_none c f s flies keeps);
+        rest = λ s kept at none. record { resting = (new s kept at).resting; stands = (new s kept at).stands; next = refl };
         room = (let few = all_few in omega (arith, few, enough));
         few = (let few = all_few in omega (arith, few, trace.few));
       }
 
-  -- whatever its parts are called
-  pub IsMachine-started : (run : Running) (pool : FrameState) (capacity : ℕ) → run.given ≡ given_of plan.frames (length calls) (length spaces) → run.calls ≡ calls → run.flights ≡ first_flights calls → run.history ≡ [] → pool ≡ start_frames plan.frames plan.processors → 8 * length plan.calls ≤ capacity → IsMachine run spaces pool capacity
-  IsMachine-started run pool capacity given same_calls same_flights none same_pool enough =
-      let same : run ≡ start = λ i. record { given = given i; calls = same_calls i; flights = same_flights i; history = none i } in
-      subst (λ r. IsMachine r spaces pool capacity) (sym same)
-      (subst (λ p. IsMachine start spaces p capacity) (sym same_pool) (IsMachine-start capacity enough))
-
-  pub IsLawful-started : (run : Running) → run.given ≡ given_of plan.frames (length calls) (length spaces) → run.calls ≡ calls → run.flights ≡ first_flights calls → run.history ≡ [] → IsLawful run
-  IsLawful-started run given same_calls same_flights none =
-      let same : run ≡ start = λ i. record { given = given i; calls = same_calls i; flights = same_flights i; history = none i } in
-      subst IsLawful (sym same) lawful
-
-  -- its setting is the trace's
-  pub setting-start : given_of plan.frames (length calls) (length spaces) ≡ setting_of plan
-  setting-start =
-      ap (λ n. given_of plan.frames n (length spaces)) processors
-      ∙ ap (given_of plan.frames plan.processors) count
-      ∙ ap (λ (marks : List ℕ). (let g : Given = record { frames = plan.frames; marks = marks; told = replicate plan.spaces true; faults = replicate plan.spaces 0; evicts = false } in g))
-      (sym (append-nil (replicate plan.processors 0)) ∙ ap (λ d. replicate plan.processors 0 ++ daemon_marks d) (sym trace.no_daemon))
+-- whatever its parts are called
+pub IsMachine-started : (plan : Plan) → HasText plan → (stores : List Stored) → plan.spaces ≤ length stores → (run : Running) (spaces : List Kept) (pool : FrameState) (capacity : ℕ) → run.given ≡ setting_over plan stores → run.calls ≡ map (λ c. calls_of c plan.calls) (range_with_len 0 plan.processors) → run.flights ≡ first_flights run.calls → run.history ≡ [] → length spaces ≡ plan.spaces → ((s : ℕ) (kept : Kept) → slice_get spaces s ≡ Some kept → IsNew plan.frames s (is_told run.given s) (faults_at_entry run.given s) kept) → pool ≡ start_frames plan.frames plan.processors → 8 * length plan.calls ≤ capacity → IsMachine run spaces pool capacity
+IsMachine-started plan trace stores enough run spaces pool capacity given calls same_flights none count new same_pool room =
+    let new' = subst (λ (g : Given). (s : ℕ) (kept : Kept) → slice_get spaces s ≡ Some kept → IsNew plan.frames s (is_told g s) (faults_at_entry g s) kept) given new in
+    let same : run ≡ start plan trace stores enough run.unused run.calls calls spaces count new' =
+    λ i. record { given = given i; calls = run.calls; flights = same_flights i; history = none i; unused = run.unused } in
+    subst (λ r. IsMachine r spaces pool capacity) (sym same)
+    (subst (λ p. IsMachine (start plan trace stores enough run.unused run.calls calls spaces count new') spaces p capacity) (sym same_pool)
+    (IsMachine-start plan trace stores enough run.unused run.calls calls spaces count new' capacity room))

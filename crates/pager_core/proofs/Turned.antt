@@ -77,15 +77,15 @@ module _ (run : Running) (spaces : List Kept) (pool after : FrameState) (capacit
       }
 
   -- the machine then, whatever its capacity is called
-  pub IsMachine-turned : IsMachine run spaces pool capacity → Turns run spaces pool after c s number f f' was now e o → (new : Running) (room : ℕ) → new.given ≡ run.given → new.calls ≡ run.calls → new.flights ≡ set run.flights c o → new.history ≡ run.history ++ record { number = number; entry = e } ∷ [] → room ≡ capacity
+  pub IsMachine-turned : IsMachine run spaces pool capacity → Turns run spaces pool after c s number f f' was now e o → (new : Running) (room : ℕ) → new.given ≡ run.given → new.calls ≡ run.calls → new.flights ≡ set run.flights c o → new.history ≡ run.history ++ record { number = number; entry = e } ∷ [] → new.unused ≡ run.unused → room ≡ capacity
       → IsMachine new (set spaces s now) after room
-  IsMachine-turned machine turns new room given calls flights history same_room =
-      let same : new ≡ run_after run c number e o = λ i. record { given = given i; calls = calls i; flights = flights i; history = history i } in
+  IsMachine-turned machine turns new room given calls flights history unused same_room =
+      let same : new ≡ run_after run c number e o = λ i. record { given = given i; calls = calls i; flights = flights i; history = history i; unused = unused i } in
       subst (λ r. IsMachine r (set spaces s now) after room) (sym same)
       (subst (IsMachine (run_after run c number e o) (set spaces s now) after) (sym same_room) (IsMachine-turn run spaces pool after capacity c s number f f' was now e o machine turns))
 
-  pub IsLawful-turned : IsMachine run spaces pool capacity → Turns run spaces pool after c s number f f' was now e o → (new : Running) → new.given ≡ run.given → new.calls ≡ run.calls → new.flights ≡ set run.flights c o → new.history ≡ run.history ++ record { number = number; entry = e } ∷ [] → IsLawful new
-  IsLawful-turned machine turns new given calls flights history = (IsMachine-turned machine turns new capacity given calls flights history refl).lawful
+  pub IsLawful-turned : IsMachine run spaces pool capacity → Turns run spaces pool after c s number f f' was now e o → (new : Running) → new.given ≡ run.given → new.calls ≡ run.calls → new.flights ≡ set run.flights c o → new.history ≡ run.history ++ record { number = number; entry = e } ∷ [] → new.unused ≡ run.unused → IsLawful new
+  IsLawful-turned machine turns new given calls flights history unused = (IsMachine-turned machine turns new capacity given calls flights history unused refl).lawful
 
   -- the actor's flight went on
   went_on : IsMachine run spaces pool capacity → Turns run spaces pool after c s number f f' was now e o → (self new : Running) → run ≡ self → new.calls ≡ run.calls → new.flights ≡ set run.flights c o → (g : Flight) → flight_at self.flights c ≡ Some g → WentOn new c g.number

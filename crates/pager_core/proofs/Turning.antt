@@ -4,8 +4,9 @@ use Rattle.std.specs.List.{enumerate_from, range_with_len}
 use Rattle.std.proofs.lemmas.Bool.{cases_eq, cases_lt}
 use Rattle.std.proofs.lemmas.List.{append-nil, map_push, take_more, length_push, get_or-set_same, get_or-set_other, get_or-replicate, get_or_past}
 use Rattle.std.proofs.lemmas.List.Elements.{filter_map-append}
-use Rattle.std.proofs.lemmas.Option.{slice_get_within, get_or_from_slice_get}
+use Rattle.std.proofs.lemmas.Option.{none-some, same_Some, slice_get_within, get_or_from_slice_get}
 use Rattle.std.proofs.Math.ListN.{set, length-set, length-take, length-replicate}
+use Rattle.frame_pool.specs.declared.pool.Victim.{Victim as Claimed}
 use Rattle.pager_model.specs.declared.call.Call.{Call}
 use Rattle.pager_model.specs.declared.entry.Entry.{Entry}
 use Rattle.pager_model.specs.declared.entry.Numbered.{Numbered}
@@ -13,29 +14,30 @@ use Rattle.pager_model.specs.declared.reply.Reply.{Reply}
 use Rattle.pager_model.specs.Agreement.{Agrees}
 use Rattle.pager_model.specs.Entries.{entries_of, is_of}
 use Rattle.pager_model.specs.Flat.{space_of_call}
-use Rattle.pager_model.specs.FrameStates.{FrameState}
+use Rattle.pager_model.specs.FrameStates.{FrameState, frame_of}
 use Rattle.pager_model.specs.Legal.{IsLegal, space_at, frames_at, progress_at, entries_in, MayFollow}
 use Rattle.pager_model.specs.Order.{Progress, progress_by}
 use Rattle.pager_model.specs.Settings.{Given, mark_of}
 use Rattle.pager_model.specs.Showing.{answers_in, answer_in}
 use Rattle.pager_model.proofs.Histories.{IsLegal-push, progress_at-own, progress_at-other, filter-push_in, filter-push_out}
 use Rattle.pager_model.proofs.Ranges.{range_with_len-more}
-use Rattle.frame_pool.proofs.LegalHistories.{Agrees-legal}
+use Rattle.frame_pool.proofs.LegalHistories.{IsKept-legal, Agrees-legal}
 use Rattle.space_core.specs.Standing.{Kept}
 use Rattle.pager_core.specs.declared.flight.Flight.{Flight}
-use Rattle.pager_core.specs.Flights.{IsReady, IsAtRest, LeftBy}
-use Rattle.pager_core.specs.Machines.{given_of, CanFly, all_left, IsFlying, IsMachine}
-use Rattle.pager_core.specs.Rows.{row_of, space_under}
+use Rattle.pager_core.specs.declared.flight.Phase.TheVariants.{Out}
+use Rattle.pager_core.specs.Flights.{Fits, PhaseFits, IsReady, IsAtRest, LeftBy}
+use Rattle.pager_core.specs.Machines.{CanFly, all_left, IsFlying, IsMachine}
+use Rattle.pager_core.specs.Rows.{row_of, row_in, is_between, space_under}
 use Rattle.pager_core.specs.Running.{Running, calls_at, flight_at, progress_by_flight, progress_of_actor, kept_by, IsKeptByOther, entries_left, left_at, IsNumbered, IsLawful}
 use Rattle.pager_core.specs.Steps.{Makes, after_named, answer_made}
 use Rattle.pager_core.proofs.Lists.{slice_get-set_same, slice_get-set_other, within, sum_by-lower}
-use Rattle.pager_core.proofs.Following.{MayFollow-step, space_at-elsewhere, space_at-here, frames_at-step, differs, same_number}
-use Rattle.pager_core.proofs.GoingOn.{Lands, made_going, under_own, keeps_own, ended_by}
+use Rattle.pager_core.proofs.Following.{MayFollow-step, space_at-elsewhere, space_at-here, frames_at-step, differs, same_number, base-unknown, victim_resident}
+use Rattle.pager_core.proofs.GoingOn.{Lands, made_going, under_cases, keeps_under, ended_by}
 
 -- one entry more of the actor, after which this is its flight
 abbrev pub run_after : Running → ℕ → ℕ → Entry → Option Flight → Running
 run_after run c number e o =
-    record { given = run.given; calls = run.calls; flights = set run.flights c o; history = run.history ++ record { number = number; entry = e } ∷ [] }
+    record { given = run.given; calls = run.calls; flights = set run.flights c o; history = run.history ++ record { number = number; entry = e } ∷ []; unused = run.unused }
 
 -- The actor's flight makes an entry in a space that no other flight keeps, and this comes of it.
 pub record Turns (run : Running) (spaces : List Kept) (pool after : FrameState) (c s number : ℕ) (f f' : Flight) (was now : Kept) (e : Entry) (o : Option Flight) : Type 0 where
@@ -85,17 +87,17 @@ calls-more calls n call at =
 answers-step : (calls : List Call) (f f' : Flight) (r : Option Reply) (entries : List Entry) (e : Entry) → (row_of f).reply ≡ None → f'.number ≡ f.number → f'.call ≡ f.call → slice_get calls f.number ≡ Some f.call → (row_of f').reply ≡ r → answer_in e.what ≡ answer_made f' r
     → answers_in entries ≡ enumerate_from 0 (take (row_of f).progress.made calls) → answers_in (entries ++ e ∷ []) ≡ enumerate_from 0 (take (row_of f').progress.made calls)
 answers-step calls f f' None entries e going number call of_call reply answer so_far =
-    let was = made_going f.processor f.number (space_of_call f.call) f.phase going in
-    let now = made_going f'.processor f'.number (space_of_call f'.call) f'.phase reply in
+    let was = made_going f.processor f.number (space_of_call f.call) f.call f.claimed f.phase going in
+    let now = made_going f'.processor f'.number (space_of_call f'.call) f'.call f'.claimed f'.phase reply in
     answers-push entries e
     ∙ ap (λ o. answers_in entries ++ option_to_list o) answer
     ∙ append-nil (answers_in entries)
     ∙ so_far
     ∙ ap (λ n. enumerate_from 0 (take n calls)) (was ∙ sym number ∙ sym now)
 answers-step calls f f' (Some r) entries e going number call of_call reply answer so_far =
-    let was = made_going f.processor f.number (space_of_call f.call) f.phase going in
-    let phase = ended_by f'.processor f'.number (space_of_call f'.call) f'.phase r reply in
-    let now : (row_of f').progress.made ≡ f.number + 1 = subst (λ p. (row_of (record { processor = f'.processor; number = f'.number; call = f'.call; phase = p })).progress.made ≡ f.number + 1) (sym phase) (ap (λ n. n + 1) number) in
+    let was = made_going f.processor f.number (space_of_call f.call) f.call f.claimed f.phase going in
+    let phase = ended_by f'.processor f'.number (space_of_call f'.call) f'.call f'.claimed f'.phase r reply in
+    let now : (row_of f').progress.made ≡ f.number + 1 = ap (λ p. (row_in f'.processor f'.number (space_of_call f'.call) f'.call f'.claimed p).progress.made) phase ∙ ap (λ n. n + 1) number in
     answers-push entries e
     ∙ ap (λ o. answers_in entries ++ option_to_list o) answer
     ∙ ap (λ l. l ++ (f'.number, f'.call) ∷ []) (so_far ∙ ap (λ n. enumerate_from 0 (take n calls)) was)
@@ -106,17 +108,11 @@ answers-step calls f f' (Some r) entries e going number call of_call reply answe
 
 -- Settings.
 
-pub mark-zero : (frames processors spaces c : ℕ) → mark_of (given_of frames processors spaces) c ≡ 0
-mark-zero frames processors spaces c = none processors c
-  where
-    none : (n c : ℕ) → ◌≡◌ {A = ℕ} (get_or (replicate n 0) c 0) 0
-    none n c = elim (cases_lt c n) [ inl below ↦ get_or-replicate n c 0 0 below | inr past ↦ get_or_past (replicate n 0) c 0 (rw length-replicate past) ]
+pub mark-zero : (g : Given) (n c : ℕ) → g.marks ≡ replicate n 0 → mark_of g c ≡ 0
+mark-zero g n c is = ap (λ marks. get_or marks c 0) is ∙ elim (cases_lt c n) [ inl below ↦ get_or-replicate n c 0 0 below | inr past ↦ get_or_past (replicate n 0) c 0 (rw length-replicate past) ]
 
-pub marked : (run : Running) (spaces : ℕ) → run.given ≡ given_of run.given.frames (length run.calls) spaces → length run.given.marks ≡ length run.calls
-marked run spaces is = ap (λ (g : Given). length g.marks) is ∙ length-replicate (length run.calls) 0
-
-pub told : (run : Running) (spaces : ℕ) → run.given ≡ given_of run.given.frames (length run.calls) spaces → length run.given.told ≡ spaces
-told run spaces is = ap (λ (g : Given). length g.told) is ∙ length-replicate spaces true
+pub marked : (g : Given) (n : ℕ) → g.marks ≡ replicate n 0 → length g.marks ≡ n
+marked g n is = ap (λ (marks : List ℕ). length marks) is ∙ length-replicate n 0
 
 -- The step.
 
@@ -150,7 +146,7 @@ module _ (run : Running) (spaces : List Kept) (pool after : FrameState) (capacit
 
   -- the setting gives each processor the mark 0
   marks : M → T → mark_of run.given f.processor ≡ 0
-  marks machine turns = ap (λ g. mark_of g f.processor) machine.given ∙ mark-zero run.given.frames (length run.calls) (length spaces) f.processor
+  marks machine turns = mark-zero run.given (length run.calls) f.processor machine.marks
 
   -- where the actor was
   progress_was : M → T → progress_at run.given h c ≡ Some (row_of f).progress
@@ -162,9 +158,9 @@ module _ (run : Running) (spaces : List Kept) (pool after : FrameState) (capacit
   may_follow : M → T → MayFollow run.given h e
   may_follow machine turns =
       let own = (flying machine turns).processor in
-      MayFollow-step run.given h f f' was now pool after e s turns.makes (was_number machine turns) (ap (λ (g : Given). g.evicts) machine.given) (marks machine turns)
-      (let at = processor_in machine turns in let all = marked run (length spaces) machine.given in omega (arith, own, at, all))
-      (let at = slice_get_within spaces s was turns.at in let all = told run (length spaces) machine.given in omega (arith, at, all))
+      MayFollow-step run.given h f f' was now pool after e s turns.makes (was_number machine turns) machine.evicts (marks machine turns)
+      (let at = processor_in machine turns in let all = marked run.given (length run.calls) machine.marks in omega (arith, own, at, all))
+      (let at = slice_get_within spaces s was turns.at in let all = machine.told in omega (arith, at, all))
       machine.frames (subst (λ n. progress_at run.given h n ≡ Some (row_of f).progress) (sym own) (progress_was machine turns))
 
   legal : M → T → IsLegal run.given (h ++ e ∷ [])
@@ -176,6 +172,14 @@ module _ (run : Running) (spaces : List Kept) (pool after : FrameState) (capacit
 
   flight_other : (d : ℕ) → d ≢ c → flight_at new.flights d ≡ flight_at run.flights d
   flight_other d other = get_or-set_other run.flights c d o None other
+
+  -- a flight after the turn is what came of the actor's, or was there
+  flight_after : M → T → (d : ℕ) (g : Flight) → flight_at new.flights d ≡ Some g → ((d ≡ c) × (o ≡ Some g)) ⊎ ((d ≢ c) × (flight_at run.flights d ≡ Some g))
+  flight_after machine turns d g flies =
+      elim (cases_eq d c) [
+        | inl is ↦ inl (is, sym (flight_own machine turns) ∙ subst (λ n. flight_at new.flights n ≡ Some g) is flies)
+        | inr other ↦ inr (other, sym (flight_other d other) ∙ flies)
+      ]
 
   progress_own : M → T → progress_at run.given (h ++ e ∷ []) c ≡ Some (progress_of_actor new c)
   progress_own machine turns =
@@ -207,25 +211,6 @@ module _ (run : Running) (spaces : List Kept) (pool after : FrameState) (capacit
       ∙ machine.lawful.answers d below
       ∙ ap (λ x. enumerate_from 0 (take (progress_by_flight (calls_at run.calls d) x).made (calls_at run.calls d))) (sym (flight_other d other))
 
-  pub IsLawful-turn : M → T → IsLawful new
-  IsLawful-turn machine turns =
-      let more = sym (entries-push run.history number e) in
-      record {
-        legal = subst (IsLegal run.given) more (legal machine turns);
-        numbered = numbered-push run.history number e machine.lawful.numbered turns.counted;
-        agrees = subst (Agrees run.given) more (Agrees-legal run.given (h ++ e ∷ []) (legal machine turns));
-        progress = λ d below. subst (λ l. progress_at run.given l d ≡ Some (progress_of_actor new d)) more
-            (elim (cases_eq d c) [
-              | inl is ↦ subst (λ n. progress_at run.given (h ++ e ∷ []) n ≡ Some (progress_of_actor new n)) (sym is) (progress_own machine turns)
-              | inr other ↦ progress_other machine turns d below other
-            ]);
-        answers = λ d below. subst (λ l. answers_in (entries_of d l) ≡ enumerate_from 0 (take (progress_of_actor new d).made (calls_at run.calls d))) more
-            (elim (cases_eq d c) [
-              | inl is ↦ subst (λ n. answers_in (entries_of n (h ++ e ∷ [])) ≡ enumerate_from 0 (take (progress_of_actor new n).made (calls_at run.calls n))) (sym is) (answers_own machine turns)
-              | inr other ↦ answers_other machine turns d below other
-            ]);
-      }
-
   -- The spaces after it.
 
   state_here : M → T → after_named was.number (space_at run.given h s) e ≡ space_at run.given (entries_in new.history) s
@@ -255,7 +240,35 @@ module _ (run : Running) (spaces : List Kept) (pool after : FrameState) (capacit
 
   is_at_rest : M → T → (row_of f').keeps ≡ None → IsAtRest now (space_at run.given (entries_in new.history) s)
   is_at_rest machine turns keeps =
-      subst (IsAtRest now) (state_here machine turns) (subst (λ x. LeftBy x f' now (after_named was.number (space_at run.given h s) e)) keeps turns.makes.left)
+      subst (IsAtRest now) (state_here machine turns) (subst (λ x. LeftBy x f' now (after_named was.number (space_at run.given h s) e)) keeps turns.makes.left).1
+
+  -- its next step is made under a space that is there
+  victim_within : M → T → (v : Claimed) → f'.phase ≡ Out v → v.space < length spaces
+  victim_within machine turns v is =
+      let resident = (IsKept-legal run.given h machine.lawful.legal).agrees v.space v.page ∙ ap (λ p. frame_of p v.space v.page) (sym machine.frames) ∙ victim_resident f f' was now (space_at run.given h s) pool after e v turns.makes is in
+      let all = machine.told in
+      elim (cases_lt v.space (length run.given.told)) [
+        | inl below ↦ omega (arith, all, below)
+        | inr past ↦ absurd (none-some v.frame (sym (base-unknown run.given h machine.lawful.legal v.space v.page past) ∙ resident))
+      ]
+
+  under_within : M → T → (t : ℕ) → space_under (row_of f').needs ≡ Some t → t < length spaces
+  under_within machine turns t under =
+      elim (under_cases f'.processor f'.number (space_of_call f'.call) t f'.call f'.claimed f'.phase under) [
+        | inl own ↦ subst (λ n. n < length spaces) (sym (own ∙ ap space_of_call turns.makes.same_call.call)) (flying machine turns).on
+        | inr other ↦ elim other [
+          | inl keeps ↦ subst (λ n. n < length spaces) (sym (keeps_here machine turns t keeps)) (space_in turns)
+          | inr out ↦ subst (λ n. n < length spaces) (sym out.2) (victim_within machine turns out.0 out.1)
+        ]
+      ]
+
+  -- and its phase fits its call
+  fits : M → T → Fits f'
+  fits machine turns =
+      elim (row_of f').keeps as (λ x. LeftBy x f' now (after_named was.number (space_at run.given h s) e) → Fits f') [
+        | None ↦ λ left. left.0
+        | Some t ↦ λ left. left.1.fits
+      ] turns.makes.left
 
   -- and so does what came of it
   keeper_here : M → T → (g : Flight) (t : ℕ) → o ≡ Some g → (row_of g).keeps ≡ Some t → t ≡ s
@@ -266,14 +279,6 @@ module _ (run : Running) (spaces : List Kept) (pool after : FrameState) (capacit
   keeper_other : M → T → (d : ℕ) (g : Flight) (t : ℕ) → d ≢ c → flight_at run.flights d ≡ Some g → (row_of g).keeps ≡ Some t → t ≢ s
   keeper_other machine turns d g t other flies keeps = λ is. turns.unkept (record { other = d; differs = other; flight = g; flies = flies; keeps = keeps ∙ ap Some is })
 
-  -- a flight after the turn is what came of the actor's, or was there
-  flight_after : M → T → (d : ℕ) (g : Flight) → flight_at new.flights d ≡ Some g → ((d ≡ c) × (o ≡ Some g)) ⊎ ((d ≢ c) × (flight_at run.flights d ≡ Some g))
-  flight_after machine turns d g flies =
-      elim (cases_eq d c) [
-        | inl is ↦ inl (is, sym (flight_own machine turns) ∙ subst (λ n. flight_at new.flights n ≡ Some g) is flies)
-        | inr other ↦ inr (other, sym (flight_other d other) ∙ flies)
-      ]
-
   can_fly : M → T → (d n : ℕ) (call : Call) → slice_get (calls_at run.calls d) n ≡ Some call → CanFly (length (set spaces s now)) call
   can_fly machine turns d n call at = subst (λ k. CanFly k call) (sym (length-set spaces s now)) (machine.calls d n call at)
 
@@ -282,7 +287,17 @@ module _ (run : Running) (spaces : List Kept) (pool after : FrameState) (capacit
       record {
         processor = turns.lands.processor g is ∙ turns.makes.same_call.processor ∙ (flying machine turns).processor;
         of_call = turns.lands.of_call g is;
-        can = can_fly machine turns c g.number g.call (turns.lands.of_call g is);
+        on = (can_fly machine turns c g.number g.call (turns.lands.of_call g is)).on;
+        fits = elim (turns.lands.same g is) [
+          | inl same ↦ subst Fits (sym same) (fits machine turns)
+          | inr start ↦ record { can = (can_fly machine turns c g.number g.call (turns.lands.of_call g is)).can; phase = subst (PhaseFits g.call) (sym start) tt }
+        ];
+        under = λ t under. subst (λ n. t < n) (sym (length-set spaces s now)) (elim (turns.lands.same g is) [
+          | inl same ↦ under_within machine turns t (subst (λ (x : Flight). space_under (row_of x).needs ≡ Some t) same under)
+          | inr start ↦
+              let own : Some (space_of_call g.call) ≡ Some t = sym (ap (λ p. space_under (row_in g.processor g.number (space_of_call g.call) g.call g.claimed p).needs) start) ∙ under in
+              subst (λ n. n < length spaces) (same_Some (space_of_call g.call) t own) (machine.calls c g.number g.call (turns.lands.of_call g is)).on
+        ]);
         going = turns.lands.going g is;
         keeps = λ t kept keeps at.
             let same = turns.lands.keeper g t is keeps in
@@ -299,7 +314,9 @@ module _ (run : Running) (spaces : List Kept) (pool after : FrameState) (capacit
       record {
         processor = before.processor;
         of_call = before.of_call;
-        can = can_fly machine turns d g.number g.call before.of_call;
+        on = subst (λ n. space_of_call g.call < n) (sym (length-set spaces s now)) before.on;
+        fits = before.fits;
+        under = λ t under. subst (λ n. t < n) (sym (length-set spaces s now)) (before.under t under);
         going = before.going;
         keeps = λ t kept keeps at.
             let elsewhere = keeper_other machine turns d g t other flies keeps in
@@ -344,10 +361,7 @@ module _ (run : Running) (spaces : List Kept) (pool after : FrameState) (capacit
               | inl is ↦
                   let same : f ≡ g = (let x : Some f ≡ Some g = sym turns.flies ∙ subst (λ n. flight_at run.flights n ≡ Some g) is flies in cc) in
                   let own : (row_of f).keeps ≡ Some t = subst (λ (x : Flight). (row_of x).keeps ≡ Some t) (sym same) keeps in
-                  let at_call = keeps_own f.processor f.number (space_of_call f.call) t f.phase own in
-                  let under_call = under_own f.processor f.number (space_of_call f.call) f.phase (flying machine turns).going in
-                  let at_s : space_of_call f.call ≡ s = (let x : Some (space_of_call f.call) ≡ Some s = sym under_call ∙ turns.under in cc) in
-                  elsewhere (at_call ∙ at_s)
+                  elsewhere (same_Some t s (sym (keeps_under f.processor f.number (space_of_call f.call) t f.call f.claimed f.phase own) ∙ turns.under))
               | inr other ↦ none d g (flight_other d other ∙ flies) keeps
             ]))
       ]
@@ -361,9 +375,37 @@ module _ (run : Running) (spaces : List Kept) (pool after : FrameState) (capacit
         ]
         | inr other ↦ elim (flight_after machine turns d' g' flies') [
           | inl own' ↦ absurd (keeper_other machine turns d g t other.0 other.1 keeps (keeper_here machine turns g' t own'.1 keeps'))
-          | inr other' ↦ machine.one_keeper t d d' g g' other.1 other'.1 keeps keeps'
+          | inr other' ↦ machine.lawful.one_keeper t d d' g g' other.1 other'.1 keeps keeps'
         ]
       ]
+
+  pub IsLawful-turn : M → T → IsLawful new
+  IsLawful-turn machine turns =
+      let more = sym (entries-push run.history number e) in
+      record {
+        legal = subst (IsLegal run.given) more (legal machine turns);
+        numbered = numbered-push run.history number e machine.lawful.numbered turns.counted;
+        agrees = subst (Agrees run.given) more (Agrees-legal run.given (h ++ e ∷ []) (legal machine turns));
+        progress = λ d below. subst (λ l. progress_at run.given l d ≡ Some (progress_of_actor new d)) more
+            (elim (cases_eq d c) [
+              | inl is ↦ subst (λ n. progress_at run.given (h ++ e ∷ []) n ≡ Some (progress_of_actor new n)) (sym is) (progress_own machine turns)
+              | inr other ↦ progress_other machine turns d below other
+            ]);
+        answers = λ d below. subst (λ l. answers_in (entries_of d l) ≡ enumerate_from 0 (take (progress_of_actor new d).made (calls_at run.calls d))) more
+            (elim (cases_eq d c) [
+              | inl is ↦ subst (λ n. answers_in (entries_of n (h ++ e ∷ [])) ≡ enumerate_from 0 (take (progress_of_actor new n).made (calls_at run.calls n))) (sym is) (answers_own machine turns)
+              | inr other ↦ answers_other machine turns d below other
+            ]);
+        between = λ d g flies. elim (flight_after machine turns d g flies) [
+          | inl own ↦ elim (turns.lands.same g own.1) [
+            | inl same ↦ subst (λ (x : Flight). is_between x.phase ≡ true) (sym same) turns.makes.between
+            | inr start ↦ ap is_between start
+          ]
+          | inr other ↦ machine.lawful.between d g other.1
+        ];
+        flying = λ d g flies. (let is = flights_after machine turns d g flies in record { call = is.of_call; going = is.going });
+        one_keeper = one_keeper_after machine turns;
+      }
 
   -- the actor has less left
   pub left_own : M → T → left_at new c < left_at run c
@@ -386,17 +428,17 @@ module _ (run : Running) (spaces : List Kept) (pool after : FrameState) (capacit
       let count : length new.history ≡ length run.history + 1 = length_push run.history (record { number = number; entry = e }) in
       record {
         lawful = IsLawful-turn machine turns;
-        given = machine.given ∙ ap (given_of run.given.frames (length run.calls)) (sym (length-set spaces s now));
+        marks = machine.marks;
+        told = machine.told ∙ sym (length-set spaces s now);
+        faults = machine.faults ∙ sym (length-set spaces s now);
+        evicts = machine.evicts;
         known = length-set run.flights c o ∙ machine.known;
-        few_processors = machine.few_processors;
-        few_spaces = (let few = machine.few_spaces in omega (arith, few, length-set spaces s now));
         frames = frames_at-step run.given h f f' was now pool after e s turns.makes machine.frames ∙ ap (frames_at run.given) (sym (entries-push run.history number e));
         few_calls = machine.few_calls;
         calls = can_fly machine turns;
         flights = flights_after machine turns;
         numbers = numbers_after machine turns;
         rest = rest_after machine turns;
-        one_keeper = one_keeper_after machine turns;
         room = (let room = machine.room in omega (arith, room, less, count));
         few = (let few = machine.few in omega (arith, few, less, count));
       }

@@ -1,15 +1,19 @@
 -- What stands in a space while a flight goes on in it.
-use Rattle.std.specs.Prelude.{ℕ, ◌≡◌, ◌<◌, true, Option, Some, None}
+use Rattle.std.specs.Prelude.{ℕ, ◌≡◌, ◌<◌, ◌⊎◌, true, false, Option, Some, None, IsSome}
+use Rattle.frame_pool.specs.declared.pool.Victim.{Victim}
 use Rattle.pager_model.specs.declared.call.Call.{Call}
+use Rattle.pager_model.specs.declared.call.Call.TheVariants.{Evict as EvictCall}
 use Rattle.pager_model.specs.declared.entry.Want.{Want}
+use Rattle.pager_model.specs.Flat.{space_of_call}
+use Rattle.pager_model.specs.Order.{is_access}
 use Rattle.pager_model.specs.PreferredSize.{IsWanted}
 use Rattle.pager_model.specs.Regions.{wanted}
 use Rattle.pager_model.specs.SpaceStates.{SpaceState, Anyone, access_page}
-use Rattle.space_core.specs.Beginning.{IsUnmapping, NoneResident}
-use Rattle.space_core.specs.Standing.{Kept, StandsFor, IsResting, frame_at, is_allowed, CanBegin}
+use Rattle.space_core.specs.Beginning.{IsUnmapping, IsEvicting, NoneResident, NeedsNoFrame}
+use Rattle.space_core.specs.Standing.{Kept, StandsFor, IsResting, MustWrite, frame_at, dirty_at, is_allowed, copied_page, CanBegin}
 use Rattle.pager_core.specs.declared.flight.Flight.{Flight}
 use Rattle.pager_core.specs.declared.flight.Phase.{Phase}
-use Rattle.pager_core.specs.declared.flight.Phase.TheVariants.{Start, Clear, Gone, Frame, Fill, Short, Ended}
+use Rattle.pager_core.specs.declared.flight.Phase.TheVariants.{Start, Evict, Clear, Gone, Frame, Short, Fill, Unfill, Out, Write, Hand, Unclaim, Back, Drop, Late, Use, Fault, Lack, Ended}
 use Rattle.pager_core.specs.Rows.{row_of, space_under}
 
 -- a load or a store at this page, which the rights of the page allow
@@ -35,7 +39,13 @@ pub record HasFrame (call : Call) (kept : Kept) (page frame : ℕ) : Type 0 wher
   pub lawful : IsLawfulAt call kept page
   pub pending : kept.pending ≡ Some page
   pub none_clearing : kept.clearing ≡ None
+  pub none_paged : kept.paged ≡ None
   pub resident : frame_at kept page ≡ Some frame
+
+-- its page has this frame, could not be read in, and is clean
+pub record CannotFill (call : Call) (kept : Kept) (page frame : ℕ) : Type 0 where
+  pub has : HasFrame call kept page frame
+  pub clean : dirty_at kept page ≡ false
 
 -- it unmaps this region, whose pages are to give their frames up
 pub record WillClear (call : Call) (kept : Kept) (first len : ℕ) : Type 0 where
@@ -46,28 +56,91 @@ pub record WillClear (call : Call) (kept : Kept) (first len : ℕ) : Type 0 wher
 pub record HasCleared (call : Call) (kept : Kept) (first len : ℕ) : Type 0 where
   pub unmapping : IsUnmapping kept call first len
   pub none_pending : kept.pending ≡ None
+  pub none_paged : kept.paged ≡ None
   pub clearing : kept.clearing ≡ Some unmapping.region
   pub none : NoneResident kept first len
+
+-- it evicts this page, which gives its frame up next
+pub record WillEvict (call : Call) (kept : Kept) (page : ℕ) : Type 0 where
+  pub is_evict : call ≡ EvictCall kept.number page
+  pub evicting : IsEvicting kept page
 
 -- no page of this access is resident, whichever page it is
 abbrev pub LacksItsFrame : Call → Kept → Type 0
 LacksItsFrame call kept = (page : ℕ) × LacksFrame call kept page
 
+-- the victim's page has its frame
+pub record HasVictim (kept : Kept) (v : Victim) : Type 0 where
+  pub resting : IsResting kept
+  pub place : frame_at kept v.page ≡ Some v.frame
+
+-- the victim's page is equal to its copy
+pub record IsEmptied (kept : Kept) (v : Victim) : Type 0 where
+  pub has : HasVictim kept v
+  pub clean : dirty_at kept v.page ≡ false
+
+-- the victim's page could not be written to its copy
+pub record IsUnwritten (kept : Kept) (v : Victim) : Type 0 where
+  pub has : HasVictim kept v
+  pub dirty : dirty_at kept v.page ≡ true
+
+-- the access needs no frame any more: it isn't allowed now, or its page is resident
+pub record IsServable (call : Call) (kept : Kept) : Type 0 where
+  pub resting : IsResting kept
+  pub needs_none : NeedsNoFrame kept call
+
+-- its store failed: where the call is a sync or an evict, its page stays dirty
+pub record HasFaulted (call : Call) (kept : Kept) : Type 0 where
+  pub resting : IsResting kept
+  pub must : (page : ℕ) → copied_page call ≡ Some page → MustWrite kept call page
+
 -- what the steps so far found in the space, and what still stands there
 abbrev pub PhaseStands : Call → Kept → Phase → Type 0
 PhaseStands call kept Start = IsResting kept
+PhaseStands call kept (Evict page) = WillEvict call kept page
 PhaseStands call kept (Clear first len) = WillClear call kept first len
 PhaseStands call kept (Gone first len) = HasCleared call kept first len
 PhaseStands call kept (Frame page want) = WantsFrame call kept page want
-PhaseStands call kept (Fill page frame) = HasFrame call kept page frame
 PhaseStands call kept (Short wired claimed held) = LacksItsFrame call kept
+PhaseStands call kept (Fill page frame) = HasFrame call kept page frame
+PhaseStands call kept (Unfill page frame count) = CannotFill call kept page frame
+PhaseStands call kept (Out v) = IsResting kept
+PhaseStands call kept (Write v) = HasVictim kept v
+PhaseStands call kept (Hand v) = IsEmptied kept v
+PhaseStands call kept (Unclaim v fault) = IsUnwritten kept v
+PhaseStands call kept (Back v) = IsResting kept
+PhaseStands call kept (Drop v) = IsServable call kept
+PhaseStands call kept Late = IsServable call kept
+PhaseStands call kept (Use page want v) = WantsFrame call kept page want
+PhaseStands call kept (Fault space count) = HasFaulted call kept
+PhaseStands call kept (Lack space) = IsResting kept
 PhaseStands call kept (Ended reply) = IsResting kept
+
+-- What a phase says of its call, whatever the space: only a load or a store goes on in another space than its own, and beside them only
+-- a sync or an evict meets its store's fault.
+abbrev pub PhaseFits : Call → Phase → Type 0
+PhaseFits call (Out v) = is_access call ≡ true
+PhaseFits call (Write v) = is_access call ≡ true
+PhaseFits call (Hand v) = is_access call ≡ true
+PhaseFits call (Unclaim v fault) = is_access call ≡ true
+PhaseFits call (Back v) = is_access call ≡ true
+PhaseFits call (Drop v) = is_access call ≡ true
+PhaseFits call Late = is_access call ≡ true
+PhaseFits call (Use page want v) = is_access call ≡ true
+PhaseFits call (Fault space count) = ((space ≡ space_of_call call) × IsSome (copied_page call)) ⊎ (is_access call ≡ true)
+PhaseFits call (Lack space) = is_access call ≡ true
+PhaseFits call phase = Unit {0}
+
+-- the flight's call can be begun, and its phase fits it
+pub record Fits (f : Flight) : Type 0 where
+  pub can : CanBegin f.call
+  pub phase : PhaseFits f.call f.phase
 
 -- The space that the flight's next step is made under stands for this state, in which the next entry may be the flight's, and what
 -- the flight found there stands.
 pub record IsReady (f : Flight) (kept : Kept) (st : SpaceState) : Type 0 where
   pub under : space_under (row_of f).needs ≡ Some kept.number
-  pub can : CanBegin f.call
+  pub fits : Fits f
   pub stands : StandsFor kept st
   pub next : st.next ≡ (row_of f).next
   pub found : PhaseStands f.call kept f.phase
@@ -80,5 +153,5 @@ pub record IsAtRest (kept : Kept) (st : SpaceState) : Type 0 where
 
 -- how a flight leaves a space: ready to go on there where it keeps its lock, and at rest where it doesn't
 abbrev pub LeftBy : Option ℕ → Flight → Kept → SpaceState → Type 0
-LeftBy None f kept st = IsAtRest kept st
+LeftBy None f kept st = Fits f × IsAtRest kept st
 LeftBy (Some s) f kept st = (s ≡ kept.number) × IsReady f kept st

@@ -3,4 +3,3 @@ pub mod Flights
 pub mod Steps
 pub mod Running
 pub mod Machines
-pub mod MachineFields

@@ -1,22 +1,16 @@
 -- What the fields of a machine keep true.
-use Rattle.std.specs.Prelude.{ℕ, ◌≡◌, ◌≢◌, ◌+◌, ◌<◌, ◌≤◌, true, false, List, length, replicate, sum_by, slice_get, Some, None}
+use Rattle.std.specs.Prelude.{ℕ, ◌≡◌, ◌≢◌, ◌+◌, ◌<◌, ◌≤◌, Bool, true, List, length, replicate, sum_by, slice_get, Some, None}
 use Rattle.std.specs.List.{range_with_len}
 use Rattle.pager_model.specs.declared.call.Call.{Call}
 use Rattle.pager_model.specs.FrameStates.{FrameState}
 use Rattle.pager_model.specs.Flat.{space_of_call}
 use Rattle.pager_model.specs.Legal.{space_at, frames_at, entries_in}
-use Rattle.pager_model.specs.Settings.{Given}
 use Rattle.pager_model.specs.SpaceStates.{empty_state}
 use Rattle.space_core.specs.Standing.{Kept, IsResting, StandsFor, CanBegin}
 use Rattle.pager_core.specs.declared.flight.Flight.{Flight}
-use Rattle.pager_core.specs.Rows.{row_of}
-use Rattle.pager_core.specs.Flights.{IsReady, IsAtRest}
+use Rattle.pager_core.specs.Rows.{row_of, space_under}
+use Rattle.pager_core.specs.Flights.{Fits, IsReady, IsAtRest}
 use Rattle.pager_core.specs.Running.{Running, calls_at, flight_at, left_at, IsLawful}
-
--- the setting of so many frames, processors that make calls, and spaces whose stores tell their copies; nothing is paged out yet
-abbrev pub given_of : ℕ → ℕ → ℕ → Given
-given_of frames processors spaces =
-    record { frames = frames; marks = replicate processors 0; told = replicate spaces true; faults = replicate spaces 0; evicts = false }
 
 -- the call is on one of the spaces, and one that a space can begin
 pub record CanFly (spaces : ℕ) (call : Call) : Type 0 where
@@ -26,28 +20,33 @@ pub record CanFly (spaces : ℕ) (call : Call) : Type 0 where
 abbrev pub all_left : Running → ℕ
 all_left run = sum_by (left_at run) (range_with_len 0 (length run.calls))
 
--- a space as a machine begins with it: without regions, whatever count of faults its store begins with
-pub record IsNew (frames number : ℕ) (kept : Kept) : Type 0 where
+-- a space as a machine begins with it: without regions, over a store of which this was told and which has had so many faults
+pub record IsNew (frames number : ℕ) (told : Bool) (faults : ℕ) (kept : Kept) : Type 0 where
   pub number_is : kept.number ≡ number
   pub frames_are : kept.frames ≡ frames
   pub resting : IsResting kept
-  pub stands : (faults : ℕ) → StandsFor kept (empty_state true faults)
+  pub stands : StandsFor kept (empty_state told faults)
 
 -- a processor's flight: it is of this processor's call of its number, and isn't ended; and where it keeps a space it is ready there
 pub record IsFlying (run : Running) (spaces : List Kept) (c : ℕ) (f : Flight) : Type 0 where
   pub processor : f.processor ≡ c
   pub of_call : slice_get (calls_at run.calls c) f.number ≡ Some f.call
-  pub can : CanFly (length spaces) f.call
+  pub on : space_of_call f.call < length spaces
+  pub fits : Fits f
+  -- its next step is made under a space that is there
+  pub under : (s : ℕ) → space_under (row_of f).needs ≡ Some s → s < length spaces
   pub going : (row_of f).reply ≡ None
   pub keeps : (s : ℕ) (kept : Kept) → (row_of f).keeps ≡ Some s → slice_get spaces s ≡ Some kept → IsReady f kept (space_at run.given (entries_in run.history) s)
 
 -- Its parts are in the middle of a run.
 pub record IsMachine (run : Running) (spaces : List Kept) (pool : FrameState) (capacity : ℕ) : Type 0 where
   pub lawful : IsLawful run
-  pub given : run.given ≡ given_of run.given.frames (length run.calls) (length spaces)
+  -- each processor makes calls, and each space has a setting
+  pub marks : run.given.marks ≡ replicate (length run.calls) 0
+  pub told : length run.given.told ≡ length spaces
+  pub faults : length run.given.faults ≡ length spaces
+  pub evicts : run.given.evicts ≡ true
   pub known : length run.flights ≡ length run.calls
-  pub few_processors : length run.calls ≤ 16
-  pub few_spaces : length spaces ≤ 16
   pub frames : pool ≡ frames_at run.given (entries_in run.history)
   -- no processor has more calls than a trace has lines
   pub few_calls : (c : ℕ) → length (calls_at run.calls c) ≤ 262144
@@ -57,8 +56,6 @@ pub record IsMachine (run : Running) (spaces : List Kept) (pool : FrameState) (c
   -- a space has its number and its count of frames, and where no flight keeps it, it is at rest
   pub numbers : (s : ℕ) (kept : Kept) → slice_get spaces s ≡ Some kept → (kept.number ≡ s) × (kept.frames ≡ run.given.frames)
   pub rest : (s : ℕ) (kept : Kept) → slice_get spaces s ≡ Some kept → ((c : ℕ) (f : Flight) → flight_at run.flights c ≡ Some f → (row_of f).keeps ≢ Some s) → IsAtRest kept (space_at run.given (entries_in run.history) s)
-  -- at most one flight keeps a space
-  pub one_keeper : (s c d : ℕ) (f g : Flight) → flight_at run.flights c ≡ Some f → flight_at run.flights d ≡ Some g → (row_of f).keeps ≡ Some s → (row_of g).keeps ≡ Some s → c ≡ d
   -- the history has room for what is left
   pub room : length run.history + all_left run ≤ capacity
   pub few : length run.history + all_left run ≤ 2097152

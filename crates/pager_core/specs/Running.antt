@@ -1,26 +1,42 @@
 -- A machine as contracts see it, and what holds of it after any turns.
-use Rattle.std.specs.Prelude.{ℕ, ◌≡◌, ◌≢◌, ◌+◌, ◌-◌, ◌*◌, ◌<◌, ◌⊎◌, List, [], ◌∷◌, ◌++◌, length, map, take, slice_get, slice_index_or, option_map, Option, Some, None}
+use Rattle.std.specs.Prelude.{ℕ, ◌≡◌, ◌≢◌, ◌+◌, ◌-◌, ◌*◌, ◌<◌, ◌≤◌, ◌⊎◌, true, false, List, [], ◌∷◌, ◌++◌, length, map, take, replicate, slice_get, slice_index_or, option_map, Option, Some, None}
 use Rattle.std.specs.List.{enumerate_from, range_with_len}
 use Rattle.pager_model.specs.declared.call.Call.{Call}
 use Rattle.pager_model.specs.declared.entry.Entry.{Entry}
 use Rattle.pager_model.specs.declared.entry.Numbered.{Numbered}
 use Rattle.pager_model.specs.Agreement.{IsPartition, NothingHeld, Agrees}
 use Rattle.pager_model.specs.Entries.{entries_of}
-use Rattle.pager_model.specs.Legal.{IsLegal, frames_at, progress_at, entries_in}
+use Rattle.pager_model.specs.Legal.{IsLegal, space_at, frames_at, progress_at, entries_in}
 use Rattle.pager_model.specs.Order.{Progress, at_rest, IsWhole}
-use Rattle.pager_model.specs.Settings.{Given}
-use Rattle.pager_model.specs.Showing.{answers_in}
+use Rattle.pager_model.specs.Plans.{Plan}
+use Rattle.pager_model.specs.Settings.{Given, is_told}
+use Rattle.pager_model.specs.Showing.{answers_in, daemon_marks}
+use Rattle.store_core.specs.Stored.{Stored, copy_at}
+use Rattle.space_core.specs.Standing.{IsCopy}
 use Rattle.pager_core.specs.declared.flight.Flight.{Flight}
 use Rattle.pager_core.specs.declared.flight.Phase.TheVariants.{Start}
-use Rattle.pager_core.specs.Rows.{row_of, space_under}
+use Rattle.pager_core.specs.Rows.{row_of, is_between, space_under}
 
 -- The setting of its history, the calls of each processor, for each processor the call that is in progress or comes next, where one is
--- left, and the history.
+-- left, the history, and the stores that no space uses.
 pub record Running : Type 0 where
   pub given : Given
   pub calls : List (List Call)
   pub flights : List (Option Flight)
   pub history : List Numbered
+  pub unused : List Stored
+
+-- The setting of a trace over the stores that are handed in, of which each space uses the one of its number: its frames, a mark of 0
+-- for each processor and the daemon's low mark for one more, and what each store said at the start of its copies and its faults.
+abbrev pub setting_over : Plan → List Stored → Given
+setting_over plan stores =
+    record {
+      frames = plan.frames;
+      marks = replicate plan.processors 0 ++ daemon_marks plan.daemon;
+      told = map (λ (s : Stored). s.told) (take plan.spaces stores);
+      faults = map (λ (s : Stored). s.faults) (take plan.spaces stores);
+      evicts = true;
+    }
 
 abbrev pub calls_at : List (List Call) → ℕ → List Call
 calls_at calls c = slice_index_or calls c []
@@ -31,7 +47,7 @@ flight_at flights c = slice_index_or flights c None
 -- the flight of the processor's call of this number, of which nothing was done, where there is such a call
 abbrev pub flight_of : ℕ → ℕ → List Call → Option Flight
 flight_of c number calls =
-    option_map (λ call. record { processor = c; number = number; call = call; phase = Start }) (slice_get calls number)
+    option_map (λ call. record { processor = c; number = number; call = call; phase = Start; claimed = false }) (slice_get calls number)
 
 -- at the start each processor's first call comes next
 abbrev pub first_flights : List (List Call) → List (Option Flight)
@@ -102,14 +118,23 @@ pub record OneMore (old new : Running) (actor : ℕ) : Type 0 where
   pub went_on : (f : Flight) → flight_at old.flights actor ≡ Some f → WentOn new actor f.number
   pub fewer : left_at new actor < left_at old actor
 
+-- a processor's flight is of this processor's call of its number, and that call isn't answered
+pub record IsOfCall (calls : List Call) (f : Flight) : Type 0 where
+  pub call : slice_get calls f.number ≡ Some f.call
+  pub going : (row_of f).reply ≡ None
+
 -- What holds after any turns: the history is legal and numbered, spaces and frames agree, each processor is where its flight is, and
--- its answers are of its first calls, in order and numbered from 0.
+-- its answers are of its first calls, in order and numbered from 0. Each flight is in a phase that an entry led to, or the first, and
+-- is of the call that its processor makes; and no two of them keep one space.
 pub record IsLawful (run : Running) : Type 0 where
   pub legal : IsLegal run.given (entries_in run.history)
   pub numbered : IsNumbered run.history
   pub agrees : Agrees run.given (entries_in run.history)
   pub progress : (c : ℕ) → c < length run.calls → progress_at run.given (entries_in run.history) c ≡ Some (progress_of_actor run c)
   pub answers : (c : ℕ) → c < length run.calls → answers_in (entries_of c (entries_in run.history)) ≡ enumerate_from 0 (take (progress_of_actor run c).made (calls_at run.calls c))
+  pub between : (c : ℕ) (f : Flight) → flight_at run.flights c ≡ Some f → is_between f.phase ≡ true
+  pub flying : (c : ℕ) (f : Flight) → flight_at run.flights c ≡ Some f → IsOfCall (calls_at run.calls c) f
+  pub one_keeper : (s c d : ℕ) (f g : Flight) → flight_at run.flights c ≡ Some f → flight_at run.flights d ≡ Some g → (row_of f).keeps ≡ Some s → (row_of g).keeps ≡ Some s → c ≡ d
 
 -- What holds of a whole run: the history is legal and numbered, each processor's answers are its calls and its list is whole; after it
 -- each frame is in one role, none is claimed or held, and spaces and frames agree.
@@ -121,3 +146,13 @@ pub record IsWholeRun (given : Given) (calls : List (List Call)) (history : List
   pub partition : IsPartition given.frames (frames_at given (entries_in history))
   pub none_held : NothingHeld (frames_at given (entries_in history))
   pub agrees : Agrees given (entries_in history)
+
+-- What holds of the store of a space after a history: where it tells its copies they are the flat memory's, and no failure in the history
+-- has a higher count than it.
+pub record EndsWith (given : Given) (history : List Numbered) (s : ℕ) (store : Stored) : Type 0 where
+  pub copies : is_told given s ≡ true → (page : ℕ) → IsCopy ((space_at given (entries_in history) s).flat.copies page) (copy_at store page)
+  pub counts : (space_at given (entries_in history) s).highest ≤ store.faults
+
+-- it holds of the store of each space
+abbrev pub StoresEnd : Given → List Numbered → List Stored → Type 0
+StoresEnd given history stores = (s : ℕ) (store : Stored) → s < length given.told → slice_get stores s ≡ Some store → EndsWith given history s store

@@ -5,14 +5,17 @@ use Rattle.pager_model.specs.declared.entry.Entry.{Entry}
 use Rattle.pager_model.specs.declared.entry.What.{What}
 use Rattle.pager_model.specs.declared.entry.What.TheVariants.{Answer}
 use Rattle.pager_model.specs.declared.reply.Reply.{Reply}
+use Rattle.pager_model.specs.declared.reply.Reply.TheVariants.{NoFrames, StoreFault, NoMemory}
 use Rattle.pager_model.specs.Entries.{NamesItsParts, names_space}
 use Rattle.pager_model.specs.FrameStates.{FrameState, frames_after, frame_of, FramesAllow}
 use Rattle.pager_model.specs.Order.{progress_after}
 use Rattle.pager_model.specs.Showing.{answer_in}
 use Rattle.pager_model.specs.SpaceStates.{SpaceState, space_after, SpaceAllows}
 use Rattle.space_core.specs.Standing.{Kept, frame_at}
+use Rattle.frame_pool.specs.Laid.{IsSound}
 use Rattle.pager_core.specs.declared.flight.Flight.{Flight}
-use Rattle.pager_core.specs.Rows.{row_of, mark_of_flight}
+use Rattle.pager_core.specs.declared.flight.Phase.TheVariants.{Short, Fault, Lack}
+use Rattle.pager_core.specs.Rows.{row_of, is_between, mark_of_flight}
 use Rattle.pager_core.specs.Flights.{IsReady, LeftBy}
 
 -- the state of a space after an entry that may name it
@@ -23,10 +26,18 @@ after_named s st e = if names_space s e then space_after st e else st
 abbrev pub after_frames : FrameState → Entry → FrameState
 after_frames st e = if e.frames then frames_after st e else st
 
--- the space and the frames have as many frames, and for each page of the space the same one
+-- The space and the frames have as many frames, and for each page of the space the same one, and the frames' state is sound.
 pub record AreAgreed (kept : Kept) (frames : FrameState) : Type 0 where
   pub count : length frames.free ≡ kept.frames
   pub pages : (page : ℕ) → frame_at kept page ≡ frame_of frames kept.number page
+  pub sound : IsSound kept.frames (length frames.held) frames
+
+-- the flight can't be served, and this is its answer
+abbrev pub Refuses : Flight → Reply → Type 0
+Refuses f (NoFrames wired claimed held) = f.phase ≡ Short wired claimed held
+Refuses f (StoreFault space count) = f.phase ≡ Fault space count
+Refuses f NoMemory = (space : ℕ) × (f.phase ≡ Lack space)
+Refuses f reply = ⊥
 
 -- it is the same call
 pub record SameCall (old new : Flight) : Type 0 where
@@ -55,12 +66,13 @@ pub record Makes (old new : Flight) (was now : Kept) (st : SpaceState) (before a
   pub parts : NamesItsParts e
   pub own_space : IfSome e.space (λ s. s ≡ was.number)
   pub space_allows : IfSome e.space (λ s. SpaceAllows st e)
-  pub frames_allow : e.frames ≡ true → FramesAllow false before (mark_of_flight old) e.processor e.space e.what
+  pub frames_allow : e.frames ≡ true → FramesAllow true before (mark_of_flight old) e.processor e.space e.what
   pub frames_after : after ≡ after_frames before e
   pub in_order : progress_after (row_of old).progress e.space e.what ≡ Some (row_of new).progress
   pub reply : reply_said e.what ≡ (row_of new).reply
   pub answer : answer_in e.what ≡ answer_made new (row_of new).reply
   pub left : LeftBy (row_of new).keeps new now (after_named was.number st e)
+  pub between : is_between new.phase ≡ true
   pub fewer : (row_of new).entries < (row_of old).entries
 
 -- A step that makes no entry: the flight keeps the space and is ready for its next step there, and each page has the frame that it

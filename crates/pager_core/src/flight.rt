@@ -1,34 +1,107 @@
-ghost use Rattle.std.specs.Prelude.{◌≡◌, ℕ, ◌^◌, ◌<◌, ◌≤◌, Some, None, IfSome, IfNone, IsSome};
+ghost use Rattle.std.specs.Prelude.{◌≡◌, ◌≢◌, ℕ, ◌^◌, ◌<◌, false, Some, None, IfSome, IfNone, length};
+ghost use Rattle.frame_pool.specs.declared.pool.Victim.{Victim as Claimed};
 ghost use Rattle.pager_model.specs.Agreement.{OwnsBy};
 ghost use Rattle.pager_model.specs.declared.entry.Want.{Want as Item};
-ghost use Rattle.pager_model.specs.FrameStates.{FrameState, IsFull};
+ghost use Rattle.pager_model.specs.FrameStates.{FrameState, IsFull, counted, give_page};
 ghost use Rattle.pager_model.specs.SpaceStates.{SpaceState};
-ghost use Rattle.space_core.specs.Standing.{Kept, answer_entry};
+ghost use Rattle.space_core.specs.Beginning.{Removes};
+ghost use Rattle.space_core.specs.Standing.{Kept, answer_entry, dirty_at, frame_at, give_entry};
 ghost use Rattle.pager_core.specs.Flights.{IsReady};
-ghost use Rattle.pager_core.specs.Rows.{row_of, space_under};
-ghost use Rattle.pager_core.specs.Steps.{AreAgreed, Makes, Passes};
+ghost use Rattle.pager_core.specs.Rows.{row_of, space_under, own_if};
+ghost use Rattle.pager_core.specs.Steps.{AreAgreed, Makes, Passes, Refuses};
 
-use frame_pool::{Full, Pool};
-use pager_model::{Answered, Call, Entry, Reply, Want, What};
-use space_core::{Begun, Space};
+use frame_pool::{Collected, Full, Pool, Victim};
+use pager_model::{Answered, Call, Entry, Need, Reply, Want, What};
+use space_core::{Begun, OutFault, Space};
+use store_core::Store;
 
 /// How far a flight is.
 #[derive(Clone, Copy, Debug, PartialEq, Eq)]
 pub enum Phase {
     /// Nothing was done.
     Start,
+    /// The call evicts this page, which is equal to its copy and has to give its frame up.
+    Evict {
+        page: u32,
+    },
     /// The call unmaps this region, whose pages have to give their frames up.
-    Clear { first: u32, length: u32 },
+    Clear {
+        first: u32,
+        length: u32,
+    },
     /// No page of the region that the call unmaps is resident.
-    Gone { first: u32, length: u32 },
+    Gone {
+        first: u32,
+        length: u32,
+    },
     /// The call is a lawful access to a page that isn't resident.
-    Frame { page: u32, want: Want },
-    /// The page has this frame, and its copy isn't read in.
-    Fill { page: u32, frame: u32 },
+    Frame {
+        page: u32,
+        want: Want,
+    },
     /// No frame could be had.
-    Short { wired: u32, claimed: u32, held: u32 },
+    Short {
+        wired: u32,
+        claimed: u32,
+        held: u32,
+    },
+    /// The page has this frame, and its copy isn't read in.
+    Fill {
+        page: u32,
+        frame: u32,
+    },
+    /// The read of the page's copy failed, and it has to give its frame up.
+    Unfill {
+        page: u32,
+        frame: u32,
+        count: u64,
+    },
+    /// The victim's frame is claimed, and its page has to be paged out, where it has the frame still.
+    Out {
+        victim: Victim,
+    },
+    /// The victim's page has to be made equal to its copy.
+    Write {
+        victim: Victim,
+    },
+    /// The victim's page is equal to its copy, and has to give its frame up.
+    Hand {
+        victim: Victim,
+    },
+    /// The write of the victim's page failed, as its store's failure of this count, or found no memory: the claim has to be given up.
+    Unclaim {
+        victim: Victim,
+        fault: Option<u64>,
+    },
+    /// The victim's frame is held, and the call has to be looked at again.
+    Back {
+        victim: Victim,
+    },
+    /// The held frame isn't needed any more.
+    Drop {
+        victim: Victim,
+    },
+    /// The held frame was dropped, and the call has to be answered.
+    Late,
+    /// The held frame is needed still.
+    Use {
+        page: u32,
+        want: Want,
+        victim: Victim,
+    },
+    /// The store of this space failed, with this count.
+    Fault {
+        space: u32,
+        count: u64,
+    },
+    /// There was no memory to page out a page of this space.
+    Lack {
+        space: u32,
+    },
     /// The call was answered.
-    Ended { reply: Reply },
+    Ended {
+        reply: Reply,
+    },
 }
 
 /// What the next step is made under.
@@ -52,18 +125,21 @@ pub struct Flight {
     pub number: u32,
     pub call: Call,
     pub phase: Phase,
+    /// Whether a frame was claimed for the call.
+    pub claimed: bool,
 }
 
 impl Flight {
     /// The processor's call of this number, counted from 0, of which nothing was done.
     pub fn of_call(processor: u32, number: u32, call: Call) -> Flight
-        ensures { result ≡ record { processor = processor; number = number; call = call; phase = Phase.Start } }
+        ensures { result ≡ record { processor = processor; number = number; call = call; phase = Phase.Start; claimed = false } }
     {
         Flight {
             processor,
             number,
             call,
             phase: Phase::Start,
+            claimed: false,
         }
     }
 
@@ -71,13 +147,20 @@ impl Flight {
     pub fn needs(&self) -> Needs
         ensures { result ≡ (row_of self.now).needs }
     {
-        let space = self.call.space();
+        let own = self.call.space();
         match self.phase {
-            Phase::Start | Phase::Gone { .. } | Phase::Fill { .. } | Phase::Short { .. } => {
-                Needs::Space(space)
+            Phase::Write { victim } => Needs::Space(victim.space),
+            Phase::Out { victim } | Phase::Hand { victim } | Phase::Unclaim { victim, .. } => {
+                Needs::Both(victim.space)
             }
-            Phase::Clear { .. } | Phase::Frame { .. } => Needs::Both(space),
+            Phase::Evict { .. }
+            | Phase::Clear { .. }
+            | Phase::Frame { .. }
+            | Phase::Unfill { .. }
+            | Phase::Drop { .. }
+            | Phase::Use { .. } => Needs::Both(own),
             Phase::Ended { .. } => Needs::Ended,
+            _ => Needs::Space(own),
         }
     }
 
@@ -95,9 +178,15 @@ impl Flight {
     pub fn keeps(&self) -> Option<u32>
         ensures { result ≡ (row_of self.now).keeps }
     {
+        let own = self.call.space();
         match self.phase {
             Phase::Start | Phase::Ended { .. } => None,
-            _ => Some(self.call.space()),
+            Phase::Write { victim } | Phase::Hand { victim } | Phase::Unclaim { victim, .. } => {
+                Some(victim.space)
+            }
+            Phase::Out { victim } | Phase::Back { victim } => own_if(own, victim.space),
+            Phase::Fault { space, .. } | Phase::Lack { space } => own_if(own, space),
+            _ => Some(own),
         }
     }
 
@@ -111,8 +200,8 @@ impl Flight {
         }
     }
 
-    /// Does the next step under the lock of a space: makes one entry on it, or finds what the call needs first.
-    pub fn step_space(&mut self, space: &mut Space) -> Option<Entry>
+    /// Does the next step under the lock of a space: makes one entry on it, or finds what the call needs next.
+    pub fn step_space<S: Store + Send + Drop>(&mut self, space: &mut Space<S>) -> Option<Entry>
         requires needs { (row_of self.old).needs ≡ Needs.Space space.old.number }
         requires ready { (st : SpaceState) × IsReady self.old space.old st }
         ensures entry { IfSome result (λ e. (st : SpaceState) (frames : FrameState) → IsReady self.old space.old st → Makes self.old self.new space.old space.new st frames frames e) }
@@ -121,53 +210,87 @@ impl Flight {
     {
         match self.phase {
             Phase::Start => self.start(space),
+            Phase::Write { victim } => self.write(space, victim),
+            Phase::Back { victim } => self.look_again(space, victim),
             Phase::Gone { .. } => Some(self.unmap(space)),
-            Phase::Fill { page, .. } => Some(self.fill(space, page)),
+            Phase::Fill { page, frame } => Some(self.fill(space, page, frame)),
+            Phase::Late => Some(self.answer_late(space)),
             Phase::Short {
                 wired,
                 claimed,
                 held,
-            } => Some(self.refuse(wired, claimed, held)),
+            } => Some(self.refuse(Reply::NoFrames {
+                wired,
+                claimed,
+                held,
+            })),
+            Phase::Fault { space, count } => Some(self.refuse(Reply::StoreFault { space, count })),
+            Phase::Lack { .. } => Some(self.refuse(Reply::NoMemory)),
             _ => unreachable!(),
         }
     }
 
-    /// Does the next step under the lock of a space and that of the frames: makes one entry on both, or on the frames alone.
-    pub fn step_both(&mut self, space: &mut Space, pool: &mut Pool) -> Option<Entry>
+    /// Does the next step under the lock of a space and that of the frames: makes one entry on both or on one of them, or finds what the
+    /// call needs next.
+    pub fn step_both<S: Store + Send + Drop>(
+        &mut self,
+        space: &mut Space<S>,
+        pool: &mut Pool,
+    ) -> Option<Entry>
         requires needs { (row_of self.old).needs ≡ Needs.Both space.old.number }
         requires ready { (st : SpaceState) × IsReady self.old space.old st }
         requires agree { AreAgreed space.old pool.old }
         requires owns { OwnsBy pool.old self.old.processor (row_of self.old).progress.doing }
+        requires known { self.old.processor < length pool.old.held }
         requires room { pool.old.entries < 2 ^ 45 }
-        ensures some { IsSome result }
         ensures entry { IfSome result (λ e. (st : SpaceState) → IsReady self.old space.old st → Makes self.old self.new space.old space.new st pool.old pool.new e) }
+        ensures none { IfNone result ((pool.new ≡ pool.old) × ((st : SpaceState) → IsReady self.old space.old st → Passes self.old self.new space.old space.new st)) }
         ensures nearer { (row_of self.new).steps < (row_of self.old).steps }
     {
         match self.phase {
+            Phase::Out { victim } => self.collect(pool, victim),
+            Phase::Evict { page } => Some(self.evict(space, pool, page)),
             Phase::Clear { first, length } => Some(self.clear(space, pool, first, length)),
             Phase::Frame { page, want } => Some(self.take(space, pool, page, want)),
+            Phase::Unfill { page, count, .. } => Some(self.unfill(space, pool, page, count)),
+            Phase::Hand { victim } => Some(self.hand(space, pool, victim)),
+            Phase::Unclaim { victim, fault } => Some(self.unclaim(pool, victim, fault)),
+            Phase::Drop { .. } => Some(self.drop_held(pool)),
+            Phase::Use { page, want, .. } => Some(self.use_held(space, pool, page, want)),
             _ => unreachable!(),
         }
     }
 
-    /// The entry of an answer.
-    fn answer(&self, answered: Answered) -> Entry
-        ensures { result ≡ answer_entry self.now.processor self.now.number self.now.call answered }
+    /// An entry of the flight's processor.
+    fn entry(&self, space: Option<u32>, frames: bool, what: What) -> Entry
+        ensures { result ≡ record { processor = self.now.processor; space = space; frames = frames; what = what } }
     {
         Entry {
             processor: self.processor,
-            space: Some(self.call.space()),
-            frames: false,
-            what: What::Answer {
-                number: self.number,
-                call: self.call,
-                answered,
-            },
+            space,
+            frames,
+            what,
         }
     }
 
+    /// Answers the call.
+    fn answer(&mut self, answered: Answered) -> Entry
+        ensures entry { result ≡ answer_entry self.old.processor self.old.number self.old.call answered }
+        ensures ended { self.new ≡ record self.old { phase = Phase.Ended answered.reply } }
+    {
+        let flight = *self;
+        let reply = answered.reply;
+        self.phase = Phase::Ended { reply };
+        let what = What::Answer {
+            number: flight.number,
+            call: flight.call,
+            answered,
+        };
+        flight.entry(Some(flight.call.space()), false, what)
+    }
+
     /// Begins the call.
-    fn start(&mut self, space: &mut Space) -> Option<Entry>
+    fn start<S: Store + Send + Drop>(&mut self, space: &mut Space<S>) -> Option<Entry>
         requires phase { self.old.phase ≡ Phase.Start }
         requires ready { (st : SpaceState) × IsReady self.old space.old st }
         ensures entry { IfSome result (λ e. (st : SpaceState) (frames : FrameState) → IsReady self.old space.old st → Makes self.old self.new space.old space.new st frames frames e) }
@@ -176,11 +299,7 @@ impl Flight {
     {
         let flight = *self;
         match space.begin(flight.processor, &flight.call) {
-            Begun::Answered(answered) => {
-                let reply = answered.reply;
-                self.phase = Phase::Ended { reply };
-                Some(flight.answer(answered))
-            }
+            Begun::Answered(answered) => Some(self.answer(answered)),
             Begun::NeedsFrame { page, want } => {
                 self.phase = Phase::Frame { page, want };
                 None
@@ -189,68 +308,192 @@ impl Flight {
                 self.phase = Phase::Clear { first, length };
                 None
             }
+            Begun::NeedsEvict { page, .. } => {
+                self.phase = Phase::Evict { page };
+                None
+            }
+            Begun::Failed { page, count } => {
+                let own = flight.call.space();
+                self.phase = Phase::Fault { space: own, count };
+                let writing = true;
+                Some(self.entry(
+                    Some(own),
+                    false,
+                    What::Failed {
+                        page,
+                        writing,
+                        count,
+                    },
+                ))
+            }
         }
     }
 
+    /// The page that is evicted gives its frame up, and the call is answered.
+    fn evict<S: Store + Send + Drop>(
+        &mut self,
+        space: &mut Space<S>,
+        pool: &mut Pool,
+        page: u32,
+    ) -> Entry
+        requires phase { self.old.phase ≡ Phase.Evict page }
+        requires ready { (st : SpaceState) × IsReady self.old space.old st }
+        requires agree { AreAgreed space.old pool.old }
+        requires room { pool.old.entries < 2 ^ 45 }
+        ensures entry { (st : SpaceState) → IsReady self.old space.old st → Makes self.old self.new space.old space.new st pool.old pool.new result }
+        ensures nearer { (row_of self.new).steps < (row_of self.old).steps }
+    {
+        let (frame, answered) = space.evict(page);
+        pool.give(self.call.space(), page, frame);
+        pool.end_entry();
+        let mut entry = self.answer(answered);
+        entry.frames = true;
+        entry
+    }
+
     /// Takes the region away whose pages were cleared.
-    fn unmap(&mut self, space: &mut Space) -> Entry
+    fn unmap<S: Store + Send + Drop>(&mut self, space: &mut Space<S>) -> Entry
         requires phase { (first len : ℕ) × (self.old.phase ≡ Phase.Gone first len) }
         requires ready { (st : SpaceState) × IsReady self.old space.old st }
         ensures entry { (st : SpaceState) (frames : FrameState) → IsReady self.old space.old st → Makes self.old self.new space.old space.new st frames frames result }
         ensures nearer { (row_of self.new).steps < (row_of self.old).steps }
     {
-        let flight = *self;
-        let Call::Unmap { page, .. } = flight.call else {
+        let Call::Unmap { page, .. } = self.call else {
             unreachable!()
         };
         let answered = space.unmap(page);
-        let reply = answered.reply;
-        self.phase = Phase::Ended { reply };
-        flight.answer(answered)
+        self.answer(answered)
     }
 
-    /// Reads the page's copy in, and answers.
-    fn fill(&mut self, space: &mut Space, page: u32) -> Entry
-        requires phase { (frame : ℕ) × (self.old.phase ≡ Phase.Fill page frame) }
+    /// Reads the page's copy in and answers, or finds that the read fails.
+    fn fill<S: Store + Send + Drop>(&mut self, space: &mut Space<S>, page: u32, frame: u32) -> Entry
+        requires phase { self.old.phase ≡ Phase.Fill page frame }
         requires ready { (st : SpaceState) × IsReady self.old space.old st }
         ensures entry { (st : SpaceState) (frames : FrameState) → IsReady self.old space.old st → Makes self.old self.new space.old space.new st frames frames result }
         ensures nearer { (row_of self.new).steps < (row_of self.old).steps }
     {
         let flight = *self;
-        space.read_in(page);
-        let answered = space.finish(flight.processor, &flight.call);
-        let reply = answered.reply;
-        self.phase = Phase::Ended { reply };
-        flight.answer(answered)
+        match space.read_in(page) {
+            Ok(()) => {
+                let answered = space.finish(flight.processor, &flight.call);
+                self.answer(answered)
+            }
+            Err(count) => {
+                self.phase = Phase::Unfill { page, frame, count };
+                let writing = false;
+                self.entry(
+                    Some(flight.call.space()),
+                    false,
+                    What::Failed {
+                        page,
+                        writing,
+                        count,
+                    },
+                )
+            }
+        }
     }
 
-    /// Answers that no frame could be had.
-    fn refuse(&mut self, wired: u32, claimed: u32, held: u32) -> Entry
-        requires phase { self.old.phase ≡ Phase.Short wired claimed held }
+    /// Answers the access that needs no frame any more.
+    fn answer_late<S: Store + Send + Drop>(&mut self, space: &mut Space<S>) -> Entry
+        requires phase { self.old.phase ≡ Phase.Late }
+        requires ready { (st : SpaceState) × IsReady self.old space.old st }
+        ensures entry { (st : SpaceState) (frames : FrameState) → IsReady self.old space.old st → Makes self.old self.new space.old space.new st frames frames result }
+        ensures nearer { (row_of self.new).steps < (row_of self.old).steps }
+    {
+        let flight = *self;
+        let Begun::Answered(answered) = space.begin(flight.processor, &flight.call) else {
+            unreachable!()
+        };
+        self.answer(answered)
+    }
+
+    /// Answers that the call can't be served: no frame could be had, a store failed, or there was no memory.
+    fn refuse(&mut self, reply: Reply) -> Entry
+        requires phase { Refuses self.old reply }
         ensures entry { (kept : Kept) (st : SpaceState) (frames : FrameState) → IsReady self.old kept st → Makes self.old self.new kept kept st frames frames result }
         ensures nearer { (row_of self.new).steps < (row_of self.old).steps }
     {
-        let reply = Reply::NoFrames {
-            wired,
-            claimed,
-            held,
-        };
-        let answered = Answered {
+        self.answer(Answered {
             reply,
             hit: false,
             size: None,
+        })
+    }
+
+    /// Makes the victim's page equal to its copy, or finds that it can't be.
+    fn write<S: Store + Send + Drop>(
+        &mut self,
+        space: &mut Space<S>,
+        victim: Victim,
+    ) -> Option<Entry>
+        requires phase { self.old.phase ≡ Phase.Write victim }
+        requires ready { (st : SpaceState) × IsReady self.old space.old st }
+        ensures entry { IfSome result (λ e. (st : SpaceState) (frames : FrameState) → IsReady self.old space.old st → Makes self.old self.new space.old space.new st frames frames e) }
+        ensures none { IfNone result ((st : SpaceState) → IsReady self.old space.old st → Passes self.old self.new space.old space.new st) }
+        ensures nearer { (row_of self.new).steps < (row_of self.old).steps }
+    {
+        let page = victim.page;
+        match space.write_out(page) {
+            Ok(written) => {
+                self.phase = Phase::Hand { victim };
+                Some(self.entry(Some(victim.space), false, What::Out { page, written }))
+            }
+            Err(OutFault::Failed { count }) => {
+                self.phase = Phase::Unclaim {
+                    victim,
+                    fault: Some(count),
+                };
+                let writing = true;
+                Some(self.entry(
+                    Some(victim.space),
+                    false,
+                    What::Failed {
+                        page,
+                        writing,
+                        count,
+                    },
+                ))
+            }
+            Err(OutFault::NoMemory) => {
+                self.phase = Phase::Unclaim {
+                    victim,
+                    fault: None,
+                };
+                None
+            }
+        }
+    }
+
+    /// Looks whether the access, for which a frame is held now, needs it still.
+    fn look_again<S: Store + Send + Drop>(
+        &mut self,
+        space: &mut Space<S>,
+        victim: Victim,
+    ) -> Option<Entry>
+        requires phase { self.old.phase ≡ Phase.Back victim }
+        requires ready { (st : SpaceState) × IsReady self.old space.old st }
+        ensures none { (result ≡ None) × ((st : SpaceState) → IsReady self.old space.old st → Passes self.old self.new space.old space.new st) }
+        ensures nearer { (row_of self.new).steps < (row_of self.old).steps }
+    {
+        self.phase = match space.wants(&self.call) {
+            Some((page, want)) => Phase::Use { page, want, victim },
+            None => Phase::Drop { victim },
         };
-        let entry = self.answer(answered);
-        self.phase = Phase::Ended { reply };
-        entry
+        None
     }
 
     /// The pages of the region give their frames up, ascending.
-    fn clear(&mut self, space: &mut Space, pool: &mut Pool, first: u32, length: u32) -> Entry
+    fn clear<S: Store + Send + Drop>(
+        &mut self,
+        space: &mut Space<S>,
+        pool: &mut Pool,
+        first: u32,
+        length: u32,
+    ) -> Entry
         requires phase { self.old.phase ≡ Phase.Clear first length }
         requires ready { (st : SpaceState) × IsReady self.old space.old st }
         requires agree { AreAgreed space.old pool.old }
-        requires owns { OwnsBy pool.old self.old.processor (row_of self.old).progress.doing }
         requires room { pool.old.entries < 2 ^ 45 }
         ensures entry { (st : SpaceState) → IsReady self.old space.old st → Makes self.old self.new space.old space.new st pool.old pool.new result }
         ensures nearer { (row_of self.new).steps < (row_of self.old).steps }
@@ -261,20 +504,22 @@ impl Flight {
         }
         pool.end_entry();
         self.phase = Phase::Gone { first, length };
-        Entry {
-            processor: self.processor,
-            space: Some(own),
-            frames: true,
-            what: What::Clear { first, length },
-        }
+        self.entry(Some(own), true, What::Clear { first, length })
     }
 
-    /// Takes a frame for the page, or finds that there is none.
-    fn take(&mut self, space: &mut Space, pool: &mut Pool, page: u32, want: Want) -> Entry
+    /// Takes a frame for the page, claims one, or finds that there is none.
+    fn take<S: Store + Send + Drop>(
+        &mut self,
+        space: &mut Space<S>,
+        pool: &mut Pool,
+        page: u32,
+        want: Want,
+    ) -> Entry
         requires phase { self.old.phase ≡ Phase.Frame page want }
         requires ready { (st : SpaceState) × IsReady self.old space.old st }
         requires agree { AreAgreed space.old pool.old }
         requires owns { OwnsBy pool.old self.old.processor (row_of self.old).progress.doing }
+        requires known { self.old.processor < length pool.old.held }
         requires room { pool.old.entries < 2 ^ 45 }
         ensures entry { (st : SpaceState) → IsReady self.old space.old st → Makes self.old self.new space.old space.new st pool.old pool.new result }
         ensures nearer { (row_of self.new).steps < (row_of self.old).steps }
@@ -284,44 +529,210 @@ impl Flight {
             Ok(taken) => {
                 let frame = taken.number();
                 space.place(page, taken);
+                // Of an access for which no frame was claimed it isn't told whether it stores.
+                self.claimed = false;
                 self.phase = Phase::Fill { page, frame };
-                Entry {
-                    processor: self.processor,
-                    space: Some(own),
-                    frames: true,
-                    what: What::Take { page, frame, want },
-                }
+                self.entry(Some(own), true, What::Take { page, frame, want })
             }
-            Err(Full) => self.find_none(pool),
+            Err(Full) => self.claim(pool, page),
         }
     }
 
-    /// No frame can be had: the frames say how many are wired, claimed and held.
-    fn find_none(&mut self, pool: &mut Pool) -> Entry
-        requires phase { (page : ℕ) × (want : Item) × (self.old.phase ≡ Phase.Frame page want) }
+    /// Claims the victim's frame for the page, or finds that none can be had, and how many are wired, claimed and held.
+    fn claim(&mut self, pool: &mut Pool, page: u32) -> Entry
+        requires phase { (want : Item) × (self.old.phase ≡ Phase.Frame page want) }
         requires full { IsFull pool.old }
+        requires owns { OwnsBy pool.old self.old.processor (row_of self.old).progress.doing }
+        requires known { self.old.processor < length pool.old.held }
+        requires room { pool.old.entries < 2 ^ 45 }
+        ensures entry { (kept : Kept) (st : SpaceState) → IsReady self.old kept st → AreAgreed kept pool.old → Makes self.old self.new kept kept st pool.old pool.new result }
+        ensures nearer { (row_of self.new).steps < (row_of self.old).steps }
+    {
+        match pool.claim(self.processor) {
+            Ok(victim) => {
+                self.claimed = true;
+                self.phase = Phase::Out { victim };
+                let writing = matches!(self.call, Call::Store { .. });
+                self.entry(
+                    Some(self.call.space()),
+                    true,
+                    What::Claim {
+                        space: victim.space,
+                        page: victim.page,
+                        frame: victim.frame,
+                        need: Some(Need { page, writing }),
+                    },
+                )
+            }
+            Err(none) => {
+                pool.end_entry();
+                let (wired, claimed, held) = (none.wired, none.claimed, none.held);
+                self.phase = Phase::Short {
+                    wired,
+                    claimed,
+                    held,
+                };
+                self.entry(
+                    None,
+                    true,
+                    What::Refused {
+                        wired,
+                        claimed,
+                        held,
+                    },
+                )
+            }
+        }
+    }
+
+    /// Gets the victim's frame where its page gave it up meanwhile, and else finds that the page has to be paged out.
+    fn collect(&mut self, pool: &mut Pool, victim: Victim) -> Option<Entry>
+        requires phase { self.old.phase ≡ Phase.Out victim }
+        requires owns { OwnsBy pool.old self.old.processor (row_of self.old).progress.doing }
+        requires room { pool.old.entries < 2 ^ 45 }
+        ensures entry { IfSome result (λ e. (kept : Kept) (st : SpaceState) → IsReady self.old kept st → AreAgreed kept pool.old → Makes self.old self.new kept kept st pool.old pool.new e) }
+        ensures none { IfNone result ((pool.new ≡ pool.old) × ((kept : Kept) (st : SpaceState) → IsReady self.old kept st → AreAgreed kept pool.old → Passes self.old self.new kept kept st)) }
+        ensures nearer { (row_of self.new).steps < (row_of self.old).steps }
+    {
+        match pool.collect(self.processor) {
+            Collected::Held => {
+                pool.end_entry();
+                self.phase = Phase::Back { victim };
+                let frame = victim.frame;
+                Some(self.entry(None, true, What::Got { frame }))
+            }
+            Collected::Claimed => {
+                self.phase = Phase::Write { victim };
+                None
+            }
+        }
+    }
+
+    /// The page that could not be read in gives its frame up.
+    fn unfill<S: Store + Send + Drop>(
+        &mut self,
+        space: &mut Space<S>,
+        pool: &mut Pool,
+        page: u32,
+        count: u64,
+    ) -> Entry
+        requires phase { (frame : ℕ) × (self.old.phase ≡ Phase.Unfill page frame count) }
+        requires ready { (st : SpaceState) × IsReady self.old space.old st }
+        requires agree { AreAgreed space.old pool.old }
+        requires room { pool.old.entries < 2 ^ 45 }
+        ensures entry { (st : SpaceState) → IsReady self.old space.old st → Makes self.old self.new space.old space.new st pool.old pool.new result }
+        ensures nearer { (row_of self.new).steps < (row_of self.old).steps }
+    {
+        let own = self.call.space();
+        let entry = self.give_up(space, pool, own, page);
+        self.phase = Phase::Fault { space: own, count };
+        entry
+    }
+
+    /// The victim's page gives its frame up to the hand of the processor that claims it.
+    fn hand<S: Store + Send + Drop>(
+        &mut self,
+        space: &mut Space<S>,
+        pool: &mut Pool,
+        victim: Victim,
+    ) -> Entry
+        requires phase { self.old.phase ≡ Phase.Hand victim }
+        requires ready { (st : SpaceState) × IsReady self.old space.old st }
+        requires agree { AreAgreed space.old pool.old }
+        requires room { pool.old.entries < 2 ^ 45 }
+        ensures entry { (st : SpaceState) → IsReady self.old space.old st → Makes self.old self.new space.old space.new st pool.old pool.new result }
+        ensures nearer { (row_of self.new).steps < (row_of self.old).steps }
+    {
+        let entry = self.give_up(space, pool, victim.space, victim.page);
+        self.phase = Phase::Back { victim };
+        entry
+    }
+
+    /// A clean page gives its frame up.
+    fn give_up<S: Store + Send + Drop>(
+        &self,
+        space: &mut Space<S>,
+        pool: &mut Pool,
+        number: u32,
+        page: u32,
+    ) -> Entry
+        requires number { number ≡ space.old.number }
+        requires resident { frame_at space.old page ≢ None }
+        requires clean { dirty_at space.old page ≡ false }
+        requires none_clearing { space.old.clearing ≡ None }
+        requires none_paged { space.old.paged ≡ None }
+        requires no_other_pending { (p : ℕ) → space.old.pending ≡ Some p → p ≡ page }
+        requires agree { AreAgreed space.old pool.old }
+        requires room { pool.old.entries < 2 ^ 45 }
+        ensures gave { (frame : ℕ) × (result ≡ give_entry self.now.processor number page frame) × Removes space.old space.new page frame }
+        ensures pool { pool.new ≡ counted (give_page pool.old number page) }
+    {
+        let given = space.remove(page);
+        let frame = given.number();
+        pool.give(number, page, given);
+        pool.end_entry();
+        self.entry(Some(number), true, What::Give { page, frame })
+    }
+
+    /// The victim's frame is claimed no longer.
+    fn unclaim(&mut self, pool: &mut Pool, victim: Victim, fault: Option<u64>) -> Entry
+        requires phase { self.old.phase ≡ Phase.Unclaim victim fault }
+        requires ready { (kept : Kept) × (st : SpaceState) × IsReady self.old kept st × AreAgreed kept pool.old }
+        requires owns { OwnsBy pool.old self.old.processor (row_of self.old).progress.doing }
+        requires room { pool.old.entries < 2 ^ 45 }
+        ensures entry { (kept : Kept) (st : SpaceState) → IsReady self.old kept st → AreAgreed kept pool.old → Makes self.old self.new kept kept st pool.old pool.new result }
+        ensures nearer { (row_of self.new).steps < (row_of self.old).steps }
+    {
+        let space = victim.space;
+        let frame = pool.unclaim(self.processor);
+        self.phase = match fault {
+            Some(count) => Phase::Fault { space, count },
+            None => Phase::Lack { space },
+        };
+        self.entry(Some(space), true, What::Unclaim { frame })
+    }
+
+    /// The held frame goes free.
+    fn drop_held(&mut self, pool: &mut Pool) -> Entry
+        requires phase { (victim : Claimed) × (self.old.phase ≡ Phase.Drop victim) }
         requires owns { OwnsBy pool.old self.old.processor (row_of self.old).progress.doing }
         requires room { pool.old.entries < 2 ^ 45 }
         ensures entry { (kept : Kept) (st : SpaceState) → IsReady self.old kept st → Makes self.old self.new kept kept st pool.old pool.new result }
         ensures nearer { (row_of self.new).steps < (row_of self.old).steps }
     {
-        let counts = pool.counts();
-        pool.end_entry();
-        let (wired, claimed, held) = (counts.wired, counts.claimed, counts.held);
-        self.phase = Phase::Short {
-            wired,
-            claimed,
-            held,
-        };
-        Entry {
-            processor: self.processor,
-            space: None,
-            frames: true,
-            what: What::Refused {
-                wired,
-                claimed,
-                held,
-            },
-        }
+        let frame = pool.drop_held(self.processor);
+        self.phase = Phase::Late;
+        self.entry(None, true, What::DropHeld { frame })
     }
+
+    /// The held frame goes free, and a frame is taken for the page.
+    fn use_held<S: Store + Send + Drop>(
+        &mut self,
+        space: &mut Space<S>,
+        pool: &mut Pool,
+        page: u32,
+        want: Want,
+    ) -> Entry
+        requires phase { (victim : Claimed) × (self.old.phase ≡ Phase.Use page want victim) }
+        requires ready { (st : SpaceState) × IsReady self.old space.old st }
+        requires agree { AreAgreed space.old pool.old }
+        requires owns { OwnsBy pool.old self.old.processor (row_of self.old).progress.doing }
+        requires room { pool.old.entries < 2 ^ 45 }
+        ensures entry { (st : SpaceState) → IsReady self.old space.old st → Makes self.old self.new space.old space.new st pool.old pool.new result }
+        ensures nearer { (row_of self.new).steps < (row_of self.old).steps }
+    {
+        let own = self.call.space();
+        let taken = pool.use_held(self.processor, own, page, &want);
+        let frame = taken.number();
+        space.place(page, taken);
+        self.phase = Phase::Fill { page, frame };
+        self.entry(Some(own), true, What::UseHeld { page, frame, want })
+    }
+}
+
+/// A flight that goes on in another space than its call's keeps no lock between.
+fn own_if(own: u32, space: u32) -> Option<u32>
+    ensures { result ≡ own_if own space }
+{
+    (space == own).then_some(own)
 }

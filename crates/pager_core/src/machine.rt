@@ -1,24 +1,27 @@
-ghost use Rattle.std.specs.Prelude.{◌≡◌, ◌≢◌, ℕ, ◌+◌, ◌*◌, ◌%◌, ◌^◌, ◌<◌, ◌≤◌, ◌↔◌, [], Some, None, IfOk, IfSome, IfNone, IsTrue, length, map, slice_get};
-ghost use Rattle.std.specs.List.{All, range_with_len};
+ghost use Rattle.std.specs.Prelude.{◌≡◌, ◌≢◌, ℕ, ◌+◌, ◌*◌, ◌^◌, ◌<◌, ◌≤◌, ◌↔◌, Bool, [], ◌++◌, Some, None, IfOk, IfErr, IfSome, IfNone, IsTrue, length, map, drop, reverse, true, slice_get, vec_capacity, vec_len};
+ghost use Rattle.std.specs.List.{range_with_len};
 ghost use Rattle.pager_model.specs.Agreement.{OwnsBy};
-ghost use Rattle.pager_model.specs.declared.call.Line.{Line as Item};
-ghost use Rattle.pager_model.specs.FrameStates.{free_count, reserved_count, used_count};
+ghost use Rattle.pager_model.specs.FrameStates.{start_frames, free_count, reserved_count, used_count};
 ghost use Rattle.pager_model.specs.Legal.{entries_in, frames_at};
-ghost use Rattle.pager_model.specs.Showing.{setting_of, calls_of};
+ghost use Rattle.pager_model.specs.Settings.{is_told, faults_at_entry};
+ghost use Rattle.pager_model.specs.Showing.{calls_of};
 ghost use Rattle.pager_model.specs.SpaceStates.{SpaceState};
-ghost use Rattle.space_core.specs.Standing.{Kept, CanBegin};
+ghost use Rattle.pager_model.specs.TraceText.{HasText};
+ghost use Rattle.space_core.specs.Standing.{Kept};
 ghost use Rattle.pager_core.specs.Flights.{IsReady};
 ghost use Rattle.pager_core.specs.Machines.{IsNew};
-ghost use Rattle.pager_core.specs.Rows.{row_of, space_under};
-ghost use Rattle.pager_core.specs.Running.{Running, progress_of_actor, flight_at, flight_of, first_flights, kept_by, HasEnded, IsKeptByOther, MustWait, OneMore, IsLawful, IsWholeRun};
+ghost use Rattle.pager_core.specs.Rows.{row_of};
+ghost use Rattle.pager_core.specs.Running.{Running, progress_of_actor, flight_at, flight_of, first_flights, kept_by, setting_over, HasEnded, IsKeptByOther, MustWait, OneMore, IsLawful, IsWholeRun, StoresEnd};
 ghost use Rattle.pager_core.specs.Steps.{AreAgreed, Makes, Passes};
+ghost use Rattle.store_core.specs.Stored.{Stored, TellsZero};
 
 use crate::flight::{Flight, Needs};
 use frame_pool::Pool;
-use pager_model::{Call, Entry, Line, NoMemory, Numbered, Summary, Trace};
+use pager_model::{Call, Entry, Line, NoMemory, Numbered, Setting, Summary, Trace};
 use space_core::Space;
 use std::alloc::Global;
 use std::marker::Model;
+use store_core::Store;
 
 /// What a turn did.
 #[derive(Clone, Copy, Debug, PartialEq, Eq)]
@@ -33,63 +36,82 @@ pub enum Turn {
 
 /// What a machine that ended gives.
 #[derive(Drop)]
-pub struct Gathered {
+pub struct Gathered<S: Store + Send + Drop> {
     pub history: Vec<Numbered>,
+    /// The stores that were handed in, in their order.
+    pub stores: Vec<S>,
     /// Of its counts those of frames and the preemptions are told for now, and the others are 0.
     pub summary: Summary,
 }
 
 /// Runs the calls of many processors on many spaces, a step at a time in any order of turns, and keeps the history. It owns the
-/// spaces, the pool and each processor's call in progress.
+/// spaces with their stores, the pool and each processor's call in progress.
 #[derive(Drop)]
-pub struct Machine {
-    frames: u32,
+pub struct Machine<S: Store + Send + Drop> {
+    setting: Setting,
     // each processor's calls
     calls: Vec<Vec<Call>>,
     // each processor's call that is in progress or comes next
     flights: Vec<Option<Flight>>,
-    spaces: Vec<Space>,
+    spaces: Vec<Space<S>>,
+    // the stores that no space uses, last first, with room for those of the spaces
+    stores: Vec<S>,
     pool: Pool,
     history: Vec<Numbered>,
 }
 
-impl Model for Machine {
-    ghost use Rattle.std.specs.Prelude.{length, map, vec_capacity};
+impl<S: Store + Send + Drop> Model for Machine<S> {
+    ghost use Rattle.std.specs.Prelude.{◌+◌, ◌≤◌, length, map, reverse, vec_capacity, vec_len};
     ghost use Rattle.pager_core.specs.Running.{Running};
-    ghost use Rattle.pager_core.specs.Machines.{given_of, IsMachine};
+    ghost use Rattle.pager_core.specs.Machines.{IsMachine};
 
     ghost Value = { Running };
 
-    ghost use Rattle.pager_core.specs.MachineFields.{running_of};
+    ghost view = { λ m. record {
+      given = m.setting;
+      calls = map (λ v. v.items) m.calls.items;
+      flights = m.flights.items;
+      history = m.history.items;
+      unused = map S.seen (reverse m.stores.items);
+    } };
 
-    ghost view = { running_of };
-
-    ghost invariant = { λ m. IsMachine (running_of m) m.spaces.items m.pool (vec_capacity m.history) };
+    ghost invariant = { λ m. IsMachine (record {
+      given = m.setting;
+      calls = map (λ v. v.items) m.calls.items;
+      flights = m.flights.items;
+      history = m.history.items;
+      unused = map S.seen (reverse m.stores.items);
+    }) m.spaces.items m.pool (vec_capacity m.history) × (vec_len m.stores + length m.spaces.items ≤ vec_capacity m.stores) };
 }
 
-impl Machine {
-    /// A machine at the start of a trace, whose calls can all be made. All the memory that a run takes is taken here.
-    pub fn create(alloc: Global, trace: &Trace) -> Result<Machine, NoMemory>
-        requires can { All (λ (line : Item). CanBegin line.call) trace.now.calls }
-        ensures { IfOk result (λ m. (m.given ≡ setting_of trace.now) × (m.history ≡ [])
+impl<S: Store + Send + Drop> Machine<S> {
+    /// A machine at the start of a trace, whose spaces use the stores of their numbers; there are at least as many stores as spaces. All the
+    /// memory that a run takes, but for that of the stores' writes, is taken here, and for want of it the stores come back.
+    pub fn create(alloc: Global, trace: &Trace, stores: Vec<S>) -> Result<Machine<S>, Vec<S>>
+        requires enough { trace.now.spaces ≤ length stores.items }
+        ensures made { IfOk result (λ m. (m.given ≡ setting_over trace.now (map S.seen stores.items)) × (m.history ≡ [])
             × (m.calls ≡ map (λ c. calls_of c trace.now.calls) (range_with_len 0 trace.now.processors))
             × (m.flights ≡ first_flights m.calls) × IsLawful m) }
+        ensures unused { IfOk result (λ m. m.unused ≡ drop trace.now.spaces (map S.seen stores.items)) }
+        ensures back { IfErr result (λ back. map S.seen back.items ≡ map S.seen stores.items) }
     {
-        let processors = trace.processors();
-        let frames = trace.frames();
-        let history = Vec::with_capacity(alloc, ENTRIES_OF_CALL * trace.calls().len())?;
-        let calls = calls_by_processor(alloc, processors, trace.calls())?;
-        let flights = first_of_each(alloc, calls.as_slice())?;
-        let spaces = spaces_of(alloc, trace.spaces(), frames, processors)?;
-        let pool = Pool::create(alloc, frames, trace.spaces(), processors)?;
-        Ok(Machine {
-            frames,
-            calls,
-            flights,
-            spaces,
-            pool,
-            history,
-        })
+        let mut stores = stores;
+        stores.reverse();
+        match parts_of(alloc, trace, &mut stores) {
+            Ok(parts) => Ok(Machine {
+                setting: parts.setting,
+                calls: parts.calls,
+                flights: parts.flights,
+                spaces: parts.spaces,
+                stores,
+                pool: parts.pool,
+                history: parts.history,
+            }),
+            Err(NoMemory) => {
+                stores.reverse();
+                Err(stores)
+            }
+        }
     }
 
     /// Does the actor's steps until one has made an entry.
@@ -107,6 +129,7 @@ impl Machine {
         // One entry more, of the actor.
         ensures stepped { result ≡ Turn.Stepped → OneMore self.old self.new actor }
         ensures same_calls { (self.new.given ≡ self.old.given) × (self.new.calls ≡ self.old.calls) }
+        ensures same_unused { self.new.unused ≡ self.old.unused }
 
         // After any turns.
         ensures lawful { IsLawful self.new }
@@ -143,6 +166,14 @@ impl Machine {
         }
     }
 
+    /// Whether the actor has a call left.
+    pub fn has_left(&self, actor: u32) -> bool
+        requires { actor < length self.now.calls }
+        ensures { IsTrue result ↔ (flight_at self.now.flights actor ≢ None) }
+    {
+        self.flights[actor as usize].is_some()
+    }
+
     /// Whether no processor has a call left.
     pub fn ended(&self) -> bool
         ensures ended { IsTrue result ↔ HasEnded self.now }
@@ -151,11 +182,13 @@ impl Machine {
         none_flies(self.flights.as_slice())
     }
 
-    /// The history of the whole run, and its counts of frames.
-    pub fn finish(self) -> Gathered
+    /// The history of the whole run, the stores, and the counts of frames.
+    pub fn finish(self) -> Gathered<S>
         requires { HasEnded self }
         ensures history { result.history.items ≡ self.history }
         ensures run { IsWholeRun self.given self.calls self.history }
+        ensures stores { StoresEnd self.given self.history (map S.seen result.stores.items) }
+        ensures unused { drop (length self.given.told) (map S.seen result.stores.items) ≡ self.unused }
         ensures preemptions { result.summary.preemptions ≡ (frames_at self.given (entries_in self.history)).preemptions }
         ensures free { result.summary.free ≡ free_count (frames_at self.given (entries_in self.history)) }
         ensures reserved { result.summary.reserved ≡ reserved_count (frames_at self.given (entries_in self.history)) }
@@ -163,8 +196,12 @@ impl Machine {
     {
         let counts = self.pool.counts();
         let preemptions = self.pool.preempted();
+        let mut stores = self.stores;
+        give_back(self.spaces, &mut stores);
+        stores.reverse();
         Gathered {
             history: self.history,
+            stores,
             summary: Summary {
                 tiles: [0; 4],
                 promotions: 0,
@@ -182,6 +219,127 @@ impl Machine {
 
 /// At most how many entries a call makes.
 const ENTRIES_OF_CALL: usize = 8;
+
+/// What a machine is made of, beside the stores that no space uses.
+#[derive(Drop)]
+struct Parts<S: Store + Send + Drop> {
+    setting: Setting,
+    calls: Vec<Vec<Call>>,
+    flights: Vec<Option<Flight>>,
+    spaces: Vec<Space<S>>,
+    pool: Pool,
+    history: Vec<Numbered>,
+}
+
+/// The parts of a machine. The stores, last first, lose those of the spaces, unless there is no memory.
+fn parts_of<S: Store + Send + Drop>(
+    alloc: Global,
+    trace: &Trace,
+    stores: &mut Vec<S>,
+) -> Result<Parts<S>, NoMemory>
+    requires enough { trace.now.spaces ≤ length stores.old.items }
+
+    // Each part is as it is at the start of the trace.
+    ensures text { IfOk result (λ _. HasText trace.now) }
+    ensures setting { IfOk result (λ p. p.setting ≡ setting_over trace.now (map S.seen (reverse stores.old.items))) }
+    ensures calls { IfOk result (λ p. map (λ v. v.items) p.calls.items ≡ map (λ c. calls_of c trace.now.calls) (range_with_len 0 trace.now.processors)) }
+    ensures flights { IfOk result (λ p. p.flights.items ≡ first_flights (map (λ v. v.items) p.calls.items)) }
+    ensures pool { IfOk result (λ p. p.pool ≡ start_frames trace.now.frames trace.now.processors) }
+    ensures history { IfOk result (λ p. (p.history.items ≡ []) × (8 * length trace.now.calls ≤ vec_capacity p.history)) }
+    ensures count { IfOk result (λ p. length p.spaces.items ≡ trace.now.spaces) }
+    ensures new { IfOk result (λ p. (s : ℕ) (kept : Kept) → slice_get p.spaces.items s ≡ Some kept
+        → IsNew trace.now.frames s (is_told p.setting s) (faults_at_entry p.setting s) kept) }
+
+    // The stores that no space uses are left, and for want of memory all are.
+    ensures left { IfOk result (λ _. map S.seen (reverse stores.new.items) ≡ drop trace.now.spaces (map S.seen (reverse stores.old.items))) }
+    ensures back { IfErr result (λ _. map S.seen stores.new.items ≡ map S.seen stores.old.items) }
+    ensures capacity { vec_capacity stores.new ≡ vec_capacity stores.old }
+{
+    let processors = trace.processors();
+    let frames = trace.frames();
+    let history = Vec::with_capacity(alloc, ENTRIES_OF_CALL * trace.calls().len())?;
+    let calls = calls_by_processor(alloc, processors, trace.calls())?;
+    let flights = first_of_each(alloc, calls.as_slice())?;
+    let pool = Pool::create(alloc, frames, trace.spaces(), processors)?;
+    let setting = setting_of(alloc, trace, stores.as_slice())?;
+    let spaces = spaces_over(alloc, trace, stores)?;
+    Ok(Parts {
+        setting,
+        calls,
+        flights,
+        spaces,
+        pool,
+        history,
+    })
+}
+
+/// The setting of a trace over stores, last first: what each that a space uses says of its copies, and its count of faults.
+fn setting_of<S: Store + Send + Drop>(
+    alloc: Global,
+    trace: &Trace,
+    stores: &[S],
+) -> Result<Setting, NoMemory>
+    requires enough { trace.now.spaces ≤ length stores.now }
+    ensures given { IfOk result (λ g. g ≡ setting_over trace.now (map S.seen (reverse stores.now))) }
+    ensures told { IfOk result (λ g. (s : ℕ) (store : Stored) → s < trace.now.spaces → slice_get (map S.seen (reverse stores.now)) s ≡ Some store
+        → store.told ≡ true → TellsZero store) }
+{
+    let spaces = trace.spaces() as usize;
+    let marks = vec![in alloc; 0; trace.processors() as usize]?;
+    let mut told = Vec::with_capacity(alloc, spaces)?;
+    let mut faults = Vec::with_capacity(alloc, spaces)?;
+    for store in stores.iter().rev().take(spaces) {
+        told.push(store.told())?;
+        faults.push(store.faults())?;
+    }
+    Ok(Setting::of(trace.frames(), marks, told, faults))
+}
+
+/// The spaces of a trace, each without regions, over the last of the stores, which come back for want of memory.
+fn spaces_over<S: Store + Send + Drop>(
+    alloc: Global,
+    trace: &Trace,
+    stores: &mut Vec<S>,
+) -> Result<Vec<Space<S>>, NoMemory>
+    requires enough { trace.now.spaces ≤ length stores.old.items }
+    ensures count { IfOk result (λ spaces. length spaces.items ≡ trace.now.spaces) }
+    ensures new { IfOk result (λ spaces. (s : ℕ) (kept : Kept) (told : Bool) → slice_get spaces.items s ≡ Some kept
+        → (told ≡ true → TellsZero kept.store) → IsNew trace.now.frames s told kept.store.faults kept) }
+
+    // In their order, the stores are those of the spaces and those that are left.
+    ensures stores { IfOk result (λ spaces. map S.seen (reverse stores.old.items) ≡ map (λ (k : Kept). k.store) spaces.items ++ map S.seen (reverse stores.new.items)) }
+    ensures back { IfErr result (λ _. map S.seen stores.new.items ≡ map S.seen stores.old.items) }
+    ensures capacity { vec_capacity stores.new ≡ vec_capacity stores.old }
+{
+    let count = trace.spaces();
+    let mut spaces = Vec::with_capacity(alloc, count as usize)?;
+    for number in 0..count {
+        let Some(store) = stores.pop() else {
+            unreachable!()
+        };
+        match Space::create(alloc, number, trace.frames(), trace.processors(), store) {
+            Ok(space) => spaces.push_reserved(space),
+            Err(store) => {
+                stores.push_reserved(store);
+                give_back(spaces, stores);
+                return Err(NoMemory);
+            }
+        }
+    }
+    Ok(spaces)
+}
+
+/// Puts the stores of the spaces behind these, the first space's last.
+fn give_back<S: Store + Send + Drop>(spaces: Vec<Space<S>>, stores: &mut Vec<S>)
+    requires room { length stores.old.items + length spaces.items ≤ vec_capacity stores.old }
+    ensures stores { map S.seen stores.new.items ≡ map S.seen stores.old.items ++ reverse (map (λ (k : Kept). k.store) spaces.items) }
+    ensures capacity { vec_capacity stores.new ≡ vec_capacity stores.old }
+{
+    let mut spaces = spaces;
+    while let Some(space) = spaces.pop() {
+        stores.push_reserved(space.into_store());
+    }
+}
 
 /// Each processor's calls, in the order of the lines.
 fn calls_by_processor(
@@ -221,24 +379,6 @@ fn first_of_each(alloc: Global, calls: &[Vec<Call>]) -> Result<Vec<Option<Flight
         flights.push(flight_of(processor as u32, 0, own.as_slice()))?;
     }
     Ok(flights)
-}
-
-/// The spaces, each without regions.
-fn spaces_of(
-    alloc: Global,
-    count: u32,
-    frames: u32,
-    processors: u32,
-) -> Result<Vec<Space>, NoMemory>
-    requires { frames ≤ 32768 }
-    ensures count { IfOk result (λ spaces. length spaces.items ≡ count) }
-    ensures new { IfOk result (λ spaces. (s : ℕ) (kept : Kept) → slice_get spaces.items s ≡ Some kept → IsNew frames s kept) }
-{
-    let mut spaces = Vec::with_capacity(alloc, count as usize)?;
-    for space in 0..count {
-        spaces.push(Space::create(alloc, space, frames, processors)?)?;
-    }
-    Ok(spaces)
 }
 
 /// The flight of the processor's call of this number, where there is one.
@@ -291,13 +431,18 @@ fn keeps(flight: &Option<Flight>, space: u32) -> bool
 }
 
 /// Does the flight's steps until one has made an entry. All of them are made under this space.
-fn next_entry(flight: &mut Flight, space: &mut Space, pool: &mut Pool) -> Entry
+fn next_entry<S: Store + Send + Drop>(
+    flight: &mut Flight,
+    space: &mut Space<S>,
+    pool: &mut Pool,
+) -> Entry
     requires going { (row_of flight.old).reply ≡ None }
     requires ready { (st : SpaceState) × IsReady flight.old space.old st }
     requires agree { AreAgreed space.old pool.old }
     requires owns { OwnsBy pool.old flight.old.processor (row_of flight.old).progress.doing }
+    requires known { flight.old.processor < length pool.old.held }
     requires room { pool.old.entries < 2 ^ 45 }
-    ensures { (st : SpaceState) → IsReady flight.old space.old st → Makes flight.old flight.new space.old space.new st pool.old pool.new result }
+    ensures made { (st : SpaceState) → IsReady flight.old space.old st → Makes flight.old flight.new space.old space.new st pool.old pool.new result }
 {
     loop {
         if let Some(entry) = step(flight, space, pool) {
@@ -307,11 +452,16 @@ fn next_entry(flight: &mut Flight, space: &mut Space, pool: &mut Pool) -> Entry
 }
 
 /// Does the flight's next step.
-fn step(flight: &mut Flight, space: &mut Space, pool: &mut Pool) -> Option<Entry>
+fn step<S: Store + Send + Drop>(
+    flight: &mut Flight,
+    space: &mut Space<S>,
+    pool: &mut Pool,
+) -> Option<Entry>
     requires going { (row_of flight.old).reply ≡ None }
     requires ready { (st : SpaceState) × IsReady flight.old space.old st }
     requires agree { AreAgreed space.old pool.old }
     requires owns { OwnsBy pool.old flight.old.processor (row_of flight.old).progress.doing }
+    requires known { flight.old.processor < length pool.old.held }
     requires room { pool.old.entries < 2 ^ 45 }
     ensures entry { IfSome result (λ e. (st : SpaceState) → IsReady flight.old space.old st → Makes flight.old flight.new space.old space.new st pool.old pool.new e) }
     ensures none { IfNone result ((st : SpaceState) → IsReady flight.old space.old st → Passes flight.old flight.new space.old space.new st) }

@@ -1,5 +1,5 @@
 -- A processor makes one call to its end, while no other flight keeps a space.
-use Rattle.std.proofs.Common.{◌≡◌, ◌≢◌, ℕ, ◌+◌, ◌<◌, inl, inr, List, [], ◌∷◌, ◌++◌, length, Option, Some, None, refl, sym, ap, subst, ◌∙◌, arith}
+use Rattle.std.proofs.Common.{◌≡◌, ◌≢◌, ℕ, ◌+◌, ◌<◌, inl, inr, Bool, false, List, [], ◌∷◌, ◌++◌, length, Option, Some, None, refl, sym, ap, subst, ◌∙◌, arith}
 use Rattle.std.proofs.lemmas.List.{append-nil, append_assoc, map-append}
 use Rattle.std.proofs.lemmas.Option.{none-some, same_Some, slice_get_within}
 use Rattle.std.specs.List.{AllByRecursion, slice_get}
@@ -12,7 +12,7 @@ use Rattle.pager_model.specs.Order.{Progress, at_rest}
 use Rattle.pager_model.specs.Flat.{space_of_call}
 use Rattle.pager_core.specs.declared.flight.Flight.{Flight}
 use Rattle.pager_core.specs.declared.flight.Phase.{Phase}
-use Rattle.pager_core.specs.declared.flight.Phase.TheVariants.{Start, Clear, Gone, Frame, Fill, Short, Ended}
+use Rattle.pager_core.specs.declared.flight.Phase.TheVariants.{Start, Evict, Clear, Gone, Frame, Short, Fill, Unfill, Out, Write, Hand, Unclaim, Back, Drop, Late, Use, Fault, Lack, Ended}
 use Rattle.pager_core.specs.declared.machine.Turn.{Turn}
 use Rattle.pager_core.specs.declared.machine.Turn.TheVariants.{Ended as HasEnded, Stepped, Waits}
 use Rattle.pager_core.specs.Rows.{row_of, row_in}
@@ -20,14 +20,26 @@ use Rattle.pager_core.specs.Running.{Running, calls_at, flight_at, flight_of, pr
 use Rattle.replay_core.specs.Replays.{NoneKeeps, IsAbout, MadeCall}
 
 -- A flight that isn't ended has made as many answers as its number says.
-made_in : (c n s : ℕ) (phase : Phase) → (row_in c n s phase).reply ≡ None → (row_in c n s phase).progress.made ≡ n
-made_in c n s Start going = refl
-made_in c n s (Clear first len) going = refl
-made_in c n s (Gone first len) going = refl
-made_in c n s (Frame page want) going = refl
-made_in c n s (Fill page frame) going = refl
-made_in c n s (Short wired claimed held) going = refl
-made_in c n s (Ended reply) going = absurd (none-some reply (sym going))
+pub made_in : (c n s : ℕ) (call : Call) (claimed : Bool) (phase : Phase) → (row_in c n s call claimed phase).reply ≡ None → (row_in c n s call claimed phase).progress.made ≡ n
+made_in c n s call claimed Start going = refl
+made_in c n s call claimed (Evict page) going = refl
+made_in c n s call claimed (Clear first len) going = refl
+made_in c n s call claimed (Gone first len) going = refl
+made_in c n s call claimed (Frame page want) going = refl
+made_in c n s call claimed (Short wired claims held) going = refl
+made_in c n s call claimed (Fill page frame) going = refl
+made_in c n s call claimed (Unfill page frame count) going = refl
+made_in c n s call claimed (Out v) going = refl
+made_in c n s call claimed (Write v) going = refl
+made_in c n s call claimed (Hand v) going = refl
+made_in c n s call claimed (Unclaim v fault) going = refl
+made_in c n s call claimed (Back v) going = refl
+made_in c n s call claimed (Drop v) going = refl
+made_in c n s call claimed Late going = refl
+made_in c n s call claimed (Use page want v) going = refl
+made_in c n s call claimed (Fault space count) going = refl
+made_in c n s call claimed (Lack space) going = refl
+made_in c n s call claimed (Ended reply) going = absurd (none-some reply (sym going))
 
 -- a new flight has its number, no reply, and keeps nothing
 pub record IsNew (f : Flight) (number : ℕ) : Type 0 where
@@ -36,7 +48,7 @@ pub record IsNew (f : Flight) (number : ℕ) : Type 0 where
   pub keeps : (row_of f).keeps ≡ None
   pub progress : (row_of f).progress ≡ at_rest 0 number
 
-IsNew-of : (c n : ℕ) (call : Option Call) (f : Flight) → option_map (λ call. let f : Flight = record { processor = c; number = n; call = call; phase = Start } in f) call ≡ Some f → IsNew f n
+IsNew-of : (c n : ℕ) (call : Option Call) (f : Flight) → option_map (λ call. let f : Flight = record { processor = c; number = n; call = call; phase = Start; claimed = false } in f) call ≡ Some f → IsNew f n
 IsNew-of c n None f is = absurd (none-some f is)
 IsNew-of c n (Some call) f is = subst (λ g. IsNew g n) (same_Some _ _ is) (record { same = refl; going = refl; keeps = refl; progress = refl })
 
@@ -44,7 +56,7 @@ pub IsNew-flight_of : (c n : ℕ) (calls : List Call) (f : Flight) → flight_of
 IsNew-flight_of c n calls f is = IsNew-of c n (slice_get calls n) f is
 
 -- there is such a call
-call_there : (c n : ℕ) (call : Option Call) (f : Flight) → option_map (λ call. let f : Flight = record { processor = c; number = n; call = call; phase = Start } in f) call ≡ Some f → (x : Call) × (call ≡ Some x)
+call_there : (c n : ℕ) (call : Option Call) (f : Flight) → option_map (λ call. let f : Flight = record { processor = c; number = n; call = call; phase = Start; claimed = false } in f) call ≡ Some f → (x : Call) × (call ≡ Some x)
 call_there c n None f is = absurd (none-some f is)
 call_there c n (Some call) f is = (call, refl)
 
@@ -55,6 +67,7 @@ within c n calls f is = let there = call_there c n (slice_get calls n) f is in s
 pub record InCall (start now : Running) (actor number : ℕ) : Type 0 where
   pub same_given : now.given ≡ start.given
   pub same_calls : now.calls ≡ start.calls
+  pub same_unused : now.unused ≡ start.unused
   pub lawful : IsLawful now
   pub there : number < length (calls_at start.calls actor)
   pub went : WentOn now actor number
@@ -69,6 +82,7 @@ InCall-start run actor number lawful about =
     record {
       same_given = refl;
       same_calls = refl;
+      same_unused = refl;
       lawful = lawful;
       there = within actor number (calls_at run.calls actor) about.0 about.1;
       went = inl (record { flight = about.0; flies = about.2; same_call = new.same; going = new.going });
@@ -82,7 +96,7 @@ InCall-start run actor number lawful about =
 made_still : (run : Running) (actor number : ℕ) → StillFlies run actor number → (progress_of_actor run actor).made ≡ number
 made_still run actor number still =
     ap (λ f. (progress_by_flight (calls_at run.calls actor) f).made) still.flies
-    ∙ made_in still.flight.processor still.flight.number (space_of_call still.flight.call) still.flight.phase still.going ∙ still.same_call
+    ∙ made_in still.flight.processor still.flight.number (space_of_call still.flight.call) still.flight.call still.flight.claimed still.flight.phase still.going ∙ still.same_call
 
 made_after : (c number : ℕ) (calls : List Call) (o : Option Flight) → flight_of c (number + 1) calls ≡ o → number < length calls → number < (progress_by_flight calls o).made
 made_after c number calls None none there = there
@@ -119,12 +133,13 @@ own_more : (actor : ℕ) (es : List Entry) (e : Entry) → AllByRecursion (λ (e
 own_more actor [] e own is = (is, tt)
 own_more actor (x ∷ es) e own is = (own.0, own_more actor es e own.1 is)
 
-pub InCall-step : (start now after : Running) (actor number : ℕ) → InCall start now actor number → StillFlies now actor number → OneMore now after actor → (after.given ≡ now.given) × (after.calls ≡ now.calls) → IsLawful after → InCall start after actor number
-InCall-step start now after actor number call still more same lawful =
+pub InCall-step : (start now after : Running) (actor number : ℕ) → InCall start now actor number → StillFlies now actor number → OneMore now after actor → (after.given ≡ now.given) × (after.calls ≡ now.calls) → after.unused ≡ now.unused → IsLawful after → InCall start after actor number
+InCall-step start now after actor number call still more same unused lawful =
     let last : Numbered = record { number = length now.history; entry = more.entry } in
     record {
       same_given = same.0 ∙ call.same_given;
       same_calls = same.1 ∙ call.same_calls;
+      same_unused = unused ∙ call.same_unused;
       lawful = lawful;
       there = call.there;
       went = subst (WentOn after actor) still.same_call (more.went_on still.flight still.flies);
@@ -140,6 +155,7 @@ MadeCall-end start now actor number call differs =
     record {
       same_given = call.same_given;
       same_calls = call.same_calls;
+      same_unused = call.same_unused;
       lawful = call.lawful;
       next = next_of start now actor number call differs;
       others = call.others;

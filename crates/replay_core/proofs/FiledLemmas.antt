@@ -13,20 +13,21 @@ use Rattle.pager_model.specs.declared.call.Call.{Call}
 use Rattle.pager_model.specs.declared.call.Line.{Line}
 use Rattle.pager_model.specs.declared.entry.Entry.{Entry}
 use Rattle.pager_model.specs.declared.entry.Numbered.{Numbered}
-use Rattle.pager_model.specs.Agreement.{IsPartition, NothingHeld, Agrees}
 use Rattle.pager_model.specs.Entries.{is_of, entries_of}
-use Rattle.pager_model.specs.Legal.{IsLegal, frames_at, progress_in, progress_at, entries_in}
+use Rattle.pager_model.specs.Legal.{progress_in, progress_at, entries_in}
 use Rattle.pager_model.specs.Order.{Progress, at_rest, progress_from}
 use Rattle.pager_model.specs.Plans.{Plan}
 use Rattle.pager_model.specs.Settings.{mark_of}
-use Rattle.pager_model.specs.Showing.{setting_of, answer_in, answers_in, calls_of, IsSequence, IsFiled}
+use Rattle.pager_model.specs.Showing.{answer_in, answers_in, calls_of, IsSequence, IsFiled}
 use Rattle.pager_model.proofs.Histories.{progress_from-append}
 use Rattle.pager_model.specs.TraceText.{IsLine}
 use Rattle.pager_core.specs.declared.flight.Flight.{Flight}
 use Rattle.pager_core.specs.declared.flight.Phase.TheVariants.{Start}
-use Rattle.pager_core.specs.Running.{Running, calls_at, flight_at, flight_of, first_flights, progress_of_actor, progress_by_flight, HasEnded, IsLawful, IsWholeRun}
-use Rattle.replay_core.specs.Replays.{IsReplay, NoneKeeps, IsAbout, MadeCall}
+use Rattle.pager_core.specs.Running.{Running, calls_at, flight_at, flight_of, first_flights, progress_of_actor, progress_by_flight, setting_over, HasEnded, IsLawful}
+use Rattle.store_core.specs.Stored.{Stored}
+use Rattle.replay_core.specs.Replays.{NoneKeeps, IsAbout, MadeCall}
 use Rattle.replay_core.proofs.CallLemmas.{IsNew-flight_of}
+use Rattle.replay_core.proofs.RunLemmas.{IsRunOf, calls_known, length-calls}
 
 -- Sequences and the lines' pieces.
 
@@ -80,7 +81,7 @@ enumerate-push n (y ∷ xs) x = ap (λ l. (n, y) ∷ l) (enumerate-push (n + 1) 
 
 -- Where a processor is between two calls.
 
-none_left : (c n : ℕ) (call : Option Call) → None ≡ option_map (λ call. let f : Flight = record { processor = c; number = n; call = call; phase = Start } in f) call → call ≡ None
+none_left : (c n : ℕ) (call : Option Call) → None ≡ option_map (λ call. let f : Flight = record { processor = c; number = n; call = call; phase = Start; claimed = false } in f) call → call ≡ None
 none_left c n None is = refl
 none_left c n (Some call) is = absurd (none-some _ is)
 
@@ -155,20 +156,10 @@ abbrev pub count_of : ℕ → List Line → ℕ
 count_of c lines = length (calls_of c lines)
 
 -- The first k lines of a trace are made, each by its sequence, and each processor's next call comes next.
-pub record Filed (plan : Plan) (k : ℕ) (run : Running) : Type 0 where
-  pub given : run.given ≡ setting_of plan
-  pub calls : run.calls ≡ map (λ c. calls_of c plan.calls) (range_with_len 0 plan.processors)
-  pub lawful : IsLawful run
+pub record Filed (plan : Plan) (stores : List Stored) (k : ℕ) (run : Running) : Type 0 where
+  pub of : IsRunOf plan stores run
   pub flights : (c : ℕ) → flight_at run.flights c ≡ flight_of c (count_of c (take k plan.calls)) (calls_at run.calls c)
   pub filed : IsFiled (take k plan.calls) (entries_in run.history)
-
--- each processor's calls, and none of others
-calls_known : (plan : Plan) (calls : List (List Call)) → calls ≡ map (λ c. calls_of c plan.calls) (range_with_len 0 plan.processors) → (c : ℕ) → c < plan.processors → calls_at calls c ≡ calls_of c plan.calls
-calls_known plan calls are c known =
-    ap (λ l. calls_at l c) are ∙ get_or-map-range_with_len (λ c. calls_of c plan.calls) 0 plan.processors c c [] known (omega arith)
-
-length-calls : (plan : Plan) (calls : List (List Call)) → calls ≡ map (λ c. calls_of c plan.calls) (range_with_len 0 plan.processors) → length calls ≡ plan.processors
-length-calls plan calls are = ap length are ∙ length-map-range_with_len (λ c. calls_of c plan.calls) 0 plan.processors
 
 first_at : (calls : List (List Call)) (c : ℕ) → flight_at (first_flights calls) c ≡ flight_of c 0 (calls_at calls c)
 first_at calls c = elim (cases_lt c (length calls)) [
@@ -178,18 +169,16 @@ first_at calls c = elim (cases_lt c (length calls)) [
       ∙ sym (ap (flight_of c 0) (get_or_past calls c [] past))
 ]
 
-pub Filed-start : (plan : Plan) (run : Running) → run.given ≡ setting_of plan → run.history ≡ [] → run.calls ≡ map (λ c. calls_of c plan.calls) (range_with_len 0 plan.processors) → run.flights ≡ first_flights run.calls → IsLawful run → Filed plan 0 run
-Filed-start plan run given history calls flights lawful =
+pub Filed-start : (plan : Plan) (stores : List Stored) (run : Running) → run.given ≡ setting_over plan stores → run.unused ≡ drop plan.spaces stores → run.history ≡ [] → run.calls ≡ map (λ c. calls_of c plan.calls) (range_with_len 0 plan.processors) → run.flights ≡ first_flights run.calls → IsLawful run → Filed plan stores 0 run
+Filed-start plan stores run given unused history calls flights lawful =
     record {
-      given = given;
-      calls = calls;
-      lawful = lawful;
+      of = record { given = given; unused = unused; calls = calls; lawful = lawful };
       flights = λ c. ap (λ l. flight_at l c) flights ∙ first_at run.calls c;
       filed = ap entries_in history;
     }
 
 -- one more line
-module _ (plan : Plan) (k : ℕ) (run : Running) (line : Line) (now : Filed plan k run) (within : k < length plan.calls) (at : slice_get plan.calls k ≡ Some line) (known : line.processor < plan.processors) where
+module _ (plan : Plan) (stores : List Stored) (k : ℕ) (run : Running) (line : Line) (now : Filed plan stores k run) (within : k < length plan.calls) (at : slice_get plan.calls k ≡ Some line) (known : line.processor < plan.processors) where
   take_line : take (k + 1) plan.calls ≡ take k plan.calls ++ line ∷ []
   take_line = take_more plan.calls k line within ∙ ap (λ x. take k plan.calls ++ x ∷ []) (get_or_from_slice_get plan.calls k line line at)
 
@@ -206,10 +195,10 @@ module _ (plan : Plan) (k : ℕ) (run : Running) (line : Line) (now : Filed plan
       ap (calls_of c) whole ∙ calls_of-append c (take k plan.calls ++ line ∷ []) (drop (k + 1) plan.calls)
       ∙ ap (λ l. l ++ after) (calls_of-append c (take k plan.calls) (line ∷ []) ∙ ap (λ l. before ++ l) (calls_of-own c line refl))
       ∙ append_assoc before (line.call ∷ []) after in
-      ap (λ l. slice_get l (length before)) (calls_known plan run.calls now.calls c known ∙ all) ∙ get-front before after line.call
+      ap (λ l. slice_get l (length before)) (calls_known plan run.calls now.of.calls c known ∙ all) ∙ get-front before after line.call
 
   pub known_call : line.processor < length run.calls
-  known_call = subst (λ n. line.processor < n) (sym (length-calls plan run.calls now.calls)) known
+  known_call = subst (λ n. line.processor < n) (sym (length-calls plan run.calls now.of.calls)) known
 
   pub rest_now : progress_of_actor run line.processor ≡ at_rest 0 (count_of line.processor (take k plan.calls))
   rest_now =
@@ -220,28 +209,26 @@ module _ (plan : Plan) (k : ℕ) (run : Running) (line : Line) (now : Filed plan
   IsAbout-line =
       let c = line.processor in
       let n = count_of c (take k plan.calls) in
-      let f : Flight = record { processor = c; number = n; call = line.call; phase = Start } in
-      let is : flight_of c n (calls_at run.calls c) ≡ Some f = ap (option_map (λ call. let f : Flight = record { processor = c; number = n; call = call; phase = Start } in f)) call_next in
+      let f : Flight = record { processor = c; number = n; call = line.call; phase = Start; claimed = false } in
+      let is : flight_of c n (calls_at run.calls c) ≡ Some f = ap (option_map (λ call. let f : Flight = record { processor = c; number = n; call = call; phase = Start; claimed = false } in f)) call_next in
       subst (IsAbout run c) (sym (ap (λ (p : Progress). p.made) rest_now)) (f, is, now.flights c ∙ is)
 
   pub NoneKeeps-line : NoneKeeps run.flights
   NoneKeeps-line c f is = (IsNew-flight_of c (count_of c (take k plan.calls)) (calls_at run.calls c) f (sym (now.flights c) ∙ is)).keeps
 
-  pub Filed-more : (new : Running) → MadeCall run new line.processor (progress_of_actor run line.processor).made → Filed plan (k + 1) new
+  pub Filed-more : (new : Running) → MadeCall run new line.processor (progress_of_actor run line.processor).made → Filed plan stores (k + 1) new
   Filed-more new made_as =
       let c = line.processor in
       let n = count_of c (take k plan.calls) in
       let made : MadeCall run new c n = subst (MadeCall run new c) (ap (λ (p : Progress). p.made) rest_now) made_as in
-      let seq = IsSequence-made run new line n now.lawful known_call call_next (now.flights c) made in
+      let seq = IsSequence-made run new line n now.of.lawful known_call call_next (now.flights c) made in
       let count_own : count_of c (take (k + 1) plan.calls) ≡ n + 1 =
       ap (count_of c) take_line ∙ ap length (calls_of-append c (take k plan.calls) (line ∷ []) ∙ ap (λ l. calls_of c (take k plan.calls) ++ l) (calls_of-own c line refl))
       ∙ length-append (calls_of c (take k plan.calls)) (line.call ∷ []) in
       let count_other : (d : ℕ) → d ≢ c → count_of d (take (k + 1) plan.calls) ≡ count_of d (take k plan.calls) =
       λ d differs. ap (count_of d) take_line ∙ ap length (calls_of-append d (take k plan.calls) (line ∷ []) ∙ ap (λ l. calls_of d (take k plan.calls) ++ l) (calls_of-other d line (λ same. differs (sym same))) ∙ append-nil (calls_of d (take k plan.calls))) in
       record {
-        given = made.same_given ∙ now.given;
-        calls = made.same_calls ∙ now.calls;
-        lawful = made.lawful;
+        of = record { given = made.same_given ∙ now.of.given; unused = made.same_unused ∙ now.of.unused; calls = made.same_calls ∙ now.of.calls; lawful = made.lawful };
         flights = λ d. elim (cases_eq d c) [
           | inl same ↦ subst (λ d. flight_at new.flights d ≡ flight_of d (count_of d (take (k + 1) plan.calls)) (calls_at new.calls d)) (sym same)
               (made.next ∙ ap (λ m. flight_of c m (calls_at new.calls c)) (sym count_own))
@@ -255,36 +242,22 @@ module _ (plan : Plan) (k : ℕ) (run : Running) (line : Line) (now : Filed plan
       }
 
 -- after all lines no call is left
-pub HasEnded-filed : (plan : Plan) (k : ℕ) (run : Running) → Filed plan k run → k ≡ length plan.calls → HasEnded run
-HasEnded-filed plan k run now all c =
+pub HasEnded-filed : (plan : Plan) (stores : List Stored) (k : ℕ) (run : Running) → Filed plan stores k run → k ≡ length plan.calls → HasEnded run
+HasEnded-filed plan stores k run now all c =
     let lines : take k plan.calls ≡ plan.calls = ap (λ n. take n plan.calls) all ∙ take-length plan.calls in
     let n = count_of c (take k plan.calls) in
     elim (cases_lt c plan.processors) [
       | inl known ↦
-          let few : length (calls_at run.calls c) ≤ n = (let e : length (calls_at run.calls c) ≡ n = ap length (calls_known plan run.calls now.calls c known ∙ ap (calls_of c) (sym lines)) in omega (arith, e)) in
-          now.flights c ∙ ap (option_map (λ call. let f : Flight = record { processor = c; number = n; call = call; phase = Start } in f)) (slice_get_past (calls_at run.calls c) n few)
+          let few : length (calls_at run.calls c) ≤ n = (let e : length (calls_at run.calls c) ≡ n = ap length (calls_known plan run.calls now.of.calls c known ∙ ap (calls_of c) (sym lines)) in omega (arith, e)) in
+          now.flights c ∙ ap (option_map (λ call. let f : Flight = record { processor = c; number = n; call = call; phase = Start; claimed = false } in f)) (slice_get_past (calls_at run.calls c) n few)
       | inr past ↦
-          let none : calls_at run.calls c ≡ [] = get_or_past run.calls c [] (subst (λ n. n ≤ c) (sym (length-calls plan run.calls now.calls)) past) in
+          let none : calls_at run.calls c ≡ [] = get_or_past run.calls c [] (subst (λ n. n ≤ c) (sym (length-calls plan run.calls now.of.calls)) past) in
           now.flights c ∙ ap (flight_of c n) none
     ]
 
 -- and the whole run is the trace's
-pub IsFiled-all : (plan : Plan) (k : ℕ) (run : Running) → Filed plan k run → k ≡ length plan.calls → IsFiled plan.calls (entries_in run.history)
-IsFiled-all plan k run now all = subst (λ l. IsFiled l (entries_in run.history)) (ap (λ n. take n plan.calls) all ∙ take-length plan.calls) now.filed
-
-pub IsReplay-whole : (plan : Plan) (k : ℕ) (run : Running) → Filed plan k run → IsWholeRun run.given run.calls run.history → IsReplay plan run.history
-IsReplay-whole plan k run now whole =
-    let g = now.given in
-    record {
-      numbered = whole.numbered;
-      legal = subst (λ g. IsLegal g (entries_in run.history)) g whole.legal;
-      shows = λ c known.
-          let there : c < length run.calls = subst (λ n. c < n) (sym (length-calls plan run.calls now.calls)) known in
-          (whole.answers c there ∙ ap (enumerate_from 0) (calls_known plan run.calls now.calls c known), whole.whole c there);
-      partition = subst (λ g. IsPartition g.frames (frames_at g (entries_in run.history))) g whole.partition;
-      none_held = subst (λ g. NothingHeld (frames_at g (entries_in run.history))) g whole.none_held;
-      agrees = subst (λ g. Agrees g (entries_in run.history)) g whole.agrees;
-    }
+pub IsFiled-all : (plan : Plan) (stores : List Stored) (k : ℕ) (run : Running) → Filed plan stores k run → k ≡ length plan.calls → IsFiled plan.calls (entries_in run.history)
+IsFiled-all plan stores k run now all = subst (λ l. IsFiled l (entries_in run.history)) (ap (λ n. take n plan.calls) all ∙ take-length plan.calls) now.filed
 
 -- The line of a trace at a place, as it is read there.
 pub record LineAt (plan : Plan) (k : ℕ) (line : Line) : Type 0 where

@@ -1,2 +1,6 @@
 pub mod CallLemmas
 pub mod FiledLemmas
+pub mod RunLemmas
+pub mod StandingLemmas
+pub mod TurnLemmas
+pub mod OrderLemmas

@@ -1,1 +1,3 @@
 pub mod Replays
+pub mod Orders
+pub mod Turns

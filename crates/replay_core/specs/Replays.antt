@@ -1,25 +1,38 @@
 -- What the whole run of a trace is, and a call that a machine made to its end.
-use Rattle.std.specs.Prelude.{ℕ, ◌≡◌, ◌≢◌, ◌+◌, ◌++◌, List, Option, Some, None}
+use Rattle.std.specs.Prelude.{ℕ, ◌≡◌, ◌≢◌, ◌+◌, ◌++◌, List, drop, Option, Some, None}
 use Rattle.std.specs.List.{AllByRecursion}
 use Rattle.pager_model.specs.declared.entry.Entry.{Entry}
 use Rattle.pager_model.specs.declared.entry.Numbered.{Numbered}
 use Rattle.pager_model.specs.Agreement.{IsPartition, NothingHeld, Agrees}
 use Rattle.pager_model.specs.Legal.{IsLegal, frames_at, entries_in}
 use Rattle.pager_model.specs.Plans.{Plan}
-use Rattle.pager_model.specs.Showing.{setting_of, Shows}
+use Rattle.pager_model.specs.FrameStates.{free_count, reserved_count, used_count}
+use Rattle.pager_model.specs.declared.summary.Summary.{Summary}
+use Rattle.pager_model.specs.Showing.{Shows}
 use Rattle.pager_core.specs.declared.flight.Flight.{Flight}
 use Rattle.pager_core.specs.Rows.{row_of}
-use Rattle.pager_core.specs.Running.{Running, calls_at, flight_at, flight_of, IsNumbered, IsLawful}
+use Rattle.pager_core.specs.Running.{Running, calls_at, flight_at, flight_of, setting_over, IsNumbered, IsLawful, StoresEnd}
+use Rattle.store_core.specs.Stored.{Stored}
 
--- What holds of the whole run of a trace: its history is numbered, legal and shows the trace; and after it each frame is in one role,
--- none is claimed or held, and spaces and frames agree.
-pub record IsReplay (plan : Plan) (history : List Numbered) : Type 0 where
+-- What holds of the whole run of a trace over stores: its history is numbered, legal and shows the trace; after it each frame is in one
+-- role, none is claimed or held, and spaces and frames agree; and each space's store tells the copies of the flat memory, where it tells
+-- any, and every other store is as it was.
+pub record IsReplay (plan : Plan) (before : List Stored) (history : List Numbered) (after : List Stored) : Type 0 where
   pub numbered : IsNumbered history
-  pub legal : IsLegal (setting_of plan) (entries_in history)
+  pub legal : IsLegal (setting_over plan before) (entries_in history)
   pub shows : Shows plan (entries_in history)
-  pub partition : IsPartition plan.frames (frames_at (setting_of plan) (entries_in history))
-  pub none_held : NothingHeld (frames_at (setting_of plan) (entries_in history))
-  pub agrees : Agrees (setting_of plan) (entries_in history)
+  pub partition : IsPartition plan.frames (frames_at (setting_over plan before) (entries_in history))
+  pub none_held : NothingHeld (frames_at (setting_over plan before) (entries_in history))
+  pub agrees : Agrees (setting_over plan before) (entries_in history)
+  pub stores : StoresEnd (setting_over plan before) history after
+  pub unused : drop plan.spaces after ≡ drop plan.spaces before
+
+-- its counts of frames, and of the takings that broke a reservation
+pub record AreItsCounts (plan : Plan) (before : List Stored) (history : List Numbered) (summary : Summary) : Type 0 where
+  pub preemptions : summary.preemptions ≡ (frames_at (setting_over plan before) (entries_in history)).preemptions
+  pub free : summary.free ≡ free_count (frames_at (setting_over plan before) (entries_in history))
+  pub reserved : summary.reserved ≡ reserved_count (frames_at (setting_over plan before) (entries_in history))
+  pub used : summary.used ≡ used_count (frames_at (setting_over plan before) (entries_in history))
 
 -- no flight keeps a space
 abbrev pub NoneKeeps : List (Option Flight) → Type 0
@@ -33,6 +46,7 @@ IsAbout run actor number = (f : Flight) × (flight_of actor number (calls_at run
 pub record MadeCall (old new : Running) (actor number : ℕ) : Type 0 where
   pub same_given : new.given ≡ old.given
   pub same_calls : new.calls ≡ old.calls
+  pub same_unused : new.unused ≡ old.unused
   pub lawful : IsLawful new
   pub next : flight_at new.flights actor ≡ flight_of actor (number + 1) (calls_at new.calls actor)
   pub others : (c : ℕ) → c ≢ actor → flight_at new.flights c ≡ flight_at old.flights c

@@ -1,31 +1,30 @@
 //! The order of the lines.
 
-ghost use Rattle.std.specs.Prelude.{◌≡◌, ℕ, ◌<◌, IfOk, length};
-ghost use Rattle.std.specs.List.{All};
-ghost use Rattle.pager_model.specs.declared.call.Line.{Line as Item};
-ghost use Rattle.pager_model.specs.FrameStates.{free_count, reserved_count, used_count};
-ghost use Rattle.pager_model.specs.Legal.{entries_in, frames_at};
-ghost use Rattle.pager_model.specs.Showing.{setting_of, IsFiled};
-ghost use Rattle.space_core.specs.Standing.{CanBegin};
+ghost use Rattle.std.specs.Prelude.{◌≡◌, ◌<◌, ◌≤◌, IfOk, IfErr, length, map};
+ghost use Rattle.pager_model.specs.Legal.{entries_in};
+ghost use Rattle.pager_model.specs.Showing.{IsFiled};
 ghost use Rattle.pager_core.specs.Running.{progress_of_actor, IsLawful};
-ghost use Rattle.replay_core.specs.Replays.{IsReplay, NoneKeeps, IsAbout, MadeCall};
+ghost use Rattle.replay_core.specs.Replays.{IsReplay, AreItsCounts, NoneKeeps, IsAbout, MadeCall};
 
 use pager_core::{Gathered, Machine};
-use pager_model::{NoMemory, Trace};
+use pager_model::Trace;
 use std::alloc::Global;
+use store_core::Store;
 
-/// Runs a trace whose calls can all be made: each call to its end, in the order of the lines. Memory is taken before the first entry
-/// alone.
-pub fn replay_file_order(alloc: Global, trace: &Trace) -> Result<Gathered, NoMemory>
-    requires can { All (λ (line : Item). CanBegin line.call) trace.now.calls }
-    ensures run { IfOk result (λ g. IsReplay trace.now g.history.items) }
+/// Runs a trace: each call to its end, in the order of the lines. There are at least as many stores as spaces, and they come back for want
+/// of memory, which comes before the first entry alone.
+pub fn replay_file_order<S: Store + Send + Drop>(
+    alloc: Global,
+    trace: &Trace,
+    stores: Vec<S>,
+) -> Result<Gathered<S>, Vec<S>>
+    requires enough { trace.now.spaces ≤ length stores.items }
+    ensures run { IfOk result (λ g. IsReplay trace.now (map S.seen stores.items) g.history.items (map S.seen g.stores.items)) }
     ensures filed { IfOk result (λ g. IsFiled trace.now.calls (entries_in g.history.items)) }
-    ensures preemptions { IfOk result (λ g. g.summary.preemptions ≡ (frames_at (setting_of trace.now) (entries_in g.history.items)).preemptions) }
-    ensures free { IfOk result (λ g. g.summary.free ≡ free_count (frames_at (setting_of trace.now) (entries_in g.history.items))) }
-    ensures reserved { IfOk result (λ g. g.summary.reserved ≡ reserved_count (frames_at (setting_of trace.now) (entries_in g.history.items))) }
-    ensures used { IfOk result (λ g. g.summary.used ≡ used_count (frames_at (setting_of trace.now) (entries_in g.history.items))) }
+    ensures counts { IfOk result (λ g. AreItsCounts trace.now (map S.seen stores.items) g.history.items g.summary) }
+    ensures back { IfErr result (λ back. map S.seen back.items ≡ map S.seen stores.items) }
 {
-    let mut machine = Machine::create(alloc, trace)?;
+    let mut machine = Machine::create(alloc, trace, stores)?;
     for line in trace.calls() {
         make_call(&mut machine, line.processor);
     }
@@ -33,7 +32,7 @@ pub fn replay_file_order(alloc: Global, trace: &Trace) -> Result<Gathered, NoMem
 }
 
 /// Makes the actor's next call to its end.
-fn make_call(machine: &mut Machine, actor: u32)
+fn make_call<S: Store + Send + Drop>(machine: &mut Machine<S>, actor: u32)
     requires known { actor < length machine.old.calls }
     requires lawful { IsLawful machine.old }
     requires about { IsAbout machine.old actor (progress_of_actor machine.old actor).made }

@@ -2,6 +2,13 @@
 #![tactic(auto)]
 
 mod file_order;
+mod generator;
+mod scheduled;
+mod stepping;
+mod turns;
 
 pub use file_order::replay_file_order;
+pub use generator::Generator;
 pub use pager_core::Gathered;
+pub use scheduled::replay_schedule;
+pub use turns::replay_turns;

@@ -4,7 +4,7 @@ use Rattle.pager_core.proofs.Passing.{HasPassed}
 use Rattle.pager_core.proofs.machine.next_entry.Given as goal
 
 abbrev pub invariant-loop-entry : goal.invariant-loop-entry
-invariant-loop-entry l = record { passed : HasPassed l.fn.flight l.flight l.fn.space l.space; same_pool : l.pool ≡ l.fn.pool }
+invariant-loop-entry g l = record { passed : HasPassed l.fn.flight l.flight l.fn.space l.space; same_pool : l.pool ≡ l.fn.pool }
 
 abbrev pub decreases-loop-entry : goal.decreases-loop-entry
-decreases-loop-entry l = (row_of l.flight).steps
+decreases-loop-entry g l = (row_of l.flight).steps

@@ -3,7 +3,7 @@ use Rattle.replay_core.proofs.CallLemmas.{InCall}
 use Rattle.replay_core.proofs.file_order.make_call.Given as goal
 
 abbrev pub invariant-loop-machine : goal.invariant-loop-machine
-invariant-loop-machine l = InCall l.fn.machine l.machine l.actor l.number
+invariant-loop-machine g l = InCall l.fn.machine l.machine l.actor l.number
 
 abbrev pub decreases-loop-machine : goal.decreases-loop-machine
-decreases-loop-machine l = left_at l.machine l.actor
+decreases-loop-machine g l = left_at l.machine l.actor

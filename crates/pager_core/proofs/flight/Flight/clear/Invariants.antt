@@ -6,8 +6,8 @@ use Rattle.pager_core.proofs.Clearing.{IsClearing}
 
 -- so far some pages of the range gave their frames up, the lowest first
 abbrev pub invariant-loop-page : goal.invariant-loop-page
-invariant-loop-page l = IsClearing l.initial.space l.initial.pool l.space l.pool l.first l.length
+invariant-loop-page g l = IsClearing l.initial.space l.initial.pool l.space l.pool l.first l.length
 
 -- so many pages of the range are resident
 abbrev pub decreases-loop-page : goal.decreases-loop-page
-decreases-loop-page l = count_by (λ p. is_some (frame_at l.space p)) (range_with_len l.first l.length)
+decreases-loop-page g l = count_by (λ p. is_some (frame_at l.space p)) (range_with_len l.first l.length)

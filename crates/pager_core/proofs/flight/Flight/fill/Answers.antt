@@ -1,8 +1,13 @@
 use Rattle.pager_core.proofs.Answering.{fill_answered}
+use Rattle.pager_core.proofs.Failing.{fill_failed}
 use Rattle.pager_core.proofs.flight.Flight.fill.Goals as goal
 
-pub returns-clause-entry : goal.returns-clause-entry
-returns-clause-entry c = λ st frames.
-    let phase = c.requires.phase in
-    rw c.answer.ensures
-    (fill_answered c.args.self.now c.args.page phase.0 c.finish-answered.result c.args.space.now c.read_in.new.self c.finish-answered.new.self phase.1 c.read_in.ensures c.finish-answered.ensures st frames)
+pub returns-in-Ok-clause-entry : goal.returns-in-Ok-clause-entry
+returns-in-Ok-clause-entry g c = λ st frames.
+    rw c.answer.ensures.ended
+    (rw c.answer.ensures.entry
+    (fill_answered c.args.self.now c.args.page c.args.frame c.finish-answered.result c.args.space.now c.read_in.new.self c.finish-answered.new.self c.requires.phase c.in-Ok.ensures.read c.finish-answered.ensures st frames))
+
+pub returns-in-Err-clause-entry : goal.returns-in-Err-clause-entry
+returns-in-Err-clause-entry g c = λ st frames.
+    rw c.entry.ensures (rw c.space.ensures (fill_failed c.args.self.now c.args.page c.args.frame c.in-Err.count c.args.space.now c.read_in.new.self c.requires.phase c.in-Err.ensures.failed st frames))

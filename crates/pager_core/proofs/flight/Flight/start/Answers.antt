@@ -1,6 +1,16 @@
 use Rattle.pager_core.proofs.Answering.{start_answered}
+use Rattle.pager_core.proofs.Evicting.{begin_evicting}
+use Rattle.pager_core.proofs.Failing.{begin_failed}
 use Rattle.pager_core.proofs.flight.Flight.start.Goals as goal
 
 pub returns-in-Answered-clause-entry : goal.returns-in-Answered-clause-entry
-returns-in-Answered-clause-entry c = λ st frames.
-    rw c.answer.ensures (start_answered c.args.self.now c.in-Answered.answered c.args.space.now c.begin.new.self c.requires.phase c.in-Answered.ensures st frames)
+returns-in-Answered-clause-entry g c = λ st frames.
+    rw c.answer.ensures.ended (rw c.answer.ensures.entry (start_answered c.args.self.now c.in-Answered.answered c.args.space.now c.begin.new.self c.requires.phase c.in-Answered.ensures st frames))
+
+pub returns-in-NeedsEvict-clause-none : goal.returns-in-NeedsEvict-clause-none
+returns-in-NeedsEvict-clause-none g c =
+    begin_evicting c.args.self.now c.in-NeedsEvict.page c.in-NeedsEvict.written c.args.space.now c.begin.new.self c.requires.phase c.in-NeedsEvict.ensures
+
+pub returns-in-Failed-clause-entry : goal.returns-in-Failed-clause-entry
+returns-in-Failed-clause-entry g c = λ st frames.
+    rw c.entry.ensures (rw c.space-own.ensures (begin_failed c.args.self.now c.in-Failed.page c.in-Failed.count c.args.space.now c.begin.new.self c.requires.phase c.in-Failed.ensures st frames))

@@ -1,20 +1,22 @@
-use Rattle.std.proofs.Common.{subst, ◌∙◌}
+use Rattle.std.proofs.Common.{sym, subst, ◌∙◌}
 use Rattle.space_core.specs.Beginning.{Places}
-use Rattle.pager_core.specs.Steps.{Makes}
+use Rattle.pager_core.specs.Steps.{AreAgreed, Makes}
 use Rattle.pager_core.proofs.Taking.{unused_elsewhere, frame_taken}
 use Rattle.pager_core.proofs.flight.Flight.take.Goals as goal
 
 pub place-requires-clause-other : goal.place-requires-clause-other
-place-requires-clause-other c = unused_elsewhere c.args.space.now c.args.pool.now c.in-Ok.taken.number c.requires.agree c.in-Ok.ensures.unused.1
+place-requires-clause-other g c κs within = unused_elsewhere c.args.space.now c.args.pool.now c.in-Ok.taken.number c.requires.agree c.in-Ok.ensures.unused.1
 
 pub returns-in-Ok-clause-entry : goal.returns-in-Ok-clause-entry
-returns-in-Ok-clause-entry c =
+returns-in-Ok-clause-entry g c =
     let taken = c.in-Ok.ensures.taken in
-    frame_taken c.args.self.now c.args.page c.space-own.result c.number-frame.result c.args.want c.args.space.now c.place.new.self c.args.pool.now c.take.new.self taken.0
+    λ st. rw c.entry.ensures
+    (frame_taken c.args.self.now c.args.page c.space-own.result c.number-frame.result c.args.want c.args.space.now c.place.new.self c.args.pool.now c.take.new.self taken.0
     c.requires.phase c.space-own.ensures (c.number-frame.ensures ∙ taken.3) c.requires.agree c.requires.owns taken.1 taken.2
-    (subst (Places c.args.space.now c.place.new.self c.args.page) taken.3 c.place.ensures)
+    (subst (Places c.args.space.now c.place.new.self c.args.page) taken.3 c.place.ensures) st)
 
 pub returns-in-Err-clause-entry : goal.returns-in-Err-clause-entry
-returns-in-Err-clause-entry c =
+returns-in-Err-clause-entry g c =
     let same = c.in-Err.ensures.full.1 in
-    λ st ready. subst (λ pool. Makes c.args.self.now c.find_none.new.self c.args.space.now c.args.space.now st pool c.find_none.new.pool c.find_none.result) same (c.find_none.ensures.entry c.args.space.now st ready)
+    λ st ready. subst (λ pool. Makes c.args.self.now c.claim.new.self c.args.space.now c.args.space.now st pool c.claim.new.pool c.claim.result) same
+    (c.claim.ensures.entry c.args.space.now st ready (subst (AreAgreed c.args.space.now) (sym same) c.requires.agree))

@@ -2,7 +2,8 @@ use Rattle.pager_core.proofs.Answering.{unmap_answered}
 use Rattle.pager_core.proofs.flight.Flight.unmap.Goals as goal
 
 pub returns-clause-entry : goal.returns-clause-entry
-returns-clause-entry c = λ st frames.
+returns-clause-entry g c = λ st frames.
     let phase = c.requires.phase in
-    rw c.answer.ensures
-    (unmap_answered c.args.self.now c.in-Unmap.space c.in-Unmap.page phase.0 phase.1 c.unmap-answered.result c.args.space.now c.unmap-answered.new.self phase.2 c.in-Unmap.is c.unmap-answered.ensures st frames)
+    rw c.answer.ensures.ended
+    (rw c.answer.ensures.entry
+    (unmap_answered c.args.self.now c.in-Unmap.space c.in-Unmap.page phase.0 phase.1 c.unmap-answered.result c.args.space.now c.unmap-answered.new.self phase.2 c.in-Unmap.is c.unmap-answered.ensures st frames))

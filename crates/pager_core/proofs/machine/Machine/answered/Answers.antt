@@ -1,16 +1,15 @@
-use Rattle.std.proofs.Common.{sym, ap, ◌∙◌}
+use Rattle.std.proofs.Common.{map, sym, ap, ◌∙◌}
 use Rattle.pager_model.specs.Flat.{space_of_call}
-use Rattle.pager_core.specs.MachineFields.{running_of}
 use Rattle.pager_core.specs.Running.{calls_at, progress_by_flight, progress_of_actor}
 use Rattle.pager_core.proofs.GoingOn.{made_going}
 use Rattle.pager_core.proofs.Turned.{flight_read}
 use Rattle.pager_core.proofs.machine.Machine.answered.Goals as goal
 
 pub returns-in-Some-clause-made : goal.returns-in-Some-clause-made
-returns-in-Some-clause-made c =
+returns-in-Some-clause-made g c =
     let i = c.self.inside in
     let f = c.in-Some.flight in
-    let flies = flight_read (running_of i) c.args.self.now i.spaces.items i.pool _ c.args.actor c.index.result.now c.in-Some.flight c.self.invariant c.self.view_is c.requires c.index.ensures c.in-Some.is in
-    sym (made_going f.processor f.number (space_of_call f.call) f.phase (c.self.invariant.flights c.args.actor c.in-Some.flight flies).going)
-    ∙ ap (λ x. (progress_by_flight (calls_at (running_of i).calls c.args.actor) x).made) (sym flies)
+    let flies = flight_read _ c.args.self.now i.spaces.items i.pool _ c.args.actor c.index.result.now c.in-Some.flight c.self.invariant.0 c.self.view_is c.requires c.index.ensures c.in-Some.is in
+    sym (made_going f.processor f.number (space_of_call f.call) f.call f.claimed f.phase (c.self.invariant.0.flights c.args.actor c.in-Some.flight flies).going)
+    ∙ ap (λ x. (progress_by_flight (calls_at (map (λ v. v.items) i.calls.items) c.args.actor) x).made) (sym flies)
     ∙ ap (λ r. (progress_of_actor r c.args.actor).made) c.self.view_is

@@ -1,71 +1,43 @@
-use Rattle.std.proofs.Common.{◌≡◌, ℕ, ◌%◌, length, map, slice_get, Some, refl, sym, ap, subst, ◌∙◌, arith}
-use Rattle.std.specs.List.{range_with_len}
-use Rattle.std.proofs.lemmas.List.FromFn.{length-map-range_with_len}
+use Rattle.std.proofs.Common.{◌≡◌, length, map, reverse, drop, ap, ◌∙◌, arith}
+use Rattle.std.proofs.lemmas.List.{length-reverse}
 use Rattle.std.proofs.Math.ListN.{length-map}
-use Rattle.pager_model.specs.FrameStates.{start_frames}
-use Rattle.pager_model.specs.Showing.{calls_of}
-use Rattle.space_core.specs.Standing.{Kept}
-use Rattle.pager_core.specs.Machines.{given_of, IsNew}
-use Rattle.pager_core.specs.Running.{first_flights}
-use Rattle.pager_core.proofs.Starting.{IsMachine-started, IsLawful-started, setting-start}
+use Rattle.pager_core.specs.Machines.{IsMachine}
+use Rattle.pager_core.specs.Running.{setting_over}
+use Rattle.pager_core.proofs.Starting.{IsMachine-started}
+use Rattle.pager_core.proofs.Stores.{as_long, same_reversed, turned_back}
+use Rattle.pager_core.proofs.machine.Machine.create.Given.{Over}
 use Rattle.pager_core.proofs.machine.Machine.create.Goals as goal
 
--- the parts are the trace's
-are : (c : goal.In_ok-pool) → map (λ v. v.items) c.in_ok-calls.calls.items ≡ map (λ k. calls_of k c.args.trace.now.calls) (range_with_len 0 c.args.trace.now.processors)
-are c =
-    c.in_ok-calls.ensures
-    ∙ ap (λ l. map (λ k. calls_of k l) (range_with_len 0 c.processors-processors.result)) c.calls-2.ensures.calls
-    ∙ ap (λ n. map (λ k. calls_of k c.args.trace.now.calls) (range_with_len 0 n)) c.processors-processors.ensures.processors
+given : (g : Over) (c : goal.In-Ok g) → c.in-Ok.parts.setting ≡ setting_over c.args.trace.now (map g.S.Store.seen c.args.stores.items)
+given g c = c.in-Ok.ensures.setting ∙ ap (setting_over c.args.trace.now) (turned_back g.S.Store.seen c.args.stores.items c.reverse.new.self.items c.reverse.ensures.items)
 
-given : (c : goal.In_ok-pool) → given_of c.frames-frames.result (length c.in_ok-calls.calls.items) (length c.in_ok-spaces.spaces.items) ≡ given_of c.args.trace.now.frames (length (map (λ v. v.items) c.in_ok-calls.calls.items)) (length c.in_ok-spaces.spaces.items)
-given c =
-    ap (λ n. given_of n (length c.in_ok-calls.calls.items) (length c.in_ok-spaces.spaces.items)) c.frames-frames.ensures.frames
-    ∙ ap (λ n. given_of c.args.trace.now.frames n (length c.in_ok-spaces.spaces.items)) (sym (length-map c.in_ok-calls.calls.items (λ v. v.items)))
-
-flights : (c : goal.In_ok-pool) → c.in_ok-flights.flights.items ≡ first_flights (map (λ v. v.items) c.in_ok-calls.calls.items)
-flights c = c.in_ok-flights.ensures ∙ ap (λ l. first_flights (map (λ v. v.items) l)) c.as_slice.ensures.value
-
-spaces : (c : goal.In_ok-pool) → (s : ℕ) (kept : Kept) → slice_get c.in_ok-spaces.spaces.items s ≡ Some kept → IsNew c.args.trace.now.frames s kept
-spaces c = λ s kept at. subst (λ n. IsNew n s kept) c.frames-frames.ensures.frames (c.in_ok-spaces.ensures.new s kept at)
+started : (g : Over) (c : goal.In-Ok g) → IsMachine (record { given = c.in-Ok.parts.setting; calls = map (λ v. v.items) c.in-Ok.parts.calls.items; flights = c.in-Ok.parts.flights.items; history = c.in-Ok.parts.history.items; unused = map g.S.Store.seen (reverse c.parts_of.new.stores.items) }) c.in-Ok.parts.spaces.items c.in-Ok.parts.pool c.in-Ok.parts.history.cap
+started g c =
+    let parts = c.in-Ok.ensures in
+    let many = length-map c.args.stores.items g.S.Store.seen in
+    IsMachine-started c.args.trace.now parts.text (map g.S.Store.seen c.args.stores.items) (omega (arith, many, c.requires.enough))
+    _ c.in-Ok.parts.spaces.items c.in-Ok.parts.pool _
+    (given g c) parts.calls parts.flights parts.history.0 parts.count parts.new parts.pool parts.history.1
 
 pub invariant_of-result : goal.invariant_of-result
-invariant_of-result c =
-    IsMachine-started c.args.trace.now c.frames-frames.ensures.text c.requires.can (map (λ v. v.items) c.in_ok-calls.calls.items) (are c)
-    c.in_ok-spaces.spaces.items (c.in_ok-spaces.ensures.count ∙ c.spaces.ensures.spaces) (spaces c)
-    _ c.in_ok-pool.pool _
-    (given c) refl (flights c) c.in_ok-history.ensures.items
-    (c.in_ok-pool.ensures ∙ ap (λ n. start_frames n c.processors-processors.result) c.frames-frames.ensures.frames ∙ ap (start_frames c.args.trace.now.frames) c.processors-processors.ensures.processors)
-    (let few = ap length c.calls.ensures.calls in omega (arith, few, c.in_ok-history.ensures.capacity))
+invariant_of-result g c =
+    let parts = c.in-Ok.ensures in
+    let old = ap length c.reverse.ensures.items in
+    let all = length-reverse c.args.stores.items in
+    let long = as_long g.S.Store.seen c.reverse.new.self.items c.parts_of.new.stores.items c.args.trace.now.spaces parts.left (omega (arith, old, all, c.requires.enough)) in
+    (started g c, omega (arith, long, parts.count, c.parts_of.ensures.capacity, c.parts_of.new.stores.ok.0, c.reverse.new.self.ok.0, c.reverse.new.self.ok.1))
 
-pub returns : goal.returns
-returns c = (
-  given c ∙ setting-start c.args.trace.now c.frames-frames.ensures.text c.requires.can (map (λ v. v.items) c.in_ok-calls.calls.items) (are c) c.in_ok-spaces.spaces.items (c.in_ok-spaces.ensures.count ∙ c.spaces.ensures.spaces) (spaces c),
-  c.in_ok-history.ensures.items,
-  are c,
-  flights c,
-  IsLawful-started c.args.trace.now c.frames-frames.ensures.text c.requires.can (map (λ v. v.items) c.in_ok-calls.calls.items) (are c)
-      c.in_ok-spaces.spaces.items (c.in_ok-spaces.ensures.count ∙ c.spaces.ensures.spaces) (spaces c)
-      _
-      (given c) refl (flights c) c.in_ok-history.ensures.items,
-)
+pub returns-in-Ok-clause-made : goal.returns-in-Ok-clause-made
+returns-in-Ok-clause-made g c =
+    let parts = c.in-Ok.ensures in
+    (given g c, parts.history.0, parts.calls, parts.flights, (started g c).lawful)
 
-pub first_of_each-requires : goal.first_of_each-requires
-first_of_each-requires c =
-    let trace = c.frames-frames.ensures.text in
-    let all = ap length c.in_ok-calls.ensures in
-    let vs = length-map c.in_ok-calls.calls.items (λ v. v.items) in
-    let n = length-map-range_with_len (λ k. calls_of k c.calls-2.result.now) 0 c.processors-processors.result in
-    let same = ap length c.as_slice.ensures.value in
-    omega (arith, all, vs, n, same, c.processors-processors.ensures.processors, trace.processors_in.1)
+pub returns-in-Ok-clause-unused : goal.returns-in-Ok-clause-unused
+returns-in-Ok-clause-unused g c =
+    c.in-Ok.ensures.left ∙ ap (drop c.args.trace.now.spaces) (turned_back g.S.Store.seen c.args.stores.items c.reverse.new.self.items c.reverse.ensures.items)
 
-pub spaces_of-requires : goal.spaces_of-requires
-spaces_of-requires c = (let trace = c.frames-frames.ensures.text in omega (arith, c.frames-frames.ensures.frames, trace.frames_in.1))
-
-pub create-requires-clause-whole : goal.create-requires-clause-whole
-create-requires-clause-whole c = ap (λ n. n % 512) c.frames-frames.ensures.frames ∙ c.frames-frames.ensures.text.frames_whole
-
-pub create-requires-clause-frames : goal.create-requires-clause-frames
-create-requires-clause-frames c = (let trace = c.frames-frames.ensures.text in omega (arith, c.frames-frames.ensures.frames, trace.frames_in.1))
-
-pub create-requires-clause-processors : goal.create-requires-clause-processors
-create-requires-clause-processors c = (let trace = c.frames-frames.ensures.text in omega (arith, c.processors-processors.ensures.processors, trace.processors_in.1))
+pub returns-in-Err-clause-back : goal.returns-in-Err-clause-back
+returns-in-Err-clause-back g c =
+    ap (map g.S.Store.seen) c.reverse-in-Err.ensures.items
+    ∙ same_reversed g.S.Store.seen c.parts_of.new.stores.items c.reverse.new.self.items c.in-Err.ensures.back
+    ∙ turned_back g.S.Store.seen c.args.stores.items c.reverse.new.self.items c.reverse.ensures.items

@@ -1,0 +1,78 @@
+-- A call evicts its page.
+use Rattle.std.proofs.Common.{◌≡◌, ℕ, Bool, true, false, Some, refl, ap, sym, subst, ◌∙◌, arith}
+use Rattle.pager_model.specs.declared.call.Call.TheVariants.{Evict as EvictCall}
+use Rattle.pager_model.specs.declared.entry.Entry.{Entry}
+use Rattle.pager_model.specs.declared.entry.What.TheVariants.{Answer}
+use Rattle.pager_model.specs.declared.reply.Answered.{Answered}
+use Rattle.pager_model.specs.Flat.{space_of_call}
+use Rattle.pager_model.specs.FrameStates.{FrameState, AllowsAnswer, counted, frame_of, give_page, moved_by_answer}
+use Rattle.pager_model.specs.Order.{Idle, may_answer}
+use Rattle.pager_model.specs.SpaceStates.{SpaceState, MayGoOn, WhatAllowed, space_after}
+use Rattle.space_core.specs.Beginning.{BeginsEvicting, Evicts, copied_reply}
+use Rattle.space_core.specs.Standing.{Kept, StandsFor, dirty_at}
+use Rattle.pager_core.specs.declared.flight.Flight.{Flight}
+use Rattle.pager_core.specs.declared.flight.Phase.TheVariants.{Start, Evict, Ended}
+use Rattle.pager_core.specs.Flights.{IsReady}
+use Rattle.pager_core.specs.Steps.{AreAgreed, Makes, Passes}
+use Rattle.pager_core.proofs.Answering.{in_phase, by_phase, Some-same, ending, Makes-ending}
+
+-- Start: the page is equal to its copy, and gives its frame up next
+Passes-evicting : (f : Flight) (page : ℕ) (written : Bool) (was now : Kept) (st : SpaceState) → IsReady (in_phase f Start) was st → BeginsEvicting was now f.call page written → Passes (in_phase f Start) (in_phase f (Evict page)) was now st
+Passes-evicting f page written was now st ready begins = record {
+  same_call = record { processor = refl; number = refl; call = refl };
+  same_space = begins.same.same.number;
+  same_count = begins.same.same.frames;
+  same_frames = begins.same.frame;
+  keeps = ready.under;
+  ready = record {
+    under = on_now;
+    fits = record { can = ready.fits.can; phase = tt };
+    stands = begins.stands st ready.stands;
+    next = ready.next;
+    found = record {
+      is_evict = begins.is_evict.1 ∙ ap (λ s. EvictCall s page) (sym (ap space_of_call begins.is_evict.1) ∙ Some-same _ _ on_now);
+      evicting = begins.evicting;
+    };
+  };
+  same_progress = refl;
+  no_reply = refl;
+  no_more = omega arith;
+}
+  where
+    on_now : Some (space_of_call f.call) ≡ Some now.number
+    on_now = ready.under ∙ ap Some (sym begins.same.same.number)
+
+pub begin_evicting : (f : Flight) (page : ℕ) (written : Bool) (was now : Kept) → f.phase ≡ Start → BeginsEvicting was now f.call page written → (st : SpaceState) → IsReady f was st → Passes f (in_phase f (Evict page)) was now st
+begin_evicting f page written was now phase begins st =
+    by_phase f Start phase (λ g. IsReady g was st → Passes g (in_phase f (Evict page)) was now st)
+    (λ ready. Passes-evicting f page written was now st ready begins)
+
+-- a page that was written, or was clean, is the answer alone
+copied_alone : (space page : ℕ) (written : Bool) → may_answer Idle (EvictCall space page) (copied_reply written) ≡ true
+copied_alone space page true = refl
+copied_alone space page false = refl
+
+-- Evict: the page gives its frame up, and the call is answered
+module _ (f : Flight) (page frame : ℕ) (a : Answered) (was now : Kept) (st : SpaceState) (before : FrameState) where
+  Makes-evict :
+      IsReady (in_phase f (Evict page)) was st → AreAgreed was before → Evicts was now page frame a
+      → Makes (in_phase f (Evict page)) (in_phase f (Ended a.reply)) was now st before (counted (give_page before (space_of_call f.call) page)) (ending f a true)
+  Makes-evict ready agree evicts =
+      let own : f.call ≡ EvictCall was.number page = ready.found.is_evict in
+      let on : space_of_call f.call ≡ was.number = Some-same _ _ ready.under in
+      Makes-ending (in_phase f (Evict page)) a was now st true ready.fits.can on evicts.gave.same.number evicts.gave.same.frames evicts.resting
+      (subst (λ next. MayGoOn next f.processor (Answer f.number f.call a)) (sym ready.next) tt)
+      (subst (λ k. WhatAllowed st true f.processor (Answer f.number k a)) (sym own) (evicts.allowed st ready.stands f.processor f.number))
+      (subst (λ k. StandsFor now (space_after st (let e : Entry = record { processor = f.processor; space = Some was.number; frames = true; what = Answer f.number k a } in e))) (sym own)
+      (evicts.stands st ready.stands f.processor f.number))
+      refl
+      (subst (λ k. may_answer Idle k a.reply ≡ true) (sym own) (subst (λ r. may_answer Idle (EvictCall was.number page) r ≡ true) (sym evicts.replied) (copied_alone was.number page (dirty_at was page))))
+      (omega arith)
+      before (counted (give_page before (space_of_call f.call) page))
+      (λ named. subst (AllowsAnswer before (space_of_call f.call)) (sym own) (frame, ap (λ s. frame_of before s page) on ∙ sym (agree.pages page) ∙ evicts.gave.had))
+      (ap (λ k. counted (moved_by_answer before (space_of_call f.call) k)) (sym own))
+
+pub page_evicted : (f : Flight) (page frame : ℕ) (a : Answered) (was now : Kept) (before : FrameState) → f.phase ≡ Evict page → AreAgreed was before → Evicts was now page frame a → (st : SpaceState) → IsReady f was st → Makes f (in_phase f (Ended a.reply)) was now st before (counted (give_page before (space_of_call f.call) page)) (ending f a true)
+page_evicted f page frame a was now before phase agree evicts st =
+    by_phase f (Evict page) phase (λ g. IsReady g was st → Makes g (in_phase f (Ended a.reply)) was now st before (counted (give_page before (space_of_call f.call) page)) (ending f a true))
+    (λ ready. Makes-evict f page frame a was now st before ready agree evicts)

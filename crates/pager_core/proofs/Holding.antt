@@ -1,0 +1,100 @@
+-- A held frame is used for the page that it was claimed for.
+use Rattle.std.proofs.Common.{◌≡◌, ℕ, ◌<◌, true, length, Some, None, refl, ap, sym, subst, ◌∙◌, arith}
+use Rattle.std.specs.Option.{IsSomeAnd}
+use Rattle.std.proofs.lemmas.Bool.{and_from, eq-eqb, false≢true}
+use Rattle.frame_pool.specs.declared.pool.Victim.{Victim as Claimed}
+use Rattle.frame_pool.specs.Laid.{IsSound}
+use Rattle.frame_pool.proofs.PagePlaces.{frame_in-found}
+use Rattle.frame_pool.proofs.StateSoundness.{Takes, Takes-take_frame, IsSound-dropped, frame_of-dropped}
+use Rattle.pager_model.specs.declared.entry.Entry.{Entry}
+use Rattle.pager_model.specs.declared.entry.Want.{Want}
+use Rattle.pager_model.specs.declared.entry.What.TheVariants.{UseHeld}
+use Rattle.pager_model.specs.Agreement.{OwnsBy}
+use Rattle.pager_model.specs.Flat.{space_of_call}
+use Rattle.pager_model.specs.FrameStates.{FrameState, Taking, layout_of, held_by, frame_of, take_frame, state_taken, dropped, counted}
+use Rattle.pager_model.specs.Order.{Filling, leads}
+use Rattle.pager_model.specs.Regions.{wanted}
+use Rattle.pager_model.specs.SpaceStates.{SpaceState, MayGoOn, space_after}
+use Rattle.space_core.specs.Beginning.{Places}
+use Rattle.space_core.specs.Standing.{Kept, StandsFor, frame_at, take_entry}
+use Rattle.pager_core.specs.declared.flight.Flight.{Flight}
+use Rattle.pager_core.specs.declared.flight.Phase.TheVariants.{Use, Fill}
+use Rattle.pager_core.specs.Flights.{IsReady, WantsFrame}
+use Rattle.pager_core.specs.Rows.{row_of, access_of, page_or_zero}
+use Rattle.pager_core.specs.Steps.{AreAgreed, Makes}
+use Rattle.pager_core.proofs.Answering.{in_phase, by_phase, Some-same}
+use Rattle.pager_core.proofs.Taking.{IsReady-placed, after_own}
+
+-- what stands where a held frame is used: the page of the call's own space lacks a frame
+pub wants_still : (f : Flight) (page : ℕ) (want : Want) (v : Claimed) (kept : Kept) (st : SpaceState) → f.phase ≡ Use page want v → IsReady f kept st → (space_of_call f.call ≡ kept.number) × WantsFrame f.call kept page want
+wants_still f page want v kept st phase =
+    by_phase f (Use page want v) phase (λ g. IsReady g kept st → (space_of_call g.call ≡ kept.number) × WantsFrame g.call kept page want) (λ ready. (Some-same _ _ ready.under, ready.found))
+
+-- A frame that is taken for a page without one, once a held frame is free, is a known one that no page has.
+module _ (kept : Kept) (st : FrameState) (c space page : ℕ) (want : Want) (t : Taking) (agree : AreAgreed kept st) (on : space ≡ kept.number) (absent : frame_at kept page ≡ None) (takes : take_frame (dropped st c) space page want ≡ Some t) where
+  free_sound : IsSound kept.frames (length st.held) (dropped st c)
+  free_sound = IsSound-dropped kept.frames (length st.held) st c agree.sound
+
+  takes_free : Takes (dropped st c) space page t
+  takes_free =
+      Takes-take_frame kept.frames (length st.held) (dropped st c) space page want t free_sound
+      (frame_of-dropped kept.frames (length st.held) st c space page agree.sound ∙ ap (λ s. frame_of st s page) on ∙ sym (agree.pages page) ∙ absent) takes
+
+  pub taken_known : t.frame < kept.frames
+  taken_known = subst (λ n. t.frame < n) free_sound.known takes_free.places.known
+
+  pub taken_elsewhere : (p : ℕ) → frame_at kept p ≡ Some t.frame → ⊥
+  taken_elsewhere p is =
+      let place = frame_in-found (layout_of (dropped st c)) kept.number p t.frame (frame_of-dropped kept.frames (length st.held) st c kept.number p agree.sound ∙ sym (agree.pages p) ∙ is) in
+      false≢true (sym takes_free.places.was_unused ∙ place.used)
+
+abbrev pub use_entry : ℕ → ℕ → ℕ → ℕ → Want → Entry
+use_entry c space page frame want = record { processor = c; space = Some space; frames = true; what = UseHeld page frame want }
+
+-- Use: the page gets the frame that is taken once the held one is free
+module _ (f : Flight) (page : ℕ) (want : Want) (v : Claimed) (was now : Kept) (before : FrameState) (t : Taking) where
+  Makes-use :
+      (st : SpaceState) → IsReady (in_phase f (Use page want v)) was st → AreAgreed was before → held_by before f.processor ≡ Some v.frame
+      → take_frame (dropped before f.processor) (space_of_call f.call) page want ≡ Some t → Places was now page t.frame
+      → Makes (in_phase f (Use page want v)) (in_phase f (Fill page t.frame)) was now st before (counted t.state) (use_entry f.processor (space_of_call f.call) page t.frame want)
+  Makes-use st ready agree holds takes places = record {
+    same_call = record { processor = refl; number = refl; call = refl };
+    same_space = places.same.number;
+    same_count = places.same.frames;
+    processor = refl;
+    parts = ((space_of_call f.call, refl), refl);
+    own_space = on;
+    space_allows = (
+      subst (λ next. MayGoOn next f.processor (UseHeld page t.frame want)) (sym ready.next) tt,
+      (ap (λ rs. wanted rs page) ready.stands.beside.regions ∙ ready.found.wanted, ready.stands.base page ∙ ready.found.lacks.absent),
+    );
+    frames_allow = λ named. (
+      ap (λ s. frame_of before s page) on ∙ sym (agree.pages page) ∙ ready.found.lacks.absent,
+      (v.frame, holds),
+      subst (λ o. IsSomeAnd o (λ (u : Taking). u.frame ≡ t.frame)) (sym takes) refl,
+    );
+    frames_after = ap (λ o. counted (state_taken (dropped before f.processor) o)) (sym takes);
+    in_order = ap (λ b. leads b f.number (Filling (access_of f.call f.claimed) t.frame))
+        (and_from _ _ (eq-eqb (space_of_call f.call) (space_of_call f.call) refl) (eq-eqb page _ (ap page_or_zero (sym ready.found.lacks.lawful.page_is))));
+    reply = refl;
+    answer = refl;
+    left = (on ∙ sym places.same.number, subst (IsReady (in_phase f (Fill page t.frame)) now) (sym (after_own (space_of_call f.call) was.number st (use_entry f.processor (space_of_call f.call) page t.frame want) refl on)) next);
+    between = refl;
+    fewer = omega arith;
+  }
+    where
+      on : space_of_call f.call ≡ was.number
+      on = Some-same _ _ ready.under
+
+      -- the space is left as a taking leaves it
+      next : IsReady (in_phase f (Fill page t.frame)) now (space_after st (use_entry f.processor (space_of_call f.call) page t.frame want))
+      next = IsReady-placed f page t.frame want was now (space_after st (use_entry f.processor (space_of_call f.call) page t.frame want)) ready.fits.can on ready.found places
+          (subst (λ n. StandsFor now (space_after st (take_entry f.processor n page t.frame want))) (sym on) (places.stands st f.processor want ready.stands)) refl
+
+pub held_used : (f : Flight) (page own frame : ℕ) (want : Want) (v : Claimed) (was now : Kept) (before after : FrameState) (t : Taking) → f.phase ≡ Use page want v → own ≡ space_of_call f.call → frame ≡ t.frame → AreAgreed was before → OwnsBy before f.processor (row_of f).progress.doing → take_frame (dropped before f.processor) own page want ≡ Some t → after ≡ counted t.state → Places was now page t.frame → (st : SpaceState) → IsReady f was st → Makes f (in_phase f (Fill page frame)) was now st before after (use_entry f.processor own page frame want)
+held_used f page own frame want v was now before after t phase same numbered agree owns takes counts places st =
+    subst (λ n. IsReady f was st → Makes f (in_phase f (Fill page n)) was now st before after (use_entry f.processor own page n want)) (sym numbered)
+    (subst (λ u. IsReady f was st → Makes f (in_phase f (Fill page t.frame)) was now st before u (use_entry f.processor own page t.frame want)) (sym counts)
+    (subst (λ s. IsReady f was st → Makes f (in_phase f (Fill page t.frame)) was now st before (counted t.state) (use_entry f.processor s page t.frame want)) (sym same)
+    (by_phase f (Use page want v) phase (λ g. OwnsBy before f.processor (row_of g).progress.doing → IsReady g was st → Makes g (in_phase f (Fill page t.frame)) was now st before (counted t.state) (use_entry f.processor (space_of_call f.call) page t.frame want))
+    (λ holds ready. Makes-use f page want v was now before t st ready agree holds (ap (λ s. take_frame (dropped before f.processor) s page want) (sym same) ∙ takes) places) owns)))

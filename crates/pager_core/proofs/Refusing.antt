@@ -1,0 +1,190 @@
+-- A call that can't be served is answered so: no frame could be had, a store failed, or there was no memory.
+use Rattle.std.proofs.Common.{◌≡◌, ℕ, ◌<◌, ◌≤◌, Bool, true, false, ◌&&◌, is_some, Option, Some, None, refl, ap, sym, subst, ◌∙◌, inl, inr, arith}
+use Rattle.std.specs.Option.{IsSome}
+use Rattle.std.proofs.lemmas.Bool.{cond-true, cond-false, and_from, and_parts, eq-eqb, not-true, false≢true, true≢false}
+use Rattle.pager_model.specs.declared.call.Call.{Call}
+use Rattle.pager_model.specs.declared.call.Call.TheVariants.{Load, Store, Sync, Evict}
+use Rattle.pager_model.specs.declared.entry.What.TheVariants.{Answer}
+use Rattle.pager_model.specs.declared.region.Region.{Region}
+use Rattle.pager_model.specs.declared.reply.Answered.{Answered}
+use Rattle.pager_model.specs.declared.reply.Reply.{Reply}
+use Rattle.pager_model.specs.declared.reply.Reply.TheVariants.{Done, Value, Written, NoFrames, StoreFault, NoMemory}
+use Rattle.pager_model.specs.Flat.{Flat, access_reply, evict_reply, sync_reply, can_read, can_write, is_lawful, page_of, reply_of, space_of_call, word_of}
+use Rattle.pager_model.specs.FrameStates.{FrameState}
+use Rattle.pager_model.specs.Order.{is_access, may_answer}
+use Rattle.pager_model.specs.Regions.{is_wired, region_at}
+use Rattle.pager_model.specs.SpaceStates.{SpaceState, LacksItsPage, MayFail, MayGoOn, ReplyAllowed, answered_flat, base_after_answer, frees_its_page, said_at, space_after}
+use Rattle.space_core.specs.Standing.{Kept, IsCopy, IsResting, MustWrite, StandsBeside, StandsFor, answer_entry, copied_page, is_allowed, is_in, is_unwired, rights_at}
+use Rattle.store_core.specs.Stored.{copy_at}
+use Rattle.pager_core.specs.declared.flight.Flight.{Flight}
+use Rattle.pager_core.specs.declared.flight.Phase.{Phase}
+use Rattle.pager_core.specs.declared.flight.Phase.TheVariants.{Short, Fault, Lack, Ended}
+use Rattle.pager_core.specs.Flights.{IsReady}
+use Rattle.pager_core.specs.Rows.{row_of, faulted}
+use Rattle.pager_core.specs.Steps.{Makes, Refuses}
+use Rattle.pager_core.proofs.Answering.{in_phase, by_phase, Makes-answer, Some-same, is_access_by_page, is_access_of}
+
+-- What such an answer does: nothing.
+
+-- an answer that isn't lawful says no word
+said-none : (p i : ℕ) (call : Call) (reply : Reply) (before : Option ℕ) → is_lawful reply ≡ false → said_at p i call reply before ≡ before
+said-none p i (Load space address) (Value word) before is = absurd (true≢false is)
+said-none p i (Store space address word) Done before is = absurd (true≢false is)
+said-none p i call reply before is = refl
+
+-- one that doesn't name the frames moves no page
+base-unnamed : (base : ℕ → Option ℕ) (call : Call) (p : ℕ) → base_after_answer base false call p ≡ base p
+base-unnamed base (Evict space page) p = refl
+base-unnamed base call p = refl
+
+-- and one that isn't lawful frees none
+frees-none : (st : SpaceState) (call : Call) (reply : Reply) → is_lawful reply ≡ false → false ≡ frees_its_page st call reply
+frees-none st (Evict space page) reply is = ap (λ b. b && is_some (st.base page)) (sym is)
+frees-none st call reply is = refl
+
+-- a space stands for a state with the same flat memory and pages, of which no more was said
+StandsFor-same : (kept : Kept) (st after : SpaceState) → StandsFor kept st → after.flat ≡ st.flat → ((p : ℕ) → after.base p ≡ st.base p) → after.told ≡ st.told → ((p i : ℕ) → after.tied p i ≡ st.tied p i) → after.highest ≡ st.highest → StandsFor kept after
+StandsFor-same kept st after stands flat base told tied highest = record {
+  beside = record {
+    regions = ap (λ (m : Flat). m.regions) flat ∙ beside.regions;
+    rights = λ page has. ap (λ (m : Flat). m.rights page) flat ∙ beside.rights page has;
+    dirty = λ page out. ap (λ (m : Flat). m.dirty page) flat ∙ beside.dirty page out;
+    told = λ is. (let tells = beside.told (sym told ∙ is) in record {
+      tells = tells.tells;
+      words = λ page i out. ap (λ (m : Flat). m.words page i) flat ∙ tells.words page i out;
+      copies = λ page out rests. subst (λ (m : Flat). IsCopy (m.copies page) (copy_at kept.store page)) (sym flat) (tells.copies page out rests);
+      copied = tells.copied;
+    });
+    tied = λ page i word is. beside.tied page i word (sym (tied page i) ∙ is);
+    untied = λ page i is. tied page i ∙ beside.untied page i is;
+    highest = subst (λ n. n ≤ kept.store.faults) (sym highest) beside.highest;
+  };
+  base = λ page. base page ∙ stands.base page;
+}
+  where
+    beside : StandsBeside (is_in kept.clearing) kept st
+    beside = stands.beside
+
+-- an answer with no more to it than its reply
+abbrev pub refusal : Reply → Answered
+refusal reply = record { reply = reply; hit = false; size = None }
+
+module _ (f : Flight) (phase : Phase) (reply : Reply) (kept : Kept) (st : SpaceState) where
+  Makes-refusal :
+      IsReady (in_phase f phase) kept st → space_of_call f.call ≡ kept.number → IsResting kept
+      → MayGoOn (row_of (in_phase f phase)).next f.processor (Answer f.number f.call (refusal reply))
+      → is_lawful reply ≡ false → answered_flat st.flat f.call reply ≡ st.flat → ReplyAllowed st f.processor f.call reply
+      → (row_of (in_phase f phase)).progress.made ≡ f.number
+      → may_answer (row_of (in_phase f phase)).progress.doing f.call reply ≡ true
+      → 0 < (row_of (in_phase f phase)).entries
+      → (frames : FrameState) → Makes (in_phase f phase) (in_phase f (Ended reply)) kept kept st frames frames (answer_entry f.processor f.number f.call (refusal reply))
+  Makes-refusal ready on resting goes_on unlawful same allowed made may some =
+      Makes-answer (in_phase f phase) (refusal reply) kept kept st ready.fits.can on refl refl resting
+      (subst (λ next. MayGoOn next f.processor (Answer f.number f.call (refusal reply))) (sym ready.next) goes_on)
+      (record { reply = allowed; parts = frees-none st f.call reply unlawful; hit = refl; size = refl })
+      (StandsFor-same kept st (space_after st (answer_entry f.processor f.number f.call (refusal reply))) ready.stands same (base-unnamed st.base f.call) refl (λ p i. said-none p i f.call reply (st.tied p i) unlawful) refl)
+      made may some
+
+-- No frame could be had.
+
+-- an access to a page with a region and the right is lawful
+lawful-access : (region : Option Region) (allowed : Bool) (reply : Reply) → is_some region ≡ true → allowed ≡ true → is_lawful reply ≡ true → is_lawful (access_reply region allowed reply) ≡ true
+lawful-access None allowed reply has may is = absurd (false≢true has)
+lawful-access (Some r) false reply has may is = absurd (false≢true may)
+lawful-access (Some r) true reply has may is = is
+
+-- so one that the space allows is, for every state that it stands for
+pub lawful-allowed : (kept : Kept) (st : SpaceState) (call : Call) → StandsFor kept st → is_allowed kept call ≡ true → is_lawful (reply_of st.flat call) ≡ true
+lawful-allowed kept st (Load space address) stands is =
+    let parts = and_parts (is_some (region_at kept.regions (page_of address))) (can_read (rights_at kept (page_of address))) is in
+    lawful-access (region_at st.flat.regions (page_of address)) (can_read (st.flat.rights (page_of address))) (Value (st.flat.words (page_of address) (word_of address)))
+    (ap (λ rs. is_some (region_at rs (page_of address))) stands.beside.regions ∙ parts.0)
+    (ap can_read (stands.beside.rights (page_of address) parts.0) ∙ parts.1) refl
+lawful-allowed kept st (Store space address word) stands is =
+    let parts = and_parts (is_some (region_at kept.regions (page_of address))) (can_write (rights_at kept (page_of address))) is in
+    lawful-access (region_at st.flat.regions (page_of address)) (can_write (st.flat.rights (page_of address))) Done
+    (ap (λ rs. is_some (region_at rs (page_of address))) stands.beside.regions ∙ parts.0)
+    (ap can_write (stands.beside.rights (page_of address) parts.0) ∙ parts.1) refl
+lawful-allowed kept st call stands is = absurd (false≢true is)
+
+Makes-no_frames : (f : Flight) (wired claimed held : ℕ) (kept : Kept) (st : SpaceState) → IsReady (in_phase f (Short wired claimed held)) kept st → (frames : FrameState) → Makes (in_phase f (Short wired claimed held)) (in_phase f (Ended (NoFrames wired claimed held))) kept kept st frames frames (answer_entry f.processor f.number f.call (refusal (NoFrames wired claimed held)))
+Makes-no_frames f wired claimed held kept st ready =
+    let page = ready.found.0 in
+    let lacks = ready.found.1 in
+    Makes-refusal f (Short wired claimed held) (NoFrames wired claimed held) kept st ready (Some-same _ _ ready.under) lacks.resting tt refl refl
+    (lawful-allowed kept st f.call ready.stands lacks.lawful.allowed, subst (LacksItsPage st.base) (sym lacks.lawful.page_is) (ready.stands.base page ∙ lacks.absent))
+    refl
+    (and_from _ _ (is_access_by_page f.call page lacks.lawful.page_is) (and_from _ _ (eq-eqb wired wired refl) (and_from _ _ (eq-eqb claimed claimed refl) (eq-eqb held held refl))))
+    (omega arith)
+
+-- A store failed.
+
+-- a load or a store may meet it
+MayFail-access : (st : SpaceState) (call : Call) → is_access call ≡ true → MayFail st call
+MayFail-access st (Load space address) is = tt
+MayFail-access st (Store space address word) is = tt
+MayFail-access st call is = absurd (false≢true is)
+
+-- a sync and an evict of a dirty page are written
+sync_written : (region : Option Region) (dirty : Bool) → is_some region ≡ true → dirty ≡ true → sync_reply region dirty ≡ Written
+sync_written None dirty has is = absurd (false≢true has)
+sync_written (Some r) false has is = absurd (false≢true is)
+sync_written (Some r) true has is = refl
+
+evict_written : (region : Option Region) (dirty : Bool) → is_unwired region ≡ true → dirty ≡ true → evict_reply region dirty ≡ Written
+evict_written None dirty unwired is = absurd (false≢true unwired)
+evict_written (Some r) dirty unwired is = cond-false _ _ _ (not-true (is_wired r.kind) unwired) ∙ cond-true dirty _ _ is
+
+-- so they may meet it where they have to write their page
+MayFail-copying : (kept : Kept) (st : SpaceState) (call : Call) → StandsFor kept st → IsResting kept → IsSome (copied_page call) → ((page : ℕ) → copied_page call ≡ Some page → MustWrite kept call page) → MayFail st call
+MayFail-copying kept st (Sync space page) stands resting is must =
+    let here = must page refl in
+    sync_written (region_at st.flat.regions page) (st.flat.dirty page)
+    (ap (λ rs. is_some (region_at rs page)) stands.beside.regions ∙ here.may)
+    (stands.beside.dirty page (ap (λ o. is_in o page) resting.none_clearing) ∙ here.dirty)
+MayFail-copying kept st (Evict space page) stands resting is must =
+    let here = must page refl in
+    evict_written (region_at st.flat.regions page) (st.flat.dirty page)
+    (ap (λ rs. is_unwired (region_at rs page)) stands.beside.regions ∙ here.may)
+    (stands.beside.dirty page (ap (λ o. is_in o page) resting.none_clearing) ∙ here.dirty)
+MayFail-copying kept st call stands resting is must = absurd (false≢true is)
+
+-- and it is their answer: to an access, wherever it failed
+may_fault-access : (call : Call) (claimed : Bool) (space count : ℕ) → is_access call ≡ true → may_answer (faulted call claimed space count (copied_page call)) call (StoreFault space count) ≡ true
+may_fault-access (Load s address) claimed space count is = and_from _ _ (is_access_of (Load s address) claimed is) (and_from _ _ (eq-eqb space space refl) (eq-eqb count count refl))
+may_fault-access (Store s address word) claimed space count is = and_from _ _ (is_access_of (Store s address word) claimed is) (and_from _ _ (eq-eqb space space refl) (eq-eqb count count refl))
+may_fault-access call claimed space count is = absurd (false≢true is)
+
+-- and to the others in their own space
+may_fault-copying : (call : Call) (claimed : Bool) (space count : ℕ) → space ≡ space_of_call call → IsSome (copied_page call) → may_answer (faulted call claimed space count (copied_page call)) call (StoreFault space count) ≡ true
+may_fault-copying (Sync s page) claimed space count same is = and_from _ _ (and_from _ _ (eq-eqb s space (sym same)) (eq-eqb page page refl)) (and_from _ _ (eq-eqb space space refl) (eq-eqb count count refl))
+may_fault-copying (Evict s page) claimed space count same is = and_from _ _ (and_from _ _ (eq-eqb s space (sym same)) (eq-eqb page page refl)) (and_from _ _ (eq-eqb space space refl) (eq-eqb count count refl))
+may_fault-copying call claimed space count same is = absurd (false≢true is)
+
+Makes-fault : (f : Flight) (space count : ℕ) (kept : Kept) (st : SpaceState) → IsReady (in_phase f (Fault space count)) kept st → (frames : FrameState) → Makes (in_phase f (Fault space count)) (in_phase f (Ended (StoreFault space count))) kept kept st frames frames (answer_entry f.processor f.number f.call (refusal (StoreFault space count)))
+Makes-fault f space count kept st ready =
+    let found = ready.found in
+    let meets : MayFail st f.call × (may_answer (faulted f.call f.claimed space count (copied_page f.call)) f.call (StoreFault space count) ≡ true) = elim ready.fits.phase [
+      | inl own ↦ (MayFail-copying kept st f.call ready.stands found.resting own.1 found.must, may_fault-copying f.call f.claimed space count own.0 own.1)
+      | inr access ↦ (MayFail-access st f.call access, may_fault-access f.call f.claimed space count access)
+    ] in
+    Makes-refusal f (Fault space count) (StoreFault space count) kept st ready (Some-same _ _ ready.under) found.resting tt refl refl meets.0 refl meets.1 (omega arith)
+
+-- There was no memory.
+Makes-no_memory : (f : Flight) (space : ℕ) (kept : Kept) (st : SpaceState) → IsReady (in_phase f (Lack space)) kept st → (frames : FrameState) → Makes (in_phase f (Lack space)) (in_phase f (Ended NoMemory)) kept kept st frames frames (answer_entry f.processor f.number f.call (refusal NoMemory))
+Makes-no_memory f space kept st ready =
+    Makes-refusal f (Lack space) NoMemory kept st ready (Some-same _ _ ready.under) ready.found tt refl refl
+    (MayFail-access st f.call ready.fits.phase) refl (and_from _ _ (is_access_of f.call f.claimed ready.fits.phase) refl) (omega arith)
+
+-- A flight that can't be served answers so.
+pub refused : (f : Flight) (reply : Reply) → Refuses f reply → (kept : Kept) (st : SpaceState) (frames : FrameState) → IsReady f kept st → Makes f (in_phase f (Ended reply)) kept kept st frames frames (answer_entry f.processor f.number f.call (refusal reply))
+refused f (NoFrames wired claimed held) phase = λ kept st frames.
+    by_phase f (Short wired claimed held) phase (λ g. IsReady g kept st → Makes g (in_phase f (Ended (NoFrames wired claimed held))) kept kept st frames frames (answer_entry f.processor f.number f.call (refusal (NoFrames wired claimed held))))
+    (λ ready. Makes-no_frames f wired claimed held kept st ready frames)
+refused f (StoreFault space count) phase = λ kept st frames.
+    by_phase f (Fault space count) phase (λ g. IsReady g kept st → Makes g (in_phase f (Ended (StoreFault space count))) kept kept st frames frames (answer_entry f.processor f.number f.call (refusal (StoreFault space count))))
+    (λ ready. Makes-fault f space count kept st ready frames)
+refused f NoMemory phase = λ kept st frames.
+    by_phase f (Lack phase.0) phase.1 (λ g. IsReady g kept st → Makes g (in_phase f (Ended NoMemory)) kept kept st frames frames (answer_entry f.processor f.number f.call (refusal NoMemory)))
+    (λ ready. Makes-no_memory f phase.0 kept st ready frames)
+refused f reply phase = absurd phase

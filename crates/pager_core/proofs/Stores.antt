@@ -1,0 +1,154 @@
+-- The stores of the spaces of a run: their order, what was told of them at the start, and what holds of them when the run ended.
+use Rattle.std.proofs.Common.{◌≡◌, ℕ, zero, suc, ◌+◌, ◌<◌, ◌≤◌, Bool, true, false, List, [], ◌∷◌, ◌++◌, length, map, reverse, drop, take, get_or, slice_get, fold, Some, None, refl, ap, sym, subst, ◌∙◌, inl, inr, option_map, replicate, arith}
+use Rattle.std.proofs.lemmas.Grind.{reverse_onto}
+use Rattle.std.proofs.lemmas.List.{append-nil, length-drop, length-reverse, reverse-reverse, reverse-append, map_push}
+use Rattle.std.proofs.lemmas.Option.{slice_get_within}
+use Rattle.std.proofs.Math.ListN.{length-map}
+use Rattle.std.proofs.Math.Seq.{take-append_seam, drop-append_seam}
+use Rattle.pager_model.specs.declared.entry.Entry.{Entry}
+use Rattle.pager_model.specs.Entries.{space_part}
+use Rattle.pager_model.specs.FrameStates.{FrameState}
+use Rattle.pager_model.specs.Legal.{space_at, entries_in}
+use Rattle.pager_model.specs.Plans.{Plan}
+use Rattle.pager_model.specs.Settings.{Given, is_told, faults_at_entry}
+use Rattle.pager_model.specs.Showing.{daemon_marks}
+use Rattle.pager_model.specs.SpaceStates.{SpaceState, empty_state, space_after}
+use Rattle.pager_model.specs.TraceText.{HasText}
+use Rattle.space_core.specs.Standing.{Kept, is_in, is_page}
+use Rattle.store_core.specs.Stored.{Stored, TellsZero}
+use Rattle.pager_core.specs.Machines.{IsNew, IsMachine}
+use Rattle.pager_core.specs.Running.{Running, setting_over, HasEnded, EndsWith, StoresEnd}
+use Rattle.pager_core.proofs.Lists.{slice_get-push}
+
+-- Their order.
+
+map-reverse : {X Y : Type 0} (f : X → Y) (xs : List X) → map f (reverse xs) ≡ reverse (map f xs)
+map-reverse f [] = refl
+map-reverse f (x ∷ xs) = ap (map f) (reverse_onto xs x []) ∙ map_push f (reverse xs) x ∙ ap (λ l. l ++ f x ∷ []) (map-reverse f xs) ∙ sym (reverse_onto (map f xs) (f x) [])
+
+-- stores that stand behind others, last first, come before them in their order
+pub in_order : {P : Type 0} (seen : P → Stored) (others all : List P) (own : List Stored) → map seen all ≡ map seen others ++ reverse own → map seen (reverse all) ≡ own ++ map seen (reverse others)
+in_order seen others all own behind =
+    map-reverse seen all
+    ∙ ap reverse behind
+    ∙ reverse-append (map seen others) (reverse own)
+    ∙ ap (λ l. l ++ reverse (map seen others)) (reverse-reverse own)
+    ∙ ap (λ l. own ++ l) (sym (map-reverse seen others))
+
+pub same_reversed : {P : Type 0} (seen : P → Stored) (xs ys : List P) → map seen xs ≡ map seen ys → map seen (reverse xs) ≡ map seen (reverse ys)
+same_reversed seen xs ys same = map-reverse seen xs ∙ ap reverse same ∙ sym (map-reverse seen ys)
+
+pub turned_back : {P : Type 0} (seen : P → Stored) (xs ys : List P) → ys ≡ reverse xs → map seen (reverse ys) ≡ map seen xs
+turned_back seen xs ys turned = ap (λ l. map seen (reverse l)) turned ∙ ap (map seen) (reverse-reverse xs)
+
+-- where all but some are left, there was room for those
+pub as_long : {P : Type 0} (seen : P → Stored) (old new : List P) (n : ℕ) → map seen (reverse new) ≡ drop n (map seen (reverse old)) → n ≤ length old → length new + n ≡ length old
+as_long seen old new n left enough =
+    let same = ap length left in
+    let before = length-map (reverse old) seen in
+    let after = length-map (reverse new) seen in
+    let dropped = length-drop n (map seen (reverse old)) in
+    let old_long = length-reverse old in
+    let new_long = length-reverse new in
+    omega (arith, same, before, after, dropped, old_long, new_long, enough)
+
+pub slice_get-take : {X : Type 0} (n : ℕ) (xs : List X) (i : ℕ) → i < n → slice_get (take n xs) i ≡ slice_get xs i
+slice_get-take zero xs i below = absurd (omega (arith, below))
+slice_get-take (suc n) [] i below = refl
+slice_get-take (suc n) (x ∷ xs) zero below = refl
+slice_get-take (suc n) (x ∷ xs) (suc i) below = slice_get-take n xs i (omega (arith, below))
+
+-- where the first of a list are those of another, its element within is of one there
+of_one : {X Y : Type 0} (f : X → Y) (xs : List X) (ys : List Y) (i : ℕ) (y : Y) → i < length xs → slice_get (map f xs ++ ys) i ≡ Some y → (x : X) × (slice_get xs i ≡ Some x) × (f x ≡ y)
+of_one f [] ys i y below at = absurd (omega (arith, below))
+of_one f (x ∷ xs) ys zero y below at = (x, refl, (let e : Some (f x) ≡ Some y = at in cc))
+of_one f (x ∷ xs) ys (suc i) y below at = of_one f xs ys i y (omega (arith, below)) at
+
+-- and one there is an element
+at_one : {X Y : Type 0} (f : X → Y) (xs : List X) (ys : List Y) (i : ℕ) (x : X) → slice_get xs i ≡ Some x → slice_get (map f xs ++ ys) i ≡ Some (f x)
+at_one f [] ys i x at = cc
+at_one f (y ∷ xs) ys zero x at = (let e : Some y ≡ Some x = at in ap (λ o. option_map f o) e)
+at_one f (y ∷ xs) ys (suc i) x at = at_one f xs ys i x at
+
+read_one : {X Y Z : Type 0} (f : X → Y) (g : Y → Z) (d : Z) (xs : List X) (i : ℕ) (x : X) → slice_get xs i ≡ Some x → get_or (map g (map f xs)) i d ≡ g (f x)
+read_one f g d [] i x at = cc
+read_one f g d (y ∷ xs) zero x at = (let e : Some y ≡ Some x = at in let same : y ≡ x = cc in ap (λ z. g (f z)) same)
+read_one f g d (y ∷ xs) (suc i) x at = read_one f g d xs i x at
+
+-- the stores that no space uses are the last
+pub left_over : (spaces : List Kept) (others all : List Stored) (n : ℕ) → all ≡ map (λ (k : Kept). k.store) spaces ++ others → length spaces ≡ n → drop n all ≡ others
+left_over spaces others all n are count =
+    ap (drop n) are
+    ∙ ap (λ m. drop m (map (λ (k : Kept). k.store) spaces ++ others)) (sym (length-map spaces (λ (k : Kept). k.store) ∙ count))
+    ∙ drop-append_seam (map (λ (k : Kept). k.store) spaces) others
+
+-- What is read off the stores one by one.
+
+-- a trace has no daemon, so there is a mark for each processor alone
+pub marks-start : (plan : Plan) → HasText plan → replicate plan.processors 0 ≡ replicate plan.processors 0 ++ daemon_marks plan.daemon
+marks-start plan trace = sym (append-nil (replicate plan.processors 0)) ∙ ap (λ d. replicate plan.processors 0 ++ daemon_marks d) (sym trace.no_daemon)
+
+pub setting_read : (plan : Plan) (stores : List Stored) → HasText plan → (g : Given) (frames : ℕ) (marks faults : List ℕ) (told : List Bool) → g ≡ record { frames = frames; marks = marks; told = told; faults = faults; evicts = true } → frames ≡ plan.frames → marks ≡ replicate plan.processors 0 → told ≡ map (λ (s : Stored). s.told) (take plan.spaces stores) → faults ≡ map (λ (s : Stored). s.faults) (take plan.spaces stores) → g ≡ setting_over plan stores
+setting_read plan stores trace g frames marks faults told is same_frames same_marks same_told same_faults =
+    is ∙ (λ i. record { frames = same_frames i; marks = (same_marks ∙ marks-start plan trace) i; told = same_told i; faults = same_faults i; evicts = true })
+
+pub read_more : {X Y : Type 0} (f : X → Y) (xs xs' : List X) (x : X) (ys ys' : List Y) (y : Y) → xs' ≡ xs ++ x ∷ [] → ys' ≡ ys ++ y ∷ [] → ys ≡ map f xs → y ≡ f x → ys' ≡ map f xs'
+read_more f xs xs' x ys ys' y more read are is =
+    read ∙ ap (λ l. l ++ y ∷ []) are ∙ ap (λ z. map f xs ++ z ∷ []) is ∙ sym (map_push f xs x) ∙ sym (ap (map f) more)
+
+-- each store that says that it tells its copies and that all of them are zero does so
+abbrev pub AreZero : List Stored → Type 0
+AreZero stores = (k : ℕ) (store : Stored) → slice_get stores k ≡ Some store → store.told ≡ true → TellsZero store
+
+pub AreZero-push : (xs xs' : List Stored) (x : Stored) → xs' ≡ xs ++ x ∷ [] → AreZero xs → (x.told ≡ true → TellsZero x) → AreZero xs'
+AreZero-push xs xs' x more are is k store at told =
+    elim (slice_get-push xs x k store (subst (λ l. slice_get l k ≡ Some store) more at)) [
+      | inl before ↦ are k store before told
+      | inr last ↦ subst TellsZero last.1 (is (ap (λ (s : Stored). s.told) last.1 ∙ told))
+    ]
+
+-- The start: each space is over the store of its number, and what the setting says of its copies and faults is what that store said.
+pub are_new : (plan : Plan) (spaces : List Kept) (others all : List Stored) → all ≡ map (λ (k : Kept). k.store) spaces ++ others → length spaces ≡ plan.spaces
+    → ((s : ℕ) (store : Stored) → s < plan.spaces → slice_get all s ≡ Some store → store.told ≡ true → TellsZero store)
+    → ((s : ℕ) (kept : Kept) (told : Bool) → slice_get spaces s ≡ Some kept → (told ≡ true → TellsZero kept.store) → IsNew plan.frames s told kept.store.faults kept)
+    → (s : ℕ) (kept : Kept) → slice_get spaces s ≡ Some kept → IsNew plan.frames s (is_told (setting_over plan all) s) (faults_at_entry (setting_over plan all) s) kept
+are_new plan spaces others all are count zeros new s kept at =
+    let own : List Stored = map (λ (k : Kept). k.store) spaces in
+    let first : take plan.spaces all ≡ own = ap (take plan.spaces) are ∙ ap (λ m. take m (own ++ others)) (sym (length-map spaces (λ (k : Kept). k.store) ∙ count)) ∙ take-append_seam own others in
+    let told : is_told (setting_over plan all) s ≡ kept.store.told =
+    ap (λ l. get_or (map (λ (x : Stored). x.told) l) s false) first ∙ read_one (λ (k : Kept). k.store) (λ (x : Stored). x.told) false spaces s kept at in
+    let faults : faults_at_entry (setting_over plan all) s ≡ kept.store.faults =
+    ap (λ l. get_or (map (λ (x : Stored). x.faults) l) s 0) first ∙ read_one (λ (k : Kept). k.store) (λ (x : Stored). x.faults) 0 spaces s kept at in
+    let below = slice_get_within spaces s kept at in
+    subst (λ n. IsNew plan.frames s (is_told (setting_over plan all) s) n kept) (sym faults)
+    (new s kept (is_told (setting_over plan all) s) at
+    (λ is. zeros s kept.store (omega (arith, below, count)) (ap (λ l. slice_get l s) are ∙ at_one (λ (k : Kept). k.store) spaces others s kept at) (sym told ∙ is)))
+
+-- The end.
+
+told_from : (st : SpaceState) (entries : List Entry) → (fold space_after st entries).told ≡ st.told
+told_from st [] = refl
+told_from st (e ∷ entries) = told_from (space_after st e) entries
+
+told_still : (g : Given) (h : List Entry) (s : ℕ) → (space_at g h s).told ≡ is_told g s
+told_still g h s = told_from (empty_state (is_told g s) (faults_at_entry g s)) (space_part s h)
+
+module _ (run : Running) (spaces : List Kept) (pool : FrameState) (capacity : ℕ) (machine : IsMachine run spaces pool capacity) (ended : HasEnded run) (others all : List Stored) (are : all ≡ map (λ (k : Kept). k.store) spaces ++ others) where
+  EndsWith-kept : (s : ℕ) (kept : Kept) → slice_get spaces s ≡ Some kept → EndsWith run.given run.history s kept.store
+  EndsWith-kept s kept at =
+      let rest = machine.rest s kept at (λ c f flies keeps. (let e : None ≡ Some f = sym (ended c) ∙ flies in cc)) in
+      record {
+        copies = λ is page.
+            (rest.stands.beside.told (told_still run.given (entries_in run.history) s ∙ is)).copies page
+            (ap (λ r. is_in r page) rest.resting.none_clearing) (ap (is_page page) rest.resting.none_paged);
+        counts = rest.stands.beside.highest;
+      }
+
+  pub StoresEnd-ended : StoresEnd run.given run.history all
+  StoresEnd-ended s store below at =
+      let one = of_one (λ (k : Kept). k.store) spaces others s store (let count = machine.told in omega (arith, below, count)) (sym (ap (λ l. slice_get l s) are) ∙ at) in
+      subst (EndsWith run.given run.history s) one.2 (EndsWith-kept s one.0 one.1)
+
+  -- and those that no space uses are the last
+  pub unused-ended : drop (length run.given.told) all ≡ others
+  unused-ended = left_over spaces others all (length run.given.told) are (sym machine.told)

@@ -1,0 +1,8 @@
+use Rattle.pager_core.proofs.Answering.{late_answered}
+use Rattle.pager_core.proofs.flight.Flight.answer_late.Goals as goal
+
+pub returns-clause-entry : goal.returns-clause-entry
+returns-clause-entry g c = λ st frames.
+    rw c.answer.ensures.ended
+    (rw c.answer.ensures.entry
+    (late_answered c.args.self.now c.in-Answered.answered c.args.space.now c.begin.new.self c.requires.phase c.in-Answered.ensures st frames))

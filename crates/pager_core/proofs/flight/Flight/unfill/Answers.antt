@@ -1,0 +1,11 @@
+use Rattle.pager_core.proofs.Failing.{frame_unfilled}
+use Rattle.pager_core.proofs.flight.Flight.unfill.Goals as goal
+
+pub returns-clause-entry : goal.returns-clause-entry
+returns-clause-entry g c = λ st.
+    let phase = c.requires.phase in
+    let gave = c.give_up-entry.ensures.gave in
+    rw gave.1
+    (rw c.give_up-entry.ensures.pool
+    (rw c.space-own.ensures
+    (frame_unfilled c.args.self.now c.args.page phase.0 c.args.count gave.0 c.args.space.now c.give_up-entry.new.space c.args.pool.now phase.1 c.requires.agree gave.2 st)))

@@ -1,0 +1,45 @@
+use Rattle.std.proofs.Common.{◌≡◌, map, replicate, reverse, take, slice_get, sym, ap, ◌∙◌}
+use Rattle.std.specs.Iterator.Adapters.{rev_source, take_source, take_count}
+use Rattle.std.specs.Slice.Iter.{iter_rest}
+use Rattle.std.proofs.lemmas.Iterator.{YieldsList-from_take}
+use Rattle.std.proofs.lemmas.Iterator.Adapters.{YieldsList-from_rev_slice}
+use Rattle.std.proofs.lemmas.Iterator.Consumers.{YieldsList-end}
+use Rattle.std.proofs.lemmas.List.{map_push, take-map}
+use Rattle.store_core.specs.Stored.{Stored}
+use Rattle.pager_core.proofs.Stores.{slice_get-take, setting_read, read_more, AreZero-push}
+use Rattle.pager_core.proofs.machine.setting_of.Given.{Over}
+use Rattle.pager_core.proofs.machine.setting_of.Goals as goal
+
+pub loop-store-preserved : goal.loop-store-preserved
+loop-store-preserved g c =
+    let seen = map g.S.Store.seen (map (λ y. y.now) c.loop-store.yielded) in
+    let more = ap (map g.S.Store.seen) (map_push (λ y. y.now) c.loop-store.yielded c.in-Some.store) ∙ map_push g.S.Store.seen (map (λ y. y.now) c.loop-store.yielded) c.in-Some.store.now in (
+      read_more (λ (s : Stored). s.told) seen _ (g.S.Store.seen c.in-Some.store.now) c.loop-store.told.items c.push.new.self.items c.told.result more c.in_ok-push.ensures.items c.loop-store.invariant.0 c.told.ensures.told,
+      read_more (λ (s : Stored). s.faults) seen _ (g.S.Store.seen c.in-Some.store.now) c.loop-store.faults.items c.push-in-loop-store.new.self.items c.faults.result more c.in_ok-push-2.ensures.items c.loop-store.invariant.1 c.faults.ensures.faults,
+      AreZero-push seen _ (g.S.Store.seen c.in-Some.store.now) more c.loop-store.invariant.2 (λ is. c.told.ensures.zero (c.told.ensures.told ∙ is)),
+    )
+
+-- the stores that it read are the first
+read : (g : Over) (c : goal.After-of g) → map g.S.Store.seen (map (λ y. y.now) c.loop-store.yielded) ≡ take c.args.trace.now.spaces (map g.S.Store.seen (reverse c.args.stores.now))
+read g c =
+    let rest =
+    ap (λ s. iter_rest (rev_source (take_source s))) c.into_iter-store-iterator.ensures.into_iter_gives
+    ∙ ap (λ s. iter_rest (rev_source s)) c.take-store-items.ensures.source
+    ∙ ap iter_rest c.rev.ensures.source
+    ∙ c.iter.ensures.rest in
+    let count = ap take_count c.into_iter-store-iterator.ensures.into_iter_gives ∙ c.take-store-items.ensures.count in
+    let all = YieldsList-end (YieldsList-from_take c.spaces-spaces.result (YieldsList-from_rev_slice c.args.stores.now rest) count) c.loop-store.yielded _ c.loop-store.yielded_by _ _ c.in-None.is c.next.ensures.steps in
+    ap (map g.S.Store.seen) all.0
+    ∙ sym (take-map g.S.Store.seen c.spaces-spaces.result (reverse c.args.stores.now))
+    ∙ ap (λ n. take n (map g.S.Store.seen (reverse c.args.stores.now))) c.spaces-spaces.ensures.spaces
+
+pub returns-clause-given : goal.returns-clause-given
+returns-clause-given g c =
+    setting_read c.args.trace.now (map g.S.Store.seen (reverse c.args.stores.now)) c.frames.ensures.text c.of.result c.frames.result c.in_ok-marks.marks.items c.loop-store.faults.items c.loop-store.told.items c.of.ensures
+    c.frames.ensures.frames
+    (c.in_ok-marks.ensures.items_if_clones_equal (λ y same. same) ∙ ap (λ n. replicate n 0) c.processors.ensures.processors)
+    (c.loop-store.invariant.0 ∙ ap (map (λ (s : Stored). s.told)) (read g c))
+    (c.loop-store.invariant.1 ∙ ap (map (λ (s : Stored). s.faults)) (read g c))
+
+pub returns-clause-told : goal.returns-clause-told
+returns-clause-told g c = λ s store below at. c.loop-store.invariant.2 s store (ap (λ l. slice_get l s) (read g c) ∙ slice_get-take c.args.trace.now.spaces (map g.S.Store.seen (reverse c.args.stores.now)) s below ∙ at)

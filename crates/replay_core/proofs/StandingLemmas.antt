@@ -1,0 +1,252 @@
+-- Where a processor is after a machine's history, and that its flight tells whether it can step.
+use Rattle.std.proofs.Common.{◌≡◌, ◌≢◌, ℕ, ◌+◌, ◌<◌, ◌==◌, inl, inr, Bool, true, false, cond, not, ◌&&◌, List, [], length, replicate, Option, Some, None, is_some, refl, sym, ap, subst, ◌∙◌, arith}
+use Rattle.std.proofs.lemmas.Bool.{cases_lt, false≢true}
+use Rattle.std.proofs.lemmas.Bool.Decides.{nat_tests}
+use Rattle.std.proofs.lemmas.List.{get_or-replicate, get_or_past, get_or_append_left, length-replicate}
+use Rattle.std.proofs.lemmas.List.FromFn.{length-range_with_len, get_or-range_with_len}
+use Rattle.std.proofs.lemmas.List.Folds.{Any-from_list_any, list_any_at}
+use Rattle.std.proofs.lemmas.Option.{none-some, same_Some, slice_get_past}
+use Rattle.std.specs.List.{slice_get, range_with_len, list_any}
+use Rattle.std.specs.Option.{option_and_then}
+use Rattle.pager_model.specs.declared.call.Call.{Call}
+use Rattle.pager_model.specs.Entries.{entries_of}
+use Rattle.pager_model.specs.Flat.{space_of_call}
+use Rattle.pager_model.specs.Legal.{entries_in}
+use Rattle.pager_model.specs.Order.{progress_of}
+use Rattle.pager_model.specs.Plans.{Plan}
+use Rattle.pager_model.specs.Settings.{Given, mark_of}
+use Rattle.pager_model.specs.Showing.{calls_of, daemon_marks}
+use Rattle.space_core.specs.Standing.{copied_page}
+use Rattle.pager_core.specs.declared.flight.Flight.{Flight}
+use Rattle.pager_core.specs.declared.flight.Phase.{Phase}
+use Rattle.pager_core.specs.declared.flight.Phase.TheVariants.{Start, Gone, Short, Fill, Unfill, Out, Hand, Unclaim, Back, Late, Fault, Lack, Ended}
+use Rattle.pager_core.specs.Rows.{row_of, row_in, own_if, faulted, is_between, space_under}
+use Rattle.pager_core.specs.Running.{Running, calls_at, flight_at, progress_of_actor, progress_by_flight, setting_over, kept_by, IsKeptByOther, IsOfCall, IsLawful}
+use Rattle.store_core.specs.Stored.{Stored}
+use Rattle.replay_core.specs.Orders.{Standing, keeps_in, under_in, standing_by, standing_at, is_that, is_kept_by, is_kept_by_other, has_left, can_go, can_step}
+use Rattle.replay_core.specs.Turns.{flies, IsStuck}
+use Rattle.replay_core.proofs.CallLemmas.{made_in}
+use Rattle.replay_core.proofs.RunLemmas.{IsRunOf, calls_known, length-calls}
+
+-- What a phase that an entry led to says of its place.
+
+fault_keeps : (s space count : ℕ) (call : Call) (claimed : Bool) (page : Option ℕ) → own_if s space ≡ keeps_in s (faulted call claimed space count page)
+fault_keeps s space count call claimed None = refl
+fault_keeps s space count call claimed (Some page) = refl
+
+fault_under : (s space count : ℕ) (call : Call) (claimed : Bool) (page : Option ℕ) → Some s ≡ Some (under_in s (faulted call claimed space count page))
+fault_under s space count call claimed None = refl
+fault_under s space count call claimed (Some page) = refl
+
+-- the space whose lock is kept is told by the place
+pub keeps_by_place : (c n s : ℕ) (call : Call) (claimed : Bool) (phase : Phase) → is_between phase ≡ true → (row_in c n s call claimed phase).reply ≡ None → (row_in c n s call claimed phase).keeps ≡ keeps_in s (row_in c n s call claimed phase).progress.doing
+keeps_by_place c n s call claimed Start between going = refl
+keeps_by_place c n s call claimed (Gone first len) between going = refl
+keeps_by_place c n s call claimed (Short wired claims held) between going = refl
+keeps_by_place c n s call claimed (Fill page frame) between going = refl
+keeps_by_place c n s call claimed (Unfill page frame count) between going = refl
+keeps_by_place c n s call claimed (Out v) between going = refl
+keeps_by_place c n s call claimed (Hand v) between going = refl
+keeps_by_place c n s call claimed (Unclaim v (Some count)) between going = refl
+keeps_by_place c n s call claimed (Back v) between going = refl
+keeps_by_place c n s call claimed Late between going = refl
+keeps_by_place c n s call claimed (Fault space count) between going = fault_keeps s space count call claimed (copied_page call)
+keeps_by_place c n s call claimed (Lack space) between going = refl
+keeps_by_place c n s call claimed (Ended reply) between going = absurd (none-some reply (sym going))
+keeps_by_place c n s call claimed phase between going = absurd (false≢true between)
+
+-- and so is the space that the next step is made under
+pub under_by_place : (c n s : ℕ) (call : Call) (claimed : Bool) (phase : Phase) → is_between phase ≡ true → (row_in c n s call claimed phase).reply ≡ None → space_under (row_in c n s call claimed phase).needs ≡ Some (under_in s (row_in c n s call claimed phase).progress.doing)
+under_by_place c n s call claimed Start between going = refl
+under_by_place c n s call claimed (Gone first len) between going = refl
+under_by_place c n s call claimed (Short wired claims held) between going = refl
+under_by_place c n s call claimed (Fill page frame) between going = refl
+under_by_place c n s call claimed (Unfill page frame count) between going = refl
+under_by_place c n s call claimed (Out v) between going = refl
+under_by_place c n s call claimed (Hand v) between going = refl
+under_by_place c n s call claimed (Unclaim v (Some count)) between going = refl
+under_by_place c n s call claimed (Back v) between going = refl
+under_by_place c n s call claimed Late between going = refl
+under_by_place c n s call claimed (Fault space count) between going = fault_under s space count call claimed (copied_page call)
+under_by_place c n s call claimed (Lack space) between going = refl
+under_by_place c n s call claimed (Ended reply) between going = absurd (none-some reply (sym going))
+under_by_place c n s call claimed phase between going = absurd (false≢true between)
+
+own_if-some : (own space t : ℕ) (b : Bool) → (space == own) ≡ b → cond b (Some own) None ≡ Some t → (space ≡ t) × (own ≡ t)
+own_if-some own space t true is same = (let e : own ≡ t = same_Some own t same in let f : space ≡ own = grind (arith, nat_tests) in (f ∙ e, e))
+own_if-some own space t false is same = absurd (none-some t same)
+
+-- a flight that keeps a space makes its next step under it
+pub keeps_under : (c n s t : ℕ) (call : Call) (claimed : Bool) (phase : Phase) → (row_in c n s call claimed phase).keeps ≡ Some t → space_under (row_in c n s call claimed phase).needs ≡ Some t
+keeps_under c n s t call claimed Start is = absurd (none-some t is)
+keeps_under c n s t call claimed (Ended reply) is = absurd (none-some t is)
+keeps_under c n s t call claimed (Out v) is = ap Some (own_if-some s v.space t (v.space == s) refl is).0
+keeps_under c n s t call claimed (Back v) is = ap Some (own_if-some s v.space t (v.space == s) refl is).1
+keeps_under c n s t call claimed (Fault space count) is = ap Some (own_if-some s space t (space == s) refl is).1
+keeps_under c n s t call claimed (Lack space) is = ap Some (own_if-some s space t (space == s) refl is).1
+keeps_under c n s t call claimed phase is = is
+
+-- A test over the processors.
+
+any_of : (p : ℕ → Bool) (n d : ℕ) → d < n → p d ≡ true → list_any p (range_with_len 0 n) ≡ true
+any_of p n d below is =
+    list_any_at p (range_with_len 0 n) d 0 (subst (λ k. d < k) (sym (length-range_with_len 0 n)) below)
+    (ap p (get_or-range_with_len 0 n d 0 below ∙ (let e : 0 + d ≡ d = omega arith in e)) ∙ is)
+
+one_of : (p : ℕ → Bool) (n : ℕ) → list_any p (range_with_len 0 n) ≡ true → (d : ℕ) × (d < n) × (p d ≡ true)
+one_of p n is =
+    let any = Any-from_list_any p (range_with_len 0 n) is in
+    let below : any.0 < n = subst (λ k. any.0 < k) (length-range_with_len 0 n) any.2 in
+    let same : any.1 ≡ any.0 = sym any.3 ∙ get_or-range_with_len 0 n any.0 any.1 below ∙ (let e : 0 + any.0 ≡ any.0 = omega arith in e) in
+    (any.1, subst (λ k. k < n) (sym same) below, any.4)
+
+-- Where a processor is, by its flight.
+
+-- the call of a flight and its place
+abbrev pub standing_of : Option Flight → Option Standing
+standing_of None = None
+standing_of (Some f) = Some (record { call = f.call; doing = (row_of f).progress.doing })
+
+made_by : (calls : List Call) (f : Flight) → IsOfCall calls f → (row_of f).progress.made ≡ f.number
+made_by calls f of = made_in f.processor f.number (space_of_call f.call) f.call f.claimed f.phase of.going
+
+standing_call : (calls : List Call) (f : Flight) → IsOfCall calls f → standing_by calls (row_of f).progress ≡ standing_of (Some f)
+standing_call calls f of =
+    ap (option_and_then (λ call. (let s : Standing = record { call = call; doing = (row_of f).progress.doing } in Some s))) (ap (slice_get calls) (made_by calls f of) ∙ of.call)
+
+standing_flight : (calls : List Call) (o : Option Flight) → ((f : Flight) → o ≡ Some f → IsOfCall calls f) → standing_by calls (progress_by_flight calls o) ≡ standing_of o
+standing_flight calls None of = ap (option_and_then (λ call. (let s : Standing = record { call = call; doing = (progress_by_flight calls None).doing } in Some s))) (slice_get_past calls (length calls) (omega arith))
+standing_flight calls (Some f) of = standing_call calls f (of f refl)
+
+mark-own : (plan : Plan) (stores : List Stored) (c : ℕ) → c < plan.processors → mark_of (setting_over plan stores) c ≡ 0
+mark-own plan stores c known =
+    get_or_append_left (replicate plan.processors 0) (daemon_marks plan.daemon) 0 c (subst (λ n. c < n) (sym (length-replicate plan.processors 0)) known)
+    ∙ get_or-replicate plan.processors c 0 0 known
+
+-- Tests.
+
+and_parts : (a b : Bool) → (a && b) ≡ true → (a ≡ true) × (b ≡ true)
+and_parts true b is = (refl, is)
+and_parts false b is = absurd (false≢true is)
+
+untrue : (b : Bool) → (b ≡ true → ⊥) → b ≡ false
+untrue true never = absurd (never refl)
+untrue false never = refl
+
+same_number : (n : ℕ) → (n == n) ≡ true
+same_number n = grind (arith, nat_tests)
+
+is_some_of : (o : Option Flight) → is_some (standing_of o) ≡ is_some o
+is_some_of None = refl
+is_some_of (Some f) = refl
+
+kept_some : (space : ℕ) (kept : Option ℕ) → is_that space kept ≡ true → kept ≡ Some space
+kept_some space None is = absurd (false≢true is)
+kept_some space (Some s) is = ap Some (let e : s ≡ space = grind (arith, nat_tests) in e)
+
+-- the processor whose flight keeps the space
+keeper : (flights : List (Option Flight)) (c space d : ℕ) → d ≢ c → (o : Option Flight) → flight_at flights d ≡ o → is_that space (kept_by o) ≡ true → IsKeptByOther flights c space
+keeper flights c space d differs None flies kept = absurd (false≢true kept)
+keeper flights c space d differs (Some f) flies kept =
+    record { other = d; differs = differs; flight = f; flies = flies; keeps = kept_some space (row_of f).keeps kept }
+
+-- a processor whose flight is there is known
+pub known_flight : (run : Running) (c : ℕ) (f : Flight) → IsLawful run → flight_at run.flights c ≡ Some f → c < length run.calls
+known_flight run c f lawful there = elim (cases_lt c (length run.calls)) [
+  | inl below ↦ below
+  | inr past ↦
+      let none : calls_at run.calls c ≡ [] = get_or_past run.calls c [] past in
+      absurd (none-some f.call (ap (λ l. slice_get l f.number) (sym none) ∙ (lawful.flying c f there).call))
+]
+
+-- The spaces that flights keep, of processors that are at these places.
+module _ (plan : Plan) (stores : List Stored) (run : Running) (is : IsRunOf plan stores run) where
+  pub known_in : (c : ℕ) → c < plan.processors → c < length run.calls
+  known_in c known = subst (λ n. c < n) (sym (length-calls plan run.calls is.calls)) known
+
+  standing_is : (c : ℕ) → c < plan.processors → standing_at plan (entries_in run.history) c ≡ standing_of (flight_at run.flights c)
+  standing_is c known =
+      let mark : mark_of run.given c ≡ 0 = ap (λ (g : Given). mark_of g c) is.given ∙ mark-own plan stores c known in
+      let progress : progress_of 0 (entries_of c (entries_in run.history)) ≡ Some (progress_of_actor run c) =
+      ap (λ m. progress_of m (entries_of c (entries_in run.history))) (sym mark) ∙ is.lawful.progress c (known_in c known) in
+      ap (option_and_then (standing_by (calls_of c plan.calls))) progress
+      ∙ ap (λ l. standing_by l (progress_of_actor run c)) (sym (calls_known plan run.calls is.calls c known))
+      ∙ standing_flight (calls_at run.calls c) (flight_at run.flights c) (λ f flies. is.lawful.flying c f flies)
+
+  kept_is : (space : ℕ) (o : Option Flight) → ((f : Flight) → o ≡ Some f → (is_between f.phase ≡ true) × ((row_of f).reply ≡ None)) → is_kept_by space (standing_of o) ≡ is_that space (kept_by o)
+  kept_is space None fits = refl
+  kept_is space (Some f) fits =
+      ap (is_that space) (sym (keeps_by_place f.processor f.number (space_of_call f.call) f.call f.claimed f.phase (fits f refl).0 (fits f refl).1))
+
+  kept_at : (space d : ℕ) → d < plan.processors → is_kept_by space (standing_at plan (entries_in run.history) d) ≡ is_that space (kept_by (flight_at run.flights d))
+  kept_at space d known =
+      ap (is_kept_by space) (standing_is d known)
+      ∙ kept_is space (flight_at run.flights d) (λ f flies. (is.lawful.between d f flies, (is.lawful.flying d f flies).going))
+
+  -- the test of the place tells the flight that keeps the space
+  kept_from_test : (c space : ℕ) → is_kept_by_other plan (entries_in run.history) c space ≡ true → IsKeptByOther run.flights c space
+  kept_from_test c space test =
+      let one = one_of (λ d. not (d == c) && is_kept_by space (standing_at plan (entries_in run.history) d)) plan.processors test in
+      let both = and_parts (not (one.0 == c)) (is_kept_by space (standing_at plan (entries_in run.history) one.0)) one.2 in
+      let kept : is_that space (kept_by (flight_at run.flights one.0)) ≡ true = sym (kept_at space one.0 one.1) ∙ both.1 in
+      keeper run.flights c space one.0 (let differs = both.0 in λ same. absurd (let here : (one.0 == c) ≡ true = grind (arith, nat_tests) in false≢true (ap not (sym here) ∙ differs))) (flight_at run.flights one.0) refl kept
+
+  test_from_kept : (c space : ℕ) → IsKeptByOther run.flights c space → is_kept_by_other plan (entries_in run.history) c space ≡ true
+  test_from_kept c space kept =
+      let known : kept.other < plan.processors = subst (λ n. kept.other < n) (length-calls plan run.calls is.calls) (known_flight run kept.other kept.flight is.lawful kept.flies) in
+      let differs : (kept.other == c) ≡ false = (let apart = kept.differs in grind (arith, nat_tests)) in
+      let that : is_that space (kept_by (flight_at run.flights kept.other)) ≡ true = ap (λ o. is_that space (kept_by o)) kept.flies ∙ ap (is_that space) kept.keeps ∙ same_number space in
+      any_of (λ d. not (d == c) && is_kept_by space (standing_at plan (entries_in run.history) d)) plan.processors kept.other known
+      (ap (λ b. not b && is_kept_by space (standing_at plan (entries_in run.history) kept.other)) differs ∙ kept_at space kept.other known ∙ that)
+
+  -- the space that a flight's next step is made under
+  under_is : (c : ℕ) (f : Flight) → flight_at run.flights c ≡ Some f → space_under (row_of f).needs ≡ Some (under_in (space_of_call f.call) (row_of f).progress.doing)
+  under_is c f flies = under_by_place f.processor f.number (space_of_call f.call) f.call f.claimed f.phase (is.lawful.between c f flies) (is.lawful.flying c f flies).going
+
+  can_is : (c : ℕ) (f : Flight) → c < plan.processors → flight_at run.flights c ≡ Some f → can_step plan (entries_in run.history) c ≡ not (is_kept_by_other plan (entries_in run.history) c (under_in (space_of_call f.call) (row_of f).progress.doing))
+  can_is c f known flies = ap (can_go plan (entries_in run.history) c) (standing_is c known ∙ ap standing_of flies)
+
+  -- a processor that has a call left, by its flight
+  pub left_is : (c : ℕ) → c < plan.processors → has_left plan (entries_in run.history) c ≡ flies run.flights c
+  left_is c known = ap is_some (standing_is c known) ∙ is_some_of (flight_at run.flights c)
+
+  -- Whether it can step.
+
+  pub cannot_step : (c : ℕ) → c < plan.processors → IsStuck run c → can_step plan (entries_in run.history) c ≡ false
+  cannot_step c known (inl none) = ap (can_go plan (entries_in run.history) c) (standing_is c known ∙ ap standing_of none)
+  cannot_step c known (inr (space, must)) =
+      let under : space ≡ under_in (space_of_call must.flight.call) (row_of must.flight).progress.doing = same_Some _ _ (sym must.under ∙ under_is c must.flight must.flies) in
+      can_is c must.flight known must.flies
+      ∙ ap not (test_from_kept c (under_in (space_of_call must.flight.call) (row_of must.flight).progress.doing) (subst (IsKeptByOther run.flights c) under must.kept))
+
+  can_flying : (c : ℕ) → c < plan.processors → (IsStuck run c → ⊥) → (o : Option Flight) → flight_at run.flights c ≡ o → can_step plan (entries_in run.history) c ≡ true
+  can_flying c known free None flies = absurd (free (inl flies))
+  can_flying c known free (Some f) flies =
+      let space = under_in (space_of_call f.call) (row_of f).progress.doing in
+      can_is c f known flies
+      ∙ ap not (untrue (is_kept_by_other plan (entries_in run.history) c space)
+      (λ test. free (inr (space, record { flight = f; flies = flies; under = under_is c f flies; kept = kept_from_test c space test }))))
+
+  pub can_step_free : (c : ℕ) → c < plan.processors → (IsStuck run c → ⊥) → can_step plan (entries_in run.history) c ≡ true
+  can_step_free c known free = can_flying c known free (flight_at run.flights c) refl
+
+-- Some processor can step.
+
+-- who keeps the space that a stuck processor waits for
+waits_for : (run : Running) (c : ℕ) (f : Flight) → flight_at run.flights c ≡ Some f → IsStuck run c → (space : ℕ) × (space_under (row_of f).needs ≡ Some space) × IsKeptByOther run.flights c space
+waits_for run c f flies (inl none) = absurd (none-some f (sym none ∙ flies))
+waits_for run c f flies (inr (space, must)) =
+    let same : must.flight ≡ f = same_Some _ _ (sym must.flies ∙ flies) in
+    (space, subst (λ (g : Flight). space_under (row_of g).needs ≡ Some space) same must.under, must.kept)
+
+-- where one has a call left they aren't all stuck: one that keeps a space doesn't wait
+pub not_all_stuck : (run : Running) (c : ℕ) (f : Flight) → IsLawful run → flight_at run.flights c ≡ Some f → ((d : ℕ) (g : Flight) → flight_at run.flights d ≡ Some g → IsStuck run d) → ⊥
+not_all_stuck run c f lawful flies all =
+    let waits = waits_for run c f flies (all c f flies) in
+    let kept : IsKeptByOther run.flights c waits.0 = waits.2 in
+    let g : Flight = kept.flight in
+    let then = waits_for run kept.other g kept.flies (all kept.other g kept.flies) in
+    let under = keeps_under g.processor g.number (space_of_call g.call) waits.0 g.call g.claimed g.phase kept.keeps in
+    let again : IsKeptByOther run.flights kept.other then.0 = then.2 in
+    let same : then.0 ≡ waits.0 = same_Some _ _ (sym then.1 ∙ under) in
+    again.differs (lawful.one_keeper waits.0 again.other kept.other again.flight g again.flies kept.flies (again.keeps ∙ ap Some same) kept.keeps)

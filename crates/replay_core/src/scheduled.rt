@@ -1,0 +1,56 @@
+//! Turns that are listed.
+
+ghost use Rattle.std.specs.Prelude.{◌≡◌, ◌<◌, ◌≤◌, IfOk, IfErr, length, map};
+ghost use Rattle.std.specs.List.{All, range_with_len};
+ghost use Rattle.pager_model.specs.Legal.{entries_in};
+ghost use Rattle.replay_core.specs.Orders.{IsScheduled};
+ghost use Rattle.replay_core.specs.Replays.{IsReplay, AreItsCounts};
+
+use crate::stepping::step_first;
+use arrayvec::ArrayVec;
+use pager_core::{Gathered, Machine};
+use pager_model::Trace;
+use std::alloc::Global;
+use store_core::Store;
+
+/// The most processors of a trace.
+const MOST: usize = 16;
+
+/// Runs a trace in the turns of a list of its processors, of which those that can't step are passed over, and then in those of the lowest
+/// processor that can. There are at least as many stores as spaces, and they come back for want of memory, which comes before the first
+/// entry alone.
+pub fn replay_schedule<S: Store + Send + Drop>(
+    alloc: Global,
+    trace: &Trace,
+    stores: Vec<S>,
+    schedule: &[u32],
+) -> Result<Gathered<S>, Vec<S>>
+    requires enough { trace.now.spaces ≤ length stores.items }
+    requires known { All (λ c. c < trace.now.processors) schedule.now }
+    ensures run { IfOk result (λ g. IsReplay trace.now (map S.seen stores.items) g.history.items (map S.seen g.stores.items)) }
+    ensures scheduled { IfOk result (λ g. IsScheduled trace.now schedule.now (entries_in g.history.items)) }
+    ensures counts { IfOk result (λ g. AreItsCounts trace.now (map S.seen stores.items) g.history.items g.summary) }
+    ensures back { IfErr result (λ back. map S.seen back.items ≡ map S.seen stores.items) }
+{
+    let mut machine = Machine::create(alloc, trace, stores)?;
+    for actor in schedule {
+        machine.turn(*actor);
+    }
+    let actors = all_below(trace.processors());
+    while !machine.ended() {
+        step_first(&mut machine, actors.as_slice());
+    }
+    Ok(machine.finish())
+}
+
+/// The numbers below this one.
+fn all_below(processors: u32) -> ArrayVec<u32, MOST>
+    requires { processors ≤ 16 }
+    ensures { result.items ≡ range_with_len 0 processors }
+{
+    let mut actors = ArrayVec::new();
+    for actor in 0..processors {
+        actors.push(actor);
+    }
+    actors
+}

@@ -1,0 +1,22 @@
+//! The first of several processors that can step.
+
+ghost use Rattle.std.specs.Prelude.{◌<◌, length};
+ghost use Rattle.std.specs.List.{AllByRecursion};
+ghost use Rattle.pager_core.specs.Running.{IsLawful};
+ghost use Rattle.replay_core.specs.Turns.{IsStuck, FirstStepped};
+
+use pager_core::{Machine, Turn};
+use store_core::Store;
+
+/// Gives the actors turns, in order, until one has made an entry. One of them can.
+pub fn step_first<S: Store + Send + Drop>(machine: &mut Machine<S>, actors: &[u32])
+    requires known { AllByRecursion (λ c. c < length machine.old.calls) actors.now }
+    requires some { AllByRecursion (IsStuck machine.old) actors.now → ⊥ }
+    ensures { FirstStepped machine.old machine.new actors.now }
+{
+    for actor in actors {
+        if let Turn::Stepped = machine.turn(*actor) {
+            return;
+        }
+    }
+}
