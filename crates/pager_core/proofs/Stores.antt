@@ -1,7 +1,7 @@
 -- The stores of the spaces of a run: their order, what was told of them at the start, and what holds of them when the run ended.
 use Rattle.std.proofs.Common.{◌≡◌, ℕ, zero, suc, ◌+◌, ◌<◌, ◌≤◌, Bool, true, false, List, [], ◌∷◌, ◌++◌, length, map, reverse, drop, take, get_or, slice_get, fold, Some, None, refl, ap, sym, subst, ◌∙◌, inl, inr, option_map, replicate, arith}
 use Rattle.std.proofs.lemmas.Grind.{reverse_onto}
-use Rattle.std.proofs.lemmas.List.{append-nil, length-drop, length-reverse, reverse-reverse, reverse-append, map_push}
+use Rattle.std.proofs.lemmas.List.{append-nil, append_assoc, length-drop, length-reverse, reverse-reverse, reverse-append, map_push}
 use Rattle.std.proofs.lemmas.Option.{slice_get_within}
 use Rattle.std.proofs.Math.ListN.{length-map}
 use Rattle.std.proofs.Math.Seq.{take-append_seam, drop-append_seam}
@@ -34,6 +34,16 @@ in_order seen others all own behind =
     ∙ reverse-append (map seen others) (reverse own)
     ∙ ap (λ l. l ++ reverse (map seen others)) (reverse-reverse own)
     ∙ ap (λ l. own ++ l) (sym (map-reverse seen others))
+
+-- the last of the stores goes to a space that comes behind the others
+pub in_order-more : {P : Type 0} (seen : P → Stored) (all left fewer : List P) (store : P) (spaces more : List Kept) (space : Kept) → map seen all ≡ map seen left ++ reverse (map (λ (k : Kept). k.store) spaces) → left ≡ fewer ++ store ∷ [] → more ≡ spaces ++ space ∷ [] → space.store ≡ seen store → map seen all ≡ map seen fewer ++ reverse (map (λ (k : Kept). k.store) more)
+in_order-more seen all left fewer store spaces more space behind last pushed is =
+    let own = reverse (map (λ (k : Kept). k.store) spaces) in
+    let turned : reverse (map (λ (k : Kept). k.store) more) ≡ seen store ∷ own =
+    ap (λ l. reverse (map (λ (k : Kept). k.store) l)) pushed ∙ ap reverse (map_push (λ (k : Kept). k.store) spaces space)
+    ∙ reverse-append (map (λ (k : Kept). k.store) spaces) (space.store ∷ []) ∙ ap (λ x. x ∷ own) is in
+    behind ∙ ap (λ l. map seen l ++ own) last ∙ ap (λ l. l ++ own) (map_push seen fewer store)
+    ∙ append_assoc (map seen fewer) (seen store ∷ []) own ∙ ap (λ l. map seen fewer ++ l) (sym turned)
 
 pub same_reversed : {P : Type 0} (seen : P → Stored) (xs ys : List P) → map seen xs ≡ map seen ys → map seen (reverse xs) ≡ map seen (reverse ys)
 same_reversed seen xs ys same = map-reverse seen xs ∙ ap reverse same ∙ sym (map-reverse seen ys)
@@ -123,6 +133,18 @@ are_new plan spaces others all are count zeros new s kept at =
     subst (λ n. IsNew plan.frames s (is_told (setting_over plan all) s) n kept) (sym faults)
     (new s kept (is_told (setting_over plan all) s) at
     (λ is. zeros s kept.store (omega (arith, below, count)) (ap (λ l. slice_get l s) are ∙ at_one (λ (k : Kept). k.store) spaces others s kept at) (sym told ∙ is)))
+
+-- each space is as a machine begins with it, whatever was told of its store that is so
+abbrev pub AreNew : ℕ → List Kept → Type 0
+AreNew frames spaces = (s : ℕ) (kept : Kept) (told : Bool) → slice_get spaces s ≡ Some kept → (told ≡ true → TellsZero kept.store) → IsNew frames s told kept.store.faults kept
+
+pub AreNew-push : (frames : ℕ) (spaces more : List Kept) (space : Kept) → AreNew frames spaces → more ≡ spaces ++ space ∷ [] → ((told : Bool) → (told ≡ true → TellsZero space.store) → IsNew frames (length spaces) told space.store.faults space) → AreNew frames more
+AreNew-push frames spaces more space are pushed new s kept told at zeros =
+    elim (slice_get-push spaces space s kept (subst (λ l. slice_get l s ≡ Some kept) pushed at)) [
+      | inl before ↦ are s kept told before zeros
+      | inr last ↦ subst (λ n. IsNew frames n told kept.store.faults kept) (sym last.0)
+          (subst (λ k. IsNew frames (length spaces) told k.store.faults k) last.1 (new told (λ is. subst (λ k. TellsZero k.store) (sym last.1) (zeros is))))
+    ]
 
 -- The end.
 
