@@ -12,7 +12,7 @@ use Rattle.pager_model.specs.Regions.{in_range, region_at}
 use Rattle.pager_model.specs.SpaceStates.{SpaceState, empty_state}
 use Rattle.space_core.specs.Beginning.{SameRegions, GaveUp, IsRange, NoneResident, ClearsOne, ClearsNone, Unmapped}
 use Rattle.space_core.specs.Spares.{HasSpare}
-use Rattle.space_core.specs.Standing.{Kept, StandsFor, StandsBut, IsResting, frame_at, is_in}
+use Rattle.space_core.specs.Standing.{Kept, StandsFor, StandsBut, IsResting, frame_at}
 
 pub record IsPopped (spare rest : List Framed) (frame : Framed) : Type 0 where
   pub number : frame.number ≡ length rest
