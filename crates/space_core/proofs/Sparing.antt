@@ -12,7 +12,7 @@ use Rattle.pager_model.specs.Regions.{in_range, region_at}
 use Rattle.pager_model.specs.SpaceStates.{SpaceState, empty_state}
 use Rattle.space_core.specs.Beginning.{SameRegions, GaveUp, IsRange, NoneResident, ClearsOne, ClearsNone, Unmapped}
 use Rattle.space_core.specs.Spares.{HasSpare}
-use Rattle.space_core.specs.Standing.{Kept, StandsFor, StandsBut, IsResting, frame_at, is_in}
+use Rattle.space_core.specs.Standing.{Kept, StandsFor, StandsBut, IsResting, frame_at}
 
 pub record IsPopped (spare rest : List Framed) (frame : Framed) : Type 0 where
   pub number : frame.number ≡ length rest
@@ -68,39 +68,7 @@ pub record ClearsBut (first len : ℕ) (old new : Kept) : Type 0 where
   pub none_paged : new.paged ≡ None
   pub stands : (st : SpaceState) → StandsFor old st → StandsBut first len new st
 
--- none did yet
-pub clears_none_yet : (first len : ℕ) (kept : Kept) → IsResting kept → ClearsBut first len kept kept
-clears_none_yet first len kept resting =
-    let aside : (p : ℕ) → is_in kept.clearing p ≡ false = λ p. ap (λ (r : Option Region). is_in r p) resting.none_clearing in
-    record {
-      same_number = refl;
-      same_frames = refl;
-      none_pending = resting.none_pending;
-      none_paged = resting.none_paged;
-      stands = λ st stands.
-          let beside = stands.beside in
-          record {
-            beside = record {
-              regions = beside.regions;
-              rights = beside.rights;
-              dirty = λ p _. beside.dirty p (aside p);
-              told = λ is.
-                  let tells = beside.told is in
-                  record {
-                    tells = tells.tells;
-                    words = λ p i _. tells.words p i (aside p);
-                    copies = λ p _. tells.copies p (aside p);
-                    copied = λ p _. tells.copied p (aside p);
-                  };
-              tied = beside.tied;
-              untied = beside.untied;
-              highest = beside.highest;
-            };
-            base = λ p _. stands.base p;
-          };
-    }
-
--- one more does
+-- one more page does
 pub clears_one_more : (first len page frame : ℕ) (old mid new : Kept) → ClearsBut first len old mid → ClearsOne mid new first len page frame → ClearsBut first len old new
 clears_one_more first len page frame old mid new so_far one =
     record {

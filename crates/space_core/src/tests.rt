@@ -391,8 +391,7 @@ fn a_sync_writes_a_dirty_page_once(rt: HostRuntime) -> Result<(), Fail> {
         (sync(17), Reply::Written, None),
         (sync(24), Reply::Unmapped, None),
     ];
-    serves(&rt, &mut space, &mut spare, &steps)?;
-    Ok(())
+    serves(&rt, &mut space, &mut spare, &steps)
 }
 
 #[test]
@@ -411,8 +410,7 @@ fn an_evict_gives_the_frame_up_and_a_fill_reads_the_word_back(rt: HostRuntime) -
     serves(&rt, &mut space, &mut spare, &steps)?;
     assert_eq!(rt; space.resident(17), Some(2));
     let steps = [(evict(17), Reply::Clean, Some(2))];
-    serves(&rt, &mut space, &mut spare, &steps)?;
-    Ok(())
+    serves(&rt, &mut space, &mut spare, &steps)
 }
 
 #[test]
@@ -450,8 +448,7 @@ fn a_failed_write_leaves_the_page_dirty_and_resident(rt: HostRuntime) -> Result<
         (evict(17), Reply::Clean, Some(3)),
         (load(17), Reply::Value(5), None),
     ];
-    serves(&rt, &mut space, &mut spare, &steps)?;
-    Ok(())
+    serves(&rt, &mut space, &mut spare, &steps)
 }
 
 #[test]
@@ -488,6 +485,5 @@ fn an_unmap_drops_the_copies_of_its_pages(rt: HostRuntime) -> Result<(), Fail> {
         (load(23), Reply::Value(0), None),
         (load(24), Reply::Value(6), None),
     ];
-    serves(&rt, &mut space, &mut spare, &steps)?;
-    Ok(())
+    serves(&rt, &mut space, &mut spare, &steps)
 }

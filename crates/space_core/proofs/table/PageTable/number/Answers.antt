@@ -1,4 +1,4 @@
-use Rattle.std.proofs.Common.{◌∙◌, sym, ap, ℕ, List, Option, Some, None, slice_index_or}
+use Rattle.std.proofs.Common.{◌∙◌, sym, ap, Some, None}
 use Rattle.std.proofs.lemmas.List.{get_or_past}
 use Rattle.space_core.proofs.TableLemmas.{frame_in-is}
 use Rattle.space_core.proofs.table.PageTable.number.Goals as goal

@@ -1,4 +1,4 @@
-use Rattle.std.proofs.Common.{◌∙◌, sym, ap, Some, arith, refl}
+use Rattle.std.proofs.Common.{◌∙◌, sym, arith, refl}
 use Rattle.space_core.specs.contracts.table.PageTable.{the_view}
 use Rattle.space_core.proofs.TableLemmas.{frame-read, found_within, frame-number, frame-there, stored_paged, writes}
 use Rattle.space_core.proofs.table.PageTable.set_word.Goals as goal
