@@ -12,3 +12,6 @@ pub use generator::Generator;
 pub use pager_core::Gathered;
 pub use scheduled::replay_schedule;
 pub use turns::replay_turns;
+
+#[cfg(test)]
+mod tests;

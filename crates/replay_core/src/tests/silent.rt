@@ -1,0 +1,32 @@
+//! A store that tells nothing of its copies.
+
+ghost use Rattle.std.specs.Prelude.{false, [], None};
+
+use store_core::{Store, StoreFailed, WriteRefused};
+
+/// Forgets what is written, and never fails.
+#[derive(Drop)]
+pub(super) struct Silent;
+
+impl Store for Silent {
+    ghost seen = { λ _. record { tells = false; told = false; copies = []; kept = None; faults = 0 } };
+
+    fn read(&mut self, _page: u32, _words: &mut [u64]) -> Result<(), StoreFailed> {
+        Ok(())
+    }
+
+    #[tactic(auto, unfolding(store_core::specs::Stored::keeps_at))]
+    fn write(&mut self, _page: u32, _words: &[u64]) -> Result<(), WriteRefused> {
+        Ok(())
+    }
+
+    fn drop_pages(&mut self, _first: u32, _length: u32) {}
+
+    fn told(&self) -> bool {
+        false
+    }
+
+    fn faults(&self) -> u64 {
+        0
+    }
+}
