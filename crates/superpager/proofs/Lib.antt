@@ -1,4 +1,5 @@
-pub mod Printing
-pub mod Pieces
+pub mod Sending
+pub mod Noting
 pub mod Words
 pub mod Completeness
+mod OneForm

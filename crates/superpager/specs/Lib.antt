@@ -1,3 +1,4 @@
-pub mod Texts
-pub mod Built
+pub mod Writing
+pub mod Reports
 pub mod Runs
+pub mod Forms

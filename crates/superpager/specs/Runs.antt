@@ -1,25 +1,25 @@
 -- What a run of the program promises, by its status.
-use Rattle.std.specs.Prelude.{ℕ, ◌≡◌, ◌≢◌, ◌<◌, ◌≤◌, ◌⊎◌, List, [], ◌∷◌, ◌++◌, length, map, take, codes, Option, Some, None, IsSome, IfSome, IsSomeAnd}
+use Rattle.std.specs.Prelude.{ℕ, ◌≡◌, ◌<◌, ◌≤◌, ◌⊎◌, List, [], ◌∷◌, ◌++◌, length, map, take, codes, Option, Some, IsSome, IfSome}
 use Rattle.std.specs.Borrow.{Bor}
 use Rattle.pager_model.specs.Plans.{Plan}
 use Rattle.pager_model.specs.TraceText.{IsTextOf}
 use Rattle.superpager.specs.declared.run.TheConstants.{DONE, USAGE, REFUSED, READ_FAULT, MEMORY, WRITE_FAULT}
-use Rattle.superpager.specs.Built.{AreBuilt, IsUnbuilt}
 use Rattle.trace_reader.specs.declared.fault.TraceFault.{TraceFault}
-use Rattle.trace_reader.specs.declared.fault.TraceFault.TheVariants.{ReadFault, TooLong, Line, NoEnd, TooManyCalls, TooFewStores, NoMemory}
+use Rattle.trace_reader.specs.declared.fault.TraceFault.TheVariants.{ReadFault, TooFewStores, NoMemory}
 use Rattle.trace_reader.specs.Refusals.{refusal_of}
 
--- the words are the one form
-abbrev pub IsOrder : List (Bor (List ℕ)) → Type 0
-IsOrder words = map (λ (w : Bor (List ℕ)). w.now) words ≡ codes "order" ∷ []
+-- the bytes are the text of a trace for whose spaces there are stores enough
+abbrev pub IsRunnable : ℕ → List ℕ → Type 0
+IsRunnable stores bytes = (plan : Plan) × IsTextOf bytes plan × (plan.spaces ≤ stores)
 
--- the bytes are the text of a trace whose calls are all built
-abbrev pub IsRunnable : List ℕ → Type 0
-IsRunnable bytes = (plan : Plan) × IsTextOf bytes plan × AreBuilt plan.calls
+-- the bytes are the text of a trace that has more spaces than there are stores, and the fault says how many
+abbrev pub HasTooFewStores : ℕ → List ℕ → TraceFault → Type 0
+HasTooFewStores stores bytes fault =
+    (plan : Plan) × IsTextOf bytes plan × (stores < plan.spaces) × (fault ≡ TooFewStores stores plan.spaces)
 
--- the bytes are refused so: as no trace's text, or at the line of a call that isn't built
-abbrev pub IsRefused : List ℕ → TraceFault → Type 0
-IsRefused bytes fault = (refusal_of bytes ≡ Some fault) ⊎ IsUnbuilt bytes fault
+-- the bytes are refused so: as no trace's text, or for want of stores
+abbrev pub IsRefused : ℕ → List ℕ → TraceFault → Type 0
+IsRefused stores bytes fault = (refusal_of bytes ≡ Some fault) ⊎ HasTooFewStores stores bytes fault
 
 -- the bytes are a trace's text, and they were read to their end
 abbrev pub WasText : Option (List ℕ) → Option (List ℕ) → Type 0

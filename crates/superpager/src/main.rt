@@ -1,20 +1,25 @@
 //! Replays a trace of memory calls and prints each answer.
 #![tactic(auto)]
 
-mod built;
+mod form;
+mod report;
 mod run;
-mod text;
 mod writing;
 
 use io_core::{RealSink, RealSource};
 pub use run::{Outcome, run};
 use run::{DONE, MEMORY, READ_FAULT, REFUSED, USAGE, WRITE_FAULT};
+use std::alloc::{AllocError, Global};
 use std::process::ExitCode;
 use std::{env, io};
+use store_core::MemoryStore;
 use trace_reader::TraceFault;
 
 #[cfg(test)]
 mod tests;
+
+/// The most spaces of a trace.
+const MOST_SPACES: usize = 16;
 
 fn main(rt: HostRuntime) -> ExitCode {
     let (status, refusal) = match run_words(&rt) {
@@ -34,11 +39,21 @@ fn run_words(rt: &HostRuntime) -> io::Result<(u8, Option<TraceFault>)> {
     let words: Vec<&str> = arguments.iter().map(|word| word.as_str()).collect(alloc)?;
     let mut source = RealSource::of(rt.stdin());
     let mut sink = RealSink::of(rt.stdout());
-    let outcome = run(rt, alloc, words.as_slice(), &mut source, &mut sink);
+    let stores = empty_stores(alloc)?;
+    let outcome = run(rt, alloc, words.as_slice(), &mut source, &mut sink, stores);
     Ok((outcome.status, outcome.refusal))
 }
 
-/// The status where the words could not be read: they were no text, or there was no memory for them.
+/// A store in memory for each space that a trace may have, with no copy yet. None of them is to fail.
+fn empty_stores(alloc: Global) -> Result<Vec<MemoryStore>, AllocError> {
+    let mut stores = Vec::with_capacity(alloc, MOST_SPACES)?;
+    for _ in 0..MOST_SPACES {
+        stores.push(MemoryStore::of(alloc, Vec::new(alloc), Vec::new(alloc)))?;
+    }
+    Ok(stores)
+}
+
+/// The status where no run began: the words were no text, or there was no memory for them or for the stores.
 fn unread_words(error: &io::Error) -> u8 {
     match error.kind() {
         io::ErrorKind::InvalidData => USAGE,

@@ -1,9 +1,11 @@
-//! Whole runs: what is printed, and the status where nothing is. The examples of the folder `examples/` are run by the script there.
+//! Whole runs: what is printed, and the status where nothing is, over stores that fail where a test says so. The program's own stores
+//! never fail. The examples of the folder `examples/` are run by the script there.
 use super::*;
 use io_core::{MemorySink, MemorySource, Source};
 use itoa::Buffer;
 use std::alloc::{AllocError, Global};
 use std::test::Fail;
+use store_core::MemoryStore;
 use trace_reader::{LineCause, TraceFault};
 
 const ORDER: [&str; 1] = ["order"];
@@ -33,12 +35,28 @@ fn sink_of(alloc: Global, limit: usize, failing: u64) -> Result<MemorySink, Allo
     Ok(MemorySink::of(room, limit, [failing].to_vec(alloc)?))
 }
 
+// So many stores in memory, of which the first fails at these reads and writes.
+fn stores_of(
+    alloc: Global,
+    count: usize,
+    reads: &[u64],
+    writes: &[u64],
+) -> Result<Vec<MemoryStore>, AllocError> {
+    let mut stores = Vec::with_capacity(alloc, count)?;
+    let failing = MemoryStore::of(alloc, reads.to_vec(alloc)?, writes.to_vec(alloc)?);
+    stores.push(failing)?;
+    for _ in 1..count {
+        stores.push(MemoryStore::of(alloc, Vec::new(alloc), Vec::new(alloc)))?;
+    }
+    Ok(stores)
+}
+
 fn push_number(text: &mut Vec<u8>, number: u64) -> Result<(), AllocError> {
     let mut buffer = Buffer::new();
     text.extend_from_slice(buffer.format(number).as_bytes())
 }
 
-// Loads of 513 pages in 512 frames, after a store and a load that are refused.
+// Loads of 513 pages in 512 frames, after a store and a load that are refused: for the last page the first one is paged out.
 fn frames_run_out(alloc: Global) -> Result<Vec<u8>, AllocError> {
     let mut trace =
         b"trace 1 512 1 1\n0 map 0 0 600 fixed read\n0 store 0 0 1\n0 load 0 4915200\n".to_vec(
@@ -60,7 +78,7 @@ fn frames_run_out_text(alloc: Global) -> Result<Vec<u8>, AllocError> {
         push_number(&mut text, number)?;
         text.extend_from_slice(b" value 0\n")?;
     }
-    text.extend_from_slice(b"0 515 noframes 0 0 0\nframes 0 0 512\nend\n")?;
+    text.extend_from_slice(b"0 515 value 0\nframes 0 0 512\nend\n")?;
     Ok(text)
 }
 
@@ -72,12 +90,13 @@ fn a_run_with_ample_memory_is_done_and_prints_its_text(rt: HostRuntime) -> Resul
     let table = [
         (EMPTY, EMPTY_TEXT, 0, 0),
         (LAST_PAGE, LAST_PAGE_TEXT, 3, 4),
-        (long.as_slice(), long_text.as_slice(), 516, 1029),
+        (long.as_slice(), long_text.as_slice(), 516, 1032),
     ];
     for (bytes, text, calls, entries) in table {
         let mut source = source_of(alloc, bytes, 0)?;
         let mut sink = sink_of(alloc, 8192, 0)?;
-        let outcome = run(&rt, alloc, &ORDER, &mut source, &mut sink);
+        let stores = stores_of(alloc, 1, &[], &[])?;
+        let outcome = run(&rt, alloc, &ORDER, &mut source, &mut sink, stores);
         assert_eq!(rt; outcome.status, DONE);
         assert_eq!(rt; outcome.refusal, None);
         assert_eq!(rt; outcome.trace.ok_or(OTHER)?.calls().len(), calls);
@@ -89,11 +108,28 @@ fn a_run_with_ample_memory_is_done_and_prints_its_text(rt: HostRuntime) -> Resul
 }
 
 #[test]
+fn drawn_turns_of_one_processor_come_in_the_order_of_its_lines(
+    rt: HostRuntime,
+) -> Result<(), Fail> {
+    let alloc = rt.alloc();
+    let mut source = source_of(alloc, LAST_PAGE, 0)?;
+    let mut sink = sink_of(alloc, 8192, 0)?;
+    let stores = stores_of(alloc, 1, &[], &[])?;
+    let words = ["turns", "5"];
+    let outcome = run(&rt, alloc, &words, &mut source, &mut sink, stores);
+    assert_eq!(rt; outcome.status, DONE);
+    assert_eq!(rt; sink.bytes(), LAST_PAGE_TEXT);
+    Ok(())
+}
+
+#[test]
 fn other_words_read_and_write_nothing(rt: HostRuntime) -> Result<(), Fail> {
-    let table: [&[&str]; 7] = [
+    let table: [&[&str]; 9] = [
         &[],
         &[""],
         &["turns"],
+        &["turns", "05"],
+        &["turns", "5", "x"],
         &["Order"],
         &["order "],
         &["order", "x"],
@@ -102,11 +138,13 @@ fn other_words_read_and_write_nothing(rt: HostRuntime) -> Result<(), Fail> {
     for words in table {
         let mut source = source_of(rt.alloc(), LAST_PAGE, 0)?;
         let mut sink = sink_of(rt.alloc(), 100, 0)?;
-        let outcome = run(&rt, rt.alloc(), words, &mut source, &mut sink);
+        let stores = stores_of(rt.alloc(), 1, &[], &[])?;
+        let outcome = run(&rt, rt.alloc(), words, &mut source, &mut sink, stores);
         assert_eq!(rt; outcome.status, USAGE);
         assert_eq!(rt; outcome.refusal, None);
         assert!(rt; outcome.trace.is_none());
         assert!(rt; outcome.history.is_empty());
+        assert_eq!(rt; outcome.stores.len(), 1);
         assert_eq!(rt; sink.bytes(), b"".as_slice());
         let mut first = [0];
         assert_eq!(rt; source.read(&mut first), Ok(1));
@@ -130,11 +168,6 @@ fn what_is_refused_is_told_and_nothing_written(rt: HostRuntime) -> Result<(), Fa
             b"trace 1 512 1 1\n0 load 0 x\nend\n",
             at_line(2, LineCause::Number),
         ),
-        // Calls that aren't built: the first of them, and after a line that is none of the grammar.
-        (
-            b"trace 1 512 1 1\n0 load 0 0\n0 evict 0 0\n0 sync 0 0\nend\n",
-            at_line(3, LineCause::Form),
-        ),
         (
             b"trace 1 512 1 1\n0 sync 0 0\n0 load 0\nend\n",
             at_line(3, LineCause::Form),
@@ -143,7 +176,8 @@ fn what_is_refused_is_told_and_nothing_written(rt: HostRuntime) -> Result<(), Fa
     for (bytes, fault) in table {
         let mut source = source_of(rt.alloc(), bytes, 0)?;
         let mut sink = sink_of(rt.alloc(), 100, 0)?;
-        let outcome = run(&rt, rt.alloc(), &ORDER, &mut source, &mut sink);
+        let stores = stores_of(rt.alloc(), 1, &[], &[])?;
+        let outcome = run(&rt, rt.alloc(), &ORDER, &mut source, &mut sink, stores);
         assert_eq!(rt; outcome.status, REFUSED);
         assert_eq!(rt; outcome.refusal, Some(fault));
         assert!(rt; outcome.trace.is_none());
@@ -160,7 +194,8 @@ fn a_failed_read_is_told_before_what_is_wrong_with_the_text(rt: HostRuntime) -> 
     ] {
         let mut source = source_of(rt.alloc(), bytes, failing)?;
         let mut sink = sink_of(rt.alloc(), 100, 0)?;
-        let outcome = run(&rt, rt.alloc(), &ORDER, &mut source, &mut sink);
+        let stores = stores_of(rt.alloc(), 1, &[], &[])?;
+        let outcome = run(&rt, rt.alloc(), &ORDER, &mut source, &mut sink, stores);
         assert_eq!(rt; outcome.status, READ_FAULT);
         assert_eq!(rt; outcome.refusal, Some(TraceFault::ReadFault));
         assert_eq!(rt; sink.bytes(), b"".as_slice());
@@ -175,7 +210,8 @@ fn each_read_that_fails_ends_the_run_with_nothing_written(rt: HostRuntime) -> Re
     for failing in 1..=reads {
         let mut source = source_of(rt.alloc(), LAST_PAGE, failing)?;
         let mut sink = sink_of(rt.alloc(), 100, 0)?;
-        let outcome = run(&rt, rt.alloc(), &ORDER, &mut source, &mut sink);
+        let stores = stores_of(rt.alloc(), 1, &[], &[])?;
+        let outcome = run(&rt, rt.alloc(), &ORDER, &mut source, &mut sink, stores);
         assert_eq!(rt; outcome.status, READ_FAULT, "at read {failing}");
         assert_eq!(rt; outcome.refusal, Some(TraceFault::ReadFault));
         assert!(rt; outcome.trace.is_none());
@@ -183,7 +219,8 @@ fn each_read_that_fails_ends_the_run_with_nothing_written(rt: HostRuntime) -> Re
     }
     let mut source = source_of(rt.alloc(), LAST_PAGE, reads + 1)?;
     let mut sink = sink_of(rt.alloc(), 100, 0)?;
-    let outcome = run(&rt, rt.alloc(), &ORDER, &mut source, &mut sink);
+    let stores = stores_of(rt.alloc(), 1, &[], &[])?;
+    let outcome = run(&rt, rt.alloc(), &ORDER, &mut source, &mut sink, stores);
     assert_eq!(rt; outcome.status, DONE);
     assert_eq!(rt; sink.bytes(), LAST_PAGE_TEXT);
     Ok(())
@@ -191,10 +228,12 @@ fn each_read_that_fails_ends_the_run_with_nothing_written(rt: HostRuntime) -> Re
 
 #[test]
 fn a_full_sink_has_the_first_bytes_of_the_text(rt: HostRuntime) -> Result<(), Fail> {
-    for limit in 0..LAST_PAGE_TEXT.len() {
+    // Nothing, a part of the first line, all of it, and all but the last byte.
+    for limit in [0, 4, 9, LAST_PAGE_TEXT.len() - 1] {
         let mut source = source_of(rt.alloc(), LAST_PAGE, 0)?;
         let mut sink = sink_of(rt.alloc(), limit, 0)?;
-        let outcome = run(&rt, rt.alloc(), &ORDER, &mut source, &mut sink);
+        let stores = stores_of(rt.alloc(), 1, &[], &[])?;
+        let outcome = run(&rt, rt.alloc(), &ORDER, &mut source, &mut sink, stores);
         assert_eq!(rt; outcome.status, WRITE_FAULT, "after {limit} bytes");
         assert_eq!(rt; outcome.refusal, None);
         assert_eq!(rt; outcome.trace.ok_or(OTHER)?.calls().len(), 3);
@@ -203,7 +242,8 @@ fn a_full_sink_has_the_first_bytes_of_the_text(rt: HostRuntime) -> Result<(), Fa
     }
     let mut source = source_of(rt.alloc(), LAST_PAGE, 0)?;
     let mut sink = sink_of(rt.alloc(), LAST_PAGE_TEXT.len(), 0)?;
-    let outcome = run(&rt, rt.alloc(), &ORDER, &mut source, &mut sink);
+    let stores = stores_of(rt.alloc(), 1, &[], &[])?;
+    let outcome = run(&rt, rt.alloc(), &ORDER, &mut source, &mut sink, stores);
     assert_eq!(rt; outcome.status, DONE);
     Ok(())
 }
@@ -212,18 +252,170 @@ fn a_full_sink_has_the_first_bytes_of_the_text(rt: HostRuntime) -> Result<(), Fa
 fn each_write_that_fails_leaves_what_went_before(rt: HostRuntime) -> Result<(), Fail> {
     let alloc = rt.alloc();
     let (trace, text) = (frames_run_out(alloc)?, frames_run_out_text(alloc)?);
-    // The write that fails, the status, and how many bytes went out; the text is two writes long.
+    // The write that fails, the status, and how many bytes went out; the text is two writes long, of which the first is full but for a
+    // byte or two.
     let table = [
         (1, WRITE_FAULT, 0),
-        (2, WRITE_FAULT, 4096),
+        (2, WRITE_FAULT, 4093),
         (3, DONE, text.len()),
     ];
     for (failing, status, gone) in table {
         let mut source = source_of(alloc, &trace, 0)?;
         let mut sink = sink_of(alloc, 8192, failing)?;
-        let outcome = run(&rt, alloc, &ORDER, &mut source, &mut sink);
+        let stores = stores_of(alloc, 1, &[], &[])?;
+        let outcome = run(&rt, alloc, &ORDER, &mut source, &mut sink, stores);
         assert_eq!(rt; outcome.status, status, "at write {failing}");
         assert_eq!(rt; sink.bytes(), text.get(..gone).ok_or(OTHER)?);
+    }
+    Ok(())
+}
+
+#[test]
+fn a_trace_with_more_spaces_than_stores_is_refused(rt: HostRuntime) -> Result<(), Fail> {
+    let trace =
+        b"trace 1 512 1 2\n0 map 0 0 512 fixed write\n0 map 1 0 8 fixed write\n0 load 0 0\n0 load 1 0\nend\n";
+    let mut source = source_of(rt.alloc(), trace, 0)?;
+    let mut sink = sink_of(rt.alloc(), 100, 0)?;
+    let stores = stores_of(rt.alloc(), 1, &[], &[])?;
+    let outcome = run(&rt, rt.alloc(), &ORDER, &mut source, &mut sink, stores);
+    assert_eq!(rt; outcome.status, REFUSED);
+    let fault = TraceFault::TooFewStores {
+        stores: 1,
+        spaces: 2,
+    };
+    assert_eq!(rt; outcome.refusal, Some(fault));
+    assert!(rt; outcome.trace.is_none());
+    assert_eq!(rt; outcome.stores.len(), 1);
+    assert_eq!(rt; sink.bytes(), b"".as_slice());
+    Ok(())
+}
+
+const WRITTEN_TWICE: &[u8] =
+    b"trace 1 512 1 1\n0 map 0 0 1 fixed write\n0 store 0 0 9\n0 sync 0 0\n0 store 0 0 9\n0 sync 0 0\n0 store 0 0 9\n0 sync 0 0\n0 evict 0 0\nend\n";
+
+const EVICTED: &[u8] =
+    b"trace 1 512 1 1\n0 map 0 0 2 fixed write\n0 store 0 0 5\n0 evict 0 0\n0 evict 0 0\n0 sync 0 1\n0 load 0 0\nend\n";
+
+const LOADED_TWICE: &[u8] =
+    b"trace 1 512 1 1\n0 map 0 0 8 fixed write\n0 load 0 0\n0 load 0 0\nend\n";
+
+#[test]
+fn a_store_that_fails_is_told_and_the_run_goes_on(rt: HostRuntime) -> Result<(), Fail> {
+    // The trace, the read and the write of the store that fail (none is 0), and the text.
+    let table = [
+        (
+            EVICTED,
+            0,
+            0,
+            b"0 0 done\n0 1 done\n0 2 written\n0 3 clean\n0 4 clean\n0 5 value 5\nframes 511 0 1\nend\n".as_slice(),
+        ),
+        (
+            LOADED_TWICE,
+            1,
+            0,
+            b"0 0 done\n0 1 storefault 0 1\n0 2 value 0\nframes 504 7 1\nend\n",
+        ),
+        (
+            WRITTEN_TWICE,
+            0,
+            1,
+            b"0 0 done\n0 1 done\n0 2 storefault 0 1\n0 3 done\n0 4 written\n0 5 done\n0 6 written\n0 7 clean\nframes 512 0 0\nend\n",
+        ),
+        (
+            WRITTEN_TWICE,
+            0,
+            2,
+            b"0 0 done\n0 1 done\n0 2 written\n0 3 done\n0 4 storefault 0 1\n0 5 done\n0 6 written\n0 7 clean\nframes 512 0 0\nend\n",
+        ),
+        (
+            WRITTEN_TWICE,
+            0,
+            3,
+            b"0 0 done\n0 1 done\n0 2 written\n0 3 done\n0 4 written\n0 5 done\n0 6 storefault 0 1\n0 7 written\nframes 512 0 0\nend\n",
+        ),
+        (
+            WRITTEN_TWICE,
+            0,
+            4,
+            b"0 0 done\n0 1 done\n0 2 written\n0 3 done\n0 4 written\n0 5 done\n0 6 written\n0 7 clean\nframes 512 0 0\nend\n",
+        ),
+    ];
+    for (trace, read, write, text) in table {
+        let mut source = source_of(rt.alloc(), trace, 0)?;
+        let mut sink = sink_of(rt.alloc(), 200, 0)?;
+        let stores = stores_of(rt.alloc(), 1, &[read], &[write])?;
+        let outcome = run(&rt, rt.alloc(), &ORDER, &mut source, &mut sink, stores);
+        assert_eq!(rt; outcome.status, DONE);
+        assert_eq!(rt; sink.bytes(), text);
+    }
+    Ok(())
+}
+
+// All 512 frames are used: an access of this kind to the first page of 512, a load of each other one, and then these lines.
+fn all_frames_used(alloc: Global, head: &[u8], rest: &[u8]) -> Result<Vec<u8>, AllocError> {
+    let mut trace = head.to_vec(alloc)?;
+    for page in 1..512u64 {
+        trace.extend_from_slice(b"0 load 0 ")?;
+        push_number(&mut trace, page * 8192)?;
+        trace.extend_from_slice(b"\n")?;
+    }
+    trace.extend_from_slice(rest)?;
+    Ok(trace)
+}
+
+// What such a trace prints.
+fn all_frames_used_text(alloc: Global, head: &[u8], rest: &[u8]) -> Result<Vec<u8>, AllocError> {
+    let mut text = head.to_vec(alloc)?;
+    for number in 2..513u64 {
+        text.extend_from_slice(b"0 ")?;
+        push_number(&mut text, number)?;
+        text.extend_from_slice(b" value 0\n")?;
+    }
+    text.extend_from_slice(rest)?;
+    Ok(text)
+}
+
+#[test]
+fn where_frames_run_short_the_page_that_was_filled_first_is_paged_out(
+    rt: HostRuntime,
+) -> Result<(), Fail> {
+    let alloc = rt.alloc();
+    let stored = b"trace 1 512 1 2\n0 map 0 0 512 fixed write\n0 store 0 0 5\n".as_slice();
+    let wired = b"trace 1 512 1 1\n0 map 0 0 512 wired write\n0 load 0 0\n".as_slice();
+    // The trace's head and end, the store's write that fails (none is 0), and the text's head and end.
+    let table = [
+        (
+            stored,
+            b"0 map 1 0 8 fixed write\n0 load 1 0\nend\n".as_slice(),
+            0,
+            b"0 0 done\n0 1 done\n".as_slice(),
+            b"0 513 done\n0 514 value 0\nframes 0 0 512\nend\n".as_slice(),
+        ),
+        (
+            stored,
+            b"0 map 1 0 8 fixed write\n0 load 1 0\n0 load 1 0\nend\n",
+            1,
+            b"0 0 done\n0 1 done\n",
+            b"0 513 done\n0 514 storefault 0 1\n0 515 value 0\nframes 0 0 512\nend\n",
+        ),
+        (
+            wired,
+            b"0 map 0 512 8 fixed write\n0 load 0 4194304\n0 evict 0 3\nend\n",
+            0,
+            b"0 0 done\n0 1 value 0\n",
+            b"0 513 done\n0 514 noframes 512 0 0\n0 515 denied\nframes 0 0 512\nend\n",
+        ),
+    ];
+    for (head, rest, write, printed, last) in table {
+        let trace = all_frames_used(alloc, head, rest)?;
+        let text = all_frames_used_text(alloc, printed, last)?;
+        let mut source = source_of(alloc, &trace, 0)?;
+        let mut sink = sink_of(alloc, 8192, 0)?;
+        let stores = stores_of(alloc, 2, &[], &[write])?;
+        let outcome = run(&rt, alloc, &ORDER, &mut source, &mut sink, stores);
+        assert_eq!(rt; outcome.status, DONE);
+        assert_eq!(rt; outcome.stores.len(), 2);
+        assert_eq!(rt; sink.bytes(), text.as_slice());
     }
     Ok(())
 }

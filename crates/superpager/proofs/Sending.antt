@@ -1,0 +1,136 @@
+-- Bytes that go out one after another.
+use Rattle.std.proofs.Common.{◌≡◌, ℕ, ◌+◌, ◌<◌, ◌≤◌, inl, inr, List, [], ◌∷◌, ◌++◌, length, take, drop, get_or, flat_map, Option, Some, None, IfSome, Result, Ok, Err, OnOk, OnErr, IsErr, ap, sym, subst, ◌∙◌, append_assoc, arith}
+use Rattle.std.proofs.Math.Seq.{take-append-add}
+use Rattle.std.proofs.lemmas.List.{append-nil, length-append, take-append-le, take-append-drop, take_more}
+use Rattle.std.proofs.lemmas.Bool.{false≢true}
+use Rattle.std.proofs.lemmas.Grind.{flat_map-append}
+use Rattle.io_core.specs.Faults.{Rose}
+use Rattle.superpager.specs.Runs.{WroteAll, WrotePart}
+use Rattle.superpager.specs.Writing.{Outgoing, outgoing, Sent, SentPart, Puts}
+
+abbrev Gone : Option (List ℕ) → List ℕ → List ℕ → List ℕ → List ℕ → Type 0
+Gone taken had waited waiting bytes = (gone : List ℕ) × (taken ≡ Some (had ++ gone)) × (gone ++ waiting ≡ waited ++ bytes)
+
+abbrev GonePart : Option (List ℕ) → List ℕ → List ℕ → Type 0
+GonePart taken had bytes = (k : ℕ) × (k < length bytes) × (taken ≡ Some (had ++ take k bytes))
+
+-- Where the sink tells what it has taken.
+module _ (had : List ℕ) (mid last : Option (List ℕ)) (w0 w1 w2 x y : List ℕ) (first : Gone mid had w0 w1 x) where
+  whole : first.0 ++ (w1 ++ y) ≡ w0 ++ (x ++ y)
+  whole = sym (append_assoc first.0 w1 y) ∙ ap (λ l. l ++ y) first.2 ∙ append_assoc w0 x y
+
+  gone_gone : IfSome mid (λ had. Gone last had w1 w2 y) → Gone last had w0 w2 (x ++ y)
+  gone_gone more =
+      let then : Gone last (had ++ first.0) w1 w2 y = subst (λ o. IfSome o (λ had. Gone last had w1 w2 y)) first.1 more in
+      (first.0 ++ then.0, then.1 ∙ ap Some (append_assoc had first.0 then.0), append_assoc first.0 then.0 w2 ∙ ap (λ l. first.0 ++ l) then.2 ∙ whole)
+
+  gone_part : IfSome mid (λ had. GonePart last had (w1 ++ y)) → GonePart last had (w0 ++ (x ++ y))
+  gone_part more =
+      let then : GonePart last (had ++ first.0) (w1 ++ y) = subst (λ o. IfSome o (λ had. GonePart last had (w1 ++ y))) first.1 more in
+      let long : length first.0 + length (w1 ++ y) ≡ length (w0 ++ (x ++ y)) = sym (length-append first.0 (w1 ++ y)) ∙ ap length whole in (
+        length first.0 + then.0,
+        omega (arith, long, then.1),
+        then.2 ∙ ap Some (append_assoc had first.0 (take then.0 (w1 ++ y)) ∙ ap (λ l. had ++ l) (sym (take-append-add first.0 (w1 ++ y) then.0) ∙ ap (take (length first.0 + then.0)) whole)),
+      )
+
+part_more : (had : List ℕ) (last : Option (List ℕ)) (bytes rest : List ℕ) → GonePart last had bytes → GonePart last had (bytes ++ rest)
+part_more had last bytes rest part =
+    (part.0, omega (arith, part.1, length-append bytes rest), part.2 ∙ ap (λ l. Some (had ++ l)) (sym (take-append-le part.0 bytes rest (omega (arith, part.1)))))
+
+rose_then : (a b c : ℕ) → a ≤ b → Rose b c → Rose a c
+rose_then a b c below (inl more) = inl (omega (arith, below, more))
+rose_then a b c below (inr full) = inr full
+
+told_sent : (first mid last : Option (List ℕ)) (w0 w1 w2 x y : List ℕ) → IfSome first (λ had. Gone mid had w0 w1 x) → IfSome mid (λ had. Gone last had w1 w2 y) → IfSome first (λ had. Gone last had w0 w2 (x ++ y))
+told_sent None mid last w0 w1 w2 x y before more = tt
+told_sent (Some had) mid last w0 w1 w2 x y before more = gone_gone had mid last w0 w1 w2 x y before more
+
+told_part : (first mid last : Option (List ℕ)) (w0 w1 x y : List ℕ) → IfSome first (λ had. Gone mid had w0 w1 x) → IfSome mid (λ had. GonePart last had (w1 ++ y)) → IfSome first (λ had. GonePart last had (w0 ++ (x ++ y)))
+told_part None mid last w0 w1 x y before more = tt
+told_part (Some had) mid last w0 w1 x y before more = gone_part had mid last w0 w1 w1 x y before more
+
+told_more : (first last : Option (List ℕ)) (w x rest : List ℕ) → IfSome first (λ had. GonePart last had (w ++ x)) → IfSome first (λ had. GonePart last had (w ++ (x ++ rest)))
+told_more None last w x rest part = tt
+told_more (Some had) last w x rest part = subst (λ l. GonePart last had l) (append_assoc w x rest) (part_more had last (w ++ x) rest part)
+
+-- bytes, and then more
+pub sent_sent : (a b c : Outgoing) (x y : List ℕ) → Sent a b x → Sent b c y → Sent a c (x ++ y)
+sent_sent a b c x y first more = record {
+  told = told_sent a.taken b.taken c.taken a.waiting b.waiting c.waiting x y first.told more.told;
+  never_falls = omega (arith, first.never_falls, more.never_falls);
+}
+
+pub sent_part : (a b c : Outgoing) (x y : List ℕ) → Sent a b x → SentPart b c y → SentPart a c (x ++ y)
+sent_part a b c x y first more = record {
+  told = told_part a.taken b.taken c.taken a.waiting b.waiting x y first.told more.told;
+  rose = rose_then a.faults b.faults c.faults first.never_falls more.rose;
+}
+
+-- bytes, and then what the result says
+pub puts_then : {E : Type 0} (r : Result (Unit {0}) E) (a b c : Outgoing) (x y : List ℕ) → Sent a b x → Puts r b c y → Puts r a c (x ++ y)
+puts_then (Ok done) a b c x y first more = sent_sent a b c x y first more
+puts_then (Err e) a b c x y first more = sent_part a b c x y first more
+
+-- a part of bytes is a part of a text that goes on from them
+pub puts_failed : {E : Type 0} (r : Result (Unit {0}) E) (a b : Outgoing) (x rest text : List ℕ) → IsErr r → SentPart a b x → x ++ rest ≡ text → Puts r a b text
+puts_failed (Ok done) a b x rest text is part joins = absurd (false≢true is)
+puts_failed (Err e) a b x rest text is part joins = record {
+  told = subst (λ text. IfSome a.taken (λ had. GonePart b.taken had (a.waiting ++ text))) joins (told_more a.taken b.taken a.waiting x rest part.told);
+  rose = part.rose;
+}
+
+-- a text that went out by itself, where nothing waited
+pub put_whole : {E : Type 0} (r : Result (Unit {0}) E) (taken taken2 : Option (List ℕ)) (faults faults2 : ℕ) (bytes : List ℕ) → OnOk r (IfSome taken (λ had. taken2 ≡ Some (had ++ bytes))) → OnErr r (IfSome taken (λ had. GonePart taken2 had bytes)) → OnErr r (Rose faults faults2) → faults ≤ faults2 → Puts r (outgoing taken faults []) (outgoing taken2 faults2 []) bytes
+put_whole (Ok done) taken taken2 faults faults2 bytes all part rose below = record { told = by_taken taken all; never_falls = below }
+  where
+    by_taken : (taken : Option (List ℕ)) → IfSome taken (λ had. taken2 ≡ Some (had ++ bytes)) → IfSome taken (λ had. Gone taken2 had [] [] bytes)
+    by_taken None all = tt
+    by_taken (Some had) all = (bytes, all, append-nil bytes)
+put_whole (Err e) taken taken2 faults faults2 bytes all part rose below = record { told = part; rose = rose }
+
+-- Texts of a list's elements, one after another.
+module _ {X : Type 0} (f : X → List ℕ) (xs : List X) (i : ℕ) (x d : X) (within : i < length xs) (is : x ≡ get_or xs i d) where
+  one_more : flat_map f (take (i + 1) xs) ≡ flat_map f (take i xs) ++ f x
+  one_more =
+      ap (flat_map f) (take_more xs i d within) ∙ ap (λ y. flat_map f (take i xs ++ y ∷ [])) (sym is)
+      ∙ flat_map-append f (take i xs) (x ∷ []) ∙ ap (λ l. flat_map f (take i xs) ++ l) (append-nil (f x))
+
+  -- one more after a text before them
+  pub sent_next : (a b c : Outgoing) (before : List ℕ) → Sent a b (before ++ flat_map f (take i xs)) → Sent b c (f x) → Sent a c (before ++ flat_map f (take (i + 1) xs))
+  sent_next a b c before first more =
+      subst (λ text. Sent a c text) (append_assoc before (flat_map f (take i xs)) (f x) ∙ ap (λ l. before ++ l) (sym one_more)) (sent_sent a b c _ (f x) first more)
+
+  -- or it went out in part, of a text that goes on after them
+  pub next_failed : {E : Type 0} (r : Result (Unit {0}) E) (a b c : Outgoing) (before after : List ℕ) → IsErr r → Sent a b (before ++ flat_map f (take i xs)) → SentPart b c (f x) → Puts r a c ((before ++ flat_map f xs) ++ after)
+  next_failed r a b c before after fails first part =
+      puts_failed r a c _ (flat_map f (drop (i + 1) xs) ++ after) _ fails (sent_part a b c _ (f x) first part)
+      (ap (λ l. l ++ (flat_map f (drop (i + 1) xs) ++ after)) (append_assoc before (flat_map f (take i xs)) (f x) ∙ ap (λ l. before ++ l) (sym one_more))
+      ∙ append_assoc before (flat_map f (take (i + 1) xs)) (flat_map f (drop (i + 1) xs) ++ after)
+      ∙ ap (λ l. before ++ l) (sym (append_assoc (flat_map f (take (i + 1) xs)) (flat_map f (drop (i + 1) xs)) after)
+      ∙ ap (λ l. l ++ after) (sym (flat_map-append f (take (i + 1) xs) (drop (i + 1) xs)) ∙ ap (flat_map f) (take-append-drop (i + 1) xs)))
+      ∙ sym (append_assoc before (flat_map f xs) after))
+
+-- Where nothing waited before and nothing waits after.
+pub on_err : {E P : Type 0} (r : Result (Unit {0}) E) → P → OnErr r P
+on_err (Ok done) p = tt
+on_err (Err e) p = p
+
+pub part_out : (a b : Outgoing) (text : List ℕ) → a.waiting ≡ [] → SentPart a b text → WrotePart text a.taken b.taken
+part_out a b text empty part = subst (λ l. IfSome a.taken (λ had. GonePart b.taken had (l ++ text))) empty part.told
+
+told_out : (first last : Option (List ℕ)) (w0 w1 text : List ℕ) → w0 ≡ [] → w1 ≡ [] → IfSome first (λ had. Gone last had w0 w1 text) → WroteAll text first last
+told_out None last w0 w1 text before after told = tt
+told_out (Some had) last w0 w1 text before after told =
+    let gone : told.0 ≡ text = sym (append-nil told.0) ∙ ap (λ l. told.0 ++ l) (sym after) ∙ told.2 ∙ ap (λ l. l ++ text) before in
+    told.1 ∙ ap (λ l. Some (had ++ l)) gone
+
+pub all_out : {E : Type 0} (r : Result (Unit {0}) E) (a b c : Outgoing) (text : List ℕ) → a.waiting ≡ [] → OnOk r (c.waiting ≡ []) → Sent a b text → Puts r b c [] → OnOk r (WroteAll text a.taken c.taken)
+all_out (Ok done) a b c text before after first rest =
+    told_out a.taken c.taken a.waiting c.waiting text before after (subst (λ l. Sent a c l) (append-nil text) (sent_sent a b c text [] first rest)).told
+all_out (Err e) a b c text before after first rest = tt
+
+pub last_part : {E : Type 0} (r : Result (Unit {0}) E) (a b c : Outgoing) (text : List ℕ) → a.waiting ≡ [] → Sent a b text → Puts r b c [] → OnErr r (WrotePart text a.taken c.taken) × OnErr r (Rose a.faults c.faults)
+last_part (Ok done) a b c text before first rest = (tt, tt)
+last_part (Err e) a b c text before first rest =
+    let part : SentPart a c text = subst (λ l. SentPart a c l) (append-nil text) (sent_part a b c text [] first rest) in
+    (part_out a c text before part, part.rose)

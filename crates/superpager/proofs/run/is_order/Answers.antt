@@ -1,7 +1,0 @@
-use Rattle.std.proofs.Common.{codes, []}
-use Rattle.superpager.proofs.Words.{one_word}
-use Rattle.superpager.proofs.run.is_order.Goals as goal
-
-pub returns-in-len1 : goal.returns-in-len1
-returns-in-len1 c =
-    one_word c.args.words.now (record { ref_ptr = (0, 0); now = [] }) (codes "order") c.eq.result c.in-len1.len_at_least c.in-len1.len_below c.eq.ensures
