@@ -93,9 +93,6 @@ at_rest_by c n calls None is some =
 
 -- One call of a line, made to its end, is the line's sequence.
 module _ (old new : Running) (line : Line) (n : ℕ) (was : IsLawful old) (known : line.processor < length old.calls) (call_is : slice_get (calls_at old.calls line.processor) n ≡ Some line.call) (about : flight_at old.flights line.processor ≡ flight_of line.processor n (calls_at old.calls line.processor)) (made : MadeCall old new line.processor n) where
-  calls_were : List Call
-  calls_were = calls_at old.calls line.processor
-
   history_is : entries_in new.history ≡ entries_in old.history ++ entries_in made.piece
   history_is = ap entries_in made.history ∙ map-append (λ (m : Numbered). m.entry) old.history made.piece
 

@@ -80,11 +80,7 @@ fn drawn(alloc: Global, trace: &Trace, seed: u64) -> Result<Gathered<Silent>, No
 }
 
 /// Runs a trace of two processors and one space in the turns of a schedule.
-fn scheduled(
-    alloc: Global,
-    trace: &Trace,
-    schedule: &[u32],
-) -> Result<Gathered<Silent>, NoMemory>
+fn scheduled(alloc: Global, trace: &Trace, schedule: &[u32]) -> Result<Gathered<Silent>, NoMemory>
     requires processors { trace.now.processors ≡ 2 }
     requires spaces { trace.now.spaces ≡ 1 }
     requires known { All (λ n. n < 2) schedule.now }

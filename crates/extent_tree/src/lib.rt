@@ -1,0 +1,127 @@
+//! A tree of extents of pages: rows, each of an extent and a value. To look at an extent, to put a row in or to take one out are a
+//! few looks at nodes, however many rows there are. Each look at a root or a node, and each write of one, counts as a step.
+//!
+//! Rows may lie in one another. Below each root, an extent of 512 pages, a node has what is at the eight parts of an extent, and the
+//! nodes below. An extent has a node exactly where a smaller one in it has a row. Pages are counted from 0 over all roots.
+#![tactic(auto)]
+
+ghost use Rattle.std.specs.Prelude.{◌≡◌, ℕ, ◌+◌, ◌-◌, ◌*◌, ◌<◌, ◌≤◌, ◌^◌, true, Some, None, IfOk, is_some};
+ghost use Rattle.extent_tree.specs.Counts.{splits_with};
+ghost use Rattle.extent_tree.specs.Rows.{ChangesOnly, SplitsAreRowsBelow, is_split, row, spot_of};
+
+mod spot;
+mod store;
+mod walk;
+
+use pager_model::{NoMemory, Size, Steps};
+pub use spot::Spot;
+use std::alloc::Global;
+use std::marker::Model;
+use std::sync::ledger::Ledger;
+use store::Store;
+
+/// Rows, each of an extent and a value, by their extents.
+///
+/// Contracts see the row of each extent (`row`), and which extents have smaller ones with rows in them (`is_split`).
+#[derive(Debug, Drop)]
+pub struct ExtentTree<V> {
+    store: Store<V>,
+}
+
+impl<V> Model for ExtentTree<V> {
+    ghost use Rattle.extent_tree.specs.Kept.{IsTree};
+    ghost use Rattle.extent_tree.specs.Rows.{Arena};
+
+    ghost Value = { Arena V };
+
+    ghost view = { λ t. t.store };
+
+    ghost invariant = { λ t. IsTree t.store };
+}
+
+/// How far the extents of a size are below the roots.
+fn height_of(size: Size) -> u32
+    ensures height { result ≡ 3 - size }
+    ensures small { size + result ≡ 3 }
+{
+    3 - u32::from(size.level())
+}
+
+impl<V: Copy> ExtentTree<V> {
+    /// A tree over this many roots, with no row, and with room for this many nodes.
+    pub fn create(alloc: Global, roots: u32, room: u32) -> Result<ExtentTree<V>, NoMemory>
+        requires { roots + 8 * room < 2 ^ 32 }
+        ensures roots { IfOk result (λ tree. tree.roots ≡ roots) }
+        ensures room { IfOk result (λ tree. tree.room ≡ room) }
+        ensures empty { IfOk result (λ tree. (size page : ℕ) → row tree size page ≡ None) }
+        ensures splits { IfOk result (λ tree. SplitsAreRowsBelow tree) }
+    {
+        let store = Store::create(alloc, roots, room)?;
+        Ok(ExtentTree { store })
+    }
+
+    /// What is at the extent of a size round a page.
+    pub fn at<L: Ledger>(&self, size: Size, page: u32, steps: &mut Steps<L>) -> Spot<V>
+        ensures spot { result ≡ spot_of self.now (3 - size) page }
+        ensures value { result.value ≡ row self.now size page }
+        ensures split { is_some result.node ≡ is_split self.now size page }
+        ensures cost { steps.new + size ≤ steps.old + 4 }
+    {
+        match walk::find(&self.store, height_of(size), page, steps) {
+            Some(place) => self.store.spot(place, steps),
+            None => Spot::blank(),
+        }
+    }
+
+    /// What is at the extent of a size round a page, from what is at the one of the next larger size.
+    pub fn part<L: Ledger>(
+        &self,
+        over: Spot<V>,
+        size: Size,
+        page: u32,
+        steps: &mut Steps<L>,
+    ) -> Spot<V>
+        requires size { size < 3 }
+        requires over { over ≡ spot_of self.now (2 - size) page }
+        ensures spot { result ≡ spot_of self.now (3 - size) page }
+        ensures value { result.value ≡ row self.now size page }
+        ensures split { is_some result.node ≡ is_split self.now size page }
+        ensures cost { steps.new ≤ steps.old + 1 }
+    {
+        let Some(node) = over.node else {
+            return Spot::blank();
+        };
+        let place = self.store.place(node, walk::part_at(height_of(size), page));
+        self.store.spot(place, steps)
+    }
+
+    /// Gives the extent of a size round a page this value, whether it has a row or not.
+    pub fn put<L: Ledger>(&mut self, size: Size, page: u32, value: V, steps: &mut Steps<L>)
+        requires page { page < 512 * self.old.roots }
+        requires room { splits_with self.old size page ≤ self.old.room }
+        ensures row { ChangesOnly self.old self.new size page (Some value) }
+        ensures splits { SplitsAreRowsBelow self.new }
+        ensures cost { steps.new + 3 * size ≤ steps.old + 10 }
+    {
+        let place = walk::reach(&mut self.store, height_of(size), page, steps);
+        self.store.set_value(place, Some(value), steps);
+    }
+
+    /// Takes out the row of the extent of a size round a page.
+    pub fn remove<L: Ledger>(&mut self, size: Size, page: u32, steps: &mut Steps<L>)
+        requires { is_some (row self.old size page) ≡ true }
+        ensures row { ChangesOnly self.old self.new size page None }
+        ensures splits { SplitsAreRowsBelow self.new }
+        ensures cost { steps.new + 3 * size ≤ steps.old + 10 }
+    {
+        let height = height_of(size);
+        let Some(place) = walk::find(&self.store, height, page, steps) else {
+            return;
+        };
+        self.store.set_value(place, None, steps);
+        walk::trim(&mut self.store, height, place, steps);
+    }
+}
+
+#[cfg(test)]
+mod tests;

@@ -1,0 +1,4 @@
+pub mod Marks
+pub mod Masks
+pub mod Placings
+pub mod Ways

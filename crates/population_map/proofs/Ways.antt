@@ -1,0 +1,290 @@
+-- What becomes of the marks over a page as it is populated or evicted.
+use Rattle.std.proofs.Common.{◌≡◌, ◌≢◌, ℕ, zero, suc, ◌/◌, ◌%◌, ◌^◌, ◌<◌, ◌≤◌, ◌⊎◌, ◌↔◌, ◌==◌, ◌&&◌, ◌||◌, Bool, true, false, not, cond, Option, Some, None, unwrap_or, is_some, is_none, inl, inr, refl, sym, ap, subst, ◌∙◌, arith}
+use Rattle.std.specs.Int.{bit_at}
+use Rattle.std.proofs.lemmas.Bool.{cases_eq, cases_Bool, false≢true, eqb-true, eq-eqb}
+use Rattle.extent_tree.specs.Rows.{Arena, row, ChangesOnly, SplitsAreRowsBelow}
+use Rattle.population_map.specs.declared.mark.Mark.{Mark}
+use Rattle.population_map.specs.Bits.{HasBit, HasAllBits, WithBit}
+use Rattle.population_map.specs.Kept.{AreMarks, IsCarried, WritesWay, kept}
+use Rattle.population_map.specs.Populations.{mark_of, id_of, is_placed, is_populated, unmarked, PopulatesOnly}
+use Rattle.population_map.proofs.Masks.{has_bit, no_bit}
+use Rattle.population_map.proofs.Marks.{RowsIn, coarser, mark_alike, bits_over, row_if_bit}
+
+-- ---- three marks are written
+
+pub way_written : (m a b n : Arena Mark) (page : ℕ) (small middle large : Mark) → ChangesOnly m a 1 page (kept small) → ChangesOnly a b 2 page (kept middle) → ChangesOnly b n 3 page (kept large) → SplitsAreRowsBelow n → WritesWay m n page small middle large
+way_written m a b n page small middle large first second third splits = record {
+  splits = splits;
+  roots = third.roots ∙ (second.roots ∙ first.roots);
+  room = third.room ∙ (second.room ∙ first.room);
+  of_8 = λ other same. third.others 1 other (omega arith) (λ e _. absurd (omega (arith, e))) ∙ (second.others 1 other (omega arith) (λ e _. absurd (omega (arith, e))) ∙ first.changed other same);
+  of_64 = λ other same. third.others 2 other (omega arith) (λ e _. absurd (omega (arith, e))) ∙ second.changed other same;
+  of_512 = third.changed;
+  others = λ size other less apart.
+      third.others size other less (λ e same. apart (omega (arith, e)) same)
+      ∙ (second.others size other less (λ e same. apart (omega (arith, e)) same) ∙ first.others size other less (λ e same. apart (omega (arith, e)) same));
+}
+
+-- each tree on the way has its rows round pages that pass
+pub rows_in_after : (m n : Arena Mark) (size page : ℕ) (value : Option Mark) (test : ℕ → Bool) → RowsIn m test → ChangesOnly m n size page value → SplitsAreRowsBelow n → test page ≡ true → RowsIn n test
+rows_in_after m n size page value test rows changes splits passes = record { splits = splits; pages = pages }
+  where
+    pages : (part other : ℕ) → part ≤ 3 → is_some (row n part other) ≡ true → (q : ℕ) × (q / 8 ^ part ≡ other / 8 ^ part) × (test q ≡ true)
+    pages part other less has = elim (cases_eq part size) [
+      | inr apart ↦ rows.pages part other less (ap is_some (sym (changes.others part other less (λ e _. apart e))) ∙ has)
+      | inl e ↦ elim (cases_eq (other / 8 ^ part) (page / 8 ^ part)) [
+        | inl same ↦ (page, sym same, passes)
+        | inr apart ↦ rows.pages part other less (ap is_some (sym (changes.others part other less (λ _ same. apart same))) ∙ has)
+      ]
+    ]
+
+-- a mark is what was kept of it
+kept_mark : (mark : Mark) → unwrap_or (kept mark) unmarked ≡ mark
+kept_mark mark = elim (cases_Bool (is_none mark.id && mark.some == 0 && mark.full == 0)) [
+  | inr says ↦ ap (λ b. unwrap_or (cond b None (Some mark)) unmarked) says
+  | inl nothing ↦
+      let parts = and_both (is_none mark.id && mark.some == 0) (mark.full == 0) nothing in
+      let more = and_both (is_none mark.id) (mark.some == 0) parts.0 in
+      ap (λ b. unwrap_or (cond b None (Some mark)) unmarked) nothing ∙ sym (all_none mark (none_of mark.id more.0) (eqb-true _ _ more.1) (eqb-true _ _ parts.1))
+]
+  where
+    and_both : (a b : Bool) → (a && b) ≡ true → (a ≡ true) × (b ≡ true)
+    and_both true b both = (refl, both)
+    and_both false b both = absurd (false≢true both)
+
+    none_of : (o : Option ℕ) → is_none o ≡ true → o ≡ None
+    none_of None h = refl
+    none_of (Some n) h = absurd (false≢true h)
+
+    all_none : (v : Mark) → v.id ≡ None → v.some ≡ 0 → v.full ≡ 0 → v ≡ unmarked
+    all_none v a b c =
+        ap (λ i. record { id = i; some = v.some; full = v.full }) a ∙ (ap (λ s. record { id = None; some = s; full = v.full }) b ∙ ap (λ f. record { id = None; some = 0; full = f }) c)
+
+-- a mark that is kept says something
+kept_says : (mark : Mark) → mark.some < 256 → mark.full < 256 → is_some (kept mark) ≡ true → (is_some mark.id ≡ true) ⊎ (HasBit mark.some ⊎ HasBit mark.full)
+kept_says mark a b is = elim (cases_eq mark.some 0) [
+  | inr some ↦ inr (inl (has_bit mark.some a some))
+  | inl zero_some ↦ elim (cases_eq mark.full 0) [
+    | inr full ↦ inr (inr (has_bit mark.full b full))
+    | inl zero_full ↦ inl (of_id mark.id mark.some mark.full zero_some zero_full is)
+  ]
+]
+  where
+    of_id : (o : Option ℕ) (s f : ℕ) → s ≡ 0 → f ≡ 0 → is_some (let v : Option Mark = cond (is_none o && s == 0 && f == 0) None (Some mark) in v) ≡ true → is_some o ≡ true
+    of_id (Some n) s f x y h = refl
+    of_id None s f x y h =
+        let e = ap (λ b. is_some (let v : Option Mark = cond (true && b && f == 0) None (Some mark) in v)) (sym (eq-eqb s 0 x)) in
+        let d = ap (λ b. is_some (let v : Option Mark = cond b None (Some mark) in v)) (sym (eq-eqb f 0 y)) in
+        d ∙ (e ∙ h)
+
+-- ---- the marks afterwards
+
+-- What a page's change asks of the marks over it.
+pub record Asks (m : Arena Mark) (page : ℕ) (is_in : Bool) (small middle large : Mark) : Type 0 where
+  pub small_id : small.id ≡ (mark_of m 1 page).id
+  pub small_some : WithBit (mark_of m 1 page).some small.some (page % 8) is_in
+  pub small_full : small.full ≡ small.some
+  pub middle_is : IsCarried (mark_of m 2 page) middle (page / 8 % 8) small
+  pub large_is : IsCarried (mark_of m 3 page) large (page / 64 % 8) middle
+
+-- And what it does.
+pub record ChangesPage (m n : Arena Mark) (page : ℕ) (is_in : Bool) (small middle large : Mark) : Type 0 where
+  pub writes : WritesWay m n page small middle large
+  pub asks : Asks m page is_in small middle large
+
+here_8 : (m n : Arena Mark) (page : ℕ) (small middle large : Mark) → WritesWay m n page small middle large → (other : ℕ) → other / 8 ≡ page / 8 → mark_of n 1 other ≡ small
+unfolding mark_of
+here_8 m n page small middle large writes other same = ap (λ v. unwrap_or v unmarked) (writes.of_8 other same) ∙ kept_mark small
+
+here_64 : (m n : Arena Mark) (page : ℕ) (small middle large : Mark) → WritesWay m n page small middle large → (other : ℕ) → other / 64 ≡ page / 64 → mark_of n 2 other ≡ middle
+unfolding mark_of
+here_64 m n page small middle large writes other same = ap (λ v. unwrap_or v unmarked) (writes.of_64 other same) ∙ kept_mark middle
+
+here_512 : (m n : Arena Mark) (page : ℕ) (small middle large : Mark) → WritesWay m n page small middle large → (other : ℕ) → other / 512 ≡ page / 512 → mark_of n 3 other ≡ large
+unfolding mark_of
+here_512 m n page small middle large writes other same = ap (λ v. unwrap_or v unmarked) (writes.of_512 other same) ∙ kept_mark large
+
+elsewhere : (m n : Arena Mark) (page : ℕ) (small middle large : Mark) → WritesWay m n page small middle large → (size other : ℕ) → size ≤ 3 → (0 < size → other / 8 ^ size ≡ page / 8 ^ size → ⊥) → mark_of n size other ≡ mark_of m size other
+unfolding mark_of
+elsewhere m n page small middle large writes size other less apart = ap (λ v. unwrap_or v unmarked) (writes.others size other less apart)
+
+-- the same extents are placed
+pub same_ids : (m n : Arena Mark) (page : ℕ) (is_in : Bool) (small middle large : Mark) → ChangesPage m n page is_in small middle large → (size other : ℕ) → size ≤ 3 → id_of n size other ≡ id_of m size other
+unfolding id_of
+same_ids m n page is_in small middle large c zero other less = ap (λ v. v.id) (elsewhere m n page small middle large c.writes 0 other less (λ low _. omega (arith, low)))
+same_ids m n page is_in small middle large c (suc zero) other less = elim (cases_eq (other / 8) (page / 8)) [
+  | inl same ↦ ap (λ v. v.id) (here_8 m n page small middle large c.writes other same) ∙ (c.asks.small_id ∙ ap (λ v. v.id) (mark_alike m 1 page other (omega arith) (sym same)))
+  | inr apart ↦ ap (λ v. v.id) (elsewhere m n page small middle large c.writes 1 other less (λ _ same. apart same))
+]
+same_ids m n page is_in small middle large c (suc (suc zero)) other less = elim (cases_eq (other / 64) (page / 64)) [
+  | inl same ↦ ap (λ v. v.id) (here_64 m n page small middle large c.writes other same) ∙ (c.asks.middle_is.id ∙ ap (λ v. v.id) (mark_alike m 2 page other (omega arith) (sym same)))
+  | inr apart ↦ ap (λ v. v.id) (elsewhere m n page small middle large c.writes 2 other less (λ _ same. apart same))
+]
+same_ids m n page is_in small middle large c (suc (suc (suc zero))) other less = elim (cases_eq (other / 512) (page / 512)) [
+  | inl same ↦ ap (λ v. v.id) (here_512 m n page small middle large c.writes other same) ∙ (c.asks.large_is.id ∙ ap (λ v. v.id) (mark_alike m 3 page other (omega arith) (sym same)))
+  | inr apart ↦ ap (λ v. v.id) (elsewhere m n page small middle large c.writes 3 other less (λ _ same. apart same))
+]
+same_ids m n page is_in small middle large c (suc (suc (suc (suc size)))) other less = absurd (omega arith)
+
+pub placed_alike : (m n : Arena Mark) (other : ℕ) → ((size : ℕ) → size ≤ 3 → id_of n size other ≡ id_of m size other) → is_placed n other ≡ is_placed m other
+unfolding is_placed
+placed_alike m n other ids =
+    ap (λ o. is_some o || is_some (id_of n 1 other) || is_some (id_of n 2 other) || is_some (id_of n 3 other)) (ids 0 (omega arith))
+    ∙ (ap (λ o. is_some (id_of m 0 other) || is_some o || is_some (id_of n 2 other) || is_some (id_of n 3 other)) (ids 1 (omega arith))
+    ∙ (ap (λ o. is_some (id_of m 0 other) || is_some (id_of m 1 other) || is_some o || is_some (id_of n 3 other)) (ids 2 (omega arith))
+    ∙ ap (λ o. is_some (id_of m 0 other) || is_some (id_of m 1 other) || is_some (id_of m 2 other) || is_some o) (ids 3 (omega arith))))
+
+-- the page is populated as was asked, and the others as before
+pub populates : (m n : Arena Mark) (page : ℕ) (is_in : Bool) (small middle large : Mark) → ChangesPage m n page is_in small middle large → PopulatesOnly m n page is_in
+unfolding is_populated
+populates m n page is_in small middle large c = record {
+  changed = ap (λ v. bit_at v.some (page % 8) == 1) (here_8 m n page small middle large c.writes page refl) ∙ (ap (λ b. b == 1) c.asks.small_some.same ∙ test_of is_in);
+  others = λ other apart. elim (cases_eq (other / 8) (page / 8)) [
+    | inr elsewhere' ↦ ap (λ v. bit_at v.some (other % 8) == 1) (elsewhere m n page small middle large c.writes 1 other (omega arith) (λ _ same. elsewhere' same))
+    | inl same ↦
+        let part : other % 8 ≢ page % 8 = omega arith in
+        ap (λ v. bit_at v.some (other % 8) == 1) (here_8 m n page small middle large c.writes other same)
+        ∙ (ap (λ b. b == 1) (c.asks.small_some.others (other % 8) (omega arith) part) ∙ ap (λ v. bit_at v.some (other % 8) == 1) (mark_alike m 1 page other (omega arith) (sym same)))
+  ];
+  ids = same_ids m n page is_in small middle large c;
+}
+  where
+    test_of : (b : Bool) → (cond b 1 0 == 1) ≡ b
+    test_of true = refl
+    test_of false = refl
+
+-- the bits of the marks of a size say what the marks of their parts say
+record StepOver (m n : Arena Mark) (page size : ℕ) : Type 0 where
+  carried : IsCarried (mark_of m (suc size) page) (mark_of n (suc size) page) (page / 8 ^ size % 8) (mark_of n size page)
+  other_parts : (other : ℕ) → other / 8 ^ size ≢ page / 8 ^ size → mark_of n size other ≡ mark_of m size other
+  other_wholes : (other : ℕ) → other / 8 ^ suc size ≢ page / 8 ^ suc size → mark_of n (suc size) other ≡ mark_of m (suc size) other
+
+-- pages of one extent whose parts have one number are of one part
+same_part : (size p q : ℕ) → size < 3 → p / 8 ^ suc size ≡ q / 8 ^ suc size → p / 8 ^ size % 8 ≡ q / 8 ^ size % 8 → p / 8 ^ size ≡ q / 8 ^ size
+same_part zero p q low whole part = omega (arith, whole, part)
+same_part (suc zero) p q low whole part = omega (arith, whole, part)
+same_part (suc (suc zero)) p q low whole part = omega (arith, whole, part)
+same_part (suc (suc (suc size))) p q low whole part = absurd (omega arith)
+
+some_after : (m n : Arena Mark) (page size other : ℕ) → 0 < size → size < 3 → AreMarks m → StepOver m n page size
+    → (bit_at (mark_of n (suc size) other).some (other / 8 ^ size % 8) ≡ 1) ↔ HasBit (mark_of n size other).some
+some_after m n page size other low small marks step = elim (cases_eq (other / 8 ^ size) (page / 8 ^ size)) [
+  | inl same ↦
+      let whole = mark_alike n (suc size) other page (omega arith) (coarser size (suc size) other page (omega arith) (omega arith) same) in
+      let part = mark_alike n size other page (omega arith) same in
+      rw (whole, part, same) step.carried.some
+  | inr apart ↦ elim (cases_eq (other / 8 ^ suc size) (page / 8 ^ suc size)) [
+    | inr far ↦ rw (step.other_wholes other far, step.other_parts other apart) (marks.some size other low small)
+    | inl same ↦
+        let number : other / 8 ^ size % 8 ≢ page / 8 ^ size % 8 = λ e. apart (same_part size other page small same e) in
+        let bit = ap (λ v. bit_at v.some (other / 8 ^ size % 8)) (mark_alike n (suc size) other page (omega arith) same)
+        ∙ ((step.carried.others (other / 8 ^ size % 8) (omega arith) number).0 ∙ ap (λ v. bit_at v.some (other / 8 ^ size % 8)) (mark_alike m (suc size) page other (omega arith) (sym same))) in
+        rw (bit, step.other_parts other apart) (marks.some size other low small)
+  ]
+]
+
+full_after : (m n : Arena Mark) (page size other : ℕ) → 0 < size → size < 3 → AreMarks m → StepOver m n page size
+    → (bit_at (mark_of n (suc size) other).full (other / 8 ^ size % 8) ≡ 1) ↔ HasAllBits (mark_of n size other).full
+full_after m n page size other low small marks step = elim (cases_eq (other / 8 ^ size) (page / 8 ^ size)) [
+  | inl same ↦
+      let whole = mark_alike n (suc size) other page (omega arith) (coarser size (suc size) other page (omega arith) (omega arith) same) in
+      let part = mark_alike n size other page (omega arith) same in
+      rw (whole, part, same) step.carried.full
+  | inr apart ↦ elim (cases_eq (other / 8 ^ suc size) (page / 8 ^ suc size)) [
+    | inr far ↦ rw (step.other_wholes other far, step.other_parts other apart) (marks.full size other low small)
+    | inl same ↦
+        let number : other / 8 ^ size % 8 ≢ page / 8 ^ size % 8 = λ e. apart (same_part size other page small same e) in
+        let bit = ap (λ v. bit_at v.full (other / 8 ^ size % 8)) (mark_alike n (suc size) other page (omega arith) same)
+        ∙ ((step.carried.others (other / 8 ^ size % 8) (omega arith) number).1 ∙ ap (λ v. bit_at v.full (other / 8 ^ size % 8)) (mark_alike m (suc size) page other (omega arith) (sym same))) in
+        rw (bit, step.other_parts other apart) (marks.full size other low small)
+  ]
+]
+
+-- the steps from 8 to 64 pages and from 64 to 512
+step_over : (m n : Arena Mark) (page : ℕ) (is_in : Bool) (small middle large : Mark) → ChangesPage m n page is_in small middle large → (size : ℕ) → 0 < size → size < 3 → StepOver m n page size
+step_over m n page is_in small middle large c zero low less = absurd (omega arith)
+step_over m n page is_in small middle large c (suc zero) low less = record {
+  carried = rw (here_8 m n page small middle large c.writes page refl, here_64 m n page small middle large c.writes page refl) c.asks.middle_is;
+  other_parts = λ other apart. elsewhere m n page small middle large c.writes 1 other (omega arith) (λ _ same. apart same);
+  other_wholes = λ other apart. elsewhere m n page small middle large c.writes 2 other (omega arith) (λ _ same. apart same);
+}
+step_over m n page is_in small middle large c (suc (suc zero)) low less = record {
+  carried = rw (here_64 m n page small middle large c.writes page refl, here_512 m n page small middle large c.writes page refl) c.asks.large_is;
+  other_parts = λ other apart. elsewhere m n page small middle large c.writes 2 other (omega arith) (λ _ same. apart same);
+  other_wholes = λ other apart. elsewhere m n page small middle large c.writes 3 other (omega arith) (λ _ same. apart same);
+}
+step_over m n page is_in small middle large c (suc (suc (suc size))) low less = absurd (omega arith)
+
+-- a mark says something
+abbrev Says : Mark → Type 0
+Says v = (is_some v.id ≡ true) ⊎ (HasBit v.some ⊎ HasBit v.full)
+
+-- a row afterwards says something
+says : (m n : Arena Mark) (page : ℕ) (is_in : Bool) (small middle large : Mark) → AreMarks m → ChangesPage m n page is_in small middle large → (size other : ℕ) → size ≤ 3 → is_some (row n size other) ≡ true
+    → (is_some (id_of n size other) ≡ true) ⊎ (HasBit (mark_of n size other).some ⊎ HasBit (mark_of n size other).full)
+unfolding id_of
+says m n page is_in small middle large marks c size other less has = elim (cases_eq (other / 8 ^ size) (page / 8 ^ size)) [
+  | inr apart ↦
+      subst Says (sym (elsewhere m n page small middle large c.writes size other less (λ _ same. apart same))) (marks.in_use size other less (ap is_some (sym (c.writes.others size other less (λ _ same. apart same))) ∙ has))
+  | inl same ↦ at size same less has
+]
+  where
+    at : (size : ℕ) → other / 8 ^ size ≡ page / 8 ^ size → size ≤ 3 → is_some (row n size other) ≡ true → (is_some (mark_of n size other).id ≡ true) ⊎ (HasBit (mark_of n size other).some ⊎ HasBit (mark_of n size other).full)
+    at zero same less has =
+        subst Says (sym (elsewhere m n page small middle large c.writes 0 other less (λ low _. omega (arith, low)))) (marks.in_use 0 other less (ap is_some (sym (c.writes.others 0 other less (λ low _. omega (arith, low)))) ∙ has))
+    at (suc zero) same less has =
+        subst Says (sym (here_8 m n page small middle large c.writes other same)) (kept_says small c.asks.small_some.small (omega (arith, c.asks.small_some.small, c.asks.small_full)) (ap is_some (sym (c.writes.of_8 other same)) ∙ has))
+    at (suc (suc zero)) same less has =
+        subst Says (sym (here_64 m n page small middle large c.writes other same)) (kept_says middle c.asks.middle_is.small.0 c.asks.middle_is.small.1 (ap is_some (sym (c.writes.of_64 other same)) ∙ has))
+    at (suc (suc (suc zero))) same less has =
+        subst Says (sym (here_512 m n page small middle large c.writes other same)) (kept_says large c.asks.large_is.small.0 c.asks.large_is.small.1 (ap is_some (sym (c.writes.of_512 other same)) ∙ has))
+    at (suc (suc (suc (suc size)))) same less has = absurd (omega arith)
+
+pub marks_after : (m n : Arena Mark) (page : ℕ) (is_in : Bool) (small middle large : Mark) → AreMarks m → is_placed m page ≡ true → ChangesPage m n page is_in small middle large → AreMarks n
+marks_after m n page is_in small middle large marks placed c = record {
+  splits = c.writes.splits;
+  in_use = says m n page is_in small middle large marks c;
+  no_parts = λ other. rw (elsewhere m n page small middle large c.writes 0 other (omega arith) (λ low _. omega (arith, low))) (marks.no_parts other);
+  pages_full = λ other. elim (cases_eq (other / 8) (page / 8)) [
+    | inl same ↦ rw (here_8 m n page small middle large c.writes other same) c.asks.small_full
+    | inr apart ↦ rw (elsewhere m n page small middle large c.writes 1 other (omega arith) (λ _ same. apart same)) (marks.pages_full other)
+  ];
+  some = λ size other low less. some_after m n page size other low less marks (step_over m n page is_in small middle large c size low less);
+  full = λ size other low less. full_after m n page size other low less marks (step_over m n page is_in small middle large c size low less);
+  placed = λ other is. placed_alike m n other (λ size. ids size other) ∙ elim (cases_eq other page) [
+    | inl same ↦ ap (is_placed m) same ∙ placed
+    | inr apart ↦ marks.placed other (sym (did.others other apart) ∙ is)
+  ];
+  apart = λ a b other x y p q. marks.apart a b other x y (ap is_some (sym (ids a other x)) ∙ p) (ap is_some (sym (ids b other y)) ∙ q);
+}
+  where
+    ids : (size other : ℕ) → size ≤ 3 → id_of n size other ≡ id_of m size other
+    ids = same_ids m n page is_in small middle large c
+
+    did : PopulatesOnly m n page is_in
+    did = populates m n page is_in small middle large c
+
+-- ---- which marks go
+
+-- a mark with a bit is kept
+kept_bit : (v : Mark) → HasBit v.some → kept v ≡ None → ⊥
+kept_bit v has none = elim (cases_Bool (is_none v.id && v.some == 0 && v.full == 0)) [
+  | inr says_so ↦ absurd (let e = ap (λ b. cond b None (Some v)) says_so in cc)
+  | inl nothing ↦ no_bit v.some (zero_of (is_none v.id) (v.some == 0) (v.full == 0) nothing (eqb-true _ _)) has
+]
+  where
+    zero_of : (a b d : Bool) → (a && b && d) ≡ true → (b ≡ true → v.some ≡ 0) → v.some ≡ 0
+    zero_of true true d h f = f refl
+    zero_of true false d h f = absurd (false≢true h)
+    zero_of false b d h f = absurd (false≢true h)
+
+-- A mark goes only where it was: a page is populated that wasn't, or evicted that was.
+pub may_go : (m : Arena Mark) (page : ℕ) (is_in : Bool) (small middle large : Mark) → AreMarks m → is_populated m page ≡ not is_in → Asks m page is_in small middle large
+    → (kept small ≡ None → is_some (row m 1 page) ≡ true) × (kept middle ≡ None → is_some (row m 2 page) ≡ true) × (kept large ≡ None → is_some (row m 3 page) ≡ true)
+may_go m page false small middle large marks before asks =
+    (λ _. row_if_bit m 1 page (bits_over m marks 1 page (omega arith) (omega arith) before), λ _. row_if_bit m 2 page (bits_over m marks 2 page (omega arith) (omega arith) before), λ _. row_if_bit m 3 page (bits_over m marks 3 page (omega arith) (omega arith) before))
+may_go m page true small middle large marks before asks =
+    let low : HasBit small.some = (page % 8, omega arith, asks.small_some.same) in
+    let mid : HasBit middle.some = (page / 8 % 8, omega arith, asks.middle_is.some.1 low) in
+    let high : HasBit large.some = (page / 64 % 8, omega arith, asks.large_is.some.1 mid) in
+    (λ none. absurd (kept_bit small low none), λ none. absurd (kept_bit middle mid none), λ none. absurd (kept_bit large high none))
