@@ -1,0 +1,11 @@
+use Rattle.std.proofs.Common.{◌≡◌, ◌≤◌, length}
+use Rattle.superpager.proofs.tests.turns.take_turns.Given as goal
+
+abbrev pub invariant-loop : goal.invariant-loop
+invariant-loop l =
+    record {
+      known : length l.machine.calls ≡ l.processors;
+      stepped : l.counts.stepped ≤ l.counter;
+      waits : l.counts.waits ≤ l.counter;
+      ended : l.counts.ended ≤ l.counter;
+    }

@@ -1,0 +1,2282 @@
+//! A trace of four processors on three spaces, and the history of its run by a list of turns, as an independent checker made it.
+
+/// The trace's text.
+pub const TRACE: &str = "\
+trace 1 512 4 3
+0 map 0 0 8 fixed write
+0 map 0 64 3 growing write
+0 map 0 128 70 wired write
+1 map 1 0 11 fixed write
+1 map 1 64 3 growing write
+1 map 1 128 24 wired write
+2 map 2 1 3 fixed write
+2 map 2 5 64 growing write
+2 map 2 93 90 wired write
+0 store 0 1163264 1300722740271442838
+1 load 1 57352
+3 map 0 256 40 fixed write
+3 store 0 65528 10996148283018195518
+1 store 1 1122312 961
+2 store 1 1179640 451
+1 load 1 90104
+3 load 0 1089536
+1 load 1 1097728
+3 map 0 297 24 growing read
+2 load 2 180216
+3 load 0 49152
+1 load 1 1073144
+1 load 1 1163264
+2 load 2 147456
+3 map 0 345 90 fixed write
+3 load 0 1130496
+3 load 0 1073160
+1 load 1 1048576
+0 load 0 8192
+2 sync 2 18
+1 load 1 1228800
+2 load 2 122872
+1 store 1 1073160 972
+2 load 2 180224
+3 store 0 40960 677
+3 store 0 1220608 1293055446153180493
+2 evict 2 21
+0 load 0 16384
+3 store 0 1261576 14833693607168394222
+2 sync 2 22
+0 load 0 24584
+0 load 0 1179648
+1 load 1 1228800
+1 load 1 524288
+3 load 0 1179640
+1 load 1 1081344
+1 store 1 1220600 223
+3 load 0 1490944
+2 load 2 344056
+0 load 0 1572864
+1 load 1 1204232
+0 load 0 1179648
+2 load 2 344064
+0 load 0 1089544
+2 load 2 16384
+3 load 0 1384440
+3 store 0 1253376 13150258905452022325
+0 load 0 1196032
+3 load 0 1220608
+2 evict 2 21
+1 load 1 1073152
+1 grow 1 70 4
+3 load 0 1130488
+0 store 0 1187832 801
+0 store 0 1228800 872
+2 store 2 57352 669
+0 load 0 1458168
+3 store 0 1327104 166
+2 store 2 344056 115
+0 load 0 1286144
+1 sync 1 137
+2 load 2 262136
+2 store 2 270328 856
+3 load 0 532472
+1 load 1 8192
+1 load 1 1122296
+3 load 0 1409016
+1 load 1 57336
+2 load 2 155648
+1 load 1 1245176
+0 store 0 1269760 201
+1 load 1 1163264
+3 load 0 1515520
+2 store 2 90120 407
+1 store 1 24568 710
+0 load 0 1269752
+1 load 1 1130504
+1 store 1 1089536 364
+2 load 2 81920
+1 load 1 573440
+1 load 0 1187832
+2 evict 2 18
+2 load 1 548864
+2 load 2 303096
+0 store 0 1122296 372
+0 load 1 1105920
+3 store 0 1097736 490
+0 load 0 1064960
+2 load 2 425976
+3 store 1 540672 10589606560513258975
+1 sync 1 6
+0 load 0 1187840
+3 store 1 1228792 872
+2 load 2 385016
+1 map 1 153 64 wired write
+0 load 0 1122312
+0 load 0 1335304
+1 load 2 286728
+3 store 0 1359872 281
+1 store 1 1499144 5004749331838797976
+1 store 1 49144 623
+2 sync 2 42
+1 load 1 524296
+3 load 0 1384448
+2 load 2 425984
+2 store 2 106496 95
+2 evict 2 22
+1 load 1 557056
+0 store 0 1351680 691
+2 load 2 286720
+3 load 0 1171464
+1 load 2 221176
+2 unmap 2 705155
+3 store 0 1392640 73
+1 store 1 540664 363
+2 store 2 204808 247
+1 store 1 1425408 984
+0 store 0 1212408 256
+0 store 0 1155080 15345459232843563723
+1 load 1 1327112
+0 load 0 1474560
+3 load 0 1515520
+3 load 1 8184
+0 store 0 32776 728
+1 load 1 1343496
+1 load 1 1196032
+1 store 1 1417216 644
+2 load 2 368648
+3 store 0 1474552 944
+1 load 1 1187840
+1 load 1 1302536
+3 load 0 532480
+0 store 0 1548296 857
+3 store 0 8184 918
+2 load 2 434168
+0 load 0 1212416
+2 store 2 409592 477
+1 load 1 1351680
+3 load 0 1531904
+1 evict 1 0
+0 store 0 1572856 14342416342814342503
+3 store 0 1310728 234
+1 map 1 5 5 fixed write
+2 load 2 245752
+1 load 1 1146880
+1 load 1 73720
+0 store 2 188416 300
+2 evict 2 51
+3 load 0 1318904
+1 grow 1 69 1
+0 load 0 1515512
+3 load 0 1302528
+3 sync 0 150
+0 store 0 1499136 171
+1 sync 1 67
+2 load 2 548864
+3 load 0 1056768
+3 load 0 1613816
+1 load 1 1589248
+1 load 1 1261576
+1 load 1 32768
+1 store 1 1392640 12370440331831759449
+1 store 1 1310720 12757851778320480571
+2 load 2 360448
+3 store 0 1130496 360
+2 load 2 40960
+2 load 2 409608
+2 load 2 163840
+0 store 0 1351672 979
+1 load 1 1056768
+0 load 0 1073144
+1 load 1 1286144
+3 load 0 1490936
+3 store 0 1433600 650
+0 load 0 1564664
+2 protect 2 50 65 write
+1 store 1 1064952 585
+2 store 2 458752 754
+0 load 0 1237000
+1 store 1 1515520 543
+0 store 0 1458184 935
+0 load 0 2203656
+1 map 1 218 24 wired write
+3 load 0 1409024
+1 load 1 1155072
+0 map 0 1048570 7 fixed none
+3 load 1 1187832
+1 store 1 1359880 218
+3 map 0 448 90 wired write
+3 load 0 1327096
+3 grow 0 428 1
+1 store 1 1507328 16942958401289788589
+0 store 0 2170872 950
+1 load 1 1097728
+1 load 1 1646584
+3 store 0 2170888 831
+2 store 2 434176 667
+2 store 2 393224 5736094870058374821
+2 load 2 237560
+0 store 0 1081344 681
+1 store 1 1433600 104
+2 evict 2 31
+3 load 0 1163264
+2 store 2 73728 267
+2 load 1 1409024
+2 load 2 540672
+0 load 0 1277960
+2 store 1 1474568 771
+2 load 2 524288
+2 sync 2 26
+1 store 1 565248 540038963986364702
+0 load 0 2105344
+0 store 2 122888 2268582395939363551
+2 map 2 192 40 fixed write
+0 sync 0 170
+0 load 0 1368064
+2 store 2 499720 33
+3 load 0 2138104
+1 map 1 1048570 7 fixed none
+1 load 1 1622016
+1 store 1 1638392 16153471722097904463
+3 load 0 2236416
+1 store 1 1146872 260
+3 evict 0 183
+2 load 2 245760
+1 load 1 1654776
+2 load 2 278536
+3 grow 0 66 4
+3 load 0 1204224
+3 load 0 1155064
+3 load 0 2269176
+1 load 1 1384448
+0 store 0 1589248 449
+3 store 0 2154496 569
+1 load 1 1679360
+3 load 0 2129912
+2 load 2 958456
+1 store 1 1236992 510
+2 store 2 221192 465
+1 store 1 1392640 6968009497103283197
+2 load 2 557056
+3 store 0 1540096 1958847883381051783
+2 load 2 507912
+0 load 0 1474552
+1 store 1 24576 11281855365387370601
+2 load 2 458744
+3 evict 0 65
+0 store 0 1417224 659
+1 load 1 1523720
+3 load 1 1671176
+1 store 2 958464 255
+3 load 0 1597440
+2 store 2 1220616 15401030037684126200
+3 load 0 2097152
+3 store 0 1335296 362
+0 store 0 1138688 10883923813991017124
+2 store 2 311296 1110228214679856094
+1 load 1 1695744
+2 load 2 442376
+1 load 1 1409024
+1 store 1 1540096 356
+1 load 1 1253376
+2 load 2 270336
+3 evict 0 189
+2 load 2 303112
+1 store 0 1294336 3837309213352235048
+1 load 0 2392056
+2 load 2 475128
+2 load 1 1294344
+0 load 0 2367488
+2 load 2 24584
+0 load 0 2318328
+0 load 0 2285568
+2 grow 2 35 9
+1 store 1 1482752 905
+2 sync 2 33
+2 load 2 1474568
+2 load 2 65544
+3 load 0 2220040
+1 load 1 1572864
+0 store 0 2375688 828
+0 load 0 2301960
+3 load 0 1613832
+0 store 0 1114112 478
+1 load 1 1196032
+0 store 0 2351104 800
+3 store 0 2277376 200
+1 store 1 1728512 564
+2 load 2 761856
+0 load 0 1581064
+1 store 1 1736704 118
+2 store 2 360440 620
+1 store 1 1409016 9786213189748207646
+1 load 1 1318912
+0 store 0 2310144 294
+1 load 1 1458168
+2 load 2 475144
+0 map 0 576 40 fixed read
+0 load 0 7404789760
+2 load 2 548856
+2 store 2 139264 198
+3 store 0 2252800 11697768424671429706
+2 load 2 352264
+3 sync 0 2
+1 load 1 1761280
+2 load 2 1351688
+3 store 0 2326528 146
+1 store 1 1277952 16096282508509532796
+3 store 0 1155072 881
+1 store 1 1851400 5142479373071016512
+0 load 1 1654792
+2 store 2 860152 125
+0 store 0 1048576 8527020424773395019
+2 load 2 1097720
+3 store 0 2392072 11607563901581176837
+2 store 2 98304 622
+0 map 0 617 70 fixed write
+3 store 0 2195464 17878603897113938022
+3 store 0 1261560 6229449671175917488
+1 load 1 1458176
+2 grow 2 68 1
+1 store 1 1892360 763341337475153377
+0 store 0 1245184 14112537015356113155
+3 store 0 540680 263
+2 load 2 1073144
+2 load 1 1843208
+2 protect 2 136 16 none
+3 load 0 2457600
+2 load 2 843784
+3 store 0 2113536 22
+2 load 2 221192
+0 load 0 2408440
+1 store 0 2318336 573
+0 store 0 1327112 59
+1 store 1 1703936 72
+3 store 0 2473992 149
+0 load 2 1458176
+1 load 1 1441792
+3 store 0 2531336 195
+3 load 0 2211840
+0 grow 0 681 1
+2 store 2 1179640 11081979038631557333
+1 store 1 1581056 342
+3 load 1 1548296
+2 load 2 1064968
+0 store 0 2187272 23
+3 load 0 2334720
+3 store 0 2523136 691
+0 load 0 2138112
+1 load 1 1802240
+0 load 0 1572864
+0 store 2 491528 845
+2 protect 2 2 1 write
+3 store 0 2555912 819046216644930561
+2 evict 2 30
+3 store 0 2383864 740
+0 load 0 1114104
+1 load 1 1867776
+3 load 2 892936
+3 load 0 1449976
+0 load 0 2244608
+0 store 2 491512 569
+1 load 0 2564096
+3 load 0 524288
+2 load 2 1114112
+2 load 2 868352
+1 load 1 1466368
+1 load 1 1613816
+0 store 0 2269184 182
+2 load 2 393208
+2 store 2 196608 9414985169539492113
+1 load 1 1818624
+1 store 1 1613824 8055058954482960827
+1 load 1 73728
+2 load 2 532488
+1 load 1 1269768
+0 load 0 2621440
+1 load 1 1843192
+3 load 0 2588672
+1 load 1 1966080
+3 evict 0 129
+3 load 0 1499128
+3 store 0 1253384 302
+3 evict 0 145
+2 load 2 319480
+1 protect 1 71 9 write
+2 load 2 1040376
+2 load 2 884736
+0 store 0 2473976 680
+3 load 0 1425416
+2 store 2 909320 994
+0 load 0 2514944
+3 store 0 2146312 333
+1 store 1 1884168 9341984978119529293
+3 load 0 1531896
+0 load 0 2949128
+1 load 1 1875968
+3 sync 0 164
+3 store 0 2490376 264
+1 load 1 581640
+1 store 1 1490944 90
+2 store 2 327672 327
+2 load 2 786424
+2 load 2 827384
+2 load 2 1482760
+3 load 0 2605064
+1 store 1 1720320 724
+2 store 2 8192 686
+0 store 0 3276808 17635337816226916295
+2 store 2 876544 856
+2 load 2 1236984
+1 store 1 1482752 600
+3 load 0 2179080
+1 sync 1 215
+2 store 2 131072 644
+2 load 2 1048568
+2 store 2 1073152 608
+3 store 1 1368072 832
+1 unmap 2 704330
+1 store 1 1597448 603
+0 store 0 2850816 4299361367015525862
+2 evict 0 270
+3 load 0 2957312
+0 store 0 2236408 5487778626842452254
+3 load 0 2416632
+0 load 0 2613248
+2 load 1 1941496
+1 store 1 1974280 938
+1 store 1 1712128 646
+3 load 0 3538952
+2 load 2 1105920
+1 store 1 1769480 27
+2 store 0 2842616 242164241479815952
+1 store 1 1376264 802
+0 store 0 2916344 592
+3 load 0 2482184
+3 load 1 1785864
+1 store 1 1949704 299
+1 evict 2 18
+3 load 0 2605048
+0 protect 0 69 1 read
+1 store 1 1081336 983
+0 map 1 1048024 2 fixed none
+0 store 0 3219448 789
+2 load 0 2416640
+2 load 2 1155072
+3 store 0 3031040 9234542767769743900
+1 store 1 1916920 635
+3 load 2 1130504
+0 store 2 925696 17051762690880333562
+0 load 0 2973696
+1 load 1 1859584
+2 store 2 1056768 10246892039624654388
+2 load 2 319496
+1 load 1 1335304
+2 load 2 131064
+1 load 1 1802232
+1 load 1 1957888
+1 load 1 1744896
+2 load 2 966656
+0 load 0 2826240
+3 load 0 3047416
+2 store 2 827392 742
+2 store 0 2449408 656
+3 load 0 1589248
+2 store 2 1056760 910
+1 evict 1 151
+1 store 1 1900544 240
+0 load 0 3497976
+3 map 0 704 70 wired write
+2 store 2 1187848 731
+3 load 0 3293176
+0 load 0 3530744
+3 store 0 2293768 268
+2 map 2 1048570 7 fixed none
+1 store 1 1564672 16480446575561385428
+1 sync 1 186
+1 store 1 1925120 875
+2 load 2 188424
+3 store 0 2924544 722
+3 load 0 2555896
+0 load 1 1662984
+1 load 1 1687552
+0 load 0 2211840
+2 store 2 1245176 493
+2 store 2 1261568 643
+1 sync 1 0
+2 load 2 1212408
+0 load 0 2940928
+3 store 0 3006464 650
+1 load 1 1556480
+3 load 0 3055608
+3 load 0 2875400
+1 load 1 1916928
+0 sync 0 196
+0 sync 0 303
+1 store 1 1761272 798
+2 load 2 1196040
+0 store 0 3358720 672
+0 load 0 2867192
+2 store 2 1286144 710
+0 load 0 3112952
+0 load 0 3014656
+1 load 1 1835000
+0 protect 0 615 1 none
+1 store 1 1531904 8221203865238951870
+0 store 0 3391488 94
+0 load 0 2547704
+0 store 0 3244032 10786779254603698442
+3 load 0 2572288
+2 store 2 1327096 256
+2 sync 2 47
+2 store 2 1376256 99
+3 load 0 3178488
+2 load 2 1212424
+1 load 1 1810432
+0 load 0 2187272
+3 store 0 3096576 243
+3 store 0 3137528 591
+1 grow 0 66 1
+0 load 0 2867208
+2 store 2 1081352 636
+2 store 2 1138696 927
+2 store 2 1277952 24
+2 load 2 1179648
+0 load 1 1941504
+1 map 1 242 3 growing write
+3 store 0 2433032 897
+2 load 2 1163264
+3 load 0 2211832
+2 map 2 237 40 wired write
+1 load 1 1998856
+3 load 0 2998272
+0 load 0 2498560
+2 grow 2 11 9
+3 load 0 3178496
+2 load 2 991232
+2 store 2 983032 4106854993551017048
+2 sync 1 2
+1 load 1 1998840
+3 evict 0 284
+2 load 2 1302528
+2 store 2 999432 803
+3 store 0 2588664 904
+2 store 2 835584 98
+0 store 0 3022848 344
+3 load 0 2842624
+3 store 2 1327104 3984476338324175333
+3 store 0 3186688 928
+2 store 2 1097728 87
+2 store 2 1343480 12535608525890675291
+1 load 1 1982464
+1 map 1 269 64 fixed read
+1 unmap 1 704565
+1 store 1 2244608 3
+3 store 0 2924536 5658406407162264001
+0 store 0 2859008 587
+2 load 2 1310720
+2 store 2 1122304 504
+1 load 1 2301952
+1 load 1 1376256
+3 evict 0 432
+0 load 0 3121144
+1 store 1 2449408 638
+2 sync 2 121
+3 load 0 2899960
+1 load 1 2400256
+2 load 0 3162120
+1 load 1 2244600
+1 load 1 2572288
+1 load 1 2211840
+0 store 0 3325960 69
+1 load 1 557056
+1 load 1 2236408
+3 evict 1 164
+3 evict 0 351
+0 store 0 2490376 1776460506925765251
+1 load 1 2342912
+2 store 2 516104 412
+2 load 2 770056
+2 store 2 1015816 620
+1 store 1 2539520 646
+2 load 2 901128
+0 load 2 1400832
+2 load 2 1392640
+0 load 1 2473976
+3 map 2 320 3 growing write
+0 store 0 3481592 189
+2 store 2 770048 435
+3 load 0 1212424
+1 store 1 2416632 556
+0 load 2 1474552
+0 load 0 3072000
+1 load 1 2514944
+0 load 0 3162104
+2 sync 2 57
+1 load 1 32768
+3 load 0 3219456
+1 unmap 1 65
+1 load 1 2490368
+2 load 2 1384448
+0 load 0 2359296
+1 load 1 2252800
+3 sync 2 137
+0 evict 0 288
+2 store 0 3342344 448
+1 store 1 2220040 988
+1 load 1 2441216
+3 store 0 3350528 223
+0 store 0 2301944 702
+1 load 1 1703936
+1 grow 1 219 1
+1 load 1 2539520
+2 load 2 1490944
+2 store 2 1302536 13188081482426134200
+0 load 0 3416064
+2 load 2 557056
+0 load 0 3424256
+2 store 2 868344 5124228690318992465
+1 store 2 933888 817
+3 store 0 3268616 359
+2 store 2 1359872 451
+3 load 0 3481600
+2 load 2 942088
+1 map 1 1048570 7 fixed none
+0 load 0 3440640
+1 store 1 2646016 194
+0 store 0 3366912 315
+1 load 1 2326520
+1 load 1 2269184
+3 load 0 3260416
+2 load 2 548864
+3 load 0 1368064
+2 store 2 1343496 0
+2 store 2 1449984 926
+1 load 1 2203648
+3 sync 0 310
+1 load 1 1531904
+1 store 1 2310144 288
+1 store 1 2424832 582
+0 load 0 3383296
+2 store 2 1794040 626
+1 store 1 2703368 270
+3 load 0 3448840
+1 grow 1 244 1
+2 store 2 1662984 602
+2 grow 2 102 1
+1 load 1 2457608
+1 load 1 2400248
+0 load 0 2883584
+2 load 2 49152
+2 load 2 1302520
+1 load 1 2613240
+0 store 0 2990072 14884852348881091494
+2 store 2 106496 12883463574896844016
+2 load 2 1024000
+2 evict 2 166
+3 store 0 2514936 113
+2 load 2 139256
+2 load 2 1728512
+1 store 1 2539512 568
+1 load 1 2441208
+3 load 0 3227648
+2 evict 2 50
+3 map 0 774 64 fixed write
+0 load 2 1409032
+3 load 0 3096568
+2 store 2 327680 14274172224428121537
+1 store 1 1351680 435
+3 load 0 3129336
+3 load 0 3293184
+3 load 0 3514376
+2 load 2 368632
+3 load 0 3530752
+0 store 0 3432448 735
+0 load 0 1474568
+1 store 1 2662408 388
+3 load 0 3407880
+2 map 2 384 40 growing read
+1 store 1 2351104 749
+2 load 2 1433600
+1 store 1 2629632 12900367929079944810
+2 load 2 1351672
+2 load 2 1630208
+1 store 1 2334728 41
+3 load 0 3555336
+1 load 1 2613248
+3 load 0 3858424
+2 load 2 1425416
+0 load 0 3153912
+1 store 1 2686976 248
+3 load 0 3080200
+1 load 1 2580480
+0 load 0 3973112
+0 load 0 3309568
+3 load 0 3203064
+0 load 1 2670592
+3 load 0 3473400
+2 load 2 1810424
+1 store 1 2301944 860
+3 load 0 3686400
+3 load 0 2441224
+2 load 0 3317760
+2 map 2 453 40 fixed read
+1 load 1 1900536
+3 store 0 3547144 9880846075049241260
+0 store 0 3063808 827
+2 load 2 139264
+0 store 0 4243464 794
+2 store 2 1597432 17777949592150287090
+0 store 0 3375104 231
+0 store 1 2596864 14364431361843466413
+0 store 2 1687552 722
+0 load 0 3186688
+2 load 2 1613816
+2 load 2 1679360
+0 load 0 3760136
+2 load 2 983048
+2 store 0 3899400 1006647549544341206
+0 load 0 3203080
+2 store 2 1654784 12275421209252811848
+1 load 1 2678784
+2 store 2 1671168 630
+0 store 0 3776512 752
+2 load 2 7420002304
+2 load 2 1277944
+1 load 1 2523136
+1 map 1 1048570 7 fixed none
+2 load 2 1605624
+1 protect 0 477 6 read
+1 store 1 2654208 9304659942953664780
+1 load 1 2498560
+0 evict 0 303
+3 store 0 3334144 267
+1 load 1 2621440
+0 store 0 3842056 111
+2 load 2 1622024
+2 load 2 1417216
+2 load 2 7376199680
+3 evict 0 377
+1 store 1 2711552 222
+2 load 2 1245184
+3 store 2 811000 208
+3 store 0 2899976 683
+1 store 0 2342912 632
+2 load 2 1581048
+0 load 0 3252232
+0 load 0 3301376
+0 load 0 7428530176
+1 store 1 2367480 15757703238787873324
+2 load 2 1368072
+2 sync 2 198
+3 sync 0 173
+0 load 2 966656
+3 store 0 3981312 2224696637942658959
+2 load 2 1253376
+2 unmap 2 701393
+1 load 1 2260992
+3 sync 0 376
+0 map 0 1048008 2 fixed none
+0 load 0 2318344
+2 store 2 1712120 9478271287898594998
+1 load 1 2482176
+2 load 2 393216
+2 store 2 1859576 35
+2 load 1 1351680
+2 store 2 1146880 15399162542327975124
+0 load 0 2932744
+0 load 0 1613824
+2 store 2 1777664 940
+2 store 2 786440 428
+1 load 1 2326528
+2 load 2 917504
+3 store 0 3506176 82
+0 store 0 3792896 451
+1 load 1 2367488
+2 load 2 1884160
+1 store 1 2564088 399
+2 load 1 2514936
+2 load 2 1892352
+0 load 0 4055048
+3 load 0 4022272
+1 load 1 2695176
+1 load 1 2588672
+3 load 0 2220032
+0 load 0 3883016
+2 load 2 1638400
+1 store 1 2383872 4137343853589594545
+2 store 2 1769472 1946954876580258643
+3 load 0 3506168
+3 load 0 4227080
+1 load 1 2285560
+2 map 2 113 5 growing write
+0 evict 0 132
+3 load 0 3768320
+2 map 2 469 5 growing write
+2 load 2 1867784
+1 load 1 2285568
+3 load 0 3932152
+0 load 0 3743744
+end
+";
+
+/// The history's lines.
+pub const HISTORY: &str = "\
+0 2 s2 answer 0 done
+1 3 s0 answer 0 done
+2 1 s1 answer 0 done
+3 1 s1 answer 1 done
+4 1 s1 answer 2 done
+5 3 s0 answer 1 unmapped
+6 0 s0 answer 0 done
+7 0 s0 answer 1 done
+8 3 s0 answer 2 unmapped
+9 2 s2 answer 1 done
+10 3 s0 answer 3 done
+11 3 s0+f take 6 6 0 8 8 0
+12 1 s1+f take 7 15 0 11 11 0
+13 2 s2 answer 2 done
+14 1 s1 answer 3 value 0
+15 3 s0 answer 4 value 0
+16 0 s0 answer 2 done
+17 3 s0 answer 5 done
+18 0 s0+f take 142 78 128 198 70 1
+19 1 s1+f take 137 17 128 152 24 1
+20 1 s1 answer 4 done
+21 0 s0 answer 3 done
+22 0 s0+f take 1 1 0 8 8 0
+23 1 s1+f take 10 24 0 11 11 0
+24 1 s1 answer 5 value 0
+25 0 s0 answer 4 value 0
+26 0 s0+f take 2 2 0 8 8 0
+27 1 s1+f take 134 38 128 152 24 1
+28 1 s1 answer 6 value 0
+29 1 s1+f take 130 34 128 152 24 1
+30 0 s0 answer 5 value 0
+31 0 s0+f take 3 3 0 8 8 0
+32 1 s1 answer 7 value 0
+33 0 s0 answer 6 value 0
+34 2 s1+f take 143 23 128 152 24 1
+35 0 s0+f take 144 80 128 198 70 1
+36 0 s0 answer 7 value 0
+37 0 s0+f take 192 25 128 198 70 1
+38 0 s0 answer 8 value 0
+39 2 s1 answer 3 done
+40 2 s2+f take 21 45 5 93 64 0
+41 0 s0 answer 9 value 0
+42 2 s2 answer 4 value 0
+43 1 s1+f take 142 22 128 152 24 1
+44 0 s0+f take 133 69 128 198 70 1
+45 2 s2+f take 18 42 5 93 64 0
+46 0 s0 answer 10 value 0
+47 0 s0+f take 146 82 128 198 70 1
+48 2 s2 answer 5 value 0
+49 1 s1 answer 8 value 0
+50 0 s0 answer 11 value 0
+51 3 s0+f take 138 74 128 198 70 1
+52 1 s1+f take 128 32 128 152 24 1
+53 3 s0 answer 6 value 0
+54 0 s0 answer 12 done
+55 2 s2 answer 6 clean
+56 1 s1 answer 9 value 0
+57 2 s2+f take 14 54 5 93 64 0
+58 2 s2 answer 7 value 0
+59 3 s0+f take 131 67 128 198 70 1
+60 1 s1+f take 150 62 128 152 24 1
+61 2 s2+f take 22 46 5 93 64 0
+62 1 s1 answer 10 value 0
+63 2 s2 answer 8 value 0
+64 2 s2+f answer 9 clean
+65 3 s0 answer 7 value 0
+66 0 s0+f take 150 86 128 198 70 1
+67 0 s0 answer 13 done
+68 1 s1+f take 131 35 128 152 24 1
+69 3 s0+f take 5 5 0 8 8 0
+70 2 s2 answer 10 clean
+71 3 s0 answer 8 done
+72 3 s0+f take 149 85 128 198 70 1
+73 3 s0 answer 9 done
+74 1 s1 answer 11 done
+75 1 s1 answer 12 value 0
+76 1 s1+f take 64 26 64 128 3 0
+77 2 s2+f take 41 129 5 93 64 0
+78 0 s0+f take 177 113 128 198 70 1
+79 2 s2 answer 11 value 0
+80 0 s0 answer 14 value 0
+81 1 s1 answer 13 value 0
+82 3 s0+f take 154 90 128 198 70 1
+83 2 s2+f take 42 130 5 93 64 0
+84 1 s1+f take 132 36 128 152 24 1
+85 3 s0 answer 10 done
+86 3 s0+f take 143 79 128 198 70 1
+87 3 s0 answer 11 value 0
+88 0 s0+f take 157 93 128 198 70 1
+89 2 s2 answer 12 value 0
+90 1 s1 answer 14 value 0
+91 0 s0 answer 15 value 0
+92 0 s0+f take 155 91 128 198 70 1
+93 1 s1+f take 148 60 128 152 24 1
+94 2 s2+f take 2 27 1 4 3 0
+95 2 s2 answer 13 value 0
+96 1 s1 answer 15 done
+97 2 s2 answer 14 clean
+98 2 s2+f take 7 28 5 93 64 0
+99 2 s2 answer 15 done
+100 2 s2 answer 16 done
+101 2 s2+f take 31 143 5 93 64 0
+102 0 s0 answer 16 done
+103 0 s0 answer 17 value 0
+104 2 s2 answer 17 value 0
+105 1 s1+f take 147 59 128 152 24 1
+106 1 s1 answer 16 value 0
+107 2 s2+f take 32 144 5 93 64 0
+108 1 s1 answer 17 value 0
+109 3 s0+f take 182 118 128 198 70 1
+110 1 s1 answer 18 unmapped
+111 1 s1 answer 19 written
+112 3 s0 answer 12 value 0
+113 1 s1+f take 1 9 0 11 11 0
+114 3 s0+f take 168 104 128 198 70 1
+115 1 s1 answer 20 value 0
+116 2 s2 answer 18 done
+117 3 s0 answer 13 value 0
+118 2 s2+f take 19 43 5 93 64 0
+119 1 s1+f take 136 16 128 152 24 1
+120 1 s1 answer 21 value 0
+121 2 s2 answer 19 value 0
+122 1 s1+f take 6 14 0 11 11 0
+123 3 s0+f take 153 89 128 198 70 1
+124 1 s1 answer 22 value 0
+125 2 s2+f take 11 51 5 93 64 0
+126 3 s0 answer 14 done
+127 1 s1+f take 151 63 128 152 24 1
+128 1 s1 answer 23 value 0
+129 1 s1 answer 24 value 0
+130 3 s0 answer 15 value 1293055446153180493
+131 0 s0+f take 136 72 128 198 70 1
+132 1 s1+f take 2 10 0 11 11 0
+133 2 s2 answer 20 done
+134 0 s0 answer 18 done
+135 3 s0+f take 137 73 128 198 70 1
+136 1 s1 answer 25 done
+137 2 s2+f take 10 50 5 93 64 0
+138 3 s0 answer 16 value 0
+139 2 s2 answer 21 value 0
+140 3 s0+f take 162 98 128 198 70 1
+141 2 s2+f answer 22 clean
+142 3 s0 answer 17 done
+143 2 s1 answer 23 unmapped
+144 2 s2+f take 36 148 5 93 64 0
+145 2 s2 answer 24 value 0
+146 0 s1+f take 135 39 128 152 24 1
+147 2 s2+f take 51 155 5 93 64 0
+148 0 s1 answer 19 value 0
+149 1 s1+f take 138 18 128 152 24 1
+150 1 s1 answer 26 value 0
+151 0 s0+f take 130 66 128 198 70 1
+152 1 s1+f take 133 37 128 152 24 1
+153 1 s1 answer 27 done
+154 2 s2 answer 25 value 0
+155 1 s1 answer 28 unmapped
+156 2 s2+f take 46 134 5 93 64 0
+157 0 s0 answer 20 value 0
+158 1 s0 answer 29 value 801
+159 0 s0+f take 145 81 128 198 70 1
+160 0 s0 answer 21 value 0
+161 0 s0 answer 22 value 0
+162 0 s0+f take 163 99 128 198 70 1
+163 2 s2 answer 26 value 0
+164 2 s2 answer 27 clean
+165 2 s2+f take 52 156 5 93 64 0
+166 2 s2 answer 28 value 0
+167 0 s0 answer 23 value 0
+168 1 s1 answer 30 clean
+169 1 s1 answer 31 done
+170 0 s0+f take 165 101 128 198 70 1
+171 1 s2+f take 35 147 5 93 64 0
+172 0 s0 answer 24 done
+173 1 s2 answer 32 value 0
+174 2 s2+f take 13 53 5 93 64 0
+175 2 s2 answer 29 done
+176 0 s0+f take 147 83 128 198 70 1
+177 1 s1+f take 183 167 153 217 64 1
+178 0 s0 answer 25 done
+179 1 s1 answer 33 done
+180 1 s1+f take 5 13 0 11 11 0
+181 1 s1 answer 34 done
+182 1 s1 answer 35 value 0
+183 1 s1 answer 36 unmapped
+184 0 s0+f take 141 77 128 198 70 1
+185 1 s2+f take 26 138 5 93 64 0
+186 0 s0 answer 26 done
+187 1 s2 answer 37 value 0
+188 2 s2+f answer 30 clean
+189 0 s0+f take 180 116 128 198 70 1
+190 2 s2 answer 31 value 0
+191 1 s1+f take 65 29 64 128 3 0
+192 1 s1 answer 38 done
+193 0 s0 answer 27 value 0
+194 0 s0+f take 4 4 0 8 8 0
+195 0 s0 answer 28 done
+196 2 s2 answer 32 unmapped
+197 2 s2+f take 25 137 5 93 64 0
+198 2 s2 answer 33 done
+199 1 s1+f take 174 174 153 217 64 1
+200 2 s2+f take 45 133 5 93 64 0
+201 0 s0+f take 189 125 128 198 70 1
+202 2 s2 answer 34 value 0
+203 0 s0 answer 29 done
+204 1 s1 answer 39 done
+205 2 s2 answer 35 value 0
+206 3 s0+f take 64 30 64 128 3 0
+207 1 s1+f take 162 178 153 217 64 1
+208 3 s0 answer 18 value 0
+209 3 s0+f take 171 107 128 198 70 1
+210 2 s2+f take 49 153 5 93 64 0
+211 3 s0 answer 19 value 0
+212 2 s2 answer 36 done
+213 2 s2+f take 29 141 5 93 64 0
+214 3 s0+f take 185 121 128 198 70 1
+215 2 s2 answer 37 value 0
+216 1 s1 answer 40 value 0
+217 2 s2+f answer 38 clean
+218 3 s0 answer 20 value 0
+219 0 s0+f take 148 84 128 198 70 1
+220 0 s0 answer 30 value 0
+221 1 s1+f take 164 180 153 217 64 1
+222 2 s2+f take 67 187 5 93 64 0
+223 3 s0+f take 134 70 128 198 70 1
+224 2 s2 answer 39 value 0
+225 3 s0 answer 21 done
+226 2 s2+f take 44 132 5 93 64 0
+227 2 s2 answer 40 value 0
+228 1 s1 answer 41 value 0
+229 2 s2+f take 5 31 5 93 64 0
+230 1 s1+f take 146 58 128 152 24 1
+231 1 s1 answer 42 value 0
+232 2 s2 answer 41 value 0
+233 2 s2+f take 50 154 5 93 64 0
+234 2 s2 answer 42 value 0
+235 0 s0+f take 191 127 128 198 70 1
+236 1 s1+f take 173 173 153 217 64 1
+237 0 s0 answer 31 done
+238 1 s1 answer 43 done
+239 2 s2+f take 20 44 5 93 64 0
+240 2 s2 answer 43 value 0
+241 2 s2 answer 44 unmapped
+242 2 s2+f take 56 192 5 93 64 0
+243 1 s1+f take 145 57 128 152 24 1
+244 1 s1 answer 44 value 0
+245 1 s1+f take 159 200 153 217 64 1
+246 2 s2 answer 45 done
+247 0 s2+f take 23 47 5 93 64 0
+248 1 s1 answer 45 value 0
+249 3 s1+f take 66 201 64 128 3 0
+250 0 s2 answer 32 done
+251 0 s0+f take 184 120 128 198 70 1
+252 0 s0 answer 33 value 0
+253 3 s1 answer 22 done
+254 0 s0+f take 183 119 128 198 70 1
+255 3 s1+f take 149 61 128 152 24 1
+256 3 s1 answer 23 done
+257 2 s2+f take 53 157 5 93 64 0
+258 1 s1+f take 165 181 153 217 64 1
+259 1 s1 answer 46 value 0
+260 1 s1 answer 47 clean
+261 0 s0 answer 34 done
+262 2 s2 answer 46 done
+263 2 s2+f take 48 152 5 93 64 0
+264 1 s1 answer 48 overlap
+265 2 s2 answer 47 done
+266 1 s1+f take 140 20 128 152 24 1
+267 1 s1 answer 49 value 0
+268 2 s2+f take 28 140 5 93 64 0
+269 2 s2 answer 48 value 0
+270 3 s0+f take 166 102 128 198 70 1
+271 3 s0 answer 24 done
+272 3 s0+f take 169 105 128 198 70 1
+273 3 s0 answer 25 value 0
+274 0 s0+f take 164 100 128 198 70 1
+275 1 s1+f take 8 202 0 11 11 0
+276 1 s1 answer 50 value 0
+277 2 s2+f answer 49 clean
+278 2 s2+f take 9 49 5 93 64 0
+279 2 s2 answer 50 done
+280 1 s1 answer 51 unmapped
+281 1 s1 answer 52 unmapped
+282 1 s1+f take 194 210 153 217 64 1
+283 1 s1 answer 53 value 0
+284 1 s1+f take 154 203 153 217 64 1
+285 0 s0 answer 35 done
+286 0 s0 answer 36 value 0
+287 1 s1 answer 54 value 0
+288 3 s0 answer 26 value 0
+289 3 s0+f take 170 106 128 198 70 1
+290 2 s1+f take 172 172 153 217 64 1
+291 3 s0 answer 27 done
+292 3 s0 answer 28 value 0
+293 2 s1 answer 51 value 0
+294 3 s1+f take 0 8 0 11 11 0
+295 2 s2+f take 66 186 5 93 64 0
+296 3 s1 answer 29 value 0
+297 0 s0+f take 190 126 128 198 70 1
+298 0 s0 answer 37 value 0
+299 0 s0+f take 151 87 128 198 70 1
+300 2 s2 answer 52 value 0
+301 0 s0 answer 38 value 0
+302 2 s1+f take 180 164 153 217 64 1
+303 0 s0+f take 178 114 128 198 70 1
+304 2 s1 answer 53 done
+305 0 s0 answer 39 done
+306 0 s0+f take 269 221 256 296 40 0
+307 2 s2+f take 64 184 5 93 64 0
+308 2 s2 answer 54 value 0
+309 2 s2 answer 55 clean
+310 0 s0 answer 40 value 0
+311 3 s0+f take 179 115 128 198 70 1
+312 3 s0 answer 30 done
+313 0 s0 answer 41 outofspace
+314 3 s0+f take 65 204 64 128 3 0
+315 1 s1+f take 4 12 0 11 11 0
+316 3 s0 answer 31 value 0
+317 0 s0+f take 264 216 256 296 40 0
+318 1 s1 answer 55 value 0
+319 0 s0 answer 42 done
+320 3 s0+f take 0 0 0 8 8 0
+321 1 s1+f take 170 170 153 217 64 1
+322 3 s0 answer 32 done
+323 3 s0+f take 187 123 128 198 70 1
+324 2 s2 answer 56 done
+325 2 s2+f take 61 197 5 93 64 0
+326 2 s2 answer 57 done
+327 2 s2+f take 30 142 5 93 64 0
+328 3 s0 answer 33 value 0
+329 0 s0+f take 132 68 128 198 70 1
+330 1 s1 answer 56 done
+331 1 s1+f take 160 176 153 217 64 1
+332 0 s0 answer 43 done
+333 3 s0+f take 160 96 128 198 70 1
+334 2 s2 answer 58 value 0
+335 1 s1 answer 57 done
+336 3 s0 answer 34 done
+337 3 s0 answer 35 value 0
+338 3 s0+f take 159 95 128 198 70 1
+339 1 s1+f take 129 33 128 152 24 1
+340 3 s0 answer 36 value 0
+341 0 s0+f take 156 92 128 198 70 1
+342 2 s2+f take 34 146 5 93 64 0
+343 0 s0 answer 44 value 0
+344 0 s0+f take 257 225 256 296 40 0
+345 1 s1 answer 58 value 0
+346 1 s1+f take 157 205 153 217 64 1
+347 1 s1 answer 59 value 0
+348 2 s2 answer 59 value 0
+349 2 s2+f take 116 236 93 183 90 1
+350 0 s0 answer 45 value 0
+351 2 s2 answer 60 value 0
+352 0 s2+f take 15 55 5 93 64 0
+353 1 s1 answer 60 done
+354 1 s1+f take 185 241 153 217 64 1
+355 3 s0 answer 37 written
+356 1 s1 answer 61 done
+357 0 s2 answer 46 done
+358 2 s2+f take 27 139 5 93 64 0
+359 1 s1 answer 62 done
+360 2 s2 answer 61 done
+361 0 s0 answer 47 written
+362 1 s1+f take 141 21 128 152 24 1
+363 3 s0+f take 129 65 128 198 70 1
+364 1 s1 answer 63 value 0
+365 1 s1+f take 166 182 153 217 64 1
+366 3 s0 answer 38 value 0
+367 3 s0+f take 196 206 128 198 70 1
+368 1 s1 answer 64 done
+369 3 s0 answer 39 value 0
+370 2 s2+f take 68 188 5 93 64 0
+371 2 s2 answer 62 value 0
+372 2 s2+f take 62 198 5 93 64 0
+373 1 s1+f take 184 240 153 217 64 1
+374 0 s0+f take 167 103 128 198 70 1
+375 1 s1 answer 65 done
+376 1 s1 answer 66 value 0
+377 2 s2 answer 63 value 0
+378 2 s2+f take 55 159 5 93 64 0
+379 1 s1+f take 200 248 153 217 64 1
+380 1 s1 answer 67 value 0
+381 0 s0 answer 48 value 0
+382 2 s2 answer 64 value 0
+383 2 s2+f take 149 261 93 183 90 1
+384 1 s1+f take 175 175 153 217 64 1
+385 0 s0+f take 194 207 128 198 70 1
+386 1 s1 answer 68 done
+387 0 s0 answer 49 done
+388 2 s2 answer 65 done
+389 0 s0 answer 50 value 944
+390 3 s0 answer 40 done
+391 3 s0+f take 181 117 128 198 70 1
+392 1 s1 answer 69 unmapped
+393 1 s1 answer 70 outofspace
+394 2 s2+f take 38 150 5 93 64 0
+395 1 s1+f take 198 214 153 217 64 1
+396 3 s0 answer 41 value 0
+397 3 s0+f take 175 111 128 198 70 1
+398 1 s1 answer 71 value 0
+399 3 s0 answer 42 done
+400 2 s2 answer 66 done
+401 2 s2+f take 54 158 5 93 64 0
+402 2 s2 answer 67 value 0
+403 2 s2+f take 33 145 5 93 64 0
+404 1 s1+f take 199 215 153 217 64 1
+405 1 s1 answer 72 done
+406 2 s2 answer 68 value 0
+407 0 s0+f take 173 109 128 198 70 1
+408 2 s2+f take 37 149 5 93 64 0
+409 0 s0 answer 51 done
+410 0 s0+f take 139 75 128 198 70 1
+411 2 s2 answer 69 value 0
+412 1 s1+f take 139 19 128 152 24 1
+413 2 s2+f take 57 193 5 93 64 0
+414 1 s1 answer 73 done
+415 2 s2 answer 70 value 0
+416 0 s0 answer 52 done
+417 2 s1+f take 158 264 153 217 64 1
+418 2 s1 answer 71 value 0
+419 2 s2+f take 3 265 1 4 3 0
+420 0 s0+f take 289 273 256 296 40 0
+421 0 s0 answer 53 value 0
+422 2 s2 answer 72 value 0
+423 1 s1+f take 201 249 153 217 64 1
+424 0 s0+f take 282 282 256 296 40 0
+425 0 s0 answer 54 value 0
+426 2 s2 answer 73 done
+427 2 s2 answer 74 clean
+428 3 s0+f take 172 108 128 198 70 1
+429 1 s1 answer 74 value 0
+430 3 s0 answer 43 value 0
+431 3 s1+f take 144 56 128 152 24 1
+432 0 s0+f take 279 295 256 296 40 0
+433 3 s1 answer 44 value 0
+434 0 s0 answer 55 value 0
+435 1 s1+f take 169 169 153 217 64 1
+436 1 s1 answer 75 value 0
+437 0 s0+f take 290 274 256 296 40 0
+438 0 s0 answer 56 done
+439 2 s2+f take 180 266 93 183 90 1
+440 3 s0 answer 45 done
+441 2 s2 answer 75 value 0
+442 0 s0+f take 281 281 256 296 40 0
+443 1 s1+f take 205 253 153 217 64 1
+444 1 s1 answer 76 value 0
+445 1 s1 answer 77 done
+446 2 s2+f take 8 48 5 93 73 0
+447 1 s1 answer 78 done
+448 0 s0 answer 57 value 0
+449 0 s0 answer 58 done
+450 3 s0+f take 161 97 128 198 70 1
+451 1 s1+f take 3 11 0 11 11 0
+452 3 s0 answer 46 value 0
+453 1 s1 answer 79 done
+454 0 s0+f take 287 287 256 296 40 0
+455 2 s2 answer 76 value 0
+456 2 s2+f take 93 267 93 183 90 1
+457 1 s1+f take 186 242 153 217 64 1
+458 0 s0 answer 59 done
+459 0 s0+f take 193 268 128 198 70 1
+460 2 s2 answer 77 value 0
+461 2 s2+f take 43 131 5 93 73 0
+462 2 s2 answer 78 done
+463 1 s1 answer 80 value 0
+464 0 s0 answer 60 value 0
+465 0 s0 answer 61 done
+466 2 s2+f take 58 194 5 93 73 0
+467 0 s0 answer 62 done
+468 0 s0 answer 63 unmapped
+469 3 s0 answer 47 notgrowing
+470 0 s1+f take 202 250 153 217 64 1
+471 2 s2 answer 79 value 0
+472 3 s0+f take 265 217 256 296 40 0
+473 2 s2 answer 80 value 0
+474 0 s1 answer 64 value 0
+475 3 s0 answer 48 done
+476 2 s2+f take 17 41 5 93 73 0
+477 3 s0 answer 49 value 1300722740271442838
+478 3 s0+f take 260 228 256 296 40 0
+479 3 s0 answer 50 value 0
+480 2 s2 answer 81 done
+481 2 s2 answer 82 value 0
+482 2 s2+f take 165 301 93 183 90 1
+483 3 s0+f take 273 289 256 296 40 0
+484 3 s0 answer 51 value 0
+485 2 s2 answer 83 value 0
+486 1 s2+f take 117 237 93 183 90 1
+487 1 s2 answer 81 done
+488 3 s0 answer 52 denied
+489 1 s1+f take 207 255 153 217 64 1
+490 2 s2+f take 104 304 93 183 90 1
+491 0 s0+f take 128 64 128 198 70 1
+492 0 s0 answer 65 done
+493 2 s2 answer 84 done
+494 1 s1 answer 82 value 0
+495 1 s1 answer 83 value 0
+496 0 s0 answer 66 done
+497 2 s2+f take 133 317 93 183 90 1
+498 2 s2 answer 85 value 0
+499 3 s0 answer 53 done
+500 3 s0 answer 54 value 0
+501 3 s0+f take 140 76 128 198 70 1
+502 1 s1+f take 188 244 153 217 64 1
+503 3 s0 answer 55 value 0
+504 2 s2+f take 12 52 5 93 73 0
+505 0 s0+f take 152 88 128 198 70 1
+506 2 s2 answer 86 done
+507 0 s0 answer 67 done
+508 1 s1 answer 84 done
+509 3 s0+f take 276 292 256 296 40 0
+510 1 s1+f take 153 269 153 217 64 1
+511 3 s0 answer 56 value 0
+512 3 s0+f take 263 231 256 296 40 0
+513 1 s1 answer 85 value 0
+514 3 s0 answer 57 done
+515 0 s0+f take 293 277 256 296 40 0
+516 2 s2 answer 87 done
+517 2 s2+f take 130 314 93 183 90 1
+518 2 s2 answer 88 value 0
+519 2 s1+f take 225 321 218 242 24 1
+520 2 s1 answer 89 value 0
+521 2 s2 answer 90 done
+522 0 s0 answer 68 value 0
+523 3 s0+f take 259 227 256 296 40 0
+524 3 s0 answer 58 value 0
+525 0 s0 answer 69 done
+526 2 s2+f take 103 335 93 183 90 1
+527 2 s2 answer 91 value 0
+528 2 s2 answer 92 value 465
+529 3 s0+f take 188 124 128 198 70 1
+530 2 s2 answer 93 denied
+531 0 s2+f take 178 270 93 183 90 1
+532 0 s2 answer 70 value 0
+533 3 s0 answer 59 done
+534 0 s0 answer 71 notgrowing
+535 1 s0+f take 158 94 128 198 70 1
+536 2 s2 answer 94 value 0
+537 2 s2 answer 95 done
+538 1 s0 answer 86 done
+539 2 s2+f answer 96 clean
+540 1 s0+f take 291 275 256 296 40 0
+541 1 s0 answer 87 value 0
+542 0 s0+f take 267 219 256 296 40 0
+543 0 s0 answer 72 done
+544 3 s0+f answer 60 clean
+545 1 s1+f take 181 165 153 217 64 1
+546 0 s0+f take 261 229 256 296 40 0
+547 0 s0 answer 73 value 0
+548 2 s2 answer 97 denied
+549 1 s1 answer 88 done
+550 1 s1+f take 192 208 153 217 64 1
+551 2 s2+f take 106 306 93 183 90 1
+552 1 s1 answer 89 value 0
+553 2 s2 answer 98 value 0
+554 1 s1 answer 90 value 0
+555 0 s0 answer 74 value 0
+556 3 s1+f take 204 252 153 217 64 1
+557 0 s2+f take 60 196 5 93 74 0
+558 0 s2 answer 75 done
+559 0 s0+f take 135 71 128 198 70 1
+560 2 s2+f take 47 135 5 93 74 0
+561 3 s1 answer 61 value 0
+562 0 s0 answer 76 value 0
+563 2 s2 answer 99 value 0
+564 3 s0+f take 195 204 128 198 70 1
+565 3 s0 answer 62 value 0
+566 0 s0+f take 274 290 256 296 40 0
+567 0 s0 answer 77 value 0
+568 3 s0+f take 256 224 256 296 40 0
+569 3 s0 answer 63 value 0
+570 1 s1+f take 211 339 153 217 64 1
+571 3 s0 answer 64 done
+572 3 s0 answer 65 denied
+573 3 s0+f take 271 223 256 296 40 0
+574 0 s2+f take 59 195 5 93 74 0
+575 1 s1 answer 91 done
+576 1 s1+f take 212 340 153 217 64 1
+577 3 s0 answer 66 value 0
+578 3 s0+f take 197 271 128 198 70 1
+579 1 s1 answer 92 done
+580 0 s2 answer 78 done
+581 1 s1+f take 171 171 153 217 64 1
+582 2 s2+f take 24 136 5 93 74 0
+583 3 s0 answer 67 value 0
+584 3 s0+f take 278 294 256 296 40 0
+585 1 s1 answer 93 done
+586 2 s2 answer 100 done
+587 3 s0 answer 68 done
+588 1 s1+f take 161 177 153 217 64 1
+589 2 s2+f take 65 185 5 93 74 0
+590 2 s2 answer 101 value 0
+591 2 s2 answer 102 value 0
+592 3 s0+f take 275 291 256 296 40 0
+593 2 s2+f take 126 350 93 183 90 1
+594 2 s2 answer 103 value 0
+595 3 s0 answer 69 done
+596 0 s0+f take 277 293 256 296 40 0
+597 0 s0 answer 79 done
+598 1 s1 answer 94 value 0
+599 3 s0 answer 70 clean
+600 2 s2+f take 108 308 93 183 90 1
+601 0 s0+f take 320 352 297 345 24 0
+602 2 s2 answer 104 value 0
+603 1 s1+f take 177 161 153 217 64 1
+604 1 s1 answer 95 value 0
+605 1 s1+f take 215 343 153 217 64 1
+606 1 s1 answer 96 value 0
+607 2 s2+f take 111 311 93 183 90 1
+608 0 s0 answer 80 value 0
+609 3 s0+f take 284 284 256 296 40 0
+610 1 s1+f take 156 360 153 217 64 1
+611 3 s0 answer 71 done
+612 3 s0 answer 72 done
+613 1 s1 answer 97 done
+614 2 s2 answer 105 done
+615 0 s0 answer 81 denied
+616 3 s0+f take 292 276 256 296 40 0
+617 3 s0 answer 73 done
+618 1 s1+f take 226 322 218 242 24 1
+619 3 s0+f take 268 220 256 296 40 0
+620 1 s1 answer 98 done
+621 2 s2+f take 39 151 5 93 74 0
+622 3 s0 answer 74 done
+623 3 s0 answer 75 done
+624 0 s0+f take 307 371 297 345 24 0
+625 0 s0 answer 82 value 0
+626 1 s1+f take 178 162 153 217 64 1
+627 0 s0+f take 360 376 345 435 90 0
+628 0 s0 answer 83 value 0
+629 2 s2 answer 106 done
+630 1 s1 answer 99 value 0
+631 1 s1+f take 231 327 218 242 24 1
+632 3 s0+f take 66 361 64 128 7 0
+633 2 s2+f take 95 362 93 183 90 1
+634 2 s2 answer 107 value 0
+635 2 s2+f take 100 332 93 183 90 1
+636 1 s1 answer 100 done
+637 3 s0 answer 76 done
+638 1 s0+f take 283 283 256 296 40 0
+639 1 s0 answer 101 done
+640 2 s2 answer 108 value 0
+641 2 s2+f take 181 363 93 183 90 1
+642 3 s0+f take 300 364 297 345 24 0
+643 2 s2 answer 109 value 0
+644 3 s0 answer 77 value 0
+645 1 s1+f take 208 336 153 217 64 1
+646 0 s0+f take 400 384 345 435 90 0
+647 1 s1 answer 102 done
+648 1 s1+f take 176 160 153 217 64 1
+649 0 s0 answer 84 done
+650 0 s0+f take 348 365 345 435 90 0
+651 2 s2+f take 1 366 1 4 3 0
+652 2 s2 answer 110 done
+653 0 s0 answer 85 done
+654 1 s1 answer 103 value 0
+655 2 s2+f take 107 307 93 183 90 1
+656 1 s1+f take 193 209 153 217 64 1
+657 0 s0+f take 272 288 256 296 40 0
+658 1 s1 answer 104 done
+659 2 s2 answer 111 done
+660 1 s1+f take 220 367 218 242 24 1
+661 0 s0 answer 86 done
+662 0 s0+f take 319 399 297 345 24 0
+663 0 s0 answer 87 value 0
+664 3 s0+f take 258 226 256 296 40 0
+665 1 s1 answer 105 value 0
+666 2 s2 answer 112 denied
+667 3 s0 answer 78 done
+668 2 s2+f take 16 40 5 93 74 0
+669 2 s2 answer 113 done
+670 3 s0 answer 79 denied
+671 3 s0 answer 80 denied
+672 2 s2+f take 127 351 93 183 90 1
+673 0 s0+f take 355 403 345 435 90 0
+674 1 s1+f take 228 324 218 242 24 1
+675 1 s1 answer 106 value 0
+676 2 s2 answer 114 value 0
+677 0 s0 answer 88 done
+678 3 s0+f take 270 222 256 296 40 0
+679 3 s0 answer 81 value 0
+680 3 s1+f take 189 245 153 217 64 1
+681 2 s2+f take 131 315 93 183 90 1
+682 1 s0+f take 313 393 297 345 24 0
+683 3 s1 answer 82 value 0
+684 1 s0 answer 107 value 0
+685 1 s1+f take 179 163 153 217 64 1
+686 3 s0+f take 285 285 256 296 40 0
+687 1 s1 answer 108 value 0
+688 1 s1+f take 196 212 153 217 64 1
+689 2 s2 answer 115 done
+690 3 s0 answer 83 value 0
+691 2 s0+f answer 116 clean
+692 3 s0 answer 84 denied
+693 1 s1 answer 109 value 0
+694 0 s0 answer 89 done
+695 0 s1 answer 90 done
+696 0 s0+f take 392 408 345 435 90 0
+697 2 s1+f take 236 420 218 242 24 1
+698 0 s0 answer 91 done
+699 2 s1 answer 117 value 0
+700 0 s2+f take 113 233 93 183 90 1
+701 1 s1+f take 222 424 218 242 24 1
+702 3 s0 answer 85 denied
+703 0 s2 answer 92 done
+704 1 s1 answer 110 value 0
+705 2 s2+f take 135 319 93 183 90 1
+706 1 s1+f take 197 213 153 217 64 1
+707 3 s0 answer 86 done
+708 1 s1 answer 111 done
+709 0 s0+f take 363 379 345 435 90 0
+710 1 s1+f take 9 425 0 11 11 0
+711 0 s0 answer 93 value 0
+712 2 s2 answer 118 value 0
+713 2 s0+f take 346 426 345 435 90 0
+714 3 s2+f take 109 309 93 183 90 1
+715 2 s0 answer 119 done
+716 0 s0+f take 345 427 345 435 90 0
+717 0 s0 answer 94 value 0
+718 3 s2 answer 87 value 0
+719 2 s0+f take 295 279 256 296 40 0
+720 1 s1 answer 112 value 0
+721 2 s0 answer 120 value 0
+722 3 s0+f take 176 112 128 198 70 1
+723 3 s0 answer 88 value 0
+724 2 s2 answer 121 denied
+725 1 s1+f take 155 428 153 217 64 1
+726 1 s1 answer 113 value 0
+727 1 s1+f take 224 320 218 242 24 1
+728 2 s2+f take 129 313 93 183 90 1
+729 2 s2 answer 122 done
+730 0 s0+f take 426 434 345 435 90 0
+731 2 s2 answer 123 value 0
+732 2 s2 answer 124 value 0
+733 2 s2+f take 118 238 93 183 90 1
+734 1 s1 answer 114 value 0
+735 1 s1+f take 240 429 218 242 24 1
+736 2 s2 answer 125 value 0
+737 1 s1 answer 115 value 0
+738 1 s1 answer 116 unmapped
+739 1 s1+f take 230 326 218 242 24 1
+740 0 s0 answer 95 value 0
+741 3 s0 answer 89 value 0
+742 0 s0+f take 430 438 345 435 90 0
+743 0 s0 answer 96 value 0
+744 1 s1 answer 117 done
+745 2 s2+f take 101 333 93 183 90 1
+746 0 s1+f take 203 251 153 217 64 1
+747 3 s0+f take 316 396 297 345 24 0
+748 2 s2 answer 126 done
+749 0 s1 answer 97 value 0
+750 1 s1+f take 229 325 218 242 24 1
+751 3 s0 answer 90 value 0
+752 0 s0+f take 270 222 256 296 40 0
+753 0 s0 answer 98 value 0
+754 1 s1 answer 118 value 0
+755 0 s0+f take 359 407 345 435 90 0
+756 0 s0 answer 99 value 0
+757 1 s1 answer 119 unmapped
+758 2 s0 answer 127 denied
+759 3 s0 answer 91 denied
+760 1 s1+f take 182 166 153 217 64 1
+761 1 s1 answer 120 done
+762 1 s1+f take 210 338 153 217 64 1
+763 3 s0 answer 92 value 0
+764 0 s0 answer 100 clean
+765 0 s0 answer 101 clean
+766 1 s1 answer 121 done
+767 0 s0+f take 410 442 345 435 90 0
+768 2 s2+f take 128 312 93 183 90 1
+769 1 s1 answer 122 done
+770 0 s0 answer 102 done
+771 1 s1 answer 123 clean
+772 0 s0+f take 349 430 345 435 90 0
+773 2 s2 answer 128 done
+774 1 s2 answer 124 unmapped
+775 2 s2 answer 129 denied
+776 2 s2 answer 130 outofspace
+777 1 s1+f take 195 211 153 217 64 1
+778 1 s1 answer 125 done
+779 1 s1+f take 241 431 218 242 24 1
+780 0 s0 answer 103 value 0
+781 0 s0+f take 379 451 345 435 90 0
+782 1 s1 answer 126 done
+783 1 s1+f take 209 337 153 217 64 1
+784 2 s2 answer 131 value 0
+785 2 s2 answer 132 denied
+786 2 s2+f take 154 458 93 183 90 1
+787 2 s2 answer 133 done
+788 0 s0 answer 104 value 0
+789 2 s2 answer 134 denied
+790 2 s2 answer 135 denied
+791 3 s0 answer 93 done
+792 3 s0 answer 94 denied
+793 2 s2+f take 157 461 93 183 90 1
+794 0 s0+f take 368 464 345 435 90 0
+795 1 s1 answer 127 done
+796 2 s2 answer 136 done
+797 2 s2+f take 161 297 93 183 90 1
+798 0 s0 answer 105 value 0
+799 3 s0+f take 174 110 128 198 70 1
+800 3 s0 answer 95 value 0
+801 3 s0+f take 262 230 256 296 40 0
+802 1 s1+f take 216 472 153 217 64 1
+803 2 s2 answer 137 done
+804 2 s2 answer 138 clean
+805 1 s1 answer 128 done
+806 3 s0 answer 96 done
+807 1 s1+f take 168 168 153 217 64 1
+808 2 s2+f take 168 480 93 183 90 1
+809 1 s1 answer 129 done
+810 3 s0+f take 186 122 128 198 70 1
+811 1 s1+f take 238 422 218 242 24 1
+812 1 s1 answer 130 done
+813 3 s0 answer 97 value 0
+814 0 s0 answer 106 done
+815 2 s2 answer 139 done
+816 3 s0 answer 98 written
+817 2 s2 answer 140 denied
+818 0 s0+f take 414 446 345 435 90 0
+819 1 s2 answer 131 clean
+820 2 s2+f take 132 316 93 183 90 1
+821 0 s0 answer 107 done
+822 2 s2 answer 141 done
+823 2 s2 answer 142 denied
+824 3 s0 answer 99 denied
+825 2 s2+f take 156 460 93 183 90 1
+826 1 s1 answer 132 done
+827 3 s0+f take 318 398 297 345 24 0
+828 3 s0 answer 100 value 0
+829 1 s1+f take 233 417 218 242 24 1
+830 0 s0+f take 310 374 297 345 24 0
+831 0 s0 answer 108 value 0
+832 1 s1 answer 133 done
+833 3 s0+f take 266 218 256 296 40 0
+834 3 s0 answer 101 value 0
+835 3 s1+f take 167 183 153 217 64 1
+836 3 s1 answer 102 done
+837 0 s0+f take 396 412 345 435 90 0
+838 2 s2 answer 143 done
+839 1 s1+f take 227 323 218 242 24 1
+840 1 s1 answer 134 value 0
+841 1 s1+f take 163 179 153 217 64 1
+842 1 s1 answer 135 value 0
+843 2 s2 answer 144 denied
+844 2 s2 answer 145 denied
+845 0 s0 answer 109 done
+846 0 s0 answer 110 value 23
+847 3 s0+f take 361 377 345 435 90 0
+848 1 s1+f take 219 473 218 242 24 1
+849 3 s0 answer 103 value 0
+850 1 s1 answer 136 value 0
+851 0 s0+f take 350 474 345 435 90 0
+852 1 s1+f take 239 423 218 242 24 1
+853 2 s2 answer 146 done
+854 1 s1 answer 137 value 0
+855 0 s0 answer 111 value 0
+856 2 s2 answer 147 done
+857 2 s2+f take 121 345 93 183 90 1
+858 2 s2 answer 148 value 0
+859 1 s1+f take 213 341 153 217 64 1
+860 3 s0+f take 294 278 256 296 40 0
+861 2 s2+f take 119 239 93 183 90 1
+862 3 s0 answer 104 value 0
+863 3 s0+f take 432 475 345 435 90 0
+864 3 s0 answer 105 value 0
+865 1 s1 answer 138 value 0
+866 0 s1+f take 237 421 218 242 24 1
+867 2 s2 answer 149 done
+868 3 s0+f take 303 476 297 345 24 0
+869 0 s1 answer 112 value 0
+870 1 s1 answer 139 denied
+871 2 s1 answer 150 written
+872 2 s2+f take 159 463 93 183 90 1
+873 2 s2 answer 151 value 0
+874 1 s1+f take 232 416 218 242 24 1
+875 3 s0 answer 106 value 0
+876 2 s2+f take 122 346 93 183 90 1
+877 1 s1 answer 140 done
+878 3 s1+f take 218 477 218 242 24 1
+879 3 s1 answer 107 value 0
+880 1 s1+f take 191 247 153 217 64 1
+881 3 s0+f take 317 397 297 345 24 0
+882 1 s1 answer 141 done
+883 3 s0 answer 108 value 0
+884 2 s2 answer 152 done
+885 3 s0+f take 370 466 345 435 90 0
+886 1 s1 answer 142 clean
+887 1 s1+f take 235 419 218 242 24 1
+888 3 s0 answer 109 done
+889 3 s2 answer 110 denied
+890 0 s0+f take 305 369 297 345 24 0
+891 2 s2+f take 102 334 93 183 90 1
+892 1 s1 answer 143 done
+893 1 s1+f take 206 254 153 217 64 1
+894 0 s0 answer 113 value 0
+895 0 s0+f take 369 465 345 435 90 0
+896 2 s2 answer 153 done
+897 2 s2+f take 134 318 93 183 90 1
+898 1 s1 answer 144 value 0
+899 2 s2 answer 154 done
+900 0 s0 answer 114 done
+901 3 s0+f take 371 467 345 435 90 0
+902 3 s0 answer 111 value 0
+903 1 s1 answer 145 clean
+904 1 s1+f take 190 246 153 217 64 1
+905 3 s0 answer 112 value 449
+906 1 s1 answer 146 value 0
+907 3 s0 answer 113 done
+908 0 s0 answer 115 done
+909 1 s1+f take 234 418 218 242 24 1
+910 2 s2+f take 163 299 93 183 90 1
+911 2 s2 answer 155 done
+912 3 s0+f take 401 385 345 435 90 0
+913 1 s1 answer 147 value 0
+914 1 s1+f take 214 342 153 217 64 1
+915 1 s1 answer 148 done
+916 3 s0 answer 114 value 0
+917 3 s0+f take 280 280 256 296 40 0
+918 1 s1+f take 223 478 218 242 24 1
+919 1 s1 answer 149 value 0
+920 1 s1+f take 187 243 153 217 64 1
+921 2 s2+f take 160 296 93 183 90 1
+922 1 s1 answer 150 done
+923 2 s2 answer 156 value 0
+924 2 s2 answer 157 denied
+925 1 s1+f take 221 479 218 242 24 1
+926 2 s2 answer 158 clean
+927 1 s1 answer 151 value 0
+928 3 s0 answer 115 done
+929 1 s0 answer 152 done
+930 3 s0+f take 357 405 345 435 90 0
+931 3 s0 answer 116 done
+932 2 s0+f take 386 490 345 435 90 0
+933 1 s1 answer 153 done
+934 2 s0 answer 159 value 0
+935 3 s0+f take 311 375 297 345 24 0
+936 1 s1+f take 244 496 242 1048024 3 0
+937 3 s0 answer 117 value 0
+938 2 s2+f take 63 199 5 93 83 0
+939 0 s0+f take 380 452 345 435 90 0
+940 2 s2 answer 160 done
+941 1 s1 answer 154 value 0
+942 2 s2+f take 94 497 93 183 90 1
+943 2 s2 answer 161 value 0
+944 1 s1+f take 243 498 242 1048024 3 0
+945 2 s2+f take 124 348 93 183 90 1
+946 1 s1 answer 155 value 0
+947 1 s1+f take 242 499 242 1048024 3 0
+948 1 s1 answer 156 value 0
+949 0 s0 answer 116 value 0
+950 0 s0+f take 406 390 345 435 90 0
+951 1 s1 answer 157 done
+952 0 s0 answer 117 done
+953 1 s1 answer 158 unmapped
+954 3 s0+f take 367 383 345 435 90 0
+955 2 s2 answer 162 done
+956 3 s0 answer 118 done
+957 2 s2+f take 110 310 93 183 90 1
+958 3 s0+f take 372 468 345 435 90 0
+959 2 s2 answer 163 value 0
+960 2 s2+f take 170 482 93 183 90 1
+961 1 s1 answer 159 denied
+962 1 s1+f take 281 505 269 333 64 0
+963 1 s1 answer 160 value 0
+964 3 s0 answer 119 value 0
+965 1 s1 answer 161 value 0
+966 2 s2 answer 164 value 0
+967 2 s2 answer 165 done
+968 3 s0+f take 351 500 345 435 90 0
+969 2 s2 answer 166 clean
+970 2 s2+f take 169 481 93 183 90 1
+971 3 s0 answer 120 value 0
+972 2 s2 answer 167 value 0
+973 2 s0+f take 408 440 345 435 90 0
+974 1 s1 answer 162 denied
+975 1 s1+f take 293 501 269 333 64 0
+976 1 s1 answer 163 value 0
+977 1 s1+f take 273 502 269 333 64 0
+978 2 s0 answer 168 done
+979 1 s1 answer 164 value 0
+980 3 s0+f take 314 394 297 345 24 0
+981 2 s2+f take 182 503 93 183 90 1
+982 2 s2 answer 169 value 0
+983 1 s1+f take 314 7 269 333 64 0
+984 3 s0 answer 121 value 0
+985 0 s0 answer 118 denied
+986 3 s0+f take 387 491 345 435 90 0
+987 2 s2 answer 170 done
+988 0 s2+f take 171 483 93 183 90 1
+989 0 s2 answer 119 value 0
+990 3 s0 answer 122 value 0
+991 3 s0+f take 378 450 345 435 90 0
+992 2 s2 answer 171 value 0
+993 3 s0 answer 123 done
+994 2 s2+f take 105 305 93 183 90 1
+995 3 s0+f take 382 454 345 435 90 0
+996 1 s1 answer 165 value 0
+997 0 s1+f take 301 260 269 333 64 0
+998 0 s1 answer 120 value 0
+999 3 s0 answer 124 done
+1000 3 s0 answer 125 denied
+1001 3 s0 answer 126 value 0
+1002 2 s2 answer 172 done
+1003 3 s0+f take 366 382 345 435 90 0
+1004 1 s1+f take 270 262 269 333 64 0
+1005 2 s2+f take 166 302 93 183 90 1
+1006 2 s2 answer 173 done
+1007 3 s0 answer 127 value 0
+1008 3 s0+f take 388 492 345 435 90 0
+1009 2 s2+f take 115 235 93 183 90 1
+1010 2 s2 answer 174 value 0
+1011 1 s1 answer 166 value 0
+1012 3 s0 answer 128 value 0
+1013 2 s2 answer 175 value 0
+1014 1 s1 answer 167 unmapped
+1015 3 s0+f answer 129 written
+1016 1 s1+f take 272 263 269 333 64 0
+1017 3 s0 answer 130 denied
+1018 2 s2+f take 164 300 93 183 90 1
+1019 0 s0+f take 424 432 345 435 90 0
+1020 0 s0 answer 121 done
+1021 3 s0+f take 347 256 345 435 90 0
+1022 1 s1 answer 168 value 0
+1023 1 s1+f take 286 510 269 333 64 0
+1024 2 s2 answer 176 done
+1025 1 s1 answer 169 value 0
+1026 1 s1 answer 170 denied
+1027 1 s1 answer 171 denied
+1028 3 s0 answer 131 value 0
+1029 3 s2+f take 162 298 93 183 90 1
+1030 1 s1+f take 307 257 269 333 64 0
+1031 3 s2 answer 132 done
+1032 1 s1 answer 172 value 0
+1033 3 s0+f take 389 493 345 435 90 0
+1034 1 s1 answer 173 value 0
+1035 3 s0 answer 133 done
+1036 0 s2+f take 179 258 93 183 90 1
+1037 0 s2 answer 122 value 0
+1038 0 s0+f take 375 471 345 435 90 0
+1039 0 s0 answer 123 value 0
+1040 2 s2+f take 177 259 93 183 90 1
+1041 0 s0+f take 385 489 345 435 90 0
+1042 1 s1+f clear 64 3
+1043 2 s2 answer 177 done
+1044 1 s1 answer 174 done
+1045 1 s1+f take 304 26 269 333 64 0
+1046 2 s2+f take 218 29 192 232 40 0
+1047 2 s2 answer 178 done
+1048 2 s2+f take 203 201 192 232 40 0
+1049 1 s1 answer 175 value 0
+1050 2 s2 answer 179 done
+1051 1 s1+f take 275 155 269 333 64 0
+1052 0 s0 answer 124 value 0
+1053 1 s1 answer 176 value 0
+1054 1 s1 answer 177 denied
+1055 0 s0+f take 288 272 256 296 40 0
+1056 2 s2 answer 180 notgrowing
+1057 1 s1+f take 298 128 269 333 64 0
+1058 2 s2+f take 6 142 5 93 83 0
+1059 0 s0 answer 125 value 0
+1060 1 s1 answer 178 value 0
+1061 3 s0+f take 356 404 345 435 90 0
+1062 3 s0 answer 134 done
+1063 2 s2 answer 181 value 0
+1064 1 s1 answer 179 value 72
+1065 1 s1 answer 180 notgrowing
+1066 2 s2+f take 158 462 93 183 90 1
+1067 0 s0+f answer 126 clean
+1068 2 s2 answer 182 value 0
+1069 3 s0+f answer 135 clean
+1070 2 s2 answer 183 done
+1071 0 s0 answer 127 done
+1072 2 s2+f take 125 349 93 183 90 1
+1073 0 s0+f take 417 143 345 435 90 0
+1074 0 s0 answer 128 value 0
+1075 1 s1+f take 310 475 269 333 64 0
+1076 0 s0+f take 418 189 345 435 90 0
+1077 2 s2 answer 184 value 0
+1078 1 s1 answer 181 value 0
+1079 1 s2+f take 114 234 93 183 90 1
+1080 0 s0 answer 129 value 0
+1081 0 s0+f take 420 190 345 435 90 0
+1082 0 s0 answer 130 value 0
+1083 1 s2 answer 182 done
+1084 0 s0+f take 411 443 345 435 90 0
+1085 0 s0 answer 131 done
+1086 1 s1 answer 183 outofspace
+1087 3 s0+f take 353 401 345 435 90 0
+1088 3 s0 answer 136 value 0
+1089 0 s0+f take 413 445 345 435 90 0
+1090 0 s0 answer 132 value 0
+1091 0 s0+f take 352 400 345 435 90 0
+1092 0 s0 answer 133 value 0
+1093 0 s0+f take 364 380 345 435 90 0
+1094 0 s0 answer 134 done
+1095 2 s2 answer 185 denied
+1096 0 s2+f take 172 484 93 183 90 1
+1097 3 s1 answer 137 denied
+1098 3 s0+f answer 138 clean
+1099 1 s1 answer 184 denied
+1100 1 s1+f take 283 507 269 333 64 0
+1101 0 s2 answer 135 value 0
+1102 3 s2 answer 139 done
+1103 0 s0+f take 419 191 345 435 90 0
+1104 0 s0 answer 136 done
+1105 0 s0 answer 137 value 0
+1106 1 s1 answer 185 value 0
+1107 2 s2 answer 186 value 0
+1108 2 s2+f take 211 500 192 232 40 0
+1109 2 s2 answer 187 value 0
+1110 0 s0+f take 384 488 345 435 90 0
+1111 0 s0 answer 138 value 0
+1112 1 s1+f take 277 353 269 333 64 0
+1113 3 s0 answer 140 value 0
+1114 2 s2+f answer 188 clean
+1115 1 s1 answer 186 value 0
+1116 0 s0+f take 484 154 448 538 90 1
+1117 0 s0 answer 139 value 0
+1118 0 s0+f take 404 388 345 435 90 0
+1119 0 s0 answer 140 value 0
+1120 2 s2+f take 40 354 5 93 83 0
+1121 3 s0+f take 393 409 345 435 90 0
+1122 3 s0 answer 141 value 0
+1123 1 s1+f take 269 355 269 333 64 0
+1124 2 s2 answer 189 done
+1125 2 s2 answer 190 value 0
+1126 1 s1 answer 187 value 0
+1127 0 s1+f take 326 356 269 333 64 0
+1128 2 s2 answer 191 done
+1129 3 s2 answer 142 clean
+1130 0 s1 answer 141 value 0
+1131 0 s0+f take 374 470 345 435 90 0
+1132 1 s1 answer 188 value 8221203865238951870
+1133 2 s2+f take 175 487 93 183 90 1
+1134 1 s1 answer 189 denied
+1135 2 s2 answer 192 value 0
+1136 1 s1 answer 190 denied
+1137 2 s2 answer 193 value 0
+1138 1 s1 answer 191 denied
+1139 1 s1 answer 192 done
+1140 1 s1+f take 300 357 269 333 64 0
+1141 1 s1 answer 193 value 0
+1142 1 s1+f take 292 358 269 333 64 0
+1143 2 s2+f take 199 359 192 232 40 0
+1144 1 s1 answer 194 value 0
+1145 2 s2 answer 194 value 0
+1146 0 s0 answer 142 done
+1147 0 s0+f take 518 42 448 538 90 1
+1148 0 s0 answer 143 done
+1149 3 s0+f take 409 441 345 435 90 0
+1150 3 s0 answer 143 done
+1151 3 s0+f take 399 415 345 435 90 0
+1152 1 s1+f take 318 45 269 333 64 0
+1153 3 s0 answer 144 done
+1154 0 s0+f take 412 444 345 435 90 0
+1155 0 s0 answer 144 done
+1156 3 s0+f take 425 433 345 435 90 0
+1157 1 s1 answer 195 value 0
+1158 3 s0 answer 145 value 0
+1159 0 s1 answer 145 denied
+1160 2 s2+f take 174 486 93 183 90 1
+1161 3 s0+f take 398 414 345 435 90 0
+1162 1 s1 answer 196 denied
+1163 1 s1+f take 297 46 269 333 64 0
+1164 2 s2 answer 195 value 0
+1165 2 s2+f take 220 328 192 232 40 0
+1166 2 s2 answer 196 value 0
+1167 3 s0 answer 146 value 0
+1168 3 s0 answer 147 value 0
+1169 3 s0 answer 148 clean
+1170 2 s0+f take 405 389 345 435 90 0
+1171 0 s2+f take 206 329 192 232 40 0
+1172 1 s1 answer 197 value 0
+1173 0 s2 answer 146 done
+1174 1 s1 answer 198 done
+1175 1 s1 answer 199 denied
+1176 2 s0 answer 197 value 0
+1177 1 s1 answer 200 denied
+1178 0 s0 answer 147 value 928
+1179 0 s0+f take 459 330 448 538 90 1
+1180 0 s0 answer 148 value 0
+1181 2 s2 answer 198 done
+1182 1 s1 answer 201 denied
+1183 2 s2 answer 199 value 198
+1184 0 s0+f take 391 495 345 435 90 0
+1185 0 s0 answer 149 value 0
+1186 2 s2+f take 194 331 192 232 40 0
+1187 3 s0+f take 421 284 345 435 90 0
+1188 3 s0 answer 149 value 0
+1189 0 s0+f take 461 286 448 538 90 1
+1190 2 s2 answer 200 done
+1191 1 s1 answer 202 denied
+1192 2 s2+f take 196 368 192 232 40 0
+1193 1 s1+f take 319 370 269 333 64 0
+1194 2 s2 answer 201 value 0
+1195 0 s0 answer 150 done
+1196 0 s0+f answer 151 clean
+1197 3 s0 answer 150 denied
+1198 3 s0+f take 394 410 345 435 90 0
+1199 2 s2+f take 205 476 192 232 40 0
+1200 3 s0 answer 151 value 0
+1201 0 s0+f take 469 372 448 538 90 1
+1202 1 s1 answer 203 value 0
+1203 2 s2 answer 202 value 0
+1204 0 s0 answer 152 done
+1205 2 s2+f take 120 344 93 183 90 1
+1206 1 s1 answer 204 denied
+1207 0 s0+f take 397 413 345 435 90 0
+1208 0 s0 answer 153 value 0
+1209 1 s1+f take 315 373 269 333 64 0
+1210 3 s0 answer 152 done
+1211 1 s1 answer 205 value 0
+1212 3 s0+f take 377 449 345 435 90 0
+1213 1 s1 answer 206 denied
+1214 1 s1 answer 207 value 0
+1215 3 s0 answer 153 value 0
+1216 2 s2 answer 203 value 0
+1217 3 s0+f take 381 453 345 435 90 0
+1218 1 s1+f take 327 392 269 333 64 0
+1219 1 s1 answer 208 value 0
+1220 1 s1+f take 308 395 269 333 64 0
+1221 3 s0 answer 154 value 0
+1222 2 s0+f take 476 303 448 538 90 1
+1223 2 s0 answer 204 done
+1224 3 s0+f take 402 386 345 435 90 0
+1225 1 s1 answer 209 value 0
+1226 1 s1 answer 210 outofspace
+1227 3 s0 answer 155 value 0
+1228 0 s0+f take 403 387 345 435 90 0
+1229 0 s0 answer 154 value 0
+1230 2 s2+f take 202 272 192 232 40 0
+1231 0 s0 answer 155 unmapped
+1232 2 s2 answer 205 done
+1233 3 s0+f take 429 437 345 435 90 0
+1234 3 s0 answer 156 value 0
+1235 3 s0+f take 431 439 345 435 90 0
+1236 3 s0 answer 157 value 0
+1237 3 s0+f take 416 459 345 435 90 0
+1238 3 s0 answer 158 value 0
+1239 3 s0+f take 434 456 345 435 90 0
+1240 3 s0 answer 159 value 0
+1241 0 s2 answer 156 value 0
+1242 2 s2+f take 204 457 192 232 40 0
+1243 0 s0 answer 157 done
+1244 0 s0 answer 158 value 0
+1245 1 s0 answer 211 done
+1246 1 s1 answer 212 denied
+1247 0 s0+f take 358 406 345 435 90 0
+1248 0 s0 answer 159 value 0
+1249 3 s0+f take 470 232 448 538 90 1
+1250 1 s1+f take 305 378 269 333 64 0
+1251 2 s2 answer 206 done
+1252 2 s2 answer 207 unmapped
+1253 2 s2+f take 155 381 93 183 90 1
+1254 1 s1 answer 213 value 0
+1255 2 s2 answer 208 value 0
+1256 1 s1+f take 320 504 269 333 64 0
+1257 1 s1 answer 214 value 0
+1258 1 s1 answer 215 denied
+1259 2 s2+f take 195 506 192 232 40 0
+1260 2 s2 answer 209 value 0
+1261 2 s2+f take 198 511 192 232 40 0
+1262 2 s2 answer 210 value 0
+1263 3 s0 answer 160 value 0
+1264 3 s0+f take 376 448 345 435 90 0
+1265 3 s0 answer 161 value 0
+1266 2 s2+f take 173 485 93 183 90 1
+1267 3 s0+f take 390 494 345 435 90 0
+1268 2 s2 answer 211 value 0
+1269 2 s2 answer 212 unmapped
+1270 2 s2+f take 152 508 93 183 90 1
+1271 3 s0 answer 162 value 0
+1272 1 s0+f take 286 509 256 296 40 0
+1273 2 s2 answer 213 value 0
+1274 1 s0 answer 216 done
+1275 2 s2+f take 192 469 192 232 40 0
+1276 3 s0+f take 423 447 345 435 90 0
+1277 3 s0 answer 163 value 0
+1278 1 s1 answer 217 denied
+1279 0 s0 answer 160 value 0
+1280 1 s1+f take 276 347 269 333 64 0
+1281 1 s1 answer 218 value 0
+1282 3 s0+f take 450 411 448 538 90 1
+1283 2 s2 answer 214 value 0
+1284 1 s1+f take 303 391 269 333 64 0
+1285 3 s0 answer 164 value 0
+1286 1 s1 answer 219 value 0
+1287 2 s2+f take 167 435 93 183 90 1
+1288 0 s0+f take 463 436 448 538 90 1
+1289 1 s1+f take 284 402 269 333 64 0
+1290 0 s0 answer 161 done
+1291 3 s0+f take 298 455 297 345 24 0
+1292 3 s0 answer 165 value 0
+1293 2 s2 answer 215 value 0
+1294 0 s0+f claim 0 6 6 for 495 read
+1295 2 s2 answer 216 clean
+1296 0 s0 out 6 clean
+1297 1 s1 answer 220 value 0
+1298 0 s0+f give 6 6
+1299 2 s2+f claim 1 7 15 for 153 read
+1300 0 s0+f use 495 6 448 538 90 1
+1301 0 s0 answer 162 value 0
+1302 2 s1 out 7 clean
+1303 2 s1+f give 7 15
+1304 1 s1+f claim 0 1 1 for 289 read
+1305 2 s2+f use 153 15 93 183 90 1
+1306 2 s2 answer 217 value 0
+1307 3 s0+f claim 1 10 24 for 433 write
+1308 2 s2 answer 218 unmapped
+1309 3 s1 out 10 clean
+1310 1 s0 out 1 clean
+1311 3 s1+f give 10 24
+1312 2 s2+f claim 0 2 2 for 208 write
+1313 1 s0+f give 1 1
+1314 3 s0+f use 433 24 345 435 90 0
+1315 3 s0 answer 166 done
+1316 0 s0+f claim 0 3 3 for 474 read
+1317 1 s1+f use 289 1 269 333 64 0
+1318 1 s1 answer 221 value 0
+1319 1 s1 answer 222 denied
+1320 1 s1+f claim 2 14 54 for 329 read
+1321 0 s0 out 3 clean
+1322 0 s0+f give 3 3
+1323 0 s0+f use 474 3 448 538 90 1
+1324 0 s0 answer 163 value 0
+1325 0 s0 answer 164 denied
+1326 1 s2 out 14 clean
+1327 1 s2+f give 14 54
+1328 3 s0+f claim 0 5 5 for 407 write
+1329 1 s1+f use 329 54 269 333 64 0
+1330 3 s0 out 5 written
+1331 3 s0+f give 5 5
+1332 1 s1 answer 223 value 0
+1333 1 s1+f claim 2 41 129 for 316 read
+1334 3 s0+f use 407 5 345 435 90 0
+1335 3 s0 answer 167 done
+1336 2 s0 out 2 clean
+1337 2 s0+f give 2 2
+1338 2 s2+f use 208 2 192 232 40 0
+1339 2 s2 answer 219 done
+1340 0 s0+f claim 2 42 130 for 457 read
+1341 0 s2 out 42 clean
+1342 0 s2+f give 42 130
+1343 3 s0+f answer 168 clean
+1344 0 s0+f use 457 130 448 538 90 1
+1345 2 s2 answer 220 value 0
+1346 3 s2+f take 98 449 93 183 90 1
+1347 3 s2 answer 169 done
+1348 0 s0 answer 165 value 0
+1349 2 s2+f claim 2 2 27 for 226 write
+1350 2 s2 out 2 clean
+1351 2 s2+f give 2 27
+1352 2 s2+f use 226 27 192 232 40 0
+1353 2 s2 answer 221 done
+1354 2 s1 answer 222 value 435
+1355 3 s0+f claim 2 7 28 for 354 write
+1356 3 s2 out 7 written
+1357 3 s2+f give 7 28
+1358 1 s2 out 41 written
+1359 1 s2+f give 41 129
+1360 1 s1+f use 316 129 269 333 64 0
+1361 3 s0+f use 354 28 345 435 90 0
+1362 2 s2 answer 223 denied
+1363 1 s1 answer 224 value 0
+1364 2 s2+f claim 2 32 144 for 217 write
+1365 3 s0 answer 170 done
+1366 1 s1 answer 225 denied
+1367 3 s0 answer 171 written
+1368 1 s1+f claim 1 1 9 for 278 read
+1369 3 s0+f claim 2 19 43 for 486 write
+1370 1 s1 out 1 clean
+1371 2 s2 out 32 written
+1372 2 s2+f give 32 144
+1373 2 s2+f use 217 144 192 232 40 0
+1374 1 s1+f give 1 9
+1375 1 s1+f use 278 9 269 333 64 0
+1376 2 s2 answer 224 done
+1377 3 s2 out 19 clean
+1378 1 s1 answer 226 value 0
+1379 3 s2+f give 19 43
+1380 2 s2+f claim 1 6 14 for 96 write
+1381 2 s1 out 6 clean
+1382 2 s1+f give 6 14
+1383 1 s1+f claim 2 11 51 for 279 read
+1384 2 s2+f use 96 14 93 183 90 1
+1385 3 s0+f use 486 43 448 538 90 1
+1386 3 s0 answer 172 done
+1387 2 s2 answer 225 done
+1388 1 s2 out 11 written
+1389 3 s0 answer 173 clean
+1390 3 s0+f claim 1 2 10 for 428 write
+1391 3 s1 out 2 clean
+1392 1 s2+f give 11 51
+1393 2 s2+f claim 2 10 50 for 112 read
+1394 2 s2 out 10 clean
+1395 3 s1+f give 2 10
+1396 3 s0+f use 428 10 345 435 90 0
+1397 3 s0 answer 174 done
+1398 3 s0+f claim 2 36 148 for 491 read
+1399 2 s2+f give 10 50
+1400 1 s1+f use 279 51 269 333 64 0
+1401 1 s1 answer 227 value 0
+1402 2 s2+f use 112 50 93 183 90 1
+1403 2 s2 answer 226 value 0
+1404 3 s2 out 36 clean
+1405 3 s2+f give 36 148
+1406 2 s2+f claim 2 46 134 for 230 read
+1407 2 s2 out 46 clean
+1408 3 s0+f use 491 148 448 538 90 1
+1409 2 s2+f give 46 134
+1410 3 s0 answer 175 value 0
+1411 3 s0 answer 176 value 0
+1412 3 s0+f claim 2 52 156 for 427 read
+1413 2 s2+f use 230 134 192 232 40 0
+1414 2 s2 answer 227 value 0
+1415 3 s2 out 52 clean
+1416 2 s1+f claim 2 35 147 for 306 read
+1417 3 s2+f give 52 156
+1418 2 s2 out 35 clean
+1419 3 s0+f use 427 156 345 435 90 0
+1420 2 s2+f give 35 147
+1421 2 s1+f use 306 147 269 333 64 0
+1422 2 s1 answer 228 value 0
+1423 3 s0 answer 177 value 0
+1424 3 s0+f claim 2 13 53 for 516 read
+1425 2 s2+f claim 1 5 13 for 231 read
+1426 2 s1 out 5 written
+1427 2 s1+f give 5 13
+1428 3 s2 out 13 written
+1429 3 s2+f give 13 53
+1430 2 s2+f use 231 13 192 232 40 0
+1431 3 s0+f use 516 53 448 538 90 1
+1432 3 s0 answer 178 value 0
+1433 2 s2 answer 229 value 0
+1434 2 s2+f claim 2 26 138 for 200 read
+1435 3 s0+f claim 0 4 4 for 460 read
+1436 3 s0 out 4 written
+1437 2 s2 out 26 clean
+1438 3 s0+f give 4 4
+1439 3 s0+f use 460 4 448 538 90 1
+1440 2 s2+f give 26 138
+1441 2 s2+f use 200 138 192 232 40 0
+1442 2 s2 answer 230 value 0
+1443 2 s2+f claim 2 25 137 for 216 write
+1444 3 s0 answer 179 value 0
+1445 2 s2 out 25 written
+1446 3 s0+f claim 2 45 133 for 479 read
+1447 2 s2+f give 25 137
+1448 2 s2+f use 216 137 192 232 40 0
+1449 2 s2 answer 231 done
+1450 2 s2 answer 232 overlap
+1451 3 s2 out 45 clean
+1452 3 s2+f give 45 133
+1453 2 s2 answer 233 overlap
+1454 3 s0+f use 479 133 448 538 90 1
+1455 3 s0 answer 180 value 0
+1456 2 s2+f claim 0 64 30 for 228 read
+1457 2 s0 out 64 clean
+1458 2 s0+f give 64 30
+1459 2 s2+f use 228 30 192 232 40 0
+1460 2 s2 answer 234 value 0
+";

@@ -1,0 +1,76 @@
+//! A machine by a list of turns: which turns made an entry, waited or found nothing left, and the history, entry by entry as it was
+//! recorded.
+ghost use Rattle.std.specs.Prelude.{◌≡◌, ◌<◌, length};
+
+use super::machines::{assert_recorded, machine_of};
+use super::recorded::{HISTORY, TRACE};
+use super::{source_of, stores_of};
+use pager_core::{Machine, Turn};
+use std::test::Fail;
+use store_core::MemoryStore;
+use trace_reader::read_trace;
+
+/// How many turns are taken, and from where they are drawn.
+const TURNS: u32 = 2_000;
+
+const SEED: u64 = 7;
+
+/// How many turns answered what.
+#[derive(Clone, Copy, Debug, PartialEq, Eq)]
+struct Counts {
+    stepped: u32,
+    waits: u32,
+    ended: u32,
+}
+
+/// The next number of a generator, below the limit.
+fn draw(random: &mut u64, limit: u32) -> u32
+    requires { 0 < limit }
+    ensures { result < limit }
+{
+    *random = random
+        .wrapping_mul(6364136223846793005)
+        .wrapping_add(1442695040888963407);
+    (*random >> 33) as u32 % limit
+}
+
+/// Takes so many turns, each of a processor that is drawn.
+fn take_turns(machine: &mut Machine<MemoryStore>, processors: u32, turns: u32) -> Counts
+    requires known { length machine.old.calls ≡ processors }
+    requires some { 0 < processors }
+{
+    let mut random = SEED;
+    let mut counts = Counts {
+        stepped: 0,
+        waits: 0,
+        ended: 0,
+    };
+    for _ in 0..turns {
+        match machine.turn(draw(&mut random, processors)) {
+            Turn::Stepped => counts.stepped += 1,
+            Turn::Waits(_) => counts.waits += 1,
+            Turn::Ended => counts.ended += 1,
+        }
+    }
+    counts
+}
+
+#[test]
+fn turns_in_any_order_make_the_recorded_history(rt: HostRuntime) -> Result<(), Fail> {
+    let alloc = rt.alloc();
+    let trace = read_trace(alloc, &mut source_of(alloc, TRACE.as_bytes(), 0)?)?;
+    let processors = trace.processors();
+    assert_eq!(rt; processors, 4);
+    let stores = stores_of(alloc, trace.spaces() as usize, &[], &[])?;
+    let mut machine = machine_of(alloc, &trace, stores)?;
+    let counts = take_turns(&mut machine, processors, TURNS);
+    let wanted = Counts {
+        stepped: 1_461,
+        waits: 415,
+        ended: 124,
+    };
+    assert_eq!(rt; counts, wanted);
+    assert!(rt; machine.ended());
+    let gathered = machine.finish();
+    assert_recorded(&rt, alloc, &gathered.history, HISTORY)
+}
