@@ -1,5 +1,5 @@
 -- Small values on which the definitions are computed.
-use Rattle.std.specs.Prelude.{ℕ, true, false, List, [], ◌∷◌, fold, Some, None}
+use Rattle.std.specs.Prelude.{ℕ, ◌+◌, ◌==◌, Bool, true, false, nat_lt, if◌then◌else◌, List, [], ◌∷◌, fold, Option, Some, None}
 use Rattle.pager_model.specs.declared.call.Call.{Call}
 use Rattle.pager_model.specs.declared.call.Call.TheVariants.{Map, Load, Store}
 use Rattle.pager_model.specs.declared.entry.Entry.{Entry}
@@ -16,6 +16,8 @@ use Rattle.pager_model.specs.FrameStates.{FrameState, start_frames, take_frame, 
 use Rattle.pager_model.specs.Plans.{Plan}
 use Rattle.pager_model.specs.Settings.{Given}
 use Rattle.pager_model.specs.SpaceStates.{SpaceState, empty_state, space_after}
+use Rattle.pager_model.specs.Tiles.{Mapping, tile_with}
+use Rattle.pager_model.specs.declared.tile.Tile.{Tile}
 
 -- eight pages that may be written, from page 0 on
 abbrev pub map_eight : Call
@@ -135,3 +137,18 @@ made_up_fault =
 -- a space whose store tells nothing, with a page that was stored to after it was filled
 abbrev pub untold_space : SpaceState
 untold_space = fold space_after (empty_state false 0) (answer 0 map_eight Done ∷ take_page_one ∷ answer 1 (Store 0 8192 5) Done ∷ [])
+
+-- a page of one region that may be written, in this frame
+abbrev pub writable : ℕ → Bool → Mapping
+writable frame dirty = record { frame = frame; region = 0; rights = Write; dirty = dirty }
+
+-- the pages from 0 to before an end, in frames from one on; a page is dirty or none is
+abbrev pub run_of_pages : ℕ → ℕ → ℕ → Option Mapping
+run_of_pages frame end page = if nat_lt page end then Some (writable (frame + page) false) else None
+
+abbrev pub with_dirty : ℕ → (ℕ → Option Mapping) → ℕ → Option Mapping
+with_dirty dirty pages page = if page == dirty then Some (writable (16 + page) true) else pages page
+
+-- a translation of one page
+abbrev pub small_tile : ℕ → Tile
+small_tile page = tile_with 0 page (writable (16 + page) false)

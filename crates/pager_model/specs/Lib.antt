@@ -6,6 +6,8 @@ pub mod FrameLoan
 pub mod TraceText
 pub mod Regions
 pub mod Flat
+pub mod Tiles
+pub mod Images
 pub mod Entries
 pub mod FrameStates
 pub mod SpaceStates

@@ -6,7 +6,7 @@ ghost use Rattle.pager_model.specs.declared.call.Call.TheVariants.{Grow, Unmap, 
 ghost use Rattle.pager_model.specs.declared.region.Rights.TheVariants.{NoAccess, Read};
 ghost use Rattle.pager_model.specs.declared.reply.Reply.TheVariants.{Done, Value, Denied, Unmapped};
 ghost use Rattle.pager_model.specs.Ages.{with_member, oldest_in};
-ghost use Rattle.pager_model.specs.Examples.{eight_pages, two_frames, one_taken, one_broken, one_given, one_carved, both_taken, want_eight, small_setting, legal_history, exchanged_history, small_plan, eight_places, eight_parts_used, one_turn, failing_load, made_up_fault, untold_space};
+ghost use Rattle.pager_model.specs.Examples.{eight_pages, two_frames, one_taken, one_broken, one_given, one_carved, both_taken, want_eight, small_setting, legal_history, exchanged_history, small_plan, eight_places, eight_parts_used, one_turn, failing_load, made_up_fault, untold_space, run_of_pages, with_dirty, writable, small_tile};
 ghost use Rattle.pager_model.specs.Order.{progress_of, at_rest};
 ghost use Rattle.pager_model.specs.SpaceStates.{IsAsked};
 ghost use Rattle.pager_model.specs.Flat.{after_call, reply_of};
@@ -18,6 +18,8 @@ ghost use Rattle.pager_model.specs.Records.{yield_of, kept_part};
 ghost use Rattle.pager_model.specs.TraceText.{call_line, line_words, text_of};
 ghost use Rattle.pager_model.specs.Legal.{IsLegal, MayFollow};
 ghost use Rattle.pager_model.specs.Settings.{Given};
+ghost use Rattle.pager_model.specs.Images.{is_in_image, touched, still_tiles};
+ghost use Rattle.pager_model.specs.Tiles.{tile_of, tile_with, size_at, is_promoted};
 
 /// A legal history goes on by an entry that may follow it.
 pub fn legal_goes_on()
@@ -144,4 +146,36 @@ pub fn yields_and_parts()
 /// Of two reservations with one stamp the one with the lower frame is the older.
 pub fn equal_stamps_go_by_frame()
     ensures { oldest_in (with_member (record { stamp = 3; frame = 9 }) (with_member (record { stamp = 3; frame = 12 }) [])) ≡ Some 9 }
+{}
+
+/// Eight resident pages in eight frames of an extent are one tile; in frames that begin at no multiple of eight, or with one dirty page,
+/// each is a tile of its own.
+pub fn tiles_are_aligned_and_uniform()
+    ensures eight { tile_of (run_of_pages 16 8) 3 ≡ Some (tile_with 1 0 (writable 16 false)) }
+    ensures unaligned { size_at (run_of_pages 12 8) 3 ≡ 0 }
+    ensures one_dirty { size_at (with_dirty 5 (run_of_pages 16 8)) 3 ≡ 0 }
+    ensures absent { tile_of (run_of_pages 16 8) 8 ≡ None }
+{}
+
+/// Of 511 resident pages in frames from 512 on the first seven extents of 64 pages are tiles, and the last page is one by itself; with one
+/// page more all are one tile.
+pub fn a_tile_is_the_largest()
+    ensures sixty_four { size_at (run_of_pages 512 511) 300 ≡ 2 }
+    ensures eight { size_at (run_of_pages 512 511) 449 ≡ 1 }
+    ensures one { size_at (run_of_pages 512 511) 510 ≡ 0 }
+    ensures all { size_at (run_of_pages 512 512) 300 ≡ 3 }
+{}
+
+/// The eighth page promotes its extent once, and the first dirty page demotes it once.
+pub fn a_promotion_is_counted_at_the_first_page()
+    ensures promoted { is_promoted (run_of_pages 16 7) (run_of_pages 16 8) 0 ≡ true }
+    ensures once { is_promoted (run_of_pages 16 7) (run_of_pages 16 8) 7 ≡ false }
+    ensures demoted { is_promoted (with_dirty 5 (run_of_pages 16 8)) (run_of_pages 16 8) 0 ≡ true }
+{}
+
+/// The tile used last comes to the front and stands once, and a tile that is none any more is gone.
+pub fn an_image_keeps_what_was_used_last()
+    ensures front { touched (small_tile 1) (touched (small_tile 0) (touched (small_tile 1) [])) ≡ small_tile 1 ∷ small_tile 0 ∷ [] }
+    ensures gone { still_tiles (run_of_pages 16 8) (touched (small_tile 0) []) ≡ [] }
+    ensures stays { is_in_image (still_tiles (run_of_pages 16 7) (touched (small_tile 0) [])) (Some (small_tile 0)) ≡ true }
 {}
