@@ -16,7 +16,8 @@ use Rattle.pager_model.specs.FrameStates.{FrameState, start_frames, take_frame, 
 use Rattle.pager_model.specs.Plans.{Plan}
 use Rattle.pager_model.specs.Settings.{Given}
 use Rattle.pager_model.specs.SpaceStates.{SpaceState, empty_state, space_after}
-use Rattle.pager_model.specs.Tiles.{Mapping, tile_with}
+use Rattle.pager_model.specs.Tiles.{tile_with}
+use Rattle.pager_model.specs.declared.tile.Mapping.{Mapping}
 use Rattle.pager_model.specs.declared.tile.Tile.{Tile}
 
 -- eight pages that may be written, from page 0 on

@@ -1,8 +1,9 @@
 -- Translation images: for each processor the tiles of a space that it used last.
 use Rattle.std.specs.Prelude.{ℕ, Bool, false, ◌==◌, not, if◌then◌else◌, List, ◌∷◌, filter, take, Option, Some, None}
 use Rattle.std.specs.List.{list_any}
+use Rattle.pager_model.specs.declared.tile.Mapping.{Mapping}
 use Rattle.pager_model.specs.declared.tile.Tile.{Tile}
-use Rattle.pager_model.specs.Tiles.{Mapping, same_tile, is_tile}
+use Rattle.pager_model.specs.Tiles.{same_tile, is_tile}
 
 -- an image holds at most so many tiles
 abbrev pub image_room : ℕ

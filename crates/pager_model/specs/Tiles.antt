@@ -5,17 +5,11 @@ use Rattle.std.specs.Option.{option_or}
 use Rattle.pager_model.specs.declared.region.Region.{Region}
 use Rattle.pager_model.specs.declared.region.Rights.{Rights}
 use Rattle.pager_model.specs.declared.region.Rights.TheVariants.{NoAccess, Read, Write}
+use Rattle.pager_model.specs.declared.tile.Mapping.{Mapping}
 use Rattle.pager_model.specs.declared.tile.Tile.{Tile}
 use Rattle.pager_model.specs.Extents.{IsExtent, extent_start}
 use Rattle.pager_model.specs.Flat.{Flat}
 use Rattle.pager_model.specs.Regions.{region_at}
-
--- What is said of a resident page: its frame, the first page of its region, its rights and its dirty flag.
-pub record Mapping : Type 0 where
-  pub frame : ℕ
-  pub region : ℕ
-  pub rights : Rights
-  pub dirty : Bool
 
 abbrev pub mapping_with : Option ℕ → Option Region → Rights → Bool → Option Mapping
 mapping_with None region rights dirty = None

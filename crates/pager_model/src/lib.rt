@@ -31,7 +31,7 @@ pub use setting::Setting;
 pub use size::Size;
 pub use steps::Steps;
 pub use summary::Summary;
-pub use tile::Tile;
+pub use tile::{Mapping, Tile};
 pub use trace::{Daemon, Trace};
 
 #[cfg(test)]

@@ -9,3 +9,13 @@ pub struct Tile {
     pub rights: Rights,
     pub dirty: bool,
 }
+
+/// What is said of a resident page: its frame, the first page of its region, its rights and its dirty flag.
+#[derive(Clone, Copy, Debug, PartialEq, Eq)]
+pub struct Mapping {
+    pub frame: u32,
+    /// The first page of the page's region.
+    pub region: u32,
+    pub rights: Rights,
+    pub dirty: bool,
+}

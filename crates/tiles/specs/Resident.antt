@@ -1,0 +1,63 @@
+-- The resident pages of a space. Contracts look at them only through the mapping of a page, where it is resident.
+use Rattle.std.specs.Prelude.{ℕ, ◌≡◌, Bool, ◌&&◌, ◌==◌, nat_lt, if◌then◌else◌, List, slice_index_or, length, option_map, Option, Some, None}
+use Rattle.pager_model.specs.declared.region.Rights.{Rights}
+use Rattle.pager_model.specs.declared.tile.Mapping.{Mapping}
+use Rattle.pager_model.specs.Regions.{in_range}
+use Rattle.pager_model.specs.Tiles.{tile_of, size_at, begins_at, count_pages, promotions_between, demotions_between}
+use Rattle.tiles.specs.declared.base.Moves.{Moves}
+use Rattle.tiles.specs.declared.base.Place.{Place}
+
+pub record Resident : Type 0 where
+  -- of each page the number of its frame, where it is resident
+  pub numbers : List (Option ℕ)
+  -- of each number what is said of the page that has the frame
+  pub places : List (Option Place)
+
+abbrev pub mapping_in : ℕ → Option Place → Option Mapping
+mapping_in number None = None
+mapping_in number (Some place) = Some (record { frame = number; region = place.region; rights = place.rights; dirty = place.dirty })
+
+abbrev pub mapping_of_number : List (Option Place) → Option ℕ → Option Mapping
+mapping_of_number places None = None
+mapping_of_number places (Some number) = mapping_in number (slice_index_or places number None)
+
+-- what is said of a page, where it is resident
+unfoldable pub mapping_at : Resident → ℕ → Option Mapping
+mapping_at pages page = mapping_of_number pages.places (slice_index_or pages.numbers page None)
+
+-- how many frames there are
+abbrev pub frames_in : Resident → ℕ
+frames_in pages = length pages.places
+
+-- the frame of a page, where it is resident
+abbrev pub frame_of_page : Resident → ℕ → Option ℕ
+frame_of_page pages page = option_map (λ (m : Mapping). m.frame) (mapping_at pages page)
+
+-- the page has this mapping, or none, and every other page is as before
+pub record Maps (page : ℕ) (given : Option Mapping) (old new : Resident) : Type 0 where
+  pub frames : frames_in new ≡ frames_in old
+  pub at : (p : ℕ) → mapping_at new p ≡ (if p == page then given else mapping_at old p)
+
+abbrev pub with_rights : Rights → Mapping → Mapping
+with_rights rights m = record { frame = m.frame; region = m.region; rights = rights; dirty = m.dirty }
+
+abbrev pub with_flag : Bool → Mapping → Mapping
+with_flag dirty m = record { frame = m.frame; region = m.region; rights = m.rights; dirty = dirty }
+
+-- the resident pages of the range have these rights, and all else is as before
+pub record Protects (first len : ℕ) (rights : Rights) (old new : Resident) : Type 0 where
+  pub frames : frames_in new ≡ frames_in old
+  pub at : (p : ℕ) → mapping_at new p ≡ (if in_range first len p then option_map (with_rights rights) (mapping_at old p) else mapping_at old p)
+
+-- these are the tiles that a change made larger, and that it broke
+pub record AreMoves (old new : Resident) (moves : Moves) : Type 0 where
+  pub promotions : moves.promotions ≡ promotions_between (mapping_at old) (mapping_at new)
+  pub demotions : moves.demotions ≡ demotions_between (mapping_at old) (mapping_at new)
+
+-- the page is the first of a tile of size 1 or more
+abbrev pub begins_large : (ℕ → Option Mapping) → ℕ → Bool
+begins_large pages page = begins_at page (tile_of pages page) && nat_lt 0 (size_at pages page)
+
+-- how many tiles of size 1 or more begin in the range
+abbrev pub large_tiles_in : ℕ → ℕ → (ℕ → Option Mapping) → ℕ
+large_tiles_in first len pages = count_pages (λ page. in_range first len page && begins_large pages page)
