@@ -17,7 +17,7 @@ use Rattle.frame_pool.proofs.StartStates.{IsSound-start}
 IsSound-from : (g : Given) (st : FrameState) (entries : List Entry) → IsSound g.frames (length g.marks) st → AreAllowed g st entries → IsSound g.frames (length g.marks) (fold frames_after st entries)
 IsSound-from g st [] sound allowed = sound
 IsSound-from g st (e ∷ es) sound allowed =
-    IsSound-from g (frames_after st e) es (IsSound-moved g.frames (length g.marks) g.evicts st (mark_of g e.processor) e.processor e.space e.what sound allowed.0 allowed.1) allowed.2
+    IsSound-from g (frames_after st e) es (IsSound-moved g.frames (length g.marks) st (mark_of g e.processor) e.processor e.space e.what sound allowed.0 allowed.1) allowed.2
 
 pub IsSound-allowed : (g : Given) (entries : List Entry) → AreFrameEntries g entries → IsSound g.frames (length g.marks) (frames_state g entries)
 IsSound-allowed g entries allowed = IsSound-from g (start_frames g.frames (length g.marks)) entries (IsSound-start g.frames (length g.marks)) allowed

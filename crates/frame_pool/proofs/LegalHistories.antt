@@ -151,13 +151,13 @@ GoesOn-answer frames processors st c space number (Sync t page) answered sound a
 frame_of-claimed : (st : FrameState) (frame : ℕ) (claim : Option ℕ) (s p : ℕ) → frame_of (claimed st frame claim) s p ≡ frame_of st s p
 frame_of-claimed st frame claim s p = ap (λ l. frame_in l s p) (layout_of-claimed st frame claim)
 
-GoesOn-moved : (frames processors : ℕ) (evicts : Bool) (st : FrameState) (mark c : ℕ) (space : Option ℕ) (what : What) → IsSound frames processors st → FramesAllow evicts st mark c space what → IsOn space true what → GoesOn st (counted (moved st c space what)) c space what
-GoesOn-moved frames processors evicts st mark c None (Answer number call answered) sound allowed names = absurd (none-some _ names)
-GoesOn-moved frames processors evicts st mark c (Some s) (Answer number call answered) sound allowed names = GoesOn-answer frames processors st c s number call answered sound allowed
-GoesOn-moved frames processors evicts st mark c space (Out page written) sound allowed names = absurd allowed
-GoesOn-moved frames processors evicts st mark c space (Failed page writing count) sound allowed names = absurd allowed
-GoesOn-moved frames processors evicts st mark c None (Take page frame want) sound allowed names = absurd (none-some names.0.0 names.0.1)
-GoesOn-moved frames processors evicts st mark c (Some s) (Take page frame want) sound allowed names =
+GoesOn-moved : (frames processors : ℕ) (st : FrameState) (mark c : ℕ) (space : Option ℕ) (what : What) → IsSound frames processors st → FramesAllow st mark c space what → IsOn space true what → GoesOn st (counted (moved st c space what)) c space what
+GoesOn-moved frames processors st mark c None (Answer number call answered) sound allowed names = absurd (none-some _ names)
+GoesOn-moved frames processors st mark c (Some s) (Answer number call answered) sound allowed names = GoesOn-answer frames processors st c s number call answered sound allowed
+GoesOn-moved frames processors st mark c space (Out page written) sound allowed names = absurd allowed
+GoesOn-moved frames processors st mark c space (Failed page writing count) sound allowed names = absurd allowed
+GoesOn-moved frames processors st mark c None (Take page frame want) sound allowed names = absurd (none-some names.0.0 names.0.1)
+GoesOn-moved frames processors st mark c (Some s) (Take page frame want) sound allowed names =
     let after = counted (state_taken st (take_frame st s page want)) in
     let takes = Takes-from frames processors st s page frame want sound allowed.0 allowed.2 in
     record {
@@ -166,8 +166,8 @@ GoesOn-moved frames processors evicts st mark c (Some s) (Take page frame want) 
       named = named_pages st after s (λ p. eqb p page) (Some frame) takes.pages;
       other = other_pages st after s (λ p. eqb p page) (Some frame) takes.pages;
     }
-GoesOn-moved frames processors evicts st mark c None (Give page frame) sound allowed names = absurd (none-some names.0.0 names.0.1)
-GoesOn-moved frames processors evicts st mark c (Some s) (Give page frame) sound allowed names =
+GoesOn-moved frames processors st mark c None (Give page frame) sound allowed names = absurd (none-some names.0.0 names.0.1)
+GoesOn-moved frames processors st mark c (Some s) (Give page frame) sound allowed names =
     let after = give_page st s page in
     let keeps : (d : ℕ) → Keeps st (counted after) d = λ d. Keeps-move st after d (Keeps-give_page frames processors st s page frame d sound allowed) in
     let pages = frame_of-give_page st s page frame sound.laid allowed in
@@ -177,8 +177,8 @@ GoesOn-moved frames processors evicts st mark c (Some s) (Give page frame) sound
       named = named_pages st (counted after) s (λ p. eqb p page) None pages;
       other = other_pages st (counted after) s (λ p. eqb p page) None pages;
     }
-GoesOn-moved frames processors evicts st mark c None (Clear first len) sound allowed names = absurd (none-some names.0.0 names.0.1)
-GoesOn-moved frames processors evicts st mark c (Some s) (Clear first len) sound allowed names =
+GoesOn-moved frames processors st mark c None (Clear first len) sound allowed names = absurd (none-some names.0.0 names.0.1)
+GoesOn-moved frames processors st mark c (Some s) (Clear first len) sound allowed names =
     let after = give_range st s first len in
     let keeps : (d : ℕ) → Keeps st (counted after) d = λ d. Keeps-move st after d (Keeps-give_each frames processors s (range_with_len first len) st d sound) in
     let pages = frame_of-give_each frames processors s first len st sound in
@@ -188,16 +188,16 @@ GoesOn-moved frames processors evicts st mark c (Some s) (Clear first len) sound
       named = named_pages st (counted after) s (in_range first len) None pages;
       other = other_pages st (counted after) s (in_range first len) None pages;
     }
-GoesOn-moved frames processors evicts st mark c space (Claim victim page frame need) sound allowed names =
+GoesOn-moved frames processors st mark c space (Claim victim page frame need) sound allowed names =
     let after = claimed st frame (Some c) in
     record {
-      own = λ p q goes owns. owns-claim (counted after) c p.made p.doing q space (record { space = victim; page = page; frame = frame }) need goes (record { frame = (claims-claimed st victim page frame c allowed.2).frame });
-      others = λ d other. Keeps-move st after d (Keeps-claimed st victim page frame c d allowed.2 other);
+      own = λ p q goes owns. owns-claim (counted after) c p.made p.doing q space (record { space = victim; page = page; frame = frame }) need goes (record { frame = (claims-claimed st victim page frame c allowed.1).frame });
+      others = λ d other. Keeps-move st after d (Keeps-claimed st victim page frame c d allowed.1 other);
       named = λ base s p _ now. now ∙ sym (frame_of-claimed st frame (Some c) s p);
       other = λ s p _. frame_of-claimed st frame (Some c) s p;
     }
-GoesOn-moved frames processors evicts st mark c None (UseHeld page frame want) sound allowed names = absurd (none-some names.0.0 names.0.1)
-GoesOn-moved frames processors evicts st mark c (Some s) (UseHeld page frame want) sound allowed names =
+GoesOn-moved frames processors st mark c None (UseHeld page frame want) sound allowed names = absurd (none-some names.0.0 names.0.1)
+GoesOn-moved frames processors st mark c (Some s) (UseHeld page frame want) sound allowed names =
     let drops = dropped st c in
     let after = counted (state_taken drops (take_frame drops s page want)) in
     let same : (t p : ℕ) → frame_of drops t p ≡ frame_of st t p = λ t p. frame_of-dropped frames processors st c t p sound in
@@ -211,7 +211,7 @@ GoesOn-moved frames processors evicts st mark c (Some s) (UseHeld page frame wan
       named = named_pages st after s (λ p. eqb p page) (Some frame) pages;
       other = other_pages st after s (λ p. eqb p page) (Some frame) pages;
     }
-GoesOn-moved frames processors evicts st mark c space (DropHeld frame) sound allowed names =
+GoesOn-moved frames processors st mark c space (DropHeld frame) sound allowed names =
     let after = dropped st c in
     let nothing = HasNothing-counted after c (nothing-dropped frames processors st c frame sound allowed) in
     record {
@@ -220,14 +220,14 @@ GoesOn-moved frames processors evicts st mark c space (DropHeld frame) sound all
       named = λ base s p _ now. now ∙ sym (frame_of-dropped frames processors st c s p sound);
       other = λ s p _. frame_of-dropped frames processors st c s p sound;
     }
-GoesOn-moved frames processors evicts st mark c space (Got frame) sound allowed names = record {
+GoesOn-moved frames processors st mark c space (Got frame) sound allowed names = record {
   own = λ p q goes owns. owns-got (counted st) c p.made p.doing q frame goes allowed;
   others = λ d _. Keeps-counted st d;
   named = λ base s p _ now. now;
   other = λ s p _. refl;
 }
-GoesOn-moved frames processors evicts st mark c None (Unclaim frame) sound allowed names = absurd (none-some names.0.0 names.0.1)
-GoesOn-moved frames processors evicts st mark c (Some s) (Unclaim frame) sound allowed names =
+GoesOn-moved frames processors st mark c None (Unclaim frame) sound allowed names = absurd (none-some names.0.0 names.0.1)
+GoesOn-moved frames processors st mark c (Some s) (Unclaim frame) sound allowed names =
     let after = claimed st frame None in
     let nothing = HasNothing-counted after c (nothing-unclaimed frames processors st frame c sound allowed.0) in
     record {
@@ -236,13 +236,13 @@ GoesOn-moved frames processors evicts st mark c (Some s) (Unclaim frame) sound a
       named = λ base t p _ now. now ∙ sym (frame_of-claimed st frame None t p);
       other = λ t p _. frame_of-claimed st frame None t p;
     }
-GoesOn-moved frames processors evicts st mark c space (Refused wired claimed held) sound allowed names = record {
+GoesOn-moved frames processors st mark c space (Refused wired claimed held) sound allowed names = record {
   own = λ p q goes. owns-refusal st (counted st) c (Keeps-counted st c) p.made p.doing q wired claimed held goes;
   others = λ d _. Keeps-counted st d;
   named = λ base s p _ now. now;
   other = λ s p _. refl;
 }
-GoesOn-moved frames processors evicts st mark c space (Rest short) sound allowed names = record {
+GoesOn-moved frames processors st mark c space (Rest short) sound allowed names = record {
   own = λ p q goes. owns-rest st (counted st) c (Keeps-counted st c) p.made p.doing q short goes;
   others = λ d _. Keeps-counted st d;
   named = λ base s p _ now. now;
@@ -298,9 +298,9 @@ IsKept-more g h c space true what kept may =
     let st = frames_at g h in
     let allowed = may.by_frames refl in
     let moves = frames_at-named g h e refl in
-    let on = GoesOn-moved g.frames (length g.marks) g.evicts st (mark_of g c) c space what kept.sound allowed may.parts in
+    let on = GoesOn-moved g.frames (length g.marks) st (mark_of g c) c space what kept.sound allowed may.parts in
     record {
-      sound = subst (IsSound g.frames (length g.marks)) (sym moves) (IsSound-moved g.frames (length g.marks) g.evicts st (mark_of g c) c space what kept.sound may.processor allowed);
+      sound = subst (IsSound g.frames (length g.marks)) (sym moves) (IsSound-moved g.frames (length g.marks) st (mark_of g c) c space what kept.sound may.processor allowed);
       owns = λ d q goes. subst (λ after. OwnsBy after d q.doing) (sym moves) (owns-more g h e _ kept.owns on.own on.others d q goes);
       agrees = λ s p. elim (is_space space s) as (λ b. is_space space s ≡ b → (space_at g (h ++ e ∷ []) s).base p ≡ frame_of (frames_at g (h ++ e ∷ [])) s p) [
         | true ↦ λ named.

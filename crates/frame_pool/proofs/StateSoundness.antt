@@ -448,25 +448,25 @@ IsSound-answer frames processors st space (Store s address word) sound allowed =
 IsSound-answer frames processors st space (Sync s page) sound allowed = absurd allowed
 
 -- Whatever the frames allow keeps them sound.
-pub IsSound-moved : (frames processors : ℕ) (evicts : Bool) (st : FrameState) (mark c : ℕ) (space : Option ℕ) (what : What) → IsSound frames processors st → c < processors → FramesAllow evicts st mark c space what → IsSound frames processors (counted (moved st c space what))
-IsSound-moved frames processors evicts st mark c space (Answer number call answered) sound known allowed = IsSound-answer frames processors st (named_space space) call sound allowed
-IsSound-moved frames processors evicts st mark c space (Out page written) sound known allowed = absurd allowed
-IsSound-moved frames processors evicts st mark c space (Failed page writing count) sound known allowed = absurd allowed
-IsSound-moved frames processors evicts st mark c space (Take page frame want) sound known allowed =
+pub IsSound-moved : (frames processors : ℕ) (st : FrameState) (mark c : ℕ) (space : Option ℕ) (what : What) → IsSound frames processors st → c < processors → FramesAllow st mark c space what → IsSound frames processors (counted (moved st c space what))
+IsSound-moved frames processors st mark c space (Answer number call answered) sound known allowed = IsSound-answer frames processors st (named_space space) call sound allowed
+IsSound-moved frames processors st mark c space (Out page written) sound known allowed = absurd allowed
+IsSound-moved frames processors st mark c space (Failed page writing count) sound known allowed = absurd allowed
+IsSound-moved frames processors st mark c space (Take page frame want) sound known allowed =
     IsSound-take_some frames processors st (named_space space) page want (λ t. t.frame ≡ frame) sound allowed.0 allowed.2
-IsSound-moved frames processors evicts st mark c space (Give page frame) sound known allowed =
+IsSound-moved frames processors st mark c space (Give page frame) sound known allowed =
     IsSound-counted frames processors _ (IsSound-give_page frames processors st (named_space space) page frame sound allowed)
-IsSound-moved frames processors evicts st mark c space (Clear first len) sound known allowed =
+IsSound-moved frames processors st mark c space (Clear first len) sound known allowed =
     IsSound-counted frames processors _ (IsSound-give_each frames processors (named_space space) (range_with_len first len) st sound)
-IsSound-moved frames processors evicts st mark c space (Claim victim page frame need) sound known allowed =
-    IsSound-counted frames processors _ (IsSound-claimed frames processors st frame c sound known allowed.1)
-IsSound-moved frames processors evicts st mark c space (UseHeld page frame want) sound known allowed =
+IsSound-moved frames processors st mark c space (Claim victim page frame need) sound known allowed =
+    IsSound-counted frames processors _ (IsSound-claimed frames processors st frame c sound known allowed.0)
+IsSound-moved frames processors st mark c space (UseHeld page frame want) sound known allowed =
     let none = frame_of-dropped frames processors st c (named_space space) page sound ∙ allowed.0 in
     IsSound-take_some frames processors (dropped st c) (named_space space) page want (λ t. t.frame ≡ frame) (IsSound-dropped frames processors st c sound) none allowed.2
-IsSound-moved frames processors evicts st mark c space (DropHeld frame) sound known allowed =
+IsSound-moved frames processors st mark c space (DropHeld frame) sound known allowed =
     IsSound-counted frames processors _ (IsSound-dropped frames processors st c sound)
-IsSound-moved frames processors evicts st mark c space (Got frame) sound known allowed = IsSound-counted frames processors st sound
-IsSound-moved frames processors evicts st mark c space (Unclaim frame) sound known allowed =
+IsSound-moved frames processors st mark c space (Got frame) sound known allowed = IsSound-counted frames processors st sound
+IsSound-moved frames processors st mark c space (Unclaim frame) sound known allowed =
     IsSound-counted frames processors _ (IsSound-unclaimed frames processors st frame sound)
-IsSound-moved frames processors evicts st mark c space (Refused wired claims held) sound known allowed = IsSound-counted frames processors st sound
-IsSound-moved frames processors evicts st mark c space (Rest short) sound known allowed = IsSound-counted frames processors st sound
+IsSound-moved frames processors st mark c space (Refused wired claims held) sound known allowed = IsSound-counted frames processors st sound
+IsSound-moved frames processors st mark c space (Rest short) sound known allowed = IsSound-counted frames processors st sound

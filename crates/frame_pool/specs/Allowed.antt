@@ -8,7 +8,7 @@ use Rattle.pager_model.specs.Settings.{Given, mark_of}
 abbrev pub AreAllowed : Given → FrameState → List Entry → Type 0
 AreAllowed g st [] = Unit {0}
 AreAllowed g st (e ∷ es) =
-    (e.processor < length g.marks) × FramesAllow g.evicts st (mark_of g e.processor) e.processor e.space e.what × AreAllowed g (frames_after st e) es
+    (e.processor < length g.marks) × FramesAllow st (mark_of g e.processor) e.processor e.space e.what × AreAllowed g (frames_after st e) es
 
 -- the entries are allowed from the beginning on
 abbrev pub AreFrameEntries : Given → List Entry → Type 0

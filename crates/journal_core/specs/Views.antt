@@ -93,7 +93,7 @@ abbrev pub joined : View → View → View
 joined v w = record { live = v.live; setting = v.setting; authors = v.authors ++ w.authors; passes = v.passes ++ w.passes }
 
 abbrev pub spent : View
-spent = record { live = false; setting = record { frames = 0; marks = []; told = []; faults = []; evicts = false }; authors = []; passes = [] }
+spent = record { live = false; setting = record { frames = 0; marks = []; told = []; faults = [] }; authors = []; passes = [] }
 
 -- the lists grown by an entry at this place of the history
 abbrev pub part_grown : Entry → Part → Part

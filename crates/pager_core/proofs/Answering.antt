@@ -48,7 +48,7 @@ module _ (f : Flight) (a : Answered) (was now : Kept) (st : SpaceState) where
       → (row_of f).progress.made ≡ f.number
       → may_answer (row_of f).progress.doing f.call a.reply ≡ true
       → 0 < (row_of f).entries
-      → (before after : FrameState) → (named ≡ true → FramesAllow true before 0 f.processor (Some (space_of_call f.call)) (Answer f.number f.call a))
+      → (before after : FrameState) → (named ≡ true → FramesAllow before 0 f.processor (Some (space_of_call f.call)) (Answer f.number f.call a))
       → after ≡ after_frames before (ending f a named)
       → Makes f (in_phase f (Ended a.reply)) was now st before after (ending f a named)
   Makes-ending named can on same_number same_frames resting goes_on allowed stands made may some before after frames_allow frames_after = record {

@@ -112,23 +112,22 @@ victim_resident f f' was now st before after e v makes is =
     let from : (row_of f).progress ≡ at f.number Idle = idle_by f.processor f.number (space_of_call f.call) f.call f.claimed f.phase (omega (arith, left, fewer)) in
     let claim = from_idle f.number e.space e.what f'.number (ForAccess (access_of f'.call f'.claimed)) (victim_of v) (sym (ap (λ p. progress_after p e.space e.what) from) ∙ makes.in_order ∙ ap Some to) in
     let named = subst (IsOn e.space e.frames) claim.1 makes.parts in
-    let allowed = subst (FramesAllow true before 0 e.processor e.space) claim.1 (makes.frames_allow named.1) in
-    allowed.2.place
+    let allowed = subst (FramesAllow before 0 e.processor e.space) claim.1 (makes.frames_allow named.1) in
+    allowed.1.place
 
 module _ (g : Given) (h : List Entry) (f f' : Flight) (was now : Kept) (before after : FrameState) (e : Entry) (s : ℕ) where
   -- the entry of a step may follow
-  pub MayFollow-step : Makes f f' was now (space_at g h s) before after e → was.number ≡ s → g.evicts ≡ true → mark_of g f.processor ≡ 0 → f.processor < length g.marks → s < length g.told → before ≡ frames_at g h → progress_at g h f.processor ≡ Some (row_of f).progress → MayFollow g h e
-  MayFollow-step makes at evicts mark processor space frames progress =
+  pub MayFollow-step : Makes f f' was now (space_at g h s) before after e → was.number ≡ s → mark_of g f.processor ≡ 0 → f.processor < length g.marks → s < length g.told → before ≡ frames_at g h → progress_at g h f.processor ≡ Some (row_of f).progress → MayFollow g h e
+  MayFollow-step makes at mark processor space frames progress =
       record {
         parts = makes.parts;
         processor = subst (λ c. c < length g.marks) (sym makes.processor) processor;
         space = both_some e.space (λ t named again. subst (λ n. n < length g.told) (sym (named ∙ at)) space) makes.own_space makes.own_space;
         by_space = both_some e.space (λ t named allowed. subst (λ n. SpaceAllows (space_at g h n) e) (sym (named ∙ at)) allowed) makes.own_space makes.space_allows;
         by_frames = λ is.
-            subst (λ v. FramesAllow v (frames_at g h) (mark_of g e.processor) e.processor e.space e.what) (sym evicts)
-            (subst (λ st. FramesAllow true st (mark_of g e.processor) e.processor e.space e.what) frames
-            (subst (λ m. FramesAllow true before m e.processor e.space e.what) (sym (ap (mark_of g) makes.processor ∙ mark))
-            (makes.frames_allow is)));
+            subst (λ st. FramesAllow st (mark_of g e.processor) e.processor e.space e.what) frames
+            (subst (λ m. FramesAllow before m e.processor e.space e.what) (sym (ap (mark_of g) makes.processor ∙ mark))
+            (makes.frames_allow is));
         ordered = ((row_of f').progress, subst (λ c. progress_by (progress_in g c (entries_of c h)) e ≡ Some (row_of f').progress) (sym makes.processor) (ap (λ p. progress_by p e) progress ∙ makes.in_order));
       }
 

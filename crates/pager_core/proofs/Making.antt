@@ -38,7 +38,7 @@ module _ (f : Flight) (from to : Phase) (own : ℕ) (named : Bool) (what : What)
   pub Makes-going :
       IsReady (in_phase f from) was st → Leads f from to own named what → own ≡ was.number → now.number ≡ was.number → now.frames ≡ was.frames
       → WhatAllowed st named f.processor what → StandsFor now (space_after st (entry_on f own named what)) → PhaseFits f.call to → PhaseStands f.call now to
-      → (before after : FrameState) → (named ≡ true → FramesAllow true before 0 f.processor (Some own) what) → after ≡ after_frames before (entry_on f own named what)
+      → (before after : FrameState) → (named ≡ true → FramesAllow before 0 f.processor (Some own) what) → after ≡ after_frames before (entry_on f own named what)
       → Makes (in_phase f from) (in_phase f to) was now st before after (entry_on f own named what)
   Makes-going ready leads on same_number same_frames allowed stands fits found before after frames_allow frames_after = record {
     same_call = record { processor = refl; number = refl; call = refl };

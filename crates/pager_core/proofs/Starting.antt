@@ -237,7 +237,6 @@ module _ (plan : Plan) (trace : HasText plan) (stores : List Stored) (enough : p
         marks = marks;
         told = as_many (λ (s : Stored). s.told);
         faults = as_many (λ (s : Stored). s.faults);
-        evicts = refl;
         known = known;
         frames = ap (start_frames plan.frames) (sym (ap length marks ∙ length-replicate (length calls) 0 ∙ processors));
         few_calls = λ c. (let own = length-at c in let lines = length-calls c plan.calls in omega (arith, own, lines, trace.few));

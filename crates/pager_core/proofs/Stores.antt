@@ -98,9 +98,9 @@ left_over spaces others all n are count =
 pub marks-start : (plan : Plan) → HasText plan → replicate plan.processors 0 ≡ replicate plan.processors 0 ++ daemon_marks plan.daemon
 marks-start plan trace = sym (append-nil (replicate plan.processors 0)) ∙ ap (λ d. replicate plan.processors 0 ++ daemon_marks d) (sym trace.no_daemon)
 
-pub setting_read : (plan : Plan) (stores : List Stored) → HasText plan → (g : Given) (frames : ℕ) (marks faults : List ℕ) (told : List Bool) → g ≡ record { frames = frames; marks = marks; told = told; faults = faults; evicts = true } → frames ≡ plan.frames → marks ≡ replicate plan.processors 0 → told ≡ map (λ (s : Stored). s.told) (take plan.spaces stores) → faults ≡ map (λ (s : Stored). s.faults) (take plan.spaces stores) → g ≡ setting_over plan stores
+pub setting_read : (plan : Plan) (stores : List Stored) → HasText plan → (g : Given) (frames : ℕ) (marks faults : List ℕ) (told : List Bool) → g ≡ record { frames = frames; marks = marks; told = told; faults = faults } → frames ≡ plan.frames → marks ≡ replicate plan.processors 0 → told ≡ map (λ (s : Stored). s.told) (take plan.spaces stores) → faults ≡ map (λ (s : Stored). s.faults) (take plan.spaces stores) → g ≡ setting_over plan stores
 setting_read plan stores trace g frames marks faults told is same_frames same_marks same_told same_faults =
-    is ∙ (λ i. record { frames = same_frames i; marks = (same_marks ∙ marks-start plan trace) i; told = same_told i; faults = same_faults i; evicts = true })
+    is ∙ (λ i. record { frames = same_frames i; marks = (same_marks ∙ marks-start plan trace) i; told = same_told i; faults = same_faults i })
 
 pub read_more : {X Y : Type 0} (f : X → Y) (xs xs' : List X) (x : X) (ys ys' : List Y) (y : Y) → xs' ≡ xs ++ x ∷ [] → ys' ≡ ys ++ y ∷ [] → ys ≡ map f xs → y ≡ f x → ys' ≡ map f xs'
 read_more f xs xs' x ys ys' y more read are is =

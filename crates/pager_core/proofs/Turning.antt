@@ -158,7 +158,7 @@ module _ (run : Running) (spaces : List Kept) (pool after : FrameState) (capacit
   may_follow : M → T → MayFollow run.given h e
   may_follow machine turns =
       let own = (flying machine turns).processor in
-      MayFollow-step run.given h f f' was now pool after e s turns.makes (was_number machine turns) machine.evicts (marks machine turns)
+      MayFollow-step run.given h f f' was now pool after e s turns.makes (was_number machine turns) (marks machine turns)
       (let at = processor_in machine turns in let all = marked run.given (length run.calls) machine.marks in omega (arith, own, at, all))
       (let at = slice_get_within spaces s was turns.at in let all = machine.told in omega (arith, at, all))
       machine.frames (subst (λ n. progress_at run.given h n ≡ Some (row_of f).progress) (sym own) (progress_was machine turns))
@@ -431,7 +431,6 @@ module _ (run : Running) (spaces : List Kept) (pool after : FrameState) (capacit
         marks = machine.marks;
         told = machine.told ∙ sym (length-set spaces s now);
         faults = machine.faults ∙ sym (length-set spaces s now);
-        evicts = machine.evicts;
         known = length-set run.flights c o ∙ machine.known;
         frames = frames_at-step run.given h f f' was now pool after e s turns.makes machine.frames ∙ ap (frames_at run.given) (sym (entries-push run.history number e));
         few_calls = machine.few_calls;

@@ -45,7 +45,6 @@ pub record IsMachine (run : Running) (spaces : List Kept) (pool : FrameState) (c
   pub marks : run.given.marks ≡ replicate (length run.calls) 0
   pub told : length run.given.told ≡ length spaces
   pub faults : length run.given.faults ≡ length spaces
-  pub evicts : run.given.evicts ≡ true
   pub known : length run.flights ≡ length run.calls
   pub frames : pool ≡ frames_at run.given (entries_in run.history)
   -- no processor has more calls than a trace has lines

@@ -35,7 +35,6 @@ setting_over plan stores =
       marks = replicate plan.processors 0 ++ daemon_marks plan.daemon;
       told = map (λ (s : Stored). s.told) (take plan.spaces stores);
       faults = map (λ (s : Stored). s.faults) (take plan.spaces stores);
-      evicts = true;
     }
 
 abbrev pub calls_at : List (List Call) → ℕ → List Call

@@ -66,7 +66,7 @@ pub record Makes (old new : Flight) (was now : Kept) (st : SpaceState) (before a
   pub parts : NamesItsParts e
   pub own_space : IfSome e.space (λ s. s ≡ was.number)
   pub space_allows : IfSome e.space (λ s. SpaceAllows st e)
-  pub frames_allow : e.frames ≡ true → FramesAllow true before (mark_of_flight old) e.processor e.space e.what
+  pub frames_allow : e.frames ≡ true → FramesAllow before (mark_of_flight old) e.processor e.space e.what
   pub frames_after : after ≡ after_frames before e
   pub in_order : progress_after (row_of old).progress e.space e.what ≡ Some (row_of new).progress
   pub reply : reply_said e.what ≡ (row_of new).reply

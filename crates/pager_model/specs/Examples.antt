@@ -57,7 +57,7 @@ abbrev pub both_taken : FrameState
 both_taken = after_taking (after_taking two_frames 0 3) 0 5
 
 abbrev pub small_setting : Given
-small_setting = record { frames = 2; marks = 0 ∷ []; told = true ∷ []; faults = 0 ∷ []; evicts = true }
+small_setting = record { frames = 2; marks = 0 ∷ []; told = true ∷ []; faults = 0 ∷ [] }
 
 abbrev pub answer : ℕ → Call → Reply → Entry
 answer number call reply =

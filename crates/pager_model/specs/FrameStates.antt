@@ -158,12 +158,9 @@ abbrev pub is_evictable : Option Used → Bool
 is_evictable None = false
 is_evictable (Some u) = not u.wired && is_none u.claim
 
+-- some used frame may be claimed
 abbrev pub has_evictable : FrameState → Bool
 has_evictable st = list_any is_evictable st.used
-
--- some used frame may be claimed, where used frames may be at all
-abbrev pub has_victim : Bool → FrameState → Bool
-has_victim evicts st = evicts && has_evictable st
 
 abbrev pub age_in : Option Used → ℕ
 age_in None = 0
@@ -246,11 +243,10 @@ abbrev pub MayClaim : FrameState → ℕ → Type 0
 MayClaim st zero = IsFull st
 MayClaim st (suc n) = is_short st (suc n) ≡ true
 
--- No frame can be had, and no used frame may be claimed; so many are wired, claimed and held. (Where used frames may be claimed at
--- all, wired, claimed and held frames are then all frames.)
-pub record IsRefused (evicts : Bool) (st : FrameState) (wired claimed held : ℕ) : Type 0 where
+-- No frame can be had, and no used frame may be claimed; so many are wired, claimed and held.
+pub record IsRefused (st : FrameState) (wired claimed held : ℕ) : Type 0 where
   pub full : IsFull st
-  pub no_victim : has_victim evicts st ≡ false
+  pub no_victim : has_evictable st ≡ false
   pub wired_are : wired ≡ wired_count st
   pub claimed_are : claimed ≡ claimed_count st
   pub held_are : held ≡ held_count st
@@ -259,20 +255,20 @@ abbrev pub AllowsAnswer : FrameState → ℕ → Call → Type 0
 AllowsAnswer st space (Evict s page) = (frame : ℕ) × (frame_of st space page ≡ Some frame)
 AllowsAnswer st space call = ⊥
 
--- Which entries of a processor with this mark the frames allow, where used frames may be claimed and where they may not.
-abbrev pub FramesAllow : Bool → FrameState → ℕ → ℕ → Option ℕ → What → Type 0
-FramesAllow evicts st mark c space (Answer number call answered) = AllowsAnswer st (named_space space) call
-FramesAllow evicts st mark c space (Take page frame want) =
+-- Which entries of a processor with this mark the frames allow.
+abbrev pub FramesAllow : FrameState → ℕ → ℕ → Option ℕ → What → Type 0
+FramesAllow st mark c space (Answer number call answered) = AllowsAnswer st (named_space space) call
+FramesAllow st mark c space (Take page frame want) =
     (frame_of st (named_space space) page ≡ None) × HasNothing st c × IsSomeAnd (take_frame st (named_space space) page want) (λ t. t.frame ≡ frame)
-FramesAllow evicts st mark c space (Give page frame) = frame_of st (named_space space) page ≡ Some frame
-FramesAllow evicts st mark c space (Clear first len) = Unit {0}
-FramesAllow evicts st mark c space (Claim victim page frame need) = (evicts ≡ true) × HasNothing st c × IsVictim st victim page frame × MayClaim st mark
-FramesAllow evicts st mark c space (UseHeld page frame want) =
+FramesAllow st mark c space (Give page frame) = frame_of st (named_space space) page ≡ Some frame
+FramesAllow st mark c space (Clear first len) = Unit {0}
+FramesAllow st mark c space (Claim victim page frame need) = HasNothing st c × IsVictim st victim page frame × MayClaim st mark
+FramesAllow st mark c space (UseHeld page frame want) =
     (frame_of st (named_space space) page ≡ None) × ((h : ℕ) × (held_by st c ≡ Some h)) × IsSomeAnd (take_frame (dropped st c) (named_space space) page want) (λ t. t.frame ≡ frame)
-FramesAllow evicts st mark c space (DropHeld frame) = held_by st c ≡ Some frame
-FramesAllow evicts st mark c space (Got frame) = held_by st c ≡ Some frame
-FramesAllow evicts st mark c space (Unclaim frame) =
+FramesAllow st mark c space (DropHeld frame) = held_by st c ≡ Some frame
+FramesAllow st mark c space (Got frame) = held_by st c ≡ Some frame
+FramesAllow st mark c space (Unclaim frame) =
     (claim_in (used_at st frame) ≡ Some c) × ((page : ℕ) × (frame_of st (named_space space) page ≡ Some frame))
-FramesAllow evicts st mark c space (Refused wired claimed held) = HasNothing st c × IsRefused evicts st wired claimed held
-FramesAllow evicts st mark c space (Rest short) = HasNothing st c × (0 < mark) × (short ≡ (is_short st mark && has_victim evicts st))
-FramesAllow evicts st mark c space what = ⊥
+FramesAllow st mark c space (Refused wired claimed held) = HasNothing st c × IsRefused st wired claimed held
+FramesAllow st mark c space (Rest short) = HasNothing st c × (0 < mark) × (short ≡ (is_short st mark && has_evictable st))
+FramesAllow st mark c space what = ⊥

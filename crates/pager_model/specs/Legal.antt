@@ -42,7 +42,7 @@ SpaceJudges g s entries e = SpaceAllows (state_of_space g s entries) e
 
 -- the frames with these entries do
 abbrev pub FramesJudge : Given → List Entry → Entry → Type 0
-FramesJudge g entries e = FramesAllow g.evicts (frames_state g entries) (mark_of g e.processor) e.processor e.space e.what
+FramesJudge g entries e = FramesAllow (frames_state g entries) (mark_of g e.processor) e.processor e.space e.what
 
 -- with these entries of the entry's processor it keeps the order
 abbrev pub KeepsOrder : Given → List Entry → Entry → Type 0

@@ -10,9 +10,6 @@ pub record Given : Type 0 where
   pub told : List Bool
   -- for each space its store's count of faults at entry
   pub faults : List ℕ
-  -- Whether a used frame may be claimed and its page paged out. The program pages nothing out yet, and this is how its histories
-  -- say so; with the claims it goes.
-  pub evicts : Bool
 
 -- the mark of a processor
 abbrev pub mark_of : Given → ℕ → ℕ

@@ -18,7 +18,7 @@ daemon_marks None = []
 daemon_marks (Some d) = d.low ∷ []
 
 -- The setting of a trace: its frames, a mark of 0 for each processor and the daemon's low mark for one more, and for each space a
--- store that tells its copies and has not failed. Nothing is paged out yet.
+-- store that tells its copies and has not failed.
 abbrev pub setting_of : Plan → Given
 setting_of plan =
     record {
@@ -26,7 +26,6 @@ setting_of plan =
       marks = replicate plan.processors 0 ++ daemon_marks plan.daemon;
       told = replicate plan.spaces true;
       faults = replicate plan.spaces 0;
-      evicts = false;
     }
 
 -- an answer's number and call

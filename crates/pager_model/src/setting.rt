@@ -1,4 +1,4 @@
-ghost use Rattle.std.specs.Prelude.{◌≡◌, ◌≤◌, ◌<◌, true, vec_len, length};
+ghost use Rattle.std.specs.Prelude.{◌≡◌, ◌≤◌, vec_len, length};
 
 use std::marker::Model;
 
@@ -16,9 +16,7 @@ impl Model for Setting {
 
     ghost Value = { Given };
 
-    ghost use Rattle.std.specs.Prelude.{true};
-
-    ghost view = { λ s. record { frames = s.frames; marks = s.marks.items; told = s.told.items; faults = s.faults.items; evicts = true } };
+    ghost view = { λ s. record { frames = s.frames; marks = s.marks.items; told = s.told.items; faults = s.faults.items } };
 }
 
 impl Setting {
@@ -28,7 +26,7 @@ impl Setting {
         requires spaces { (1 ≤ vec_len told) × (vec_len told ≤ 16) }
         requires counts { vec_len faults ≡ vec_len told }
         requires processors { (1 ≤ vec_len marks) × (vec_len marks ≤ 17) }
-        ensures { result ≡ record { frames = frames; marks = marks.items; told = told.items; faults = faults.items; evicts = true } }
+        ensures { result ≡ record { frames = frames; marks = marks.items; told = told.items; faults = faults.items } }
     {
         Setting {
             frames,
