@@ -12,6 +12,8 @@ pub mod SpaceStates
 pub mod Order
 pub mod Legal
 pub mod Agreement
+pub mod Laws
+pub mod Headline
 pub mod Showing
 pub mod PrintedText
 pub mod FreeBlocks

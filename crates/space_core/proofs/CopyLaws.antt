@@ -18,7 +18,8 @@ use Rattle.pager_model.specs.Regions.{in_range, region_at}
 use Rattle.pager_model.specs.Settings.{Given}
 use Rattle.pager_model.specs.SpaceStates.{SpaceState, Next, Anyone, Only, Unmaps, IsResident, IsUnmapOf, IsUnmapAnswer, MayGoOn, IsWord, HasItsPages, IsClearedAt, ReplyAllowed, AnswerAllowed, WhatAllowed, SpaceAllows, answered_flat, flat_after, base_after_answer, base_after, frees_its_page, space_after}
 use Rattle.pager_model.proofs.Histories.{space_at-named, space_at-other, IsLegal-keeps}
-use Rattle.space_core.specs.Copies.{EqualsItsCopy, WasCleared, KeepsCopies, LosesItsCopy, IsWithoutService}
+use Rattle.pager_model.specs.Laws.{EqualsItsCopy, WasCleared, KeepsCopies}
+use Rattle.space_core.specs.Copies.{LosesItsCopy, IsWithoutService}
 
 -- A page that isn't dirty.
 

@@ -14,7 +14,8 @@ ghost use Rattle.pager_model.specs.Legal.{IsLegal, space_at};
 ghost use Rattle.pager_model.specs.Regions.{in_range, region_at};
 ghost use Rattle.pager_model.specs.Settings.{Given};
 ghost use Rattle.pager_model.specs.SpaceStates.{SpaceState, SpaceAllows, IsResident, space_after};
-ghost use Rattle.space_core.specs.Copies.{EqualsItsCopy, WasCleared, LosesItsCopy, IsWithoutService};
+ghost use Rattle.pager_model.specs.Laws.{EqualsItsCopy, WasCleared};
+ghost use Rattle.space_core.specs.Copies.{LosesItsCopy, IsWithoutService};
 ghost use Rattle.space_core.specs.NewPages.{IsNew, done};
 ghost use Rattle.space_core.specs.Standing.{answer_entry};
 

@@ -1,0 +1,106 @@
+-- What a history says of those who read it: that each answer is the flat memory's, which reservation was preempted, and when a frame was
+-- refused.
+use Rattle.std.specs.Prelude.{ℕ, ◌≡◌, ◌≢◌, ◌<◌, ◌⊎◌, Bool, true, false, ◌||◌, List, [], ◌∷◌, ◌++◌, option_map, Option, Some, None, is_some}
+use Rattle.pager_model.specs.declared.call.Call.{Call}
+use Rattle.pager_model.specs.declared.entry.Entry.{Entry}
+use Rattle.pager_model.specs.declared.entry.What.{What}
+use Rattle.pager_model.specs.declared.entry.What.TheVariants.{Answer, Take, UseHeld, Refused}
+use Rattle.pager_model.specs.declared.reply.Answered.{Answered}
+use Rattle.pager_model.specs.declared.reply.Reply.{Reply}
+use Rattle.pager_model.specs.declared.reply.Reply.TheVariants.{NoFrames, StoreFault, NoMemory}
+use Rattle.pager_model.specs.declared.reservation.Reservation.{Reservation}
+use Rattle.pager_model.specs.declared.reservation.Used.{Used}
+use Rattle.pager_model.specs.Ages.{Member, is_before}
+use Rattle.pager_model.specs.Entries.{entries_of}
+use Rattle.pager_model.specs.Flat.{space_of_call}
+use Rattle.pager_model.specs.FrameStates.{FrameState, layout_of, used_at, held_by}
+use Rattle.pager_model.specs.Layouts.{record_at}
+use Rattle.pager_model.specs.Legal.{space_at, frames_at}
+use Rattle.pager_model.specs.Records.{is_used, yield_of}
+use Rattle.pager_model.specs.Settings.{Given}
+use Rattle.pager_model.specs.SpaceStates.{SpaceState, IsAsked}
+
+-- Answers.
+
+-- The reply is the flat memory's, or says that no frame or no memory could be had.
+abbrev pub IsServed : SpaceState → Call → Reply → Type 0
+IsServed st call (NoFrames wired claimed held) = Unit {0}
+IsServed st call (StoreFault space count) = ⊥
+IsServed st call NoMemory = Unit {0}
+IsServed st call reply = IsAsked st call reply
+
+-- each answer of a history is so, after the entries of its call's space before it
+abbrev pub AllServed : Given → List Entry → Type 0
+AllServed g history =
+    (before after : List Entry) (e : Entry) (number : ℕ) (call : Call) (answered : Answered)
+    → history ≡ before ++ e ∷ after → e.what ≡ Answer number call answered
+    → IsServed (space_at g before (space_of_call call)) call answered.reply
+
+-- Preemptions.
+
+-- a page gets a frame
+abbrev pub is_taking : What → Bool
+is_taking (Take page frame want) = true
+is_taking (UseHeld page frame want) = true
+is_taking what = false
+
+-- the size of the reservation that begins at the frame, where one does
+abbrev pub size_at : FrameState → ℕ → Option ℕ
+size_at st frame = option_map (λ (r : Reservation). r.size) (record_at (layout_of st) frame)
+
+-- the yield of a reservation: its list, where it isn't full
+abbrev pub list_in : FrameState → Reservation → Option ℕ
+list_in st r = yield_of (is_used (layout_of st).used) r
+
+abbrev pub member_of : Reservation → Member
+member_of r = record { stamp = r.stamp; frame = r.frame }
+
+-- the reservation stood, and none of its size begins at its first frame any more
+pub record IsPreempted (before after : FrameState) (r : Reservation) : Type 0 where
+  pub stood : record_at (layout_of before) r.frame ≡ Some r
+  pub gone : size_at after r.frame ≢ Some r.size
+
+-- It is the oldest of its list: every other reservation of its list has a later stamp, or the same stamp and a later first frame.
+pub record IsOldest (st : FrameState) (r : Reservation) : Type 0 where
+  pub list : ℕ
+  pub listed : list_in st r ≡ Some list
+  pub oldest : (id : ℕ) (q : Reservation) → record_at (layout_of st) id ≡ Some q → list_in st q ≡ Some list → id ≢ r.frame → is_before (member_of r) (member_of q) ≡ true
+
+-- each reservation that a taking of a history preempted was the oldest of its list
+abbrev pub PreemptsOldest : Given → List Entry → Type 0
+PreemptsOldest g history =
+    (before after : List Entry) (e : Entry) (r : Reservation)
+    → history ≡ before ++ e ∷ after → is_taking e.what ≡ true
+    → IsPreempted (frames_at g before) (frames_at g (before ++ e ∷ [])) r
+    → IsOldest (frames_at g before) r
+
+-- Refusals.
+
+-- a used place whose page is in a wired region, or whose frame a processor claims
+abbrev pub is_kept_place : Option Used → Bool
+is_kept_place None = false
+is_kept_place (Some u) = u.wired || is_some u.claim
+
+-- No frame can be had: each is held by a processor, or under a page that is wired or whose frame is claimed. So none is free, none is
+-- an unused place, and none is evictable.
+abbrev pub NoneToHave : ℕ → FrameState → Type 0
+NoneToHave frames st =
+    (frame : ℕ) → frame < frames → ((c : ℕ) × (held_by st c ≡ Some frame)) ⊎ (is_kept_place (used_at st frame) ≡ true)
+
+-- after these entries the processor's last one is a refusal with these numbers, and when it was made no frame could be had
+pub record WasRefused (g : Given) (entries : List Entry) (c wired claimed held : ℕ) : Type 0 where
+  pub earlier : List Entry
+  pub refusal : Entry
+  pub since : List Entry
+  pub split : entries ≡ earlier ++ refusal ∷ since
+  pub own : refusal.processor ≡ c
+  pub numbers : refusal.what ≡ Refused wired claimed held
+  pub last : entries_of c since ≡ []
+  pub none : NoneToHave g.frames (frames_at g earlier)
+
+-- each answer of a history that says that no frame could be had comes after such a refusal
+abbrev pub RefusesRightly : Given → List Entry → Type 0
+RefusesRightly g history =
+    (before after : List Entry) (e : Entry) (number : ℕ) (call : Call) (answered : Answered) (wired claimed held : ℕ)
+    → history ≡ before ++ e ∷ after → e.what ≡ Answer number call answered → answered.reply ≡ NoFrames wired claimed held
+    → WasRefused g before e.processor wired claimed held
