@@ -31,3 +31,5 @@ pub mod Partition
 pub mod FrameCounts
 pub mod AllowedEntries
 pub mod LegalHistories
+pub mod LegalPrefixes
+pub mod OldestBroken

@@ -7,6 +7,7 @@ ghost use Rattle.pager_model.specs.declared.entry.Want.{Want};
 ghost use Rattle.pager_model.specs.declared.reservation.Reservation.{Reservation};
 ghost use Rattle.pager_model.specs.declared.reservation.Used.{Used};
 ghost use Rattle.pager_model.specs.FrameStates.{frame_of, layout_of, used_at, held_by, claim_in, take_frame, IsFull};
+ghost use Rattle.pager_model.specs.Headline.{PreemptsOldest};
 ghost use Rattle.pager_model.specs.Layouts.{Layout, break_layout, covers, record_at};
 ghost use Rattle.pager_model.specs.Legal.{AllWhole, IsLegal, frames_at, frames_state, progress_at};
 ghost use Rattle.pager_model.specs.Order.{Progress};
@@ -71,4 +72,10 @@ pub fn frames_have_one_role()
     ensures owns { (g : Given) (history : List Entry) → IsLegal g history → (c : ℕ) (p : Progress) → c < length g.marks
         → progress_at g history c ≡ Some p → OwnsBy (frames_at g history) c p.doing }
     ensures held { (g : Given) (history : List Entry) → IsLegal g history → AllWhole g history → NothingHeld (frames_at g history) }
+{}
+
+/// In every legal history each reservation that a taking preempts, so that none of its size begins at its first frame any more, was
+/// the oldest of its list.
+pub fn the_oldest_is_preempted()
+    ensures { (g : Given) (history : List Entry) → IsLegal g history → PreemptsOldest g history }
 {}
