@@ -33,3 +33,5 @@ pub mod AllowedEntries
 pub mod LegalHistories
 pub mod LegalPrefixes
 pub mod OldestBroken
+pub mod RefusedFrames
+pub mod OrderedRefusals

@@ -7,7 +7,7 @@ ghost use Rattle.pager_model.specs.declared.entry.Want.{Want};
 ghost use Rattle.pager_model.specs.declared.reservation.Reservation.{Reservation};
 ghost use Rattle.pager_model.specs.declared.reservation.Used.{Used};
 ghost use Rattle.pager_model.specs.FrameStates.{frame_of, layout_of, used_at, held_by, claim_in, take_frame, IsFull};
-ghost use Rattle.pager_model.specs.Headline.{PreemptsOldest};
+ghost use Rattle.pager_model.specs.Headline.{PreemptsOldest, RefusesRightly};
 ghost use Rattle.pager_model.specs.Layouts.{Layout, break_layout, covers, record_at};
 ghost use Rattle.pager_model.specs.Legal.{AllWhole, IsLegal, frames_at, frames_state, progress_at};
 ghost use Rattle.pager_model.specs.Order.{Progress};
@@ -78,4 +78,11 @@ pub fn frames_have_one_role()
 /// the oldest of its list.
 pub fn the_oldest_is_preempted()
     ensures { (g : Given) (history : List Entry) → IsLegal g history → PreemptsOldest g history }
+{}
+
+/// In every legal history each answer that says that no frame could be had comes after a refusal with its numbers, which was its
+/// processor's last entry. When that was made each frame was held by a processor, or under a page that was wired or whose frame was
+/// claimed.
+pub fn a_refusal_finds_no_frame()
+    ensures { (g : Given) (history : List Entry) → IsLegal g history → RefusesRightly g history }
 {}
