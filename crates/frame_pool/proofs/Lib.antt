@@ -35,3 +35,4 @@ pub mod LegalPrefixes
 pub mod OldestBroken
 pub mod RefusedFrames
 pub mod OrderedRefusals
+pub mod KeptFrames
