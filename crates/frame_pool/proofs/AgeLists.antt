@@ -9,6 +9,7 @@ use Rattle.std.proofs.lemmas.List.Folds.{list_any_none}
 use Rattle.pager_model.specs.declared.reservation.Reservation.{Reservation}
 use Rattle.pager_model.specs.Ages.{Lists, Member, is_before, list_at, with_list, with_member, without_member, oldest_in}
 use Rattle.pager_model.specs.Agreement.{has_frame}
+use Rattle.pager_model.specs.Headline.{member_of}
 use Rattle.pager_model.specs.Layouts.{Layout, list_of, with_listed, oldest_of, oldest_from}
 use Rattle.pager_model.specs.Records.{is_used, yield_of, same_size}
 use Rattle.reservation_lists.specs.Kept.{has_member_of, is_listed}
@@ -19,10 +20,6 @@ use Rattle.reservations.proofs.HoldLemmas.{None-not_Some, Some-same, known_recor
 use Rattle.frame_pool.specs.Listed.{AreListed}
 use Rattle.frame_pool.proofs.MemberOrder.{with_member-swap, without_member-with}
 use Rattle.frame_pool.proofs.YieldByPlaces.{yield_of-agree}
-
--- a reservation's member of its list
-abbrev pub member_of : Reservation → Member
-member_of r = record { stamp = r.stamp; frame = r.frame }
 
 -- a reservation is in the list of its yield
 pub with_listed-in : (used : List Bool) (k : ℕ) (r : Reservation) (ms : List Member) → yield_of (is_used used) r ≡ Some k → with_listed used k (Some r) ms ≡ with_member (member_of r) ms

@@ -2,20 +2,20 @@
 use Rattle.std.proofs.Common.{◌≡◌, ◌<◌, ◌≤◌, ℕ, zero, suc, ◌+◌, ◌-◌, ◌*◌, ◌%◌, ◌^◌, Bool, true, false, cond, not, List, length, get_or, Option, Some, None, refl, sym, ap, ◌∙◌, inl, inr, arith}
 use Rattle.std.specs.List.{list_all}
 use Rattle.std.specs.Option.{is_none}
-use Rattle.std.proofs.lemmas.Bool.{cases_lt, and_parts, and_from, not-true, not_from_false, false≢true, false_from_ne_true}
+use Rattle.std.proofs.lemmas.Bool.{cases_Bool, cases_lt, and_parts, and_from, not-true, not_from_false, false≢true, false_from_ne_true}
 use Rattle.std.proofs.lemmas.List.{get_or_past, get_or_default}
 use Rattle.std.proofs.lemmas.List.Sums.{AllPass-from_list_all, list_all-from_AllPass}
 use Rattle.std.proofs.lemmas.Option.{none-some, same_Some}
 use Rattle.buddy_extents.proofs.Runs.{run_free-choice, run_free_at, run_free_from, no_choice}
 use Rattle.pager_model.specs.declared.reservation.Reservation.{Reservation}
+use Rattle.pager_model.specs.Agreement.{has_frame}
 use Rattle.pager_model.specs.FreeBlocks.{choice, run_free}
-use Rattle.pager_model.specs.Layouts.{Layout, covers, frame_for, to_break, is_full, is_full_record, record_at, is_free}
+use Rattle.pager_model.specs.Layouts.{Layout, to_break, is_full, is_full_record, record_at, is_free}
 use Rattle.pager_model.specs.Records.{is_used, none_used, has_empty, yield_up_to, yield_of}
 use Rattle.frame_pool.proofs.PartYields.{has_empty_some}
 use Rattle.reservations.proofs.ExtentLemmas.{eight_pos}
 use Rattle.reservations.proofs.HoldLemmas.{has_frame_bounds, known_record, unused_in}
 use Rattle.reservations.proofs.YieldLemmas.{has_empty-yes}
-use Rattle.frame_pool.proofs.PagePlaces.{IsPageOf-covers}
 use Rattle.frame_pool.specs.Laid.{IsLaid}
 use Rattle.frame_pool.proofs.FoundExtents.{MayBreak-found}
 use Rattle.frame_pool.proofs.AgeLists.{oldest_from-none}
@@ -143,12 +143,16 @@ to_break-full l size laid full = at (to_break l size) refl
         absurd (none-some may.yields (sym (full.full id may.reservation may.is) ∙ may.yield_is))
 
 -- each place of a full reservation is used
-pub used-full : (l : Layout) (space page id : ℕ) (r : Reservation) → EachFull l → record_at l id ≡ Some r → covers space page r ≡ true → is_used l.used (frame_for page r) ≡ false → ⊥
-used-full l space page id r full is has unused =
-    let at = IsPageOf-covers space page r has in
-    let i = page - r.first in
+pub used-full : (l : Layout) (frame id : ℕ) (r : Reservation) → EachFull l → record_at l id ≡ Some r → has_frame frame (Some r) ≡ true → is_used l.used frame ≡ true
+used-full l frame id r full is has =
+    let bounds = has_frame_bounds frame r has in
+    let i = frame - r.frame in
     let none = yield_up_to-none (is_used l.used) r r.size (full.full id r is) in
     let size : 8 ^ (r.size - 0) ≡ 8 ^ r.size = (let same : r.size - 0 ≡ r.size = omega arith in ap (λ n. 8 ^ n) same) in
-    let frame : r.frame + i * 1 ≡ frame_for page r = omega arith in
-    let empty : none_used (is_used l.used) (r.frame + i * 1) 1 ≡ true = and_from _ _ (not_from_false _ (ap (is_used l.used) frame ∙ unused)) refl in
-    false≢true (sym none ∙ has_empty-yes (is_used l.used) r 0 i (omega (arith, size, at.low, at.high)) empty)
+    let at : r.frame + i * 1 ≡ frame = omega (arith, bounds.0) in
+    elim (cases_Bool (is_used l.used frame)) [
+      | inl used ↦ used
+      | inr unused ↦
+          let empty : none_used (is_used l.used) (r.frame + i * 1) 1 ≡ true = and_from _ _ (not_from_false _ (ap (is_used l.used) at ∙ unused)) refl in
+          absurd (false≢true (sym none ∙ has_empty-yes (is_used l.used) r 0 i (omega (arith, size, bounds.0, bounds.1)) empty))
+    ]

@@ -232,6 +232,7 @@ placing-full l stamp space page want laid none full =
     elim (covering space page l.records) as (λ o. covering space page l.records ≡ o → placing_in stamp space page want l o ≡ None) [
       | Some r ↦ λ here.
           let w = covering-found space page l.records r here in
-          absurd (used-full l space page w.0 r all w.2 w.3 (frame_in-none l space page w.0 r laid none w.2 w.3))
+          let used = used-full l (frame_for page r) w.0 r all w.2 (has_frame_for space page r w.3) in
+          absurd (false≢true (sym (frame_in-none l space page w.0 r laid none w.2 w.3) ∙ used))
       | None ↦ λ _. ap (option_map (reserved stamp space page)) (none-largest_extent l (preferred_in l space page want) (λ k. none-choice l.free k all.taken) (λ k. to_break-full l k laid all))
     ] refl

@@ -252,7 +252,7 @@ GoesOn-moved frames processors st mark c space (Rest short) sound allowed names 
 -- One entry more.
 
 -- an entry that keeps the order comes after some progress
-progress_before : (before : Option Progress) (e : Entry) (q : Progress) → progress_by before e ≡ Some q → (p : Progress) × (before ≡ Some p) × (progress_after p e.space e.what ≡ Some q)
+pub progress_before : (before : Option Progress) (e : Entry) (q : Progress) → progress_by before e ≡ Some q → (p : Progress) × (before ≡ Some p) × (progress_after p e.space e.what ≡ Some q)
 progress_before None e q goes = absurd (none-some q goes)
 progress_before (Some p) e q goes = (p, refl, goes)
 

@@ -31,3 +31,8 @@ pub mod Partition
 pub mod FrameCounts
 pub mod AllowedEntries
 pub mod LegalHistories
+pub mod LegalPrefixes
+pub mod OldestBroken
+pub mod RefusedFrames
+pub mod OrderedRefusals
+pub mod KeptFrames

@@ -5,6 +5,7 @@ use Rattle.std.proofs.lemmas.List.{get_or-set_same, set-set, set-get_or}
 use Rattle.pager_model.specs.declared.reservation.Reservation.{Reservation}
 use Rattle.pager_model.specs.Ages.{Lists, Member, list_at, with_list, with_member, without_member}
 use Rattle.pager_model.specs.Agreement.{has_frame}
+use Rattle.pager_model.specs.Headline.{member_of}
 use Rattle.pager_model.specs.Records.{Records, is_used, yield_of, part_of, kept_part}
 use Rattle.reservation_lists.specs.Kept.{Kept, is_listed}
 use Rattle.reservations.specs.Kept.{IsPlaced, ArePlaced}
@@ -13,7 +14,7 @@ use Rattle.reservations.proofs.ExtentLemmas.{eight_pos, part_of_eight}
 use Rattle.reservations.proofs.HoldLemmas.{has_frame_from}
 use Rattle.reservations.proofs.SplitLemmas.{split_up_to, split_up_to-more, ArePlaced-part}
 use Rattle.frame_pool.specs.Listed.{AreListed, WasSplit}
-use Rattle.frame_pool.proofs.AgeLists.{member_of, AreListed-without, AreListed-with, AreListed-full, is_listed-none}
+use Rattle.frame_pool.proofs.AgeLists.{AreListed-without, AreListed-with, AreListed-full, is_listed-none}
 
 -- where something stands, it is a reservation
 pub found_record : (o : Option Reservation) → is_some o ≡ true → (r : Reservation) × (o ≡ Some r)

@@ -34,10 +34,10 @@ two_in_order a b ms =
     ] refl
 
 -- a member goes in behind one that it isn't before, and before one that it is before
-with_member-here : (new m : Member) (ms : List Member) → is_before new m ≡ true → with_member new (m ∷ ms) ≡ new ∷ (m ∷ ms)
+pub with_member-here : (new m : Member) (ms : List Member) → is_before new m ≡ true → with_member new (m ∷ ms) ≡ new ∷ (m ∷ ms)
 with_member-here new m ms before = cond-true _ _ _ before
 
-with_member-behind : (new m : Member) (ms : List Member) → is_before new m ≡ false → with_member new (m ∷ ms) ≡ m ∷ with_member new ms
+pub with_member-behind : (new m : Member) (ms : List Member) → is_before new m ≡ false → with_member new (m ∷ ms) ≡ m ∷ with_member new ms
 with_member-behind new m ms behind = cond-false _ _ _ behind
 
 -- one member is before the head, and one isn't: both go in where they would alone

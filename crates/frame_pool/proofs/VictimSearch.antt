@@ -59,7 +59,7 @@ IsBest-takes used n age found below known evictable is older = record {
 }
 
 -- a place that may be paged out is known
-known_evictable : (used : List (Option Used)) (at : ℕ) → is_evictable (get_or used at None) ≡ true → at < length used
+pub known_evictable : (used : List (Option Used)) (at : ℕ) → is_evictable (get_or used at None) ≡ true → at < length used
 known_evictable used at may = elim (cases_lt at (length used)) [
   | inl known ↦ known
   | inr past ↦ absurd (false≢true (ap is_evictable (sym (get_or_past used at None past)) ∙ may))

@@ -1,13 +1,14 @@
 //! Laws over the frames' state: each is a clause of a function that does nothing.
 
-ghost use Rattle.std.specs.Prelude.{◌≡◌, ℕ, ◌<◌, List, Some, None, true, length};
-ghost use Rattle.pager_model.specs.Agreement.{Agrees, IsPartition, NothingHeld, OwnsBy, has_frame};
+ghost use Rattle.std.specs.Prelude.{◌≡◌, ℕ, ◌<◌, List, Some, None, length};
+ghost use Rattle.pager_model.specs.Agreement.{Agrees, IsPartition, NothingHeld, OwnsBy};
 ghost use Rattle.pager_model.specs.declared.entry.Entry.{Entry};
 ghost use Rattle.pager_model.specs.declared.entry.Want.{Want};
 ghost use Rattle.pager_model.specs.declared.reservation.Reservation.{Reservation};
-ghost use Rattle.pager_model.specs.declared.reservation.Used.{Used};
-ghost use Rattle.pager_model.specs.FrameStates.{frame_of, layout_of, used_at, held_by, claim_in, take_frame, IsFull};
-ghost use Rattle.pager_model.specs.Layouts.{Layout, break_layout, covers, record_at};
+ghost use Rattle.pager_model.specs.FrameStates.{frame_of, take_frame, IsFull};
+ghost use Rattle.pager_model.specs.Headline.{PreemptsOldest, RefusesRightly};
+ghost use Rattle.pager_model.specs.Laws.{KeepsFrames};
+ghost use Rattle.pager_model.specs.Layouts.{Layout, break_layout, record_at};
 ghost use Rattle.pager_model.specs.Legal.{AllWhole, IsLegal, frames_at, frames_state, progress_at};
 ghost use Rattle.pager_model.specs.Order.{Progress};
 ghost use Rattle.pager_model.specs.Records.{is_used, yield_of};
@@ -23,33 +24,15 @@ pub fn breaking_frees_the_yield()
         → Breaks r k l (break_layout r l) }
 {}
 
-/// What the state keeps, whatever entries the frames allow.
+/// Whatever entries the frames allow, each frame is in one role; every reservation has a used place, and no two of one space have a
+/// common page; no two used places are of one age; and a processor claims at most one frame, and holds none while it does.
 pub fn frames_keep()
-    // Each frame is exactly one of free, a place of one reservation, and held by one processor.
-    ensures partition { (g : Given) (entries : List Entry) → AreFrameEntries g entries → IsPartition g.frames (frames_state g entries) }
+    ensures { (g : Given) (entries : List Entry) → AreFrameEntries g entries → KeepsFrames g.frames (frames_state g entries) }
+{}
 
-    // Every reservation has a used place.
-    ensures used_place { (g : Given) (entries : List Entry) → AreFrameEntries g entries
-        → (id : ℕ) (r : Reservation) → record_at (layout_of (frames_state g entries)) id ≡ Some r
-        → (frame : ℕ) × (has_frame frame (Some r) ≡ true) × (is_used (layout_of (frames_state g entries)).used frame ≡ true) }
-
-    // Reservations of one space have no common page.
-    ensures pages { (g : Given) (entries : List Entry) → AreFrameEntries g entries
-        → (id other space page : ℕ) (r q : Reservation)
-        → record_at (layout_of (frames_state g entries)) id ≡ Some r → record_at (layout_of (frames_state g entries)) other ≡ Some q
-        → covers space page r ≡ true → covers space page q ≡ true → id ≡ other }
-
-    // The ages of two used frames differ.
-    ensures ages { (g : Given) (entries : List Entry) → AreFrameEntries g entries
-        → (frame other : ℕ) (u v : Used) → used_at (frames_state g entries) frame ≡ Some u
-        → used_at (frames_state g entries) other ≡ Some v → u.age ≡ v.age → frame ≡ other }
-
-    // A processor claims at most one frame, and while it does, holds none.
-    ensures one_claim { (g : Given) (entries : List Entry) → AreFrameEntries g entries
-        → (frame other c : ℕ) → claim_in (used_at (frames_state g entries) frame) ≡ Some c
-        → claim_in (used_at (frames_state g entries) other) ≡ Some c → frame ≡ other }
-    ensures claim_or_hold { (g : Given) (entries : List Entry) → AreFrameEntries g entries
-        → (frame c : ℕ) → claim_in (used_at (frames_state g entries) frame) ≡ Some c → held_by (frames_state g entries) c ≡ None }
+/// After every legal history the frames keep this too.
+pub fn frames_keep_their_laws()
+    ensures { (g : Given) (history : List Entry) → IsLegal g history → KeepsFrames g.frames (frames_at g history) }
 {}
 
 /// For a page without a frame a taking has no result exactly where no frame is free and every reservation is full.
@@ -71,4 +54,17 @@ pub fn frames_have_one_role()
     ensures owns { (g : Given) (history : List Entry) → IsLegal g history → (c : ℕ) (p : Progress) → c < length g.marks
         → progress_at g history c ≡ Some p → OwnsBy (frames_at g history) c p.doing }
     ensures held { (g : Given) (history : List Entry) → IsLegal g history → AllWhole g history → NothingHeld (frames_at g history) }
+{}
+
+/// In every legal history each reservation that a taking preempts, so that none of its size begins at its first frame any more, was
+/// the oldest of its list.
+pub fn the_oldest_is_preempted()
+    ensures { (g : Given) (history : List Entry) → IsLegal g history → PreemptsOldest g history }
+{}
+
+/// In every legal history each answer that says that no frame could be had comes after a refusal with its numbers, which was its
+/// processor's last entry. When that was made each frame was held by a processor, or under a page that was wired or whose frame was
+/// claimed.
+pub fn a_refusal_finds_no_frame()
+    ensures { (g : Given) (history : List Entry) → IsLegal g history → RefusesRightly g history }
 {}
