@@ -89,7 +89,7 @@ module _ (f : Flight) (page : ℕ) (want : Want) (v : Claimed) (kept : Kept) (st
       subst (λ next. MayGoOn next f.processor (claim_entry f page v (is_store f.call)).what) (sym ready.next) tt,
       needed kept st f.call page ready.stands lawful.page_is lawful.allowed ready.found.lacks.absent,
     );
-    frames_allow = λ named. (refl, nothing, victim, full);
+    frames_allow = λ named. (nothing, victim, full);
     frames_after = refl;
     in_order = ap (λ p. Some (let q : Progress = record { made = f.number; doing = Claiming (ForAccess (record { space = space_of_call f.call; page = p; writing = Some (is_store f.call) })) (victim_of v) } in q)) (ap page_or_zero (sym lawful.page_is));
     reply = refl;
