@@ -16,6 +16,7 @@ pub mod Turning
 pub mod Passing
 pub mod Readying
 pub mod Turned
+pub mod Laws
 pub mod Ending
 pub mod Stores
 pub mod Starting

@@ -1,5 +1,5 @@
 -- The stores of the spaces of a run: their order, what was told of them at the start, and what holds of them when the run ended.
-use Rattle.std.proofs.Common.{◌≡◌, ℕ, zero, suc, ◌+◌, ◌<◌, ◌≤◌, Bool, true, false, List, [], ◌∷◌, ◌++◌, length, map, reverse, drop, take, get_or, slice_get, fold, Some, None, refl, ap, sym, subst, ◌∙◌, inl, inr, option_map, replicate, arith}
+use Rattle.std.proofs.Common.{◌≡◌, ℕ, zero, suc, ◌+◌, ◌<◌, ◌≤◌, Bool, true, false, List, [], ◌∷◌, ◌++◌, length, map, reverse, drop, take, get_or, slice_get, fold, Some, None, IsSomeAnd, refl, ap, sym, subst, ◌∙◌, inl, inr, option_map, replicate, arith}
 use Rattle.std.proofs.lemmas.Grind.{reverse_onto}
 use Rattle.std.proofs.lemmas.List.{append-nil, append_assoc, length-drop, length-reverse, reverse-reverse, reverse-append, map_push}
 use Rattle.std.proofs.lemmas.Option.{slice_get_within}
@@ -68,13 +68,13 @@ slice_get-take (suc n) [] i below = refl
 slice_get-take (suc n) (x ∷ xs) zero below = refl
 slice_get-take (suc n) (x ∷ xs) (suc i) below = slice_get-take n xs i (omega (arith, below))
 
--- where the first of a list are those of another, its element within is of one there
-of_one : {X Y : Type 0} (f : X → Y) (xs : List X) (ys : List Y) (i : ℕ) (y : Y) → i < length xs → slice_get (map f xs ++ ys) i ≡ Some y → (x : X) × (slice_get xs i ≡ Some x) × (f x ≡ y)
-of_one f [] ys i y below at = absurd (omega (arith, below))
-of_one f (x ∷ xs) ys zero y below at = (x, refl, (let e : Some (f x) ≡ Some y = at in cc))
-of_one f (x ∷ xs) ys (suc i) y below at = of_one f xs ys i y (omega (arith, below)) at
+-- where the first of a list are those of another, what holds of those there holds of its first
+of_first : {X Y : Type 0} (f : X → Y) (xs : List X) (ys : List Y) (i : ℕ) (P : Y → Type 0) → i < length xs → ((x : X) → slice_get xs i ≡ Some x → P (f x)) → IsSomeAnd (slice_get (map f xs ++ ys) i) P
+of_first f [] ys i P below all = absurd (omega (arith, below))
+of_first f (x ∷ xs) ys zero P below all = all x refl
+of_first f (x ∷ xs) ys (suc i) P below all = of_first f xs ys i P (omega (arith, below)) all
 
--- and one there is an element
+-- and each of those there is one of its first
 at_one : {X Y : Type 0} (f : X → Y) (xs : List X) (ys : List Y) (i : ℕ) (x : X) → slice_get xs i ≡ Some x → slice_get (map f xs ++ ys) i ≡ Some (f x)
 at_one f [] ys i x at = cc
 at_one f (y ∷ xs) ys zero x at = (let e : Some y ≡ Some x = at in ap (λ o. option_map f o) e)
@@ -106,16 +106,20 @@ pub read_more : {X Y : Type 0} (f : X → Y) (xs xs' : List X) (x : X) (ys ys' :
 read_more f xs xs' x ys ys' y more read are is =
     read ∙ ap (λ l. l ++ y ∷ []) are ∙ ap (λ z. map f xs ++ z ∷ []) is ∙ sym (map_push f xs x) ∙ sym (ap (map f) more)
 
--- each store that says that it tells its copies and that all of them are zero does so
-abbrev pub AreZero : List Stored → Type 0
-AreZero stores = (k : ℕ) (store : Stored) → slice_get stores k ≡ Some store → store.told ≡ true → TellsZero store
+-- what holds of each of the stores
+abbrev pub Each : (Stored → Type 0) → List Stored → Type 0
+Each P stores = (k : ℕ) (store : Stored) → slice_get stores k ≡ Some store → P store
 
-pub AreZero-push : (xs xs' : List Stored) (x : Stored) → xs' ≡ xs ++ x ∷ [] → AreZero xs → (x.told ≡ true → TellsZero x) → AreZero xs'
-AreZero-push xs xs' x more are is k store at told =
+pub Each-push : (P : Stored → Type 0) (xs xs' : List Stored) (x : Stored) → xs' ≡ xs ++ x ∷ [] → Each P xs → P x → Each P xs'
+Each-push P xs xs' x more are is k store at =
     elim (slice_get-push xs x k store (subst (λ l. slice_get l k ≡ Some store) more at)) [
-      | inl before ↦ are k store before told
-      | inr last ↦ subst TellsZero last.1 (is (ap (λ (s : Stored). s.told) last.1 ∙ told))
+      | inl before ↦ are k store before
+      | inr last ↦ subst P last.1 is
     ]
+
+-- where a store says that it tells its copies and that all of them are zero it does so
+abbrev pub IsZeroIfTold : Stored → Type 0
+IsZeroIfTold store = store.told ≡ true → TellsZero store
 
 -- The start: each space is over the store of its number, and what the setting says of its copies and faults is what that store said.
 pub are_new : (plan : Plan) (spaces : List Kept) (others all : List Stored) → all ≡ map (λ (k : Kept). k.store) spaces ++ others → length spaces ≡ plan.spaces
@@ -167,9 +171,9 @@ module _ (run : Running) (spaces : List Kept) (pool : FrameState) (capacity : �
       }
 
   pub StoresEnd-ended : StoresEnd run.given run.history all
-  StoresEnd-ended s store below at =
-      let one = of_one (λ (k : Kept). k.store) spaces others s store (let count = machine.told in omega (arith, below, count)) (sym (ap (λ l. slice_get l s) are) ∙ at) in
-      subst (EndsWith run.given run.history s) one.2 (EndsWith-kept s one.0 one.1)
+  StoresEnd-ended s below =
+      subst (λ l. IsSomeAnd (slice_get l s) (EndsWith run.given run.history s)) (sym are)
+      (of_first (λ (k : Kept). k.store) spaces others s (EndsWith run.given run.history s) (let count = machine.told in omega (arith, below, count)) (EndsWith-kept s))
 
   -- and those that no space uses are the last
   pub unused-ended : drop (length run.given.told) all ≡ others

@@ -6,7 +6,7 @@ use Rattle.pager_model.specs.declared.call.Call.{Call}
 use Rattle.pager_model.specs.declared.call.Call.TheVariants.{Store}
 use Rattle.pager_model.specs.declared.reply.Reply.{Reply}
 use Rattle.pager_model.specs.Flat.{space_of_call}
-use Rattle.pager_model.specs.Order.{Access, Victim, Purpose, ForAccess, Doing, Idle, Cleared, Uncopied, Filling, Unfilling, Claiming, Emptied, Unwritten, Holding, Late as AnswersLate, Faulted, Lacking, Refusing, Progress, is_access}
+use Rattle.pager_model.specs.Order.{Access, Victim, Purpose, ForAccess, Doing, Idle, Cleared, Uncopied, Filling, Unfilling, Claiming, Emptied, Unwritten, Holding, Late as AnswersLate, Faulted, Lacking, Refusing, Progress}
 use Rattle.pager_model.specs.SpaceStates.{Next, Anyone, Only, Unmaps, access_page}
 use Rattle.pager_core.specs.declared.flight.Flight.{Flight}
 use Rattle.pager_core.specs.declared.flight.Phase.{Phase}

@@ -1,5 +1,5 @@
 -- A machine as contracts see it, and what holds of it after any turns.
-use Rattle.std.specs.Prelude.{ℕ, ◌≡◌, ◌≢◌, ◌+◌, ◌-◌, ◌*◌, ◌<◌, ◌≤◌, ◌⊎◌, true, false, List, [], ◌∷◌, ◌++◌, length, map, take, replicate, slice_get, slice_index_or, option_map, Option, Some, None}
+use Rattle.std.specs.Prelude.{ℕ, ◌≡◌, ◌≢◌, ◌+◌, ◌-◌, ◌*◌, ◌<◌, ◌≤◌, ◌⊎◌, true, false, List, [], ◌∷◌, ◌++◌, length, map, take, replicate, slice_get, slice_index_or, option_map, Option, Some, None, IsSomeAnd}
 use Rattle.std.specs.List.{enumerate_from, range_with_len}
 use Rattle.pager_model.specs.declared.call.Call.{Call}
 use Rattle.pager_model.specs.declared.entry.Entry.{Entry}
@@ -11,6 +11,7 @@ use Rattle.pager_model.specs.Order.{Progress, at_rest, IsWhole}
 use Rattle.pager_model.specs.Plans.{Plan}
 use Rattle.pager_model.specs.Settings.{Given, is_told}
 use Rattle.pager_model.specs.Showing.{answers_in, daemon_marks}
+use Rattle.pager_model.specs.SpaceStates.{last_count}
 use Rattle.store_core.specs.Stored.{Stored, copy_at}
 use Rattle.space_core.specs.Standing.{IsCopy}
 use Rattle.pager_core.specs.declared.flight.Flight.{Flight}
@@ -152,6 +153,10 @@ pub record EndsWith (given : Given) (history : List Numbered) (s : ℕ) (store :
   pub copies : is_told given s ≡ true → (page : ℕ) → IsCopy ((space_at given (entries_in history) s).flat.copies page) (copy_at store page)
   pub counts : (space_at given (entries_in history) s).highest ≤ store.faults
 
--- it holds of the store of each space
+-- each space has a store, of which it holds
 abbrev pub StoresEnd : Given → List Numbered → List Stored → Type 0
-StoresEnd given history stores = (s : ℕ) (store : Stored) → s < length given.told → slice_get stores s ≡ Some store → EndsWith given history s store
+StoresEnd given history stores = (s : ℕ) → s < length given.told → IsSomeAnd (slice_get stores s) (EndsWith given history s)
+
+-- the counts of faults of the stores of so many spaces are of 64 bits
+abbrev pub AreCapped : ℕ → List Stored → Type 0
+AreCapped spaces stores = (s : ℕ) (store : Stored) → s < spaces → slice_get stores s ≡ Some store → store.faults ≤ last_count

@@ -2,6 +2,7 @@ ghost use Rattle.std.specs.Prelude.{◌≡◌, ◌≢◌, ℕ, ◌+◌, ◌*◌,
 ghost use Rattle.std.specs.List.{range_with_len};
 ghost use Rattle.pager_model.specs.Agreement.{OwnsBy};
 ghost use Rattle.pager_model.specs.FrameStates.{start_frames, free_count, reserved_count, used_count};
+ghost use Rattle.pager_model.specs.Laws.{KeepsLaws};
 ghost use Rattle.pager_model.specs.Legal.{entries_in, frames_at};
 ghost use Rattle.pager_model.specs.Settings.{is_told, faults_at_entry};
 ghost use Rattle.pager_model.specs.Showing.{calls_of};
@@ -11,7 +12,7 @@ ghost use Rattle.space_core.specs.Standing.{Kept};
 ghost use Rattle.pager_core.specs.Flights.{IsReady};
 ghost use Rattle.pager_core.specs.Machines.{IsNew};
 ghost use Rattle.pager_core.specs.Rows.{row_of};
-ghost use Rattle.pager_core.specs.Running.{Running, progress_of_actor, flight_at, flight_of, first_flights, kept_by, setting_over, HasEnded, IsKeptByOther, MustWait, OneMore, IsLawful, IsWholeRun, StoresEnd};
+ghost use Rattle.pager_core.specs.Running.{Running, progress_of_actor, flight_at, flight_of, first_flights, kept_by, setting_over, HasEnded, IsKeptByOther, MustWait, OneMore, IsLawful, IsWholeRun, StoresEnd, AreCapped};
 ghost use Rattle.pager_core.specs.Steps.{AreAgreed, Makes, Passes};
 ghost use Rattle.store_core.specs.Stored.{Stored, TellsZero};
 
@@ -92,7 +93,11 @@ impl<S: Store + Send + Drop> Machine<S> {
         ensures made { IfOk result (λ m. (m.given ≡ setting_over trace.now (map S.seen stores.items)) × (m.history ≡ [])
             × (m.calls ≡ map (λ c. calls_of c trace.now.calls) (range_with_len 0 trace.now.processors))
             × (m.flights ≡ first_flights m.calls) × IsLawful m) }
+        ensures laws { IfOk result (λ m. KeepsLaws m.given (entries_in m.history)) }
         ensures unused { IfOk result (λ m. m.unused ≡ drop trace.now.spaces (map S.seen stores.items)) }
+
+        // Each store that a space uses was asked for its count of faults.
+        ensures capped { IfOk result (λ _. AreCapped trace.now.spaces (map S.seen stores.items)) }
         ensures back { IfErr result (λ back. map S.seen back.items ≡ map S.seen stores.items) }
     {
         let mut stores = stores;
@@ -133,6 +138,7 @@ impl<S: Store + Send + Drop> Machine<S> {
 
         // After any turns.
         ensures lawful { IsLawful self.new }
+        ensures laws { KeepsLaws self.new.given (entries_in self.new.history) }
     {
         let Some(mut flight) = self.flights[actor as usize] else {
             return Turn::Ended;
@@ -249,6 +255,7 @@ fn parts_of<S: Store + Send + Drop>(
     ensures count { IfOk result (λ p. length p.spaces.items ≡ trace.now.spaces) }
     ensures new { IfOk result (λ p. (s : ℕ) (kept : Kept) → slice_get p.spaces.items s ≡ Some kept
         → IsNew trace.now.frames s (is_told p.setting s) (faults_at_entry p.setting s) kept) }
+    ensures capped { IfOk result (λ _. AreCapped trace.now.spaces (map S.seen (reverse stores.old.items))) }
 
     // The stores that no space uses are left, and for want of memory all are.
     ensures left { IfOk result (λ _. map S.seen (reverse stores.new.items) ≡ drop trace.now.spaces (map S.seen (reverse stores.old.items))) }
@@ -283,6 +290,7 @@ fn setting_of<S: Store + Send + Drop>(
     ensures given { IfOk result (λ g. g ≡ setting_over trace.now (map S.seen (reverse stores.now))) }
     ensures told { IfOk result (λ g. (s : ℕ) (store : Stored) → s < trace.now.spaces → slice_get (map S.seen (reverse stores.now)) s ≡ Some store
         → store.told ≡ true → TellsZero store) }
+    ensures capped { IfOk result (λ _. AreCapped trace.now.spaces (map S.seen (reverse stores.now))) }
 {
     let spaces = trace.spaces() as usize;
     let marks = vec![in alloc; 0; trace.processors() as usize]?;

@@ -1,18 +1,26 @@
 -- A machine in the middle of a trace's run, and what its whole run is.
-use Rattle.std.proofs.Common.{◌≡◌, ℕ, ◌<◌, ◌≤◌, List, [], length, take, drop, map, sym, ap, subst, ◌∙◌, arith}
+use Rattle.std.proofs.Common.{◌≡◌, ℕ, zero, suc, ◌<◌, ◌≤◌, ◌⊎◌, inl, inr, List, [], ◌∷◌, length, take, drop, map, get_or, slice_get, Some, None, IsSomeAnd, refl, sym, ap, subst, ◌∙◌, arith}
+use Rattle.std.proofs.lemmas.Bool.{cases_lt}
+use Rattle.std.proofs.lemmas.Option.{same_Some, slice_get_cases}
 use Rattle.std.proofs.Math.ListN.{length-map}
 use Rattle.std.proofs.lemmas.List.{length-take-le}
 use Rattle.std.proofs.lemmas.List.FromFn.{get_or-map-range_with_len, length-map-range_with_len}
 use Rattle.std.specs.List.{enumerate_from, range_with_len}
 use Rattle.pager_model.specs.declared.call.Call.{Call}
+use Rattle.pager_model.specs.declared.entry.Numbered.{Numbered}
 use Rattle.pager_model.specs.Agreement.{IsPartition, NothingHeld, Agrees}
 use Rattle.pager_model.specs.Legal.{IsLegal, frames_at, entries_in}
 use Rattle.pager_model.specs.Plans.{Plan}
-use Rattle.pager_model.specs.Settings.{Given}
+use Rattle.pager_model.specs.Settings.{Given, faults_at_entry}
 use Rattle.pager_model.specs.Showing.{calls_of}
-use Rattle.pager_core.specs.Running.{Running, calls_at, setting_over, IsLawful, IsWholeRun, StoresEnd}
+use Rattle.pager_model.specs.SpaceStates.{Rises, last_count}
+use Rattle.frame_pool.proofs.OldestBroken.{PreemptsOldest-legal}
+use Rattle.frame_pool.proofs.OrderedRefusals.{RefusesRightly-legal}
+use Rattle.pager_core.specs.Running.{Running, calls_at, setting_over, IsLawful, IsWholeRun, EndsWith, StoresEnd, AreCapped}
+use Rattle.pager_core.proofs.Laws.{KeepsLawsAllAlong-legal}
 use Rattle.store_core.specs.Stored.{Stored}
-use Rattle.replay_core.specs.Replays.{IsReplay}
+use Rattle.replay_core.specs.Replays.{NoneFailed, IsReplay}
+use Rattle.replay_core.proofs.ReplyLemmas.{HasFailed, AllServed-legal}
 
 -- The machine runs this trace over these stores.
 pub record IsRunOf (plan : Plan) (stores : List Stored) (run : Running) : Type 0 where
@@ -33,18 +41,61 @@ length-calls plan calls are = ap length are ∙ length-map-range_with_len (λ c.
 told-over : (plan : Plan) (stores : List Stored) → plan.spaces ≤ length stores → length (setting_over plan stores).told ≡ plan.spaces
 told-over plan stores enough = length-map (take plan.spaces stores) (λ (s : Stored). s.told) ∙ length-take-le plan.spaces stores enough
 
-pub IsReplay-whole : (plan : Plan) (stores after : List Stored) (run : Running) → plan.spaces ≤ length stores → IsRunOf plan stores run → IsWholeRun run.given run.calls run.history → StoresEnd run.given run.history after → drop (length run.given.told) after ≡ run.unused → IsReplay plan stores run.history after
-IsReplay-whole plan stores after run enough now whole ends unused =
+-- the setting's counts of faults are those of the stores
+faults_read : (spaces s : ℕ) (stores : List Stored) (store : Stored) → s < spaces → slice_get stores s ≡ Some store → get_or (map (λ (x : Stored). x.faults) (take spaces stores)) s 0 ≡ store.faults
+faults_read spaces s [] store below at = cc
+faults_read zero s (x ∷ stores) store below at = absurd (omega (arith, below))
+faults_read (suc spaces) zero (x ∷ stores) store below at = (let e : Some x ≡ Some store = at in ap (λ (y : Stored). y.faults) (same_Some x store e))
+faults_read (suc spaces) (suc s) (x ∷ stores) store below at = faults_read spaces s stores store (omega (arith, below)) at
+
+-- a count that rose from one on to this one or a lower one
+rises_to : (last old count new : ℕ) → (old < count) ⊎ (count ≡ last) → count ≤ new → old ≤ last → (old < new) ⊎ (new ≡ last)
+rises_to last old count new rose within capped =
+    elim (cases_lt old new) [
+      | inl less ↦ inl less
+      | inr most ↦ elim rose [
+        | inl above ↦ absurd (omega (arith, most, above, within))
+        | inr at_last ↦ inr (omega (arith, most, at_last, within, capped))
+      ]
+    ]
+
+-- where no store failed the history tells no failure
+module _ (plan : Plan) (stores after : List Stored) (history : List Numbered) (enough : plan.spaces ≤ length stores) (capped : AreCapped plan.spaces stores) (ends : StoresEnd (setting_over plan stores) history after) where
+  HasFailed-rose : (s count : ℕ) (old new : Stored) → s < plan.spaces → slice_get stores s ≡ Some old → EndsWith (setting_over plan stores) history s new → HasFailed (setting_over plan stores) (entries_in history) s count → Rises old.faults new.faults
+  HasFailed-rose s count old new below at end has =
+      let entry : faults_at_entry (setting_over plan stores) s ≡ old.faults = faults_read plan.spaces s stores old below at in
+      rises_to last_count old.faults count new.faults (subst (λ n. Rises n count) entry has.rose) (let within = has.within in let counts = end.counts in omega (arith, within, counts)) (capped s old below at)
+
+  none_failed : NoneFailed plan.spaces stores after → (s count : ℕ) → HasFailed (setting_over plan stores) (entries_in history) s count → ⊥
+  none_failed none s count has =
+      let below : s < plan.spaces = subst (λ n. s < n) (told-over plan stores enough) has.known in
+      elim (slice_get_cases stores s).1 [
+        | inl there ↦
+            elim (slice_get after s) as (λ o. slice_get after s ≡ o → IsSomeAnd o (EndsWith (setting_over plan stores) history s) → ⊥) [
+              | None ↦ λ at end. end
+              | Some new ↦ λ at end. none s there.0 new below there.2 at (HasFailed-rose s count there.0 new below there.2 end has)
+            ] refl (ends s has.known)
+        | inr past ↦ absurd (omega (arith, below, enough, past.0))
+      ]
+
+pub IsReplay-whole : (plan : Plan) (stores after : List Stored) (run : Running) → plan.spaces ≤ length stores → AreCapped plan.spaces stores → IsRunOf plan stores run → IsWholeRun run.given run.calls run.history → StoresEnd run.given run.history after → drop (length run.given.told) after ≡ run.unused → IsReplay plan stores run.history after
+IsReplay-whole plan stores after run enough capped now whole ends unused =
     let g = now.given in
+    let legal : IsLegal (setting_over plan stores) (entries_in run.history) = subst (λ g. IsLegal g (entries_in run.history)) g whole.legal in
+    let ended : StoresEnd (setting_over plan stores) run.history after = subst (λ g. StoresEnd g run.history after) g ends in
     record {
       numbered = whole.numbered;
-      legal = subst (λ g. IsLegal g (entries_in run.history)) g whole.legal;
+      legal = legal;
       shows = λ c known.
           let there : c < length run.calls = subst (λ n. c < n) (sym (length-calls plan run.calls now.calls)) known in
           (whole.answers c there ∙ ap (enumerate_from 0) (calls_known plan run.calls now.calls c known), whole.whole c there);
+      laws = KeepsLawsAllAlong-legal (setting_over plan stores) (entries_in run.history) legal;
+      oldest = PreemptsOldest-legal (setting_over plan stores) (entries_in run.history) legal;
+      refusals = RefusesRightly-legal (setting_over plan stores) (entries_in run.history) legal;
+      served = λ none. AllServed-legal (setting_over plan stores) (entries_in run.history) legal (none_failed plan stores after run.history enough capped ended none);
       partition = subst (λ g. IsPartition g.frames (frames_at g (entries_in run.history))) g whole.partition;
       none_held = subst (λ g. NothingHeld (frames_at g (entries_in run.history))) g whole.none_held;
       agrees = subst (λ g. Agrees g (entries_in run.history)) g whole.agrees;
-      stores = subst (λ g. StoresEnd g run.history after) g ends;
+      stores = ended;
       unused = sym (ap (λ n. drop n after) (ap (λ (g : Given). length g.told) g ∙ told-over plan stores enough)) ∙ unused ∙ now.unused;
     }

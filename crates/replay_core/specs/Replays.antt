@@ -1,26 +1,40 @@
 -- What the whole run of a trace is, and a call that a machine made to its end.
-use Rattle.std.specs.Prelude.{ℕ, ◌≡◌, ◌≢◌, ◌+◌, ◌++◌, List, drop, Option, Some, None}
+use Rattle.std.specs.Prelude.{ℕ, ◌≡◌, ◌≢◌, ◌+◌, ◌<◌, ◌++◌, List, drop, slice_get, Option, Some, None}
 use Rattle.std.specs.List.{AllByRecursion}
 use Rattle.pager_model.specs.declared.entry.Entry.{Entry}
 use Rattle.pager_model.specs.declared.entry.Numbered.{Numbered}
 use Rattle.pager_model.specs.Agreement.{IsPartition, NothingHeld, Agrees}
+use Rattle.pager_model.specs.Headline.{AllServed, PreemptsOldest, RefusesRightly}
+use Rattle.pager_model.specs.Laws.{KeepsLawsAllAlong}
 use Rattle.pager_model.specs.Legal.{IsLegal, frames_at, entries_in}
 use Rattle.pager_model.specs.Plans.{Plan}
 use Rattle.pager_model.specs.FrameStates.{free_count, reserved_count, used_count}
 use Rattle.pager_model.specs.declared.summary.Summary.{Summary}
 use Rattle.pager_model.specs.Showing.{Shows}
+use Rattle.pager_model.specs.SpaceStates.{Rises}
 use Rattle.pager_core.specs.declared.flight.Flight.{Flight}
 use Rattle.pager_core.specs.Rows.{row_of}
 use Rattle.pager_core.specs.Running.{Running, calls_at, flight_at, flight_of, setting_over, IsNumbered, IsLawful, StoresEnd}
 use Rattle.store_core.specs.Stored.{Stored}
 
--- What holds of the whole run of a trace over stores: its history is numbered, legal and shows the trace; after it each frame is in one
--- role, none is claimed or held, and spaces and frames agree; and each space's store tells the copies of the flat memory, where it tells
--- any, and every other store is as it was.
+-- no store of a space failed: where one fails, its count of faults rises
+abbrev pub NoneFailed : ℕ → List Stored → List Stored → Type 0
+NoneFailed spaces before after =
+    (s : ℕ) (old new : Stored) → s < spaces → slice_get before s ≡ Some old → slice_get after s ≡ Some new → Rises old.faults new.faults → ⊥
+
+-- What holds of the whole run of a trace over stores: its history is numbered, legal and shows the trace, and keeps the laws at each
+-- place; each reservation that was preempted was its list's oldest, each access that was refused for want of a frame could have none, and
+-- where no store of a space failed each other answer is the flat memory's, or says that there was no memory; after it each frame is in
+-- one role, none is claimed or held, and spaces and frames agree; and each space's store tells the copies of the flat memory, where it
+-- tells any, and every other store is as it was.
 pub record IsReplay (plan : Plan) (before : List Stored) (history : List Numbered) (after : List Stored) : Type 0 where
   pub numbered : IsNumbered history
   pub legal : IsLegal (setting_over plan before) (entries_in history)
   pub shows : Shows plan (entries_in history)
+  pub laws : KeepsLawsAllAlong (setting_over plan before) (entries_in history)
+  pub oldest : PreemptsOldest (setting_over plan before) (entries_in history)
+  pub refusals : RefusesRightly (setting_over plan before) (entries_in history)
+  pub served : NoneFailed plan.spaces before after → AllServed (setting_over plan before) (entries_in history)
   pub partition : IsPartition plan.frames (frames_at (setting_over plan before) (entries_in history))
   pub none_held : NothingHeld (frames_at (setting_over plan before) (entries_in history))
   pub agrees : Agrees (setting_over plan before) (entries_in history)

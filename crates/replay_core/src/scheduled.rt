@@ -6,15 +6,12 @@ ghost use Rattle.pager_model.specs.Legal.{entries_in};
 ghost use Rattle.replay_core.specs.Orders.{IsScheduled};
 ghost use Rattle.replay_core.specs.Replays.{IsReplay, AreItsCounts};
 
-use crate::stepping::step_first;
+use crate::stepping::{MOST_PROCESSORS, step_first};
 use arrayvec::ArrayVec;
 use pager_core::{Gathered, Machine};
 use pager_model::Trace;
 use std::alloc::Global;
 use store_core::Store;
-
-/// The most processors of a trace.
-const MOST: usize = 16;
 
 /// Runs a trace in the turns of a list of its processors, of which those that can't step are passed over, and then in those of the lowest
 /// processor that can. There are at least as many stores as spaces, and they come back for want of memory, which comes before the first
@@ -44,7 +41,7 @@ pub fn replay_schedule<S: Store + Send + Drop>(
 }
 
 /// The numbers below this one.
-fn all_below(processors: u32) -> ArrayVec<u32, MOST>
+fn all_below(processors: u32) -> ArrayVec<u32, MOST_PROCESSORS>
     requires { processors ≤ 16 }
     ensures { result.items ≡ range_with_len 0 processors }
 {

@@ -8,15 +8,12 @@ ghost use Rattle.replay_core.specs.Replays.{IsReplay, AreItsCounts};
 ghost use Rattle.replay_core.specs.Turns.{flying_in, drawn_order, FirstStepped};
 
 use crate::generator::Generator;
-use crate::stepping::step_first;
+use crate::stepping::{MOST_PROCESSORS, step_first};
 use arrayvec::ArrayVec;
 use pager_core::{Gathered, Machine};
 use pager_model::Trace;
 use std::alloc::Global;
 use store_core::Store;
-
-/// The most processors of a trace.
-const MOST: usize = 16;
 
 /// Runs a trace in turns that are drawn from the seed: before each entry one of the processors that have a call left is drawn, and the
 /// entry is of the first in cyclic order from there that needn't wait. There are at least as many stores as spaces, and they come back for
@@ -62,7 +59,10 @@ fn step_drawn<S: Store + Send + Drop>(
 }
 
 /// The processors that have a call left, ascending.
-fn left_in<S: Store + Send + Drop>(machine: &Machine<S>, processors: u32) -> ArrayVec<u32, MOST>
+fn left_in<S: Store + Send + Drop>(
+    machine: &Machine<S>,
+    processors: u32,
+) -> ArrayVec<u32, MOST_PROCESSORS>
     requires all { length machine.now.calls ≡ processors }
     requires few { processors ≤ 16 }
     ensures { result.items ≡ flying_in machine.now }

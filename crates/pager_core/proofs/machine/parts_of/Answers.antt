@@ -7,7 +7,7 @@ use Rattle.pager_model.specs.Showing.{calls_of}
 use Rattle.space_core.specs.Standing.{Kept}
 use Rattle.store_core.specs.Stored.{Stored, TellsZero}
 use Rattle.pager_core.specs.Machines.{IsNew}
-use Rattle.pager_core.specs.Running.{setting_over}
+use Rattle.pager_core.specs.Running.{setting_over, AreCapped}
 use Rattle.pager_core.proofs.Stores.{are_new}
 use Rattle.pager_core.proofs.machine.parts_of.Goals as goal
 
@@ -34,3 +34,7 @@ returns-clause-new g c =
     let told = subst (λ l. (s : ℕ) (store : Stored) → s < plan.spaces → slice_get (map g.S.Store.seen (reverse l)) s ≡ Some store → store.told ≡ true → TellsZero store) value c.in_ok-setting.ensures.told in
     subst (λ (s : Given). (n : ℕ) (kept : Kept) → slice_get c.in_ok-spaces.spaces.items n ≡ Some kept → IsNew plan.frames n (is_told s n) (faults_at_entry s n) kept) (sym given)
     (are_new plan c.in_ok-spaces.spaces.items _ _ c.in_ok-spaces.ensures.stores c.in_ok-spaces.ensures.count told c.in_ok-spaces.ensures.new)
+
+pub returns-clause-capped : goal.returns-clause-capped
+returns-clause-capped g c =
+    subst (λ l. AreCapped c.args.trace.now.spaces (map g.S.Store.seen (reverse l))) c.as_slice-2.ensures.value c.in_ok-setting.ensures.capped

@@ -1,12 +1,13 @@
-use Rattle.std.proofs.Common.{◌≡◌, map, replicate, reverse, take, slice_get, sym, ap, ◌∙◌}
+use Rattle.std.proofs.Common.{◌≡◌, ℕ, ◌<◌, ◌≤◌, map, replicate, reverse, take, slice_get, Some, sym, ap, ◌∙◌}
 use Rattle.std.specs.Iterator.Adapters.{rev_source, take_source, take_count}
 use Rattle.std.specs.Slice.Iter.{iter_rest}
 use Rattle.std.proofs.lemmas.Iterator.{YieldsList-from_take}
 use Rattle.std.proofs.lemmas.Iterator.Adapters.{YieldsList-from_rev_slice}
 use Rattle.std.proofs.lemmas.Iterator.Consumers.{YieldsList-end}
 use Rattle.std.proofs.lemmas.List.{map_push, take-map}
+use Rattle.pager_model.specs.SpaceStates.{last_count}
 use Rattle.store_core.specs.Stored.{Stored}
-use Rattle.pager_core.proofs.Stores.{slice_get-take, setting_read, read_more, AreZero-push}
+use Rattle.pager_core.proofs.Stores.{slice_get-take, setting_read, read_more, Each-push, IsZeroIfTold}
 use Rattle.pager_core.proofs.machine.setting_of.Given.{Over}
 use Rattle.pager_core.proofs.machine.setting_of.Goals as goal
 
@@ -16,7 +17,8 @@ loop-store-preserved g c =
     let more = ap (map g.S.Store.seen) (map_push (λ y. y.now) c.loop-store.yielded c.in-Some.store) ∙ map_push g.S.Store.seen (map (λ y. y.now) c.loop-store.yielded) c.in-Some.store.now in (
       read_more (λ (s : Stored). s.told) seen _ (g.S.Store.seen c.in-Some.store.now) c.loop-store.told.items c.push.new.self.items c.told.result more c.in_ok-push.ensures.items c.loop-store.invariant.0 c.told.ensures.told,
       read_more (λ (s : Stored). s.faults) seen _ (g.S.Store.seen c.in-Some.store.now) c.loop-store.faults.items c.push-in-loop-store.new.self.items c.faults.result more c.in_ok-push-2.ensures.items c.loop-store.invariant.1 c.faults.ensures.faults,
-      AreZero-push seen _ (g.S.Store.seen c.in-Some.store.now) more c.loop-store.invariant.2 (λ is. c.told.ensures.zero (c.told.ensures.told ∙ is)),
+      Each-push IsZeroIfTold seen _ (g.S.Store.seen c.in-Some.store.now) more c.loop-store.invariant.2 (λ is. c.told.ensures.zero (c.told.ensures.told ∙ is)),
+      Each-push (λ s. s.faults ≤ last_count) seen _ (g.S.Store.seen c.in-Some.store.now) more c.loop-store.invariant.3 c.faults.ensures.capped,
     )
 
 -- the stores that it read are the first
@@ -41,5 +43,12 @@ returns-clause-given g c =
     (c.loop-store.invariant.0 ∙ ap (map (λ (s : Stored). s.told)) (read g c))
     (c.loop-store.invariant.1 ∙ ap (map (λ (s : Stored). s.faults)) (read g c))
 
+-- each that a space uses is one that it read
+is_read : (g : Over) (c : goal.After-of g) (s : ℕ) (store : Stored) → s < c.args.trace.now.spaces → slice_get (map g.S.Store.seen (reverse c.args.stores.now)) s ≡ Some store → slice_get (map g.S.Store.seen (map (λ y. y.now) c.loop-store.yielded)) s ≡ Some store
+is_read g c s store below at = ap (λ l. slice_get l s) (read g c) ∙ slice_get-take c.args.trace.now.spaces (map g.S.Store.seen (reverse c.args.stores.now)) s below ∙ at
+
 pub returns-clause-told : goal.returns-clause-told
-returns-clause-told g c = λ s store below at. c.loop-store.invariant.2 s store (ap (λ l. slice_get l s) (read g c) ∙ slice_get-take c.args.trace.now.spaces (map g.S.Store.seen (reverse c.args.stores.now)) s below ∙ at)
+returns-clause-told g c = λ s store below at. c.loop-store.invariant.2 s store (is_read g c s store below at)
+
+pub returns-clause-capped : goal.returns-clause-capped
+returns-clause-capped g c = λ s store below at. c.loop-store.invariant.3 s store (is_read g c s store below at)

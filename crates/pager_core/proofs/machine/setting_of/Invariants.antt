@@ -1,10 +1,12 @@
-use Rattle.std.proofs.Common.{◌≡◌, map}
+use Rattle.std.proofs.Common.{◌≡◌, ◌≤◌, map}
+use Rattle.pager_model.specs.SpaceStates.{last_count}
 use Rattle.store_core.specs.Stored.{Stored}
-use Rattle.pager_core.proofs.Stores.{AreZero}
+use Rattle.pager_core.proofs.Stores.{Each, IsZeroIfTold}
 use Rattle.pager_core.proofs.machine.setting_of.Given as goal
 
 abbrev pub invariant-loop-store : goal.invariant-loop-store
 invariant-loop-store g l =
     (l.told.items ≡ map (λ (s : Stored). s.told) (map g.S.Store.seen (map (λ y. y.now) l.yielded)))
     × (l.faults.items ≡ map (λ (s : Stored). s.faults) (map g.S.Store.seen (map (λ y. y.now) l.yielded)))
-    × AreZero (map g.S.Store.seen (map (λ y. y.now) l.yielded))
+    × Each IsZeroIfTold (map g.S.Store.seen (map (λ y. y.now) l.yielded))
+    × Each (λ s. s.faults ≤ last_count) (map g.S.Store.seen (map (λ y. y.now) l.yielded))

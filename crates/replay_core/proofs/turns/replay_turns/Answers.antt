@@ -41,7 +41,7 @@ pub returns-clause-run : goal.returns-clause-run
 returns-clause-run g c =
     let seen = map g.S.Store.seen in
     subst (λ h. IsReplay c.args.trace.now (seen c.args.stores.items) h (seen c.finish.result.stores.items)) (sym c.finish.ensures.history)
-    (IsReplay-whole c.args.trace.now (seen c.args.stores.items) (seen c.finish.result.stores.items) c.loop-generator.machine (subst (λ n. c.args.trace.now.spaces ≤ n) (sym (length-map c.args.stores.items g.S.Store.seen)) c.requires.enough) c.loop-generator.invariant.of c.finish.ensures.run c.finish.ensures.stores c.finish.ensures.unused)
+    (IsReplay-whole c.args.trace.now (seen c.args.stores.items) (seen c.finish.result.stores.items) c.loop-generator.machine (subst (λ n. c.args.trace.now.spaces ≤ n) (sym (length-map c.args.stores.items g.S.Store.seen)) c.requires.enough) c.in_ok-machine.ensures.capped c.loop-generator.invariant.of c.finish.ensures.run c.finish.ensures.stores c.finish.ensures.unused)
 
 pub returns-clause-seeded : goal.returns-clause-seeded
 returns-clause-seeded g c = subst (λ h. IsSeeded c.args.trace.now c.args.seed (entries_in h)) (sym c.finish.ensures.history) c.loop-generator.invariant.seeded

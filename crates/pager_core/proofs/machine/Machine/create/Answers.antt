@@ -1,8 +1,9 @@
-use Rattle.std.proofs.Common.{◌≡◌, length, map, reverse, drop, ap, ◌∙◌, arith}
+use Rattle.std.proofs.Common.{◌≡◌, length, map, reverse, drop, ap, subst, ◌∙◌, arith}
 use Rattle.std.proofs.lemmas.List.{length-reverse}
 use Rattle.std.proofs.Math.ListN.{length-map}
 use Rattle.pager_core.specs.Machines.{IsMachine}
-use Rattle.pager_core.specs.Running.{setting_over}
+use Rattle.pager_core.specs.Running.{setting_over, AreCapped}
+use Rattle.pager_core.proofs.Laws.{KeepsLaws-legal}
 use Rattle.pager_core.proofs.Starting.{IsMachine-started}
 use Rattle.pager_core.proofs.Stores.{as_long, same_reversed, turned_back}
 use Rattle.pager_core.proofs.machine.Machine.create.Given.{Over}
@@ -32,9 +33,16 @@ returns-in-Ok-clause-made g c =
     let parts = c.in-Ok.ensures in
     (given g c, parts.history.0, parts.calls, parts.flights, (started g c).lawful)
 
+pub returns-in-Ok-clause-laws : goal.returns-in-Ok-clause-laws
+returns-in-Ok-clause-laws g c = KeepsLaws-legal _ _ (started g c).lawful.legal
+
 pub returns-in-Ok-clause-unused : goal.returns-in-Ok-clause-unused
 returns-in-Ok-clause-unused g c =
     c.in-Ok.ensures.left ∙ ap (drop c.args.trace.now.spaces) (turned_back g.S.Store.seen c.args.stores.items c.reverse.new.self.items c.reverse.ensures.items)
+
+pub returns-in-Ok-clause-capped : goal.returns-in-Ok-clause-capped
+returns-in-Ok-clause-capped g c =
+    subst (AreCapped c.args.trace.now.spaces) (turned_back g.S.Store.seen c.args.stores.items c.reverse.new.self.items c.reverse.ensures.items) c.in-Ok.ensures.capped
 
 pub returns-in-Err-clause-back : goal.returns-in-Err-clause-back
 returns-in-Err-clause-back g c =

@@ -2,6 +2,7 @@ use Rattle.std.proofs.Common.{◌≡◌, length, map, reverse, refl, sym, ap, �
 use Rattle.std.proofs.Math.ListN.{set, length-set, length-map}
 use Rattle.pager_model.specs.Legal.{space_at, entries_in}
 use Rattle.pager_core.specs.Running.{Running}
+use Rattle.pager_core.proofs.Laws.{KeepsLaws-legal, KeepsLaws-machine}
 use Rattle.pager_core.proofs.Readying.{is_under, number-few, OwnsBy-machine, entries-below, known-machine, space_within}
 use Rattle.pager_core.proofs.Turned.{flight_read, finds, calls_read, Turns-of, IsMachine-turned, IsLawful-turned, OneMore-turned}
 use Rattle.pager_core.proofs.Turning.{Turns}
@@ -119,3 +120,13 @@ returns-clause-lawful g c =
     IsLawful-turned (before g c) i.spaces.items i.pool c.next_entry-entry.new.pool _ c.args.actor c.in-Some-under.space c.len-number.result c.in-Some.flight c.next_entry-entry.new.flight c.index_mut.result.now c.next_entry-entry.new.space c.next_entry-entry.result c.going_on.result
     c.self.invariant.0 (turned g c) (after g c)
     refl refl refl c.push_reserved.ensures.items refl
+
+-- the laws, where nothing is left, where the actor waits, and after an entry
+pub returns-in_default-clause-laws : goal.returns-in_default-clause-laws
+returns-in_default-clause-laws g c = KeepsLaws-machine _ c.args.self.now c.self.inside.spaces.items c.self.inside.pool _ c.self.invariant.0 c.self.view_is
+
+pub returns-then-is_kept_by_other-clause-laws : goal.returns-then-is_kept_by_other-clause-laws
+returns-then-is_kept_by_other-clause-laws g c = KeepsLaws-machine _ c.args.self.now c.self.inside.spaces.items c.self.inside.pool _ c.self.invariant.0 c.self.view_is
+
+pub returns-clause-laws : goal.returns-clause-laws
+returns-clause-laws g c = KeepsLaws-legal _ _ (returns-clause-lawful g c).legal
