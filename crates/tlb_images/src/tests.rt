@@ -1,4 +1,7 @@
-ghost use Rattle.std.specs.Prelude.{◌≡◌, ◌&&◌, nat_lt, not, filter};
+ghost use Rattle.std.specs.Prelude.{◌≡◌, ◌&&◌, nat_lt, true, false, not, filter, Some};
+ghost use Rattle.pager_model.specs.declared.tile.Tile.{Tile};
+ghost use Rattle.pager_model.specs.Images.{is_in_image, touched};
+ghost use Rattle.pager_model.specs.Tiles.{same_tile};
 
 use super::*;
 
@@ -41,6 +44,21 @@ fn keep_clean_below(image: &mut Image, page: u32)
     ensures { image.new ≡ filter (λ t. not t.dirty && nat_lt t.extent.first page) image.old }
 {
     image.retain(|tile| !tile.dirty && tile.extent.first < page);
+}
+
+/// A store to a clean page, after which no clean tile is left in the space: whether it hits.
+///
+/// The page's own tile goes last, since it tells.
+fn store_to_a_clean_page(image: &mut Image, clean: &Tile) -> bool
+    requires { clean.now.dirty ≡ false }
+    ensures hit { result ≡ is_in_image image.old (Some clean.now) }
+    ensures after { image.new ≡ touched (record clean.now { dirty = true }) (filter (λ t. t.dirty) image.old) }
+{
+    let before = Some(*clean);
+    let mut after = *clean;
+    after.dirty = true;
+    image.retain(|tile| tile.dirty || before == Some(*tile));
+    image.touch(before, after)
 }
 
 #[test]
@@ -104,6 +122,18 @@ fn a_use_makes_a_tile_the_youngest(rt: HostRuntime) {
     for page in [64, 2, 127, 0, 7, 126, 204, 200] {
         assert!(rt; hits(&mut image, page), "page {page}");
     }
+}
+
+#[test]
+fn the_tile_before_goes_once_it_has_told_the_hit(rt: HostRuntime) {
+    let mut image = image_of(4);
+    let clean = page_tile(2);
+    assert!(rt; !clean.dirty);
+    assert!(rt; store_to_a_clean_page(&mut image, &clean));
+    assert_eq!(rt; image.len(), 3);
+    assert!(rt; !hits(&mut image, 2));
+    assert!(rt; hits(&mut image, 1));
+    assert!(rt; hits(&mut image, 3));
 }
 
 #[test]

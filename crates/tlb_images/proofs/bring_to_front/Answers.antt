@@ -1,4 +1,3 @@
-use Rattle.std.proofs.Common.{◌++◌, drop, ap, ◌+◌, ◌∙◌}
 use Rattle.tlb_images.proofs.ImageLemmas.{turned}
 use Rattle.tlb_images.proofs.bring_to_front.Goals as goal
 

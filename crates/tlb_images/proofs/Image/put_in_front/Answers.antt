@@ -1,5 +1,4 @@
-use Rattle.std.proofs.Common.{◌≡◌, ◌<◌, length, get_or, ◌∷◌, is_some, rules, sym, ap, ◌∙◌, arith}
-use Rattle.std.proofs.lemmas.List.Quantifiers.{position-Some}
+use Rattle.std.proofs.Common.{◌≡◌, is_some, rules, sym, ap, ◌∙◌}
 use Rattle.arrayvec.proofs.ArrayVecLemmas.{items-with_items}
 use Rattle.pager_model.specs.Images.{touched}
 use Rattle.pager_model.specs.Tiles.{same_tile}
