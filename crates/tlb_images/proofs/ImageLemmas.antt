@@ -1,0 +1,209 @@
+-- Equal tiles, and what stays true of an image as tiles go and come.
+use Rattle.std.proofs.Common.{◌≡◌, ◌≢◌, ℕ, zero, suc, ◌+◌, ◌-◌, ◌<◌, ◌≤◌, Bool, true, false, not, cond, ◌||◌, List, [], ◌∷◌, ◌++◌, length, inl, inr, get_or, take, drop, filter, nat_lt, is_some, Some, None, refl, sym, ap, ◌∙◌, subst, add-one, length-take, take_all, arith}
+use Rattle.std.specs.List.{All, AllPairs, list_any, list_all, position, position_or_len, remove}
+use Rattle.std.specs.Bool.{⊤}
+use Rattle.std.specs.List.Retain.{RetainsInTurn}
+use Rattle.std.proofs.lemmas.Bool.{cases_lt, lt-ltb, le-ltb, and_parts, and_from, eq-eqb, eqb-true, false_from_ne_true, false≢true, or_parts, cond-true, cond-false, cond_both, not_from_true, not_from_false, not-true}
+use Rattle.std.proofs.lemmas.List.{length-take-le, take_more, take-take, get_or-take, drop_at}
+use Rattle.std.proofs.lemmas.List.Edits.{length-remove}
+use Rattle.std.proofs.lemmas.List.Elements.{All-cons, All-head, All-tail, filter_passes}
+use Rattle.std.proofs.lemmas.List.Folds.{list_any_none}
+use Rattle.std.proofs.lemmas.List.Sums.{length-filter, count_by-le-length}
+use Rattle.std.proofs.lemmas.List.Kept.{AllPairs-cons, AllPairs-filter}
+use Rattle.std.proofs.lemmas.List.Quantifiers.{position-Some}
+use Rattle.pager_model.specs.declared.region.Rights.{Rights}
+use Rattle.pager_model.specs.declared.region.Rights.TheVariants.{NoAccess, Read, Write}
+use Rattle.pager_model.specs.declared.tile.Tile.{Tile}
+use Rattle.pager_model.specs.Images.{image_room, touched}
+use Rattle.pager_model.specs.Tiles.{same_tile, same_rights, same_flag}
+use Rattle.tlb_images.specs.Image.{IsImage, without}
+
+same_rights-true : (a b : Rights) → same_rights a b ≡ true → a ≡ b
+same_rights-true NoAccess NoAccess h = refl
+same_rights-true NoAccess Read h = absurd (false≢true h)
+same_rights-true NoAccess Write h = absurd (false≢true h)
+same_rights-true Read NoAccess h = absurd (false≢true h)
+same_rights-true Read Read h = refl
+same_rights-true Read Write h = absurd (false≢true h)
+same_rights-true Write NoAccess h = absurd (false≢true h)
+same_rights-true Write Read h = absurd (false≢true h)
+same_rights-true Write Write h = refl
+
+same_flag-true : (a b : Bool) → same_flag a b ≡ true → a ≡ b
+same_flag-true true true h = refl
+same_flag-true true false h = sym h
+same_flag-true false true h = h
+same_flag-true false false h = refl
+
+same_rights-refl : (a : Rights) → same_rights a a ≡ true
+same_rights-refl NoAccess = refl
+same_rights-refl Read = refl
+same_rights-refl Write = refl
+
+same_flag-refl : (a : Bool) → same_flag a a ≡ true
+same_flag-refl true = refl
+same_flag-refl false = refl
+
+-- the test of equal tiles passes just where they are equal
+pub same_tile-true : (t u : Tile) → same_tile t u ≡ true → t ≡ u
+same_tile-true t u h =
+    let halves = and_parts _ _ h in
+    let extents = and_parts _ _ halves.0 in
+    let others = and_parts _ _ halves.1 in
+    let flags = and_parts _ _ others.1 in
+    let size = eqb-true t.extent.size u.extent.size extents.0 in
+    let first = eqb-true t.extent.first u.extent.first extents.1 in
+    let frame = eqb-true t.frame u.frame others.0 in
+    let rights = same_rights-true t.rights u.rights flags.0 in
+    let dirty = same_flag-true t.dirty u.dirty flags.1 in
+    λ i. record { extent = record { size = size i; first = first i }; frame = frame i; rights = rights i; dirty = dirty i }
+
+pub same_tile-refl : (t : Tile) → same_tile t t ≡ true
+same_tile-refl t =
+    and_from _ _ (and_from _ _ (eq-eqb t.extent.size t.extent.size refl) (eq-eqb t.extent.first t.extent.first refl))
+    (and_from _ _ (eq-eqb t.frame t.frame refl) (and_from _ _ (same_rights-refl t.rights) (same_flag-refl t.dirty)))
+
+pub same_tile-ne : (t u : Tile) → t ≢ u → same_tile t u ≡ false
+same_tile-ne t u differ = false_from_ne_true (same_tile t u) (λ h. differ (same_tile-true t u h))
+
+-- no two tiles of the list are equal
+abbrev pub Once : List Tile → Type 0
+Once ts = AllPairs (λ t u. t ≢ u) ts
+
+Once-tail : (t : Tile) (ts : List Tile) → Once (t ∷ ts) → Once ts
+Once-tail t ts once i j d lt below = once (suc i) (suc j) d (omega arith) (omega arith)
+
+Once-head : (t : Tile) (ts : List Tile) → Once (t ∷ ts) → list_any (same_tile t) ts ≡ false
+Once-head t ts once =
+    list_any_none (same_tile t) ts (λ k d below. same_tile-ne t (get_or ts k d) (once 0 (suc k) d (omega arith) (omega arith)))
+
+-- what stands nowhere isn't missed
+pub without-absent : (t : Tile) (ts : List Tile) → list_any (same_tile t) ts ≡ false → without t ts ≡ ts
+without-absent t [] absent = refl
+without-absent t (u ∷ us) absent =
+    let parts = or_parts (same_tile t u) (list_any (same_tile t) us) absent in
+    cond-true (not (same_tile t u)) (u ∷ without t us) (without t us) (not_from_false _ parts.0)
+    ∙ ap (λ rest. u ∷ rest) (without-absent t us parts.1)
+
+-- taking a tile out at the one place where it stands leaves the image without it
+remove-is_without : (t : Tile) (ts : List Tile) (n : ℕ) (d : Tile) → Once ts → n < length ts → same_tile t (get_or ts n d) ≡ true → ((k : ℕ) → k < n → same_tile t (get_or ts k d) ≡ false) → remove ts n ≡ without t ts
+remove-is_without t [] n d once below here before = absurd (omega arith)
+remove-is_without t (u ∷ us) zero d once below here before =
+    let others = subst (λ v. list_any (same_tile v) us ≡ false) (sym (same_tile-true t u here)) (Once-head u us once) in
+    sym (cond-false (not (same_tile t u)) (u ∷ without t us) (without t us) (not_from_true _ here) ∙ without-absent t us others)
+remove-is_without t (u ∷ us) (suc n) d once below here before =
+    ap (λ rest. u ∷ rest) (remove-is_without t us n d (Once-tail u us once) (omega arith) here (λ k lt. before (suc k) (omega arith)))
+    ∙ sym (cond-true (not (same_tile t u)) (u ∷ without t us) (without t us) (not_from_false _ (before 0 (omega arith))))
+
+blank : Tile
+blank = record { extent = record { size = 0; first = 0 }; frame = 0; rights = NoAccess; dirty = false }
+
+pub remove-at_position : (t : Tile) (ts : List Tile) (n : ℕ) → Once ts → position (same_tile t) ts ≡ Some n → remove ts n ≡ without t ts
+remove-at_position t ts n once is =
+    let found = position-Some (same_tile t) ts n blank is in
+    remove-is_without t ts n blank once found.0 found.1 found.2
+
+-- what is found is there
+found-list_any : {X : Type 0} (p : X → Bool) (xs : List X) → nat_lt (position_or_len p xs) (length xs) ≡ list_any p xs
+found-list_any p [] = refl
+found-list_any p (x ∷ xs) =
+    let n = position_or_len p xs in
+    let m = length xs in
+    let later : nat_lt (1 + n) (suc m) ≡ nat_lt n m = elim (cases_lt n m) [
+      | inl h ↦ lt-ltb (1 + n) (suc m) (omega arith) ∙ sym (lt-ltb n m h)
+      | inr h ↦ le-ltb (1 + n) (suc m) (omega arith) ∙ sym (le-ltb n m h)
+    ] in
+    elim (p x) as (λ b. nat_lt (cond (not b) (1 + position_or_len p xs) 0) (suc (length xs)) ≡ (b || list_any p xs)) [ true ↦ lt-ltb 0 (suc m) (omega arith) | false ↦ later ∙ found-list_any p xs ]
+
+pub is_some-position : {X : Type 0} (p : X → Bool) (xs : List X) → is_some (position p xs) ≡ list_any p xs
+is_some-position p xs =
+    elim (nat_lt (position_or_len p xs) (length xs)) as (λ b. is_some (cond b (Some (position_or_len p xs)) None) ≡ b) [ true ↦ refl | false ↦ refl ]
+    ∙ found-list_any p xs
+
+pub IsImage-without : (t : Tile) (ts : List Tile) → IsImage ts → IsImage (without t ts)
+IsImage-without t ts image = record {
+  at_most = omega (arith, image.at_most, length-filter (λ u. not (same_tile t u)) ts, count_by-le-length (λ u. not (same_tile t u)) ts);
+  once = AllPairs-filter (λ u v. u ≢ v) (λ u. not (same_tile t u)) ts image.once;
+}
+
+-- no tile of what is left is the one that was taken out
+without-differs : (t : Tile) (ts : List Tile) → All (λ u. same_tile t u ≡ false) (without t ts)
+without-differs t ts k d below = not-true _ (filter_passes (λ u. not (same_tile t u)) ts k d below)
+
+pub touched-without : (t : Tile) (ts : List Tile) → touched t (without t ts) ≡ touched t ts
+touched-without t ts =
+    ap (λ us. take image_room (t ∷ us)) (without-absent t (without t ts) (list_any_none (same_tile t) (without t ts) (without-differs t ts)))
+
+pub touched-absent : (t : Tile) (ts : List Tile) → list_any (same_tile t) ts ≡ false → take image_room (t ∷ ts) ≡ touched t ts
+touched-absent t ts absent = ap (λ us. take image_room (t ∷ us)) (sym (without-absent t ts absent))
+
+-- a tile that stands in the image comes to the front of the others, and none has to go
+pub touched-found : (t : Tile) (ts : List Tile) (n : ℕ) (d : Tile) → IsImage ts → position (same_tile t) ts ≡ Some n → get_or ts n d ∷ remove ts n ≡ touched t ts
+touched-found t ts n d image is =
+    let found = position-Some (same_tile t) ts n d is in
+    let rest = remove-at_position t ts n image.once is in
+    let room : length (t ∷ without t ts) ≤ image_room = rw (← rest) (omega (arith, image.at_most, length-remove ts n found.0)) in
+    (λ i. sym (same_tile-true t (get_or ts n d) found.1) i ∷ rest i) ∙ sym (take_all image_room (t ∷ without t ts) room)
+
+Once-take : (n : ℕ) (ts : List Tile) → Once ts → Once (take n ts)
+Once-take n ts once i j d lt below =
+    let lengths = length-take n ts in
+    rw (get_or-take n ts i d (omega (arith, lengths)), get_or-take n ts j d (omega (arith, lengths))) (once i j d lt (omega (arith, lengths)))
+
+pub IsImage-touched : (t : Tile) (ts : List Tile) → IsImage ts → IsImage (touched t ts)
+IsImage-touched t ts image =
+    let left = IsImage-without t ts image in
+    let differ : All (λ u. t ≢ u) (without t ts) = λ k d below same.
+    false≢true (sym (without-differs t ts k d below) ∙ ap (same_tile t) (sym same) ∙ same_tile-refl t) in
+    record {
+      at_most = omega (arith, length-take image_room (t ∷ without t ts));
+      once = Once-take image_room (t ∷ without t ts) (AllPairs-cons (λ u v. u ≢ v) t (without t ts) differ left.once);
+    }
+
+-- turning the front of a list by one brings the place that it ends with to the front
+pub turned : (ts : List Tile) (n : ℕ) (d : Tile) → n < length ts
+    → (let front = take (n + 1) ts in (drop (length front - 1) front ++ take (length front - 1) front) ++ drop (n + 1) ts ≡ get_or ts n d ∷ remove ts n)
+turned ts n d below =
+    let front : List Tile = take (n + 1) ts in
+    let one : length front - 1 ≡ n = omega (arith, length-take-le (n + 1) ts (omega arith)) in
+    let split : front ≡ take n ts ++ get_or ts n d ∷ [] = take_more ts n d below in
+    let long = length-take-le n ts (omega arith) in
+    let last : drop n front ≡ get_or ts n d ∷ [] = rw split (drop_at (take n ts) (get_or ts n d ∷ []) n long) in
+    let others : take n front ≡ take n ts = take-take n (n + 1) ts (omega arith) in
+    ap (λ k. (drop k front ++ take k front) ++ drop (n + 1) ts) one ∙ (λ i. (last i ++ others i) ++ drop (add-one n i) ts)
+
+-- where all pass the test, all are kept
+pub filter-all : (test : Tile → Bool) (ts : List Tile) → list_all test ts ≡ true → filter test ts ≡ ts
+filter-all test [] all = refl
+filter-all test (t ∷ ts) all =
+    let parts = and_parts (test t) (list_all test ts) all in
+    cond-true (test t) (t ∷ filter test ts) (filter test ts) parts.0 ∙ ap (λ rest. t ∷ rest) (filter-all test ts parts.1)
+
+module _ {F : Type 0} (R : F → Tile → Bool → F → Tile → Type 0) (f : F)
+    (same : (t : Tile) (b : Bool) (f' : F) (u : Tile) → R f t b f' u → (f' ≡ f) × (u ≡ t)) where
+  -- what a test keeps has what all had, whatever it answers
+  kept-All : (P : Tile → Type 0) (ts us : List Tile) → RetainsInTurn R f ts us → All P ts → (All P us) × (length us ≤ length ts)
+  kept-All P [] us kept all = rw kept (all, omega arith)
+  kept-All P (t ∷ ts) us kept all =
+      let said = same t kept.0 kept.1 kept.2 kept.3 in
+      let rest = kept-All P ts kept.4 (subst (λ h. RetainsInTurn R h ts kept.4) said.0 kept.5) (All-tail P t ts all) in
+      rw kept.6 (cond_both kept.0 (kept.2 ∷ kept.4) kept.4 (λ vs. (All P vs) × (length vs ≤ suc (length ts)))
+      (λ _. (All-cons P kept.2 kept.4 (subst P (sym said.1) (All-head P t ts all)) rest.0, omega (arith, rest.1)))
+      (λ _. (rest.0, omega (arith, rest.1))))
+
+  kept-once : (ts us : List Tile) → RetainsInTurn R f ts us → Once ts → Once us
+  kept-once [] us kept once = rw kept once
+  kept-once (t ∷ ts) us kept once =
+      let said = same t kept.0 kept.1 kept.2 kept.3 in
+      let later = subst (λ h. RetainsInTurn R h ts kept.4) said.0 kept.5 in
+      let rest = kept-once ts kept.4 later (Once-tail t ts once) in
+      let differ = (kept-All (λ u. t ≢ u) ts kept.4 later (λ k d below. once 0 (suc k) d (omega arith) (omega arith))).0 in
+      rw kept.6 (cond_both kept.0 (kept.2 ∷ kept.4) kept.4 Once
+      (λ _. AllPairs-cons (λ u v. u ≢ v) kept.2 kept.4 (subst (λ x. All (λ v. x ≢ v) kept.4) (sym said.1) differ) rest)
+      (λ _. rest))
+
+  pub IsImage-retained : (ts us : List Tile) → RetainsInTurn R f ts us → IsImage ts → IsImage us
+  IsImage-retained ts us kept image = record {
+    at_most = omega (arith, image.at_most, (kept-All (λ _. ⊤) ts us kept (λ k d below. tt)).1);
+    once = kept-once ts us kept image.once;
+  }
