@@ -13,9 +13,9 @@ use Rattle.pager_model.specs.Layouts.{Layout, covers, frame_for, to_break, is_fu
 use Rattle.pager_model.specs.Records.{is_used, none_used, has_empty, yield_up_to, yield_of}
 use Rattle.frame_pool.proofs.PartYields.{has_empty_some}
 use Rattle.reservations.proofs.ExtentLemmas.{eight_pos}
-use Rattle.reservations.proofs.HoldLemmas.{has_frame_bounds, known_record, unused_in}
+use Rattle.reservations.proofs.FrameIds.{has_frame_bounds, known_record, unused_in}
 use Rattle.reservations.proofs.YieldLemmas.{has_empty-yes}
-use Rattle.frame_pool.proofs.PagePlaces.{IsPageOf-covers}
+use Rattle.frame_pool.proofs.PagePlaces.{CoversPageOf-covers}
 use Rattle.frame_pool.specs.Laid.{IsLaid}
 use Rattle.frame_pool.proofs.FoundExtents.{MayBreak-found}
 use Rattle.frame_pool.proofs.AgeLists.{oldest_from-none}
@@ -145,7 +145,7 @@ to_break-full l size laid full = at (to_break l size) refl
 -- each place of a full reservation is used
 pub used-full : (l : Layout) (space page id : ℕ) (r : Reservation) → EachFull l → record_at l id ≡ Some r → covers space page r ≡ true → is_used l.used (frame_for page r) ≡ false → ⊥
 used-full l space page id r full is has unused =
-    let at = IsPageOf-covers space page r has in
+    let at = CoversPageOf-covers space page r has in
     let i = page - r.first in
     let none = yield_up_to-none (is_used l.used) r r.size (full.full id r is) in
     let size : 8 ^ (r.size - 0) ≡ 8 ^ r.size = (let same : r.size - 0 ≡ r.size = omega arith in ap (λ n. 8 ^ n) same) in

@@ -3,7 +3,7 @@ use Rattle.std.proofs.lemmas.List.FromFn.{fill_by_all}
 use Rattle.pager_model.specs.Records.{is_used}
 use Rattle.reservations.specs.declared.part.Part.{Part}
 use Rattle.reservations.specs.Parts.{told_part}
-use Rattle.reservations.proofs.places.Places.parts.Goals as goal
+use Rattle.reservations.proofs.places.UsedPlaces.parts.Goals as goal
 
 pub returns : goal.returns
 returns c =

@@ -2,7 +2,7 @@ use Rattle.std.proofs.Common.{◌≡◌, ◌<◌, ℕ, length, get_or}
 use Rattle.pager_model.specs.Records.{is_used}
 use Rattle.reservations.specs.declared.part.Part.{Part}
 use Rattle.reservations.specs.Parts.{told_part}
-use Rattle.reservations.proofs.places.Places.parts.Given as goal
+use Rattle.reservations.proofs.places.UsedPlaces.parts.Given as goal
 
 abbrev pub invariant-loop-i : goal.invariant-loop-i
 invariant-loop-i l =

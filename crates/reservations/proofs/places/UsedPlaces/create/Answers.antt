@@ -1,6 +1,6 @@
 use Rattle.std.proofs.Common.{◌≡◌, false, replicate, arith}
 use Rattle.reservations.proofs.CountLemmas.{AreCounts-none}
-use Rattle.reservations.proofs.places.Places.create.Goals as goal
+use Rattle.reservations.proofs.places.UsedPlaces.create.Goals as goal
 
 pub invariant_of-result : goal.invariant_of-result
 invariant_of-result c =

@@ -3,12 +3,13 @@ use Rattle.std.proofs.Common.{◌≡◌, ◌≢◌, ◌<◌, ◌≤◌, ℕ, ◌
 use Rattle.std.specs.List.{range_with_len}
 use Rattle.std.proofs.lemmas.List.{get_or-set_same, get_or-set_other, length-set, set-set, set_past, take_at, get_or_past, get_or-replicate, length-replicate}
 use Rattle.std.proofs.lemmas.Bool.{cases_eq, cases_lt, and_parts, and_from, leb-true, ltb-true, le-leb, lt-ltb, not-true, false≢true}
+use Rattle.std.proofs.lemmas.Option.{none-some, same_Some}
 use Rattle.std.proofs.lemmas.List.FromFn.{length-range_with_len, get_or-range_with_len}
 use Rattle.std.proofs.lemmas.List.Sums.{AllPass-from_list_all}
 use Rattle.pager_model.specs.Agreement.{has_frame}
 use Rattle.pager_model.specs.Records.{is_used, none_used}
 use Rattle.pager_model.specs.declared.reservation.Reservation.{Reservation}
-use Rattle.reservations.specs.Kept.{IsPlaced, ArePlaced, AreHeld, AreKept, IsFilled, first_frame}
+use Rattle.reservations.specs.Kept.{IsPlaced, ArePlaced, AreNoted, AreKept, IsFilled, first_frame}
 use Rattle.reservations.proofs.CountLemmas.{is_used-replicate}
 use Rattle.reservations.proofs.ExtentLemmas.{eight_pos}
 
@@ -20,16 +21,10 @@ has_frame_bounds f r has =
 pub has_frame_from : (f : ℕ) (r : Reservation) → r.frame ≤ f → f < r.frame + 8 ^ r.size → has_frame f (Some r) ≡ true
 has_frame_from f r low high = and_from _ _ (le-leb _ _ low) (lt-ltb _ _ high)
 
-pub Some-same : {A : Type 0} (a b : A) → Some a ≡ Some b → a ≡ b
-Some-same a b e = cc
-
-pub None-not_Some : {A : Type 0} (a : A) → None ≡ Some a → ⊥
-None-not_Some a e = cc
-
 pub known_record : (records : List (Option Reservation)) (id : ℕ) (r : Reservation) → get_or records id None ≡ Some r → id < length records
 known_record records id r is = elim (cases_lt id (length records)) [
   | inl within ↦ within
-  | inr past ↦ let none = get_or_past records id None past in absurd (None-not_Some r (sym none ∙ is))
+  | inr past ↦ let none = get_or_past records id None past in absurd (none-some r (sym none ∙ is))
 ]
 
 pub ArePlaced-set : (records : List (Option Reservation)) (id : ℕ) (o : Option Reservation) → ArePlaced records → id < length records → ((r : Reservation) → o ≡ Some r → IsPlaced (length records) id r) → ArePlaced (set records id o)
@@ -45,39 +40,39 @@ pub no_frame : (f : ℕ) (o : Option Reservation) → o ≡ None → has_frame f
 no_frame f o none has = false≢true (sym (ap (has_frame f) none) ∙ has)
 
 -- a reservation that is no longer noted leaves a gap
-module _ (records : List (Option Reservation)) (holders : List (Option ℕ)) (used : List Bool) (id : ℕ) (r : Reservation) (held : AreHeld records holders used 0 0) (placed : IsPlaced (length records) id r) (is : get_or records id None ≡ Some r) where
+module _ (records : List (Option Reservation)) (ids : List (Option ℕ)) (used : List Bool) (id : ℕ) (r : Reservation) (noted : AreNoted records ids used 0 0) (placed : IsPlaced (length records) id r) (is : get_or records id None ≡ Some r) where
   pub gone : (j : ℕ) → j ≡ id → get_or (set records id None) j None ≡ None
   gone j here = ap (λ k. get_or (set records id None) k None) here ∙ get_or-set_same records id None None (known_record records id r is)
 
   pub kept : (j : ℕ) → j ≢ id → get_or (set records id None) j None ≡ get_or records j None
   kept j other = get_or-set_other records id j None None other
 
-  -- the frames of the reservation, and their holder
+  -- the frames of the reservation, of which its own id is noted
   pub not_outside : (f j : ℕ) → j ≡ id → (f < id) ⊎ (id + 8 ^ r.size ≤ f) → has_frame f (get_or records j None) ≡ true → ⊥
   not_outside f j here out has =
       let at : has_frame f (Some r) ≡ true = sym (ap (has_frame f) (ap (λ k. get_or records k None) here ∙ is)) ∙ has in
       let bounds = has_frame_bounds f r at in
       elim out [ inl below ↦ omega (arith, bounds.0, placed.named) | inr past ↦ omega (arith, bounds.1, placed.named) ]
 
-  pub one_holder : (f j : ℕ) → id ≤ f → f < id + 8 ^ r.size → has_frame f (get_or records j None) ≡ true → j ≡ id
-  one_holder f j low high has =
-      let by_j = (held.noted f j (inr (omega arith))).1 has in
+  pub one_id : (f j : ℕ) → id ≤ f → f < id + 8 ^ r.size → has_frame f (get_or records j None) ≡ true → j ≡ id
+  one_id f j low high has =
+      let by_j = (noted.exact f j (inr (omega arith))).1 has in
       let mine = has_frame_from f r (omega (arith, placed.named)) (omega (arith, placed.named)) in
-      let by_id = (held.noted f id (inr (omega arith))).1 (ap (has_frame f) is ∙ mine) in
-      Some-same j id (sym by_j ∙ by_id)
+      let by_id = (noted.exact f id (inr (omega arith))).1 (ap (has_frame f) is ∙ mine) in
+      same_Some j id (sym by_j ∙ by_id)
 
-  pub AreHeld-open : AreHeld (set records id None) holders used id (id + 8 ^ r.size)
-  AreHeld-open = record {
-    noted = λ f j out.
-        let was = held.noted f j (inr (omega arith)) in
+  pub AreNoted-open : AreNoted (set records id None) ids used id (id + 8 ^ r.size)
+  AreNoted-open = record {
+    exact = λ f j out.
+        let was = noted.exact f j (inr (omega arith)) in
         elim (cases_eq j id) [
           | inl here ↦ (λ e. absurd (not_outside f j here out (was.0 e)), λ has. absurd (no_frame f _ (gone j here) has))
           | inr other ↦ (λ e. ap (has_frame f) (kept j other) ∙ was.0 e, λ has. was.1 (sym (ap (has_frame f) (kept j other)) ∙ has))
         ];
-    idle = λ f out. held.idle f (inr (omega arith));
+    idle = λ f out. noted.idle f (inr (omega arith));
     gap = λ f j low high has. elim (cases_eq j id) [
       | inl here ↦ no_frame f _ (gone j here) has
-      | inr other ↦ other (one_holder f j low high (sym (ap (has_frame f) (kept j other)) ∙ has))
+      | inr other ↦ other (one_id f j low high (sym (ap (has_frame f) (kept j other)) ∙ has))
     ];
   }
 
@@ -93,18 +88,18 @@ own_bounds used low w (Some r) belongs f has =
     (omega (arith, bounds.0, belongs.0), omega (arith, bounds.1, belongs.0, belongs.1))
 
 pub own_noted : (used : List Bool) (low w : ℕ) (o : Option Reservation) → Belongs used low w o → (f j : ℕ) → low ≤ f → f < low + w → (first_frame o ≡ Some j) ↔ ((j ≡ low) × (has_frame f o ≡ true))
-own_noted used low w None belongs f j at_least below = (λ e. absurd (None-not_Some j e), λ h. absurd (false≢true h.1))
+own_noted used low w None belongs f j at_least below = (λ e. absurd (none-some j e), λ h. absurd (false≢true h.1))
 own_noted used low w (Some r) belongs f j at_least below = (
-  λ e. (sym (Some-same r.frame j e) ∙ belongs.0, has_frame_from f r (omega (arith, belongs.0)) (omega (arith, belongs.0, belongs.1))),
+  λ e. (sym (same_Some r.frame j e) ∙ belongs.0, has_frame_from f r (omega (arith, belongs.0)) (omega (arith, belongs.0, belongs.1))),
   λ h. ap Some (belongs.0 ∙ sym h.0),
 )
 
 pub own_idle : (used : List Bool) (low w : ℕ) (o : Option Reservation) → Belongs used low w o → (f : ℕ) → low ≤ f → f < low + w → first_frame o ≡ None → is_used used f ≡ false
 own_idle used low w None belongs f at_least below e = belongs f at_least below
-own_idle used low w (Some r) belongs f at_least below e = absurd (None-not_Some r.frame (sym e))
+own_idle used low w (Some r) belongs f at_least below e = absurd (none-some r.frame (sym e))
 
 -- a part of the gap is closed
-module _ (records : List (Option Reservation)) (holders after : List (Option ℕ)) (used : List Bool) (low high w : ℕ) (o : Option Reservation) (held : AreHeld records holders used low high) (vacant : get_or records low None ≡ None) (within : low < length records) (inside : low + w ≤ high) (belongs : Belongs used low w o) (filled : IsFilled holders after low w (first_frame o)) where
+module _ (records : List (Option Reservation)) (ids after : List (Option ℕ)) (used : List Bool) (low high w : ℕ) (o : Option Reservation) (noted : AreNoted records ids used low high) (vacant : get_or records low None ≡ None) (within : low < length records) (inside : low + w ≤ high) (belongs : Belongs used low w o) (filled : IsFilled ids after low w (first_frame o)) where
   pub placed_at : (f j : ℕ) → j ≡ low → has_frame f (get_or (set records low o) j None) ≡ has_frame f o
   placed_at f j here = ap (has_frame f) (ap (λ k. get_or (set records low o) k None) here ∙ get_or-set_same records low o None within)
 
@@ -122,7 +117,7 @@ module _ (records : List (Option Reservation)) (holders after : List (Option ℕ
   pub noted_beside : (f j : ℕ) → (f < low) ⊎ (high ≤ f) → (get_or after f None ≡ Some j) ↔ (has_frame f (get_or (set records low o) j None) ≡ true)
   noted_beside f j out =
       let same = filled.outside f (beside f out) in
-      let was = held.noted f j out in
+      let was = noted.exact f j out in
       elim (cases_eq j low) [
         | inl here ↦ (
           λ e. absurd (no_frame f _ (ap (λ k. get_or records k None) here ∙ vacant) (was.0 (sym same ∙ e))),
@@ -138,7 +133,7 @@ module _ (records : List (Option Reservation)) (holders after : List (Option ℕ
         λ e. let is = own.0 (sym value ∙ e) in placed_at f j is.0 ∙ is.1,
         λ has. elim (cases_eq j low) [
           | inl here ↦ value ∙ own.1 (here, sym (placed_at f j here) ∙ has)
-          | inr other ↦ absurd (held.gap f j at_least (omega arith) (sym (same_at f j other) ∙ has))
+          | inr other ↦ absurd (noted.gap f j at_least (omega arith) (sym (same_at f j other) ∙ has))
         ],
       )
 
@@ -149,46 +144,46 @@ module _ (records : List (Option Reservation)) (holders after : List (Option ℕ
     | inr past ↦ inr (inr past)
   ]
 
-  pub AreHeld-place : AreHeld (set records low o) after used (low + w) high
-  AreHeld-place = record {
-    noted = λ f j out. elim (where_is f out) [ inl part ↦ noted_inside f j part.0 part.1 | inr old ↦ noted_beside f j old ];
+  pub AreNoted-place : AreNoted (set records low o) after used (low + w) high
+  AreNoted-place = record {
+    exact = λ f j out. elim (where_is f out) [ inl part ↦ noted_inside f j part.0 part.1 | inr old ↦ noted_beside f j old ];
     idle = λ f out none. elim (where_is f out) [
       | inl part ↦ own_idle used low w o belongs f part.0 part.1 (sym (filled.inside f part.0 part.1) ∙ none)
-      | inr old ↦ held.idle f old (sym (filled.outside f (beside f old)) ∙ none)
+      | inr old ↦ noted.idle f old (sym (filled.outside f (beside f old)) ∙ none)
     ];
     gap = λ f j at_least below has. elim (cases_eq j low) [
       | inl here ↦ let bounds = own_bounds used low w o belongs f (sym (placed_at f j here) ∙ has) in omega (arith, bounds.1)
-      | inr other ↦ held.gap f j (omega arith) below (sym (same_at f j other) ∙ has)
+      | inr other ↦ noted.gap f j (omega arith) below (sym (same_at f j other) ∙ has)
     ];
   }
 
-pub AreHeld-close : (records : List (Option Reservation)) (holders : List (Option ℕ)) (used : List Bool) (n : ℕ) → AreHeld records holders used n n → AreHeld records holders used 0 0
-AreHeld-close records holders used n held = record {
-  noted = λ f j _. held.noted f j (outside f);
-  idle = λ f _. held.idle f (outside f);
+pub AreNoted-close : (records : List (Option Reservation)) (ids : List (Option ℕ)) (used : List Bool) (n : ℕ) → AreNoted records ids used n n → AreNoted records ids used 0 0
+AreNoted-close records ids used n noted = record {
+  exact = λ f j _. noted.exact f j (outside f);
+  idle = λ f _. noted.idle f (outside f);
   gap = λ f j low high has. absurd (omega arith);
 }
   where
     outside : (f : ℕ) → (f < n) ⊎ (n ≤ f)
     outside f = cases_lt f n
 
-pub AreHeld-gap : (records : List (Option Reservation)) (holders : List (Option ℕ)) (used : List Bool) (low high : ℕ) → AreHeld records holders used 0 0 → ((f j : ℕ) → low ≤ f → f < high → has_frame f (get_or records j None) ≡ true → ⊥) → AreHeld records holders used low high
-AreHeld-gap records holders used low high held free = record {
-  noted = λ f j out. held.noted f j (inr (omega arith));
-  idle = λ f out. held.idle f (inr (omega arith));
+pub AreNoted-gap : (records : List (Option Reservation)) (ids : List (Option ℕ)) (used : List Bool) (low high : ℕ) → AreNoted records ids used 0 0 → ((f j : ℕ) → low ≤ f → f < high → has_frame f (get_or records j None) ≡ true → ⊥) → AreNoted records ids used low high
+AreNoted-gap records ids used low high noted free = record {
+  exact = λ f j out. noted.exact f j (inr (omega arith));
+  idle = λ f out. noted.idle f (inr (omega arith));
   gap = free;
 }
 
 -- no reservation begins in a gap
-pub vacant_in_gap : (records : List (Option Reservation)) (holders : List (Option ℕ)) (used : List Bool) (low high : ℕ) → ArePlaced records → AreHeld records holders used low high → low < high → get_or records low None ≡ None
-vacant_in_gap records holders used low high are held room = at (get_or records low None) refl
+pub vacant_in_gap : (records : List (Option Reservation)) (ids : List (Option ℕ)) (used : List Bool) (low high : ℕ) → ArePlaced records → AreNoted records ids used low high → low < high → get_or records low None ≡ None
+vacant_in_gap records ids used low high are noted room = at (get_or records low None) refl
   where
     at : (o : Option Reservation) → get_or records low None ≡ o → get_or records low None ≡ None
     at None is = is
     at (Some r) is =
         let placed = are low r is in
         let has = has_frame_from low r (omega (arith, placed.named)) (omega (arith, placed.named, eight_pos r.size)) in
-        absurd (held.gap low low (omega arith) room (ap (has_frame low) is ∙ has))
+        absurd (noted.gap low low (omega arith) room (ap (has_frame low) is ∙ has))
 
 -- nothing is noted at first
 pub none_at : {A : Type 0} → (n i : ℕ) (none : A) → get_or (replicate n none) i none ≡ none
@@ -199,34 +194,34 @@ none_at n i none = elim (cases_lt i n) [
 
 pub AreKept-none : (n : ℕ) → AreKept (replicate n None) (replicate n None) (replicate n false)
 AreKept-none n = record {
-  holders_long = length-replicate n None ∙ sym (length-replicate n None);
+  ids_long = length-replicate n None ∙ sym (length-replicate n None);
   used_long = length-replicate n false ∙ sym (length-replicate n None);
-  placed = λ id r is. absurd (None-not_Some r (sym (none_at n id None) ∙ is));
-  held = record {
-    noted = λ f j out. (λ e. absurd (None-not_Some j (sym (none_at n f None) ∙ e)), λ has. absurd (no_frame f _ (none_at n j None) has));
+  placed = λ id r is. absurd (none-some r (sym (none_at n id None) ∙ is));
+  noted = record {
+    exact = λ f j out. (λ e. absurd (none-some j (sym (none_at n f None) ∙ e)), λ has. absurd (no_frame f _ (none_at n j None) has));
     idle = λ f out none. is_used-replicate n f;
     gap = λ f j low high has. absurd (omega arith);
   };
 }
 
 -- a reservation is noted anew with the same frames, and one of its places becomes a used one
-module _ (records : List (Option Reservation)) (holders : List (Option ℕ)) (used : List Bool) (id : ℕ) (r : Reservation) (are : AreKept records holders used) (is : get_or records id None ≡ Some r) where
+module _ (records : List (Option Reservation)) (ids : List (Option ℕ)) (used : List Bool) (id : ℕ) (r : Reservation) (are : AreKept records ids used) (is : get_or records id None ≡ Some r) where
   pub place_known : (f : ℕ) → has_frame f (Some r) ≡ true → f < length used
   place_known f has =
       let placed = are.placed id r is in
       let bounds = has_frame_bounds f r has in
       omega (arith, bounds.1, placed.within, are.used_long)
 
-  pub AreHeld-used : (f : ℕ) → has_frame f (Some r) ≡ true → AreHeld records holders (set used f true) 0 0
-  AreHeld-used f has = record {
-    noted = are.held.noted;
+  pub AreNoted-used : (f : ℕ) → has_frame f (Some r) ≡ true → AreNoted records ids (set used f true) 0 0
+  AreNoted-used f has = record {
+    exact = are.noted.exact;
     idle = λ g out none. elim (cases_eq g f) [
       | inl here ↦
-          let mine = (are.held.noted f id (inr (omega arith))).1 (ap (has_frame f) is ∙ has) in
-          absurd (None-not_Some id (sym none ∙ ap (λ k. get_or holders k None) here ∙ mine))
-      | inr other ↦ get_or-set_other used f g true false other ∙ are.held.idle g out none
+          let mine = (are.noted.exact f id (inr (omega arith))).1 (ap (has_frame f) is ∙ has) in
+          absurd (none-some id (sym none ∙ ap (λ k. get_or ids k None) here ∙ mine))
+      | inr other ↦ get_or-set_other used f g true false other ∙ are.noted.idle g out none
     ];
-    gap = are.held.gap;
+    gap = are.noted.gap;
   }
 
   pub same_frames : (new : Reservation) → new.frame ≡ r.frame → new.size ≡ r.size → (f j : ℕ) → has_frame f (get_or (set records id (Some new)) j None) ≡ has_frame f (get_or records j None)
@@ -237,44 +232,44 @@ module _ (records : List (Option Reservation)) (holders : List (Option ℕ)) (us
     | inr other ↦ ap (has_frame f) (get_or-set_other records id j (Some new) None other)
   ]
 
-  pub AreKept-populate : (new : Reservation) (f : ℕ) → new.frame ≡ r.frame → new.size ≡ r.size → new.first ≡ r.first → has_frame f (Some r) ≡ true → AreKept (set records id (Some new)) holders (set used f true)
+  pub AreKept-populate : (new : Reservation) (f : ℕ) → new.frame ≡ r.frame → new.size ≡ r.size → new.first ≡ r.first → has_frame f (Some r) ≡ true → AreKept (set records id (Some new)) ids (set used f true)
   AreKept-populate new f frame size first has =
-      let held = AreHeld-used f has in
+      let noted = AreNoted-used f has in
       let same = same_frames new frame size in
       let placed = are.placed id r is in
       record {
-        holders_long = are.holders_long ∙ sym (length-set records id (Some new));
+        ids_long = are.ids_long ∙ sym (length-set records id (Some new));
         used_long = length-set used f true ∙ are.used_long ∙ sym (length-set records id (Some new));
         placed = ArePlaced-set records id (Some new) are.placed (known_record records id r is) (λ q e.
-            subst (λ p. IsPlaced (length records) id p) (Some-same new q e) (record {
+            subst (λ p. IsPlaced (length records) id p) (same_Some new q e) (record {
               named = frame ∙ placed.named;
               aligned = rw (frame, size) placed.aligned;
               within = rw (frame, size) placed.within;
               pages_aligned = rw (first, size) placed.pages_aligned;
             }));
-        held = record {
-          noted = λ g j out. (λ e. same g j ∙ (held.noted g j out).0 e, λ has'. (held.noted g j out).1 (sym (same g j) ∙ has'));
-          idle = held.idle;
+        noted = record {
+          exact = λ g j out. (λ e. same g j ∙ (noted.exact g j out).0 e, λ has'. (noted.exact g j out).1 (sym (same g j) ∙ has'));
+          idle = noted.idle;
           gap = λ g j low high has'. absurd (omega arith);
         };
       }
 
 -- a place that is no used one any more
-pub AreKept-vacate : (records : List (Option Reservation)) (holders : List (Option ℕ)) (used : List Bool) (f : ℕ) → AreKept records holders used → AreKept records holders (set used f false)
-AreKept-vacate records holders used f are = record {
-  holders_long = are.holders_long;
+pub AreKept-vacate : (records : List (Option Reservation)) (ids : List (Option ℕ)) (used : List Bool) (f : ℕ) → AreKept records ids used → AreKept records ids (set used f false)
+AreKept-vacate records ids used f are = record {
+  ids_long = are.ids_long;
   used_long = length-set used f false ∙ are.used_long;
   placed = are.placed;
-  held = record {
-    noted = are.held.noted;
+  noted = record {
+    exact = are.noted.exact;
     idle = λ g out none. elim (cases_eq g f) [
       | inl here ↦ elim (cases_lt f (length used)) [
         | inl known ↦ ap (is_used (set used f false)) here ∙ get_or-set_same used f false false known
-        | inr past ↦ ap (λ l. is_used l g) (set_past used f false past) ∙ are.held.idle g out none
+        | inr past ↦ ap (λ l. is_used l g) (set_past used f false past) ∙ are.noted.idle g out none
       ]
-      | inr other ↦ get_or-set_other used f g false false other ∙ are.held.idle g out none
+      | inr other ↦ get_or-set_other used f g false false other ∙ are.noted.idle g out none
     ];
-    gap = are.held.gap;
+    gap = are.noted.gap;
   };
 }
 
@@ -286,53 +281,53 @@ unused_in p first n none f low high =
     not-true (p f) (sym (ap (λ x. not (p x)) at) ∙ all (f - first) 0 (omega (arith, length-range_with_len first n)))
 
 -- a frame that no reservation has is no used place
-pub unused_if_free : (records : List (Option Reservation)) (holders : List (Option ℕ)) (used : List Bool) (f : ℕ) → AreKept records holders used → ((j : ℕ) → has_frame f (get_or records j None) ≡ false) → is_used used f ≡ false
-unused_if_free records holders used f are free = at (get_or holders f None) refl
+pub unused_if_free : (records : List (Option Reservation)) (ids : List (Option ℕ)) (used : List Bool) (f : ℕ) → AreKept records ids used → ((j : ℕ) → has_frame f (get_or records j None) ≡ false) → is_used used f ≡ false
+unused_if_free records ids used f are free = at (get_or ids f None) refl
   where
-    at : (o : Option ℕ) → get_or holders f None ≡ o → is_used used f ≡ false
-    at None is = are.held.idle f (inr (omega arith)) is
-    at (Some j) is = absurd (false≢true (sym (free j) ∙ (are.held.noted f j (inr (omega arith))).0 is))
+    at : (o : Option ℕ) → get_or ids f None ≡ o → is_used used f ≡ false
+    at None is = are.noted.idle f (inr (omega arith)) is
+    at (Some j) is = absurd (false≢true (sym (free j) ∙ (are.noted.exact f j (inr (omega arith))).0 is))
 
 -- a reservation without a used place is no longer noted
-pub AreKept-dissolve : (records : List (Option Reservation)) (holders after : List (Option ℕ)) (used : List Bool) (id : ℕ) (r : Reservation) → AreKept records holders used → get_or records id None ≡ Some r → none_used (is_used used) r.frame (8 ^ r.size) ≡ true → IsFilled holders after id (8 ^ r.size) None → length after ≡ length holders → AreKept (set records id None) after used
-AreKept-dissolve records holders after used id r are is none filled long =
+pub AreKept-dissolve : (records : List (Option Reservation)) (ids after : List (Option ℕ)) (used : List Bool) (id : ℕ) (r : Reservation) → AreKept records ids used → get_or records id None ≡ Some r → none_used (is_used used) r.frame (8 ^ r.size) ≡ true → IsFilled ids after id (8 ^ r.size) None → length after ≡ length ids → AreKept (set records id None) after used
+AreKept-dissolve records ids after used id r are is none filled long =
     let placed = are.placed id r is in
     let known = known_record records id r is in
-    let open_gap = AreHeld-open records holders used id r are.held placed is in
+    let open_gap = AreNoted-open records ids used id r are.noted placed is in
     let vacant : get_or (set records id None) id None ≡ None = get_or-set_same records id None None known in
     let belongs : Belongs used id (8 ^ r.size) None =
     λ f low high. unused_in (is_used used) r.frame (8 ^ r.size) none f (omega (arith, placed.named)) (omega (arith, placed.named)) in
-    let closed = AreHeld-place (set records id None) holders after used id (id + 8 ^ r.size) (8 ^ r.size) None open_gap vacant (omega (arith, known, length-set records id None)) (omega arith) belongs filled in
+    let closed = AreNoted-place (set records id None) ids after used id (id + 8 ^ r.size) (8 ^ r.size) None open_gap vacant (omega (arith, known, length-set records id None)) (omega arith) belongs filled in
     record {
-      holders_long = long ∙ are.holders_long ∙ sym (length-set records id None);
+      ids_long = long ∙ are.ids_long ∙ sym (length-set records id None);
       used_long = are.used_long ∙ sym (length-set records id None);
-      placed = ArePlaced-set records id None are.placed known (λ q e. absurd (None-not_Some q e));
-      held = rw set-set at (AreHeld-close _ _ _ _ closed);
+      placed = ArePlaced-set records id None are.placed known (λ q e. absurd (none-some q e));
+      noted = rw set-set at (AreNoted-close _ _ _ _ closed);
     }
 
 -- a reservation over frames of none is noted, and one of its places becomes a used one
-pub AreKept-add : (records : List (Option Reservation)) (holders after : List (Option ℕ)) (used : List Bool) (r : Reservation) (f : ℕ) → AreKept records holders used → IsPlaced (length records) r.frame r → ((g j : ℕ) → has_frame g (Some r) ≡ true → has_frame g (get_or records j None) ≡ false) → has_frame f (Some r) ≡ true → IsFilled holders after r.frame (8 ^ r.size) (Some r.frame) → length after ≡ length holders → AreKept (set records r.frame (Some r)) after (set used f true)
-AreKept-add records holders after used r f are placed apart has filled long =
+pub AreKept-add : (records : List (Option Reservation)) (ids after : List (Option ℕ)) (used : List Bool) (r : Reservation) (f : ℕ) → AreKept records ids used → IsPlaced (length records) r.frame r → ((g j : ℕ) → has_frame g (Some r) ≡ true → has_frame g (get_or records j None) ≡ false) → has_frame f (Some r) ≡ true → IsFilled ids after r.frame (8 ^ r.size) (Some r.frame) → length after ≡ length ids → AreKept (set records r.frame (Some r)) after (set used f true)
+AreKept-add records ids after used r f are placed apart has filled long =
     let low = r.frame in
     let high = r.frame + 8 ^ r.size in
     let known : low < length records = omega (arith, placed.within, eight_pos r.size) in
     let free : (g j : ℕ) → low ≤ g → g < high → has_frame g (get_or records j None) ≡ true → ⊥ =
     λ g j at_least below is. false≢true (sym (apart g j (has_frame_from g r at_least below)) ∙ is) in
-    let open_gap = AreHeld-gap records holders used low high are.held free in
-    let vacant = vacant_in_gap records holders used low high are.placed open_gap (omega (arith, eight_pos r.size)) in
+    let open_gap = AreNoted-gap records ids used low high are.noted free in
+    let vacant = vacant_in_gap records ids used low high are.placed open_gap (omega (arith, eight_pos r.size)) in
     let belongs : Belongs used low (8 ^ r.size) (Some r) = (refl, refl) in
-    let closed = AreHeld-place records holders after used low high (8 ^ r.size) (Some r) open_gap vacant known (omega arith) belongs filled in
-    let noted : AreKept (set records low (Some r)) after used = record {
-      holders_long = long ∙ are.holders_long ∙ sym (length-set records low (Some r));
+    let closed = AreNoted-place records ids after used low high (8 ^ r.size) (Some r) open_gap vacant known (omega arith) belongs filled in
+    let before : AreKept (set records low (Some r)) after used = record {
+      ids_long = long ∙ are.ids_long ∙ sym (length-set records low (Some r));
       used_long = are.used_long ∙ sym (length-set records low (Some r));
-      placed = ArePlaced-set records low (Some r) are.placed known (λ q e. subst (λ p. IsPlaced (length records) low p) (Some-same r q e) placed);
-      held = AreHeld-close _ _ _ _ closed;
+      placed = ArePlaced-set records low (Some r) are.placed known (λ q e. subst (λ p. IsPlaced (length records) low p) (same_Some r q e) placed);
+      noted = AreNoted-close _ _ _ _ closed;
     } in
     record {
-      holders_long = noted.holders_long;
-      used_long = length-set used f true ∙ noted.used_long;
-      placed = noted.placed;
-      held = AreHeld-used (set records low (Some r)) after used low r noted (get_or-set_same records low (Some r) None known) f has;
+      ids_long = before.ids_long;
+      used_long = length-set used f true ∙ before.used_long;
+      placed = before.placed;
+      noted = AreNoted-used (set records low (Some r)) after used low r before (get_or-set_same records low (Some r) None known) f has;
     }
 
 -- what is written through a whole slice is the slice

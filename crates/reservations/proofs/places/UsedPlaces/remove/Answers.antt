@@ -1,6 +1,6 @@
 use Rattle.std.proofs.Common.{arith}
 use Rattle.reservations.proofs.CountLemmas.{AreCounts-remove, some_used}
-use Rattle.reservations.proofs.places.Places.remove.Goals as goal
+use Rattle.reservations.proofs.places.UsedPlaces.remove.Goals as goal
 
 pub overflow_sub-index_mut : goal.overflow_sub-index_mut
 overflow_sub-index_mut c =

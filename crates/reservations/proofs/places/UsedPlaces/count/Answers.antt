@@ -1,7 +1,7 @@
 use Rattle.std.proofs.Common.{◌≡◌, arith, ap, ◌^◌}
 use Rattle.std.proofs.lemmas.List.{get_or_read}
 use Rattle.reservations.proofs.CountLemmas.{count_read, count_known}
-use Rattle.reservations.proofs.places.Places.count.Goals as goal
+use Rattle.reservations.proofs.places.UsedPlaces.count.Goals as goal
 
 pub returns-in-2 : goal.returns-in-2
 returns-in-2 c =

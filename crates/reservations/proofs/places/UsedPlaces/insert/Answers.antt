@@ -1,6 +1,6 @@
 use Rattle.std.proofs.Common.{arith}
 use Rattle.reservations.proofs.CountLemmas.{AreCounts-insert, count_fits}
-use Rattle.reservations.proofs.places.Places.insert.Goals as goal
+use Rattle.reservations.proofs.places.UsedPlaces.insert.Goals as goal
 
 pub overflow_add-index_mut : goal.overflow_add-index_mut
 overflow_add-index_mut c =

@@ -1,7 +1,7 @@
 use Rattle.std.proofs.Common.{sym, ◌∙◌, arith, ap}
 use Rattle.pager_model.specs.Records.{is_used}
 use Rattle.reservations.proofs.YieldLemmas.{yield_below, yield_below-found, yield_below-missed}
-use Rattle.reservations.proofs.places.Places.yield_of.Goals as goal
+use Rattle.reservations.proofs.places.UsedPlaces.yield_of.Goals as goal
 
 pub returns-then-has_empty : goal.returns-then-has_empty
 returns-then-has_empty c =

@@ -1,6 +1,6 @@
 use Rattle.std.proofs.Common.{◌≡◌, ◌-◌, ◌^◌, arith, ap, ◌∙◌}
 use Rattle.reservations.proofs.ExtentLemmas.{eight_pos, eight_small, part_of_eight, aligned_part, aligned_end}
-use Rattle.reservations.proofs.places.Places.part.Goals as goal
+use Rattle.reservations.proofs.places.UsedPlaces.part.Goals as goal
 
 pub overflow_mul-first : goal.overflow_mul-first
 overflow_mul-first c =

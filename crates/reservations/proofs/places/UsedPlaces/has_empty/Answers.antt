@@ -2,7 +2,7 @@ use Rattle.std.proofs.Common.{◌<◌, ◌≤◌, ◌-◌, ◌/◌, ◌^◌, ari
 use Rattle.pager_model.specs.Records.{is_used}
 use Rattle.reservations.proofs.ExtentLemmas.{eight_pos, eight_quotient, part_of_quotient, aligned_part, aligned_end}
 use Rattle.reservations.proofs.YieldLemmas.{has_empty-base, has_empty-yes, has_empty-no}
-use Rattle.reservations.proofs.places.Places.has_empty.Goals as goal
+use Rattle.reservations.proofs.places.UsedPlaces.has_empty.Goals as goal
 
 pub count-requires-clause-known : goal.count-requires-clause-known
 count-requires-clause-known c = omega (arith, eight_pos c.args.whole.now.size, c.requires.placed.within)
