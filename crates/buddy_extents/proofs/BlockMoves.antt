@@ -7,7 +7,7 @@ use Rattle.std.proofs.lemmas.List.FromFn.{length-map-range_with_len, get_or-map-
 use Rattle.std.proofs.lemmas.Nat.{pow_pos}
 use Rattle.pager_model.specs.FreeBlocks.{with_range}
 use Rattle.buddy_extents.specs.Blocks.{node, is_block, has_block, is_free, free_in, free_with, same_block, AreBlocks, InHand, IsBuddy}
-use Rattle.buddy_extents.proofs.Numbering.{node_below, same_node, node_of_same, wider, halves, known_together, in_range, of_range}
+use Rattle.buddy_extents.proofs.NodeNumbers.{node_below, same_node, node_of_same, wider, halves, known_together, in_range, of_range}
 use Rattle.buddy_extents.proofs.Ranges.{length-with_range, with_range_inside, with_range_outside, range_cases}
 
 -- two tests that hold of each other are one
