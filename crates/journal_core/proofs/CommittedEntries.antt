@@ -15,8 +15,8 @@ use Rattle.journal_core.specs.Journals.{AuthorState, PassState}
 use Rattle.journal_core.specs.Parts.{part_list, own_list}
 use Rattle.journal_core.specs.Seats.{author_view, pass_view}
 use Rattle.journal_core.specs.Views.{most_entries, MayGrow, joined}
-use Rattle.journal_core.proofs.Bounds.{hit-same}
-use Rattle.journal_core.proofs.Histories.{own_entries}
+use Rattle.journal_core.proofs.HistoryLength.{hit-same}
+use Rattle.journal_core.proofs.HistoryLists.{own_entries}
 
 claim_on_something : (need : Option Need) (space : Option ℕ) (frames : Bool) → ClaimIsOn need space frames → frames ≡ true
 claim_on_something None space frames on = on.1

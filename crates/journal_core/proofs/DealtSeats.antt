@@ -16,8 +16,8 @@ use Rattle.journal_core.specs.Journals.{JournalName, new_author, new_pass, new_p
 use Rattle.journal_core.specs.Parts.{part_list, own_list}
 use Rattle.journal_core.specs.Seats.{author_view, pass_view, author_of, pass_of, IsAuthor, IsPass}
 use Rattle.journal_core.specs.Views.{most_entries, most_processors, one_below, blank_part, blank_own, Knows, Stands, opener, first_author, without_author, first_pass, without_pass}
-use Rattle.journal_core.proofs.Bounds.{hit, one_below-more}
-use Rattle.journal_core.proofs.Histories.{part_list-nil}
+use Rattle.journal_core.proofs.HistoryLength.{hit, one_below-more}
+use Rattle.journal_core.proofs.HistoryLists.{part_list-nil}
 
 -- a list made from the numbers from a on, one by one
 module _ {X : Type 0} (f : X → ℕ) (make : ℕ → X) (is : (n : ℕ) → f (make n) ≡ n) where

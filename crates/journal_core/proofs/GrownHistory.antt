@@ -18,11 +18,11 @@ use Rattle.journal_core.specs.declared.view.Part.{Part}
 use Rattle.journal_core.specs.declared.view.Own.{Own}
 use Rattle.journal_core.specs.Parts.{part_list, names_part, own_list}
 use Rattle.journal_core.specs.Views.{most_entries, is_part, is_own, authors_of, passes_of, Knows, Stands, Holds, MayGrow, Commits, part_grown, own_grown, grown}
-use Rattle.journal_core.proofs.Lists.{total_set, total_two}
+use Rattle.journal_core.proofs.ViewTotals.{total_set, total_two}
 use Rattle.pager_model.proofs.Histories.{IsLegal-push}
-use Rattle.journal_core.proofs.Histories.{part_list-push, part_list-same, own_list-push, own_list-same, entries_of-push, entries_of-same}
-use Rattle.journal_core.proofs.Bounds.{length_bound, hit-same, one_below-le}
-use Rattle.journal_core.proofs.Moves.{found_is, meets}
+use Rattle.journal_core.proofs.HistoryLists.{part_list-push, part_list-same, own_list-push, own_list-same, entries_of-push, entries_of-same}
+use Rattle.journal_core.proofs.HistoryLength.{length_bound, hit-same, one_below-le}
+use Rattle.journal_core.proofs.RuleSteps.{found_is, meets}
 
 -- growing changes no count
 parts_counted : (e : Entry) (part : ℕ) (ps : List Part) → count_by (is_part part) (map (part_grown e) ps) ≡ count_by (is_part part) ps

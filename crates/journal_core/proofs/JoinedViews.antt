@@ -12,9 +12,9 @@ use Rattle.journal_core.specs.Journals.{AuthorState, PassState}
 use Rattle.journal_core.specs.Parts.{part_list, names_part}
 use Rattle.journal_core.specs.Seats.{author_view, pass_view}
 use Rattle.journal_core.specs.Views.{most_entries, Meets, MayGrow, joined}
-use Rattle.journal_core.proofs.Bounds.{hit, hit-same}
-use Rattle.journal_core.proofs.Commits.{part_list-space, part_list-frames, ordered, short_enough}
-use Rattle.journal_core.proofs.Histories.{own_entries}
+use Rattle.journal_core.proofs.HistoryLength.{hit, hit-same}
+use Rattle.journal_core.proofs.CommittedEntries.{part_list-space, part_list-frames, ordered, short_enough}
+use Rattle.journal_core.proofs.HistoryLists.{own_entries}
 
 pub board_one : (s q m : Me Unit View) (p : PassState) (a : AuthorState) → s ≡ (pass_view p, []) → q ≡ (author_view a, []) → m ≡ (joined s.0 q.0, s.1) → m.0 ≡ joined (pass_view p) (author_view a)
 board_one s q m p a pass author is = ap (λ (x : Me Unit View). x.0) is ∙ ap₂ (λ (x y : Me Unit View). joined x.0 y.0) pass author

@@ -11,9 +11,9 @@ use Rattle.pager_model.specs.Legal.{entries_in}
 use Rattle.journal_core.specs.Journals.{PassState}
 use Rattle.journal_core.specs.Parts.{numbered_from, numbered, is_numbered_of, own_list}
 use Rattle.journal_core.specs.Places.{put, placed, placed_all}
-use Rattle.journal_core.proofs.Bounds.{up_from, count_of}
-use Rattle.journal_core.proofs.Histories.{own_entries}
-use Rattle.journal_core.proofs.Lists.{each_append}
+use Rattle.journal_core.proofs.HistoryLength.{up_from, count_of}
+use Rattle.journal_core.proofs.HistoryLists.{own_entries}
+use Rattle.journal_core.proofs.ViewTotals.{each_append}
 
 module _ {A : Type 0} (P : A → Type 0) where
   each_filter_by : (p : A → Bool) (x : A) (xs : List A) (b : Bool) → p x ≡ b → P x → AllByRecursion P (filter p xs) → AllByRecursion P (filter p (x ∷ xs))

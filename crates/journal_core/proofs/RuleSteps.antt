@@ -13,7 +13,7 @@ use Rattle.journal_core.specs.declared.view.View.{View}
 use Rattle.journal_core.specs.declared.view.Part.{Part}
 use Rattle.journal_core.specs.declared.view.Own.{Own}
 use Rattle.journal_core.specs.Views.{authors_of, passes_of, Knows, Stands, Holds, Meets, Looks, first_author, without_author, first_pass, without_pass, joined, spent, rest_view, opener, Entered}
-use Rattle.journal_core.proofs.Lists.{total_set, each_append, each_take, each_drop, count_take_drop}
+use Rattle.journal_core.proofs.ViewTotals.{total_set, each_append, each_take, each_drop, count_take_drop}
 
 off : false ≡ true → ⊥
 off e = true≢false (sym e)
