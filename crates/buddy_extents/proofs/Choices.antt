@@ -7,9 +7,9 @@ use Rattle.std.specs.Option.{option_or}
 use Rattle.bit_set.specs.Bits.{IsFirstFrom}
 use Rattle.pager_model.specs.FreeBlocks.{run_free, block_start, block_free, is_maximal, lowest_block, least_block}
 use Rattle.buddy_extents.specs.Blocks.{first_node, node, is_block, is_free, free_in, AreBlocks, IsBuddy}
-use Rattle.buddy_extents.proofs.Numbering.{IsBuddy-xor, node_of_same, next_first_node, later_first_node, wider, wider_up, known_together, in_range, of_range}
+use Rattle.buddy_extents.proofs.NodeNumbers.{IsBuddy-xor, node_of_same, next_first_node, later_first_node, wider, wider_up, known_together, in_range, of_range}
 use Rattle.buddy_extents.proofs.Runs.{run_free_from, run_free_frames, run_free_within, NoneBefore, lowest_block-first, lowest_block-none, least_here, least_later}
-use Rattle.buddy_extents.proofs.Moves.{same_test, is_free-block, is_free-none, length-free_in, get_or-free_in}
+use Rattle.buddy_extents.proofs.BlockMoves.{same_test, is_free-block, is_free-none, length-free_in, get_or-free_in}
 
 -- where a block isn't in, nor one round it, some frame of it isn't free
 pub some_not_free : (nodes : List Bool) (frames : ℕ) → AreBlocks nodes frames → (n frame : ℕ) → n ≤ 9 → frame < 32768 → ((m : ℕ) → n ≤ m → m ≤ 9 → is_block nodes m frame ≡ false) → (any : ℕ) × (any < 32768) × (any / 2 ^ n ≡ frame / 2 ^ n) × (is_free nodes any ≡ false)

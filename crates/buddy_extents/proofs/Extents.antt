@@ -10,10 +10,10 @@ use Rattle.bit_set.specs.Bits.{IsFirstFrom}
 use Rattle.pager_model.specs.Extents.{IsExtent}
 use Rattle.pager_model.specs.FreeBlocks.{choice, with_range}
 use Rattle.buddy_extents.specs.Blocks.{first_node, node, free_in, AreBlocks, InHand, IsFree}
-use Rattle.buddy_extents.proofs.Numbering.{first_frame_known, later_first_node, order_by_zeros}
+use Rattle.buddy_extents.proofs.NodeNumbers.{first_frame_known, later_first_node, order_by_zeros}
 use Rattle.buddy_extents.proofs.Ranges.{free_count-take, free_count-give}
 use Rattle.buddy_extents.proofs.Runs.{eight_pow, aligned_smaller, aligned_block, run_free-choice, choice_within}
-use Rattle.buddy_extents.proofs.Moves.{lift, taken, given, length-free_in}
+use Rattle.buddy_extents.proofs.BlockMoves.{lift, taken, given, length-free_in}
 use Rattle.buddy_extents.proofs.Choices.{first_is_least, none_is_least}
 
 -- a number of the set is a node

@@ -1,6 +1,6 @@
 pub mod Choices
 pub mod Extents
-pub mod Moves
-pub mod Numbering
+pub mod BlockMoves
+pub mod NodeNumbers
 pub mod Ranges
 pub mod Runs

@@ -6,6 +6,7 @@ use Rattle.std.proofs.lemmas.Bool.{cases_eq, cond-true, eq-eqb, ne_eqb, or_from}
 use Rattle.std.proofs.lemmas.List.{get_or-set_same, get_or-set_other}
 use Rattle.std.proofs.lemmas.List.Elements.{All-nil, All-head}
 use Rattle.std.proofs.lemmas.List.Folds.{list_any_none}
+use Rattle.std.proofs.lemmas.Option.{none-some, same_Some}
 use Rattle.pager_model.specs.declared.reservation.Reservation.{Reservation}
 use Rattle.pager_model.specs.Ages.{Lists, Member, is_before, list_at, with_list, with_member, without_member, oldest_in}
 use Rattle.pager_model.specs.Agreement.{has_frame}
@@ -16,7 +17,7 @@ use Rattle.reservation_lists.specs.Kept.{has_member_of, is_listed}
 use Rattle.reservation_lists.proofs.Members.{All-with_member}
 use Rattle.reservations.specs.Kept.{ArePlaced}
 use Rattle.frame_pool.proofs.PartYields.{same_size_from}
-use Rattle.reservations.proofs.HoldLemmas.{None-not_Some, Some-same, known_record}
+use Rattle.reservations.proofs.FrameIds.{known_record}
 use Rattle.frame_pool.specs.Listed.{AreListed}
 use Rattle.frame_pool.proofs.MemberOrder.{with_member-swap, without_member-with}
 use Rattle.frame_pool.proofs.YieldByPlaces.{yield_of-agree}
@@ -51,7 +52,7 @@ with_listed-swap used k (Some r) (Some q) ms =
 
 -- a list is the list without a reservation, and with it again
 pub list_of-open : (used : List Bool) (k : ℕ) (records : List (Option Reservation)) (id : ℕ) (r : Reservation) → get_or records id None ≡ Some r → list_of used k records ≡ with_listed used k (Some r) (list_of used k (set records id None))
-list_of-open used k [] id r is = absurd (None-not_Some r is)
+list_of-open used k [] id r is = absurd (none-some r is)
 list_of-open used k (o ∷ rs) zero r is = ap (λ p. with_listed used k p (list_of used k rs)) is
 list_of-open used k (o ∷ rs) (suc id) r is =
     ap (with_listed used k o) (list_of-open used k rs id r is)
@@ -87,16 +88,16 @@ Yields used k records id = (r : Reservation) × (get_or records id None ≡ Some
 
 -- what holds of all members holds of the first
 oldest_in-holds : (P : ℕ → Type 0) (ms : List Member) (id : ℕ) → All (λ m. P m.frame) ms → oldest_in ms ≡ Some id → P id
-oldest_in-holds P [] id all found = absurd (None-not_Some id found)
-oldest_in-holds P (m ∷ ms) id all found = subst P (Some-same m.frame id found) (All-head (λ n. P n.frame) m ms all)
+oldest_in-holds P [] id all found = absurd (none-some id found)
+oldest_in-holds P (m ∷ ms) id all found = subst P (same_Some m.frame id found) (All-head (λ n. P n.frame) m ms all)
 
 -- a list with a member has a first one
 oldest_in-with_member : (new : Member) (ms : List Member) → oldest_in (with_member new ms) ≡ None → ⊥
-oldest_in-with_member new [] none = None-not_Some new.frame (sym none)
+oldest_in-with_member new [] none = none-some new.frame (sym none)
 oldest_in-with_member new (m ∷ ms) none =
     elim (is_before new m) as (λ v. oldest_in (cond v (new ∷ (m ∷ ms)) (m ∷ with_member new ms)) ≡ None → ⊥) [
-      | true ↦ λ h. None-not_Some new.frame (sym h)
-      | false ↦ λ h. None-not_Some m.frame (sym h)
+      | true ↦ λ h. none-some new.frame (sym h)
+      | false ↦ λ h. none-some m.frame (sym h)
     ] none
 
 -- what stands first in a list has the list's yield, and where nothing does no reservation has it
@@ -116,7 +117,7 @@ oldest_in-none used k records id r none is yields =
 others_of_list : (used : List Bool) (k : ℕ) (records : List (Option Reservation)) (id : ℕ) (r : Reservation) → ArePlaced records → get_or records id None ≡ Some r → All (λ m. m.frame ≢ r.frame) (list_of used k (set records id None))
 others_of_list used k records id r placed is =
     All-list_of (λ m. m.frame ≢ r.frame) used k (set records id None) (λ at q there yields same. elim (cases_eq at id) [
-      | inl here ↦ None-not_Some q (sym (ap (λ n. get_or (set records id None) n None) here ∙ get_or-set_same records id None None (known_record records id r is)) ∙ there)
+      | inl here ↦ none-some q (sym (ap (λ n. get_or (set records id None) n None) here ∙ get_or-set_same records id None None (known_record records id r is)) ∙ there)
       | inr other ↦
           let was = sym (get_or-set_other records id at None None other) ∙ there in
           other (sym (placed at q was).named ∙ same ∙ (placed id r is).named)
@@ -145,7 +146,7 @@ list_of-out used k records id r is other = list_of-open used k records id r is �
 
 -- a reservation has one yield
 one_yield : (used : List Bool) (r : Reservation) (k j : ℕ) → yield_of (is_used used) r ≡ Some k → j ≢ k → yield_of (is_used used) r ≡ Some j → ⊥
-one_yield used r k j yields other also = other (Some-same j k (sym also ∙ yields))
+one_yield used r k j yields other also = other (same_Some j k (sym also ∙ yields))
 
 -- the lists after a reservation goes out, and after it comes in
 pub AreListed-without : (lists : Lists) (used : List Bool) (records : List (Option Reservation)) (id k : ℕ) (r : Reservation) → AreListed lists used records → ArePlaced records → get_or records id None ≡ Some r → yield_of (is_used used) r ≡ Some k → k < 3 → AreListed (with_list lists k (without_member (member_of r) (list_at lists k))) used (set records id None)
@@ -187,12 +188,12 @@ is_listed-none lists used records id are placed none =
     ∙ list_any_none (λ m. eqb m.frame id) (list_of used k records) (All-list_of (λ m. eqb m.frame id ≡ false) used k records (λ at r is yields.
     ne_eqb r.frame id (λ same.
     let here : at ≡ id = sym (placed at r is).named ∙ same in
-    None-not_Some r (sym none ∙ sym (ap (λ n. get_or records n None) here) ∙ is)))) in
+    none-some r (sym none ∙ sym (ap (λ n. get_or records n None) here) ∙ is)))) in
     or_from _ _ (missing 0 (omega arith)) (or_from _ _ (missing 1 (omega arith)) (missing 2 (omega arith)))
 
 -- the first frame of the first list from k on that isn't empty is that of a reservation with a yield of at least k
 pub oldest_from-found : (l : Layout) (k count id : ℕ) → ArePlaced l.records → oldest_from l k count ≡ Some id → (r : Reservation) × (j : ℕ) × (k ≤ j) × (j < k + count) × (get_or l.records id None ≡ Some r) × (yield_of (is_used l.used) r ≡ Some j)
-oldest_from-found l k zero id placed found = absurd (None-not_Some id found)
+oldest_from-found l k zero id placed found = absurd (none-some id found)
 oldest_from-found l k (suc count) id placed found =
     elim (oldest_of l k) as (λ o. oldest_of l k ≡ o → option_or o (oldest_from l (k + 1) count) ≡ Some id → (r : Reservation) × (j : ℕ) × (k ≤ j) × (j < k + suc count) × (get_or l.records id None ≡ Some r) × (yield_of (is_used l.used) r ≡ Some j)) [
       | None ↦ λ none later.
@@ -212,5 +213,5 @@ oldest_from-none l k (suc count) none j low high id r is yields =
         | inl same ↦ oldest_in-none l.used k l.records id r empty is (yields ∙ ap Some same)
         | inr other ↦ oldest_from-none l (k + 1) count later j (omega arith) (omega arith) id r is yields
       ]
-      | Some first ↦ λ is here. None-not_Some first (sym here)
+      | Some first ↦ λ is here. none-some first (sym here)
     ] refl none

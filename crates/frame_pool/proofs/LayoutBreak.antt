@@ -5,13 +5,14 @@ use Rattle.std.specs.Option.{option_map_or}
 use Rattle.std.proofs.lemmas.Bool.{cases_Bool, cases_lt, cond-true, cond-false, false≢true, lt-ltb, le-ltb}
 use Rattle.std.proofs.lemmas.List.FromFn.{get_or-range_with_len}
 use Rattle.std.proofs.lemmas.List.Folds.{list_any_at}
+use Rattle.std.proofs.lemmas.Option.{none-some, same_Some}
 use Rattle.pager_model.specs.declared.reservation.Reservation.{Reservation}
 use Rattle.pager_model.specs.Agreement.{has_frame}
 use Rattle.pager_model.specs.Layouts.{Layout, split_layout, break_layout, part_with, narrows_to, narrow_layout, split_on, record_at}
 use Rattle.pager_model.specs.Records.{is_used, none_used, has_empty, yield_of, part_of, is_part_empty, kept_part, same_size, lowest_as_wide, goes_on_at}
 use Rattle.reservations.specs.Kept.{IsPlaced}
 use Rattle.reservations.proofs.CountLemmas.{extent_of_frame}
-use Rattle.reservations.proofs.HoldLemmas.{has_frame_bounds, Some-same, None-not_Some, unused_in}
+use Rattle.reservations.proofs.FrameIds.{has_frame_bounds, unused_in}
 use Rattle.reservations.proofs.SplitLemmas.{kept_cases}
 use Rattle.reservations.proofs.YieldLemmas.{yield_below, yield_below-found, yield_below-missed}
 use Rattle.frame_pool.specs.Laid.{IsLaid}
@@ -72,22 +73,22 @@ kept_each used r i one none = elim (kept_cases used r i) [
 
 -- the first number of a range that passes is one of the range
 pub find_below : (p : ℕ → Bool) (a n i : ℕ) → find p (range_with_len a n) ≡ Some i → i < a + n
-find_below p a zero i found = absurd (None-not_Some i found)
+find_below p a zero i found = absurd (none-some i found)
 find_below p a (suc n) i found = elim (cases_Bool (p a)) [
-  | inl here ↦ let same = Some-same a i (sym (cond-true _ _ _ here) ∙ found) in omega (arith, same)
+  | inl here ↦ let same = same_Some a i (sym (cond-true _ _ _ here) ∙ found) in omega (arith, same)
   | inr missed ↦ let rest = find_below p (a + 1) n i (sym (cond-false _ _ _ missed) ∙ found) in omega (arith, rest)
 ]
 
 -- a breaking goes on at a part that is kept
 pub goes_on_part : (used : ℕ → Bool) (r p : Reservation) → goes_on_at used r ≡ Some p → (i : ℕ) × (i < 8) × (part_of r i ≡ p) × (kept_part used r i ≡ Some (part_of r i))
 goes_on_part used r p goes = elim (cases_Bool (list_any (is_part_empty used r) (range_with_len 0 8))) [
-  | inl empty ↦ absurd (None-not_Some p (sym (cond-true _ _ _ empty) ∙ goes))
+  | inl empty ↦ absurd (none-some p (sym (cond-true _ _ _ empty) ∙ goes))
   | inr none ↦
       elim (lowest_as_wide used r) as (λ o. lowest_as_wide used r ≡ o → option_map (part_of r) o ≡ Some p → (i : ℕ) × (i < 8) × (part_of r i ≡ p) × (kept_part used r i ≡ Some (part_of r i))) [
-        | None ↦ λ no_one at. absurd (None-not_Some p at)
+        | None ↦ λ no_one at. absurd (none-some p at)
         | Some i ↦ λ found at.
             let one : i < 8 = find_below (λ m. same_size (yield_of used (part_of r m)) (yield_of used r)) 0 8 i found in
-            (i, one, Some-same (part_of r i) p at, kept_each used r i one none)
+            (i, one, same_Some (part_of r i) p at, kept_each used r i one none)
       ] refl (sym (cond-false _ _ _ none) ∙ goes)
 ]
 
@@ -114,9 +115,9 @@ Settles-break l id r laid is = Settles-break_over r.size l id r refl laid is
 
 -- the largest size below a bound that has an empty extent is below the bound
 pub yield_below-less : (used : ℕ → Bool) (r : Reservation) (n k : ℕ) → yield_below used r n ≡ Some k → k < n
-yield_below-less used r zero k is = absurd (None-not_Some k is)
+yield_below-less used r zero k is = absurd (none-some k is)
 yield_below-less used r (suc m) k is = elim (cases_Bool (has_empty used r m)) [
-  | inl here ↦ let same = Some-same m k (sym (yield_below-found used r (suc m) m refl here) ∙ is) in omega (arith, same)
+  | inl here ↦ let same = same_Some m k (sym (yield_below-found used r (suc m) m refl here) ∙ is) in omega (arith, same)
   | inr missed ↦ let rest = yield_below-less used r m k (sym (yield_below-missed used r (suc m) m refl missed) ∙ is) in omega (arith, rest)
 ]
 

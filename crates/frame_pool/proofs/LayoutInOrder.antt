@@ -3,24 +3,25 @@ use Rattle.std.proofs.Common.{◌≡◌, ℕ, suc, ◌-◌, ◌^◌, ◌<◌, �
 use Rattle.std.specs.Option.{IfSome, IfNone, IsSome, IsSomeAnd, option_map_or}
 use Rattle.std.proofs.lemmas.Bool.{cases_lt, cases_Bool, cond-true, cond-false, lt-ltb, le-ltb, false≢true}
 use Rattle.std.proofs.lemmas.List.{get_or-set_same, get_or-set_other, length-set, set-set}
+use Rattle.std.proofs.lemmas.Option.{none-some, same_Some}
 use Rattle.pager_model.specs.declared.reservation.Reservation.{Reservation}
 use Rattle.pager_model.specs.Ages.{Lists}
 use Rattle.pager_model.specs.Agreement.{has_frame}
 use Rattle.pager_model.specs.Layouts.{Layout, frame_for, stamped, populated, split_layout, part_with, narrows_to, narrow_layout, vacate_layout, is_last, split_on, record_at, is_free}
 use Rattle.pager_model.specs.Records.{Records, is_used, yield_of, part_of, split_records}
 use Rattle.pager_model.specs.FreeBlocks.{with_range}
-use Rattle.reservation_lists.specs.Kept.{Kept, is_listed}
-use Rattle.reservations.specs.Kept.{HasPage, IsPlaced, ArePlaced}
+use Rattle.reservation_lists.specs.Kept.{KeptLists, is_listed}
+use Rattle.reservations.specs.Kept.{CoversPage, IsPlaced, ArePlaced}
 use Rattle.frame_pool.proofs.PartRecords.{used_part}
 use Rattle.reservations.proofs.ExtentLemmas.{part_inside, part_of_eight}
-use Rattle.reservations.proofs.HoldLemmas.{ArePlaced-set, has_frame_bounds, has_frame_from, known_record, None-not_Some, Some-same}
+use Rattle.reservations.proofs.FrameIds.{ArePlaced-set, has_frame_bounds, has_frame_from, known_record}
 use Rattle.reservations.proofs.SplitLemmas.{split_records-open}
 use Rattle.frame_pool.specs.Laid.{IsLaid}
 use Rattle.frame_pool.specs.Listed.{AreListed, IsInOrder, WasSplit}
 use Rattle.frame_pool.proofs.LayoutBreak.{placed_own, alone_own, record_at-part, part_with-has, yield_less}
 use Rattle.frame_pool.proofs.LayoutRelease.{had}
 use Rattle.frame_pool.proofs.AgeLists.{list_of-used, is_listed-none, AreListed-full}
-use Rattle.frame_pool.proofs.PagePlaces.{covers-IsPageOf, frame_in-is, used_in-unused}
+use Rattle.frame_pool.proofs.PagePlaces.{covers-CoversPageOf, frame_in-is, used_in-unused}
 use Rattle.frame_pool.proofs.LayoutPlacing.{MayPut-stamped}
 use Rattle.frame_pool.proofs.LayoutWithRecord.{IsLaid-put}
 use Rattle.frame_pool.proofs.LayoutSplit.{Settles-split}
@@ -41,22 +42,22 @@ some_of (Some x) P holds = (x, refl, holds)
 -- Which reservation has a frame.
 
 -- a used frame is one of a reservation
-pub owner_is : (l : Layout) (frame : ℕ) (o : Option Reservation) → IsLaid l → is_used l.used frame ≡ true → IfNone o ((id : ℕ) → has_frame frame (record_at l id) ≡ false) → IsSome o
-owner_is l frame None laid used none =
+pub reservation_is : (l : Layout) (frame : ℕ) (o : Option Reservation) → IsLaid l → is_used l.used frame ≡ true → IfNone o ((id : ℕ) → has_frame frame (record_at l id) ≡ false) → IsSome o
+reservation_is l frame None laid used none =
     let place = laid.places frame used in
     absurd (false≢true (sym (none place.0) ∙ place.1))
-owner_is l frame (Some r) laid used none = refl
+reservation_is l frame (Some r) laid used none = refl
 
 -- the frame that a reservation joins to a page of it is one of its frames
-pub place_has : (r : Reservation) (page : ℕ) → HasPage r page → has_frame (frame_for page r) (Some r) ≡ true
+pub place_has : (r : Reservation) (page : ℕ) → CoversPage r page → has_frame (frame_for page r) (Some r) ≡ true
 place_has r page has = has_frame_from (frame_for page r) r (omega arith) (omega (arith, has.0, has.1))
 
 -- Populating.
 
 -- a page's place in a reservation is used from then on, and the reservation is younger
-pub IsLaid-populated : (l : Layout) (r : Reservation) (stamp page : ℕ) → IsLaid l → record_at l r.frame ≡ Some r → HasPage r page → is_used l.used (frame_for page r) ≡ false → IsLaid (populated stamp page l r).layout
+pub IsLaid-populated : (l : Layout) (r : Reservation) (stamp page : ℕ) → IsLaid l → record_at l r.frame ≡ Some r → CoversPage r page → is_used l.used (frame_for page r) ≡ false → IsLaid (populated stamp page l r).layout
 IsLaid-populated l r stamp page laid is has unused =
-    let covers_page = covers-IsPageOf r.space page r (record { space_is = refl; low = has.0; high = has.1 }) in
+    let covers_page = covers-CoversPageOf r.space page r (record { space_is = refl; low = has.0; high = has.1 }) in
     let none = frame_in-is l r.space page r.frame r laid is covers_page ∙ used_in-unused l page r unused in
     IsLaid-put l r.space page (stamped r stamp) l.free (MayPut-stamped l stamp r.space page r.frame r laid is covers_page none)
 
@@ -83,7 +84,7 @@ module _ (l : Layout) (id : ℕ) (r : Reservation) (laid : IsLaid l) (is : recor
 
   -- the others are in their places
   rest_placed : ArePlaced (set l.records id None)
-  rest_placed = ArePlaced-set l.records id None laid.placed (known_record l.records id r is) (λ q e. absurd (None-not_Some q e))
+  rest_placed = ArePlaced-set l.records id None laid.placed (known_record l.records id r is) (λ q e. absurd (none-some q e))
 
   -- lists of the others have no member of it
   pub rest_unlisted : (lists : Lists) → AreListed lists l.used (set l.records id None) → is_listed id lists ≡ false
@@ -94,7 +95,7 @@ module _ (l : Layout) (id : ℕ) (r : Reservation) (laid : IsLaid l) (is : recor
   rest_listed lists f b mine are = AreListed-used lists l.used (set l.records id None) f b are (λ j has. not_in_rest f j mine has)
 
   -- and from there it was split
-  pub WasSplit-from : (lists : Kept) (after : Records) → lists.frames ≡ length l.records → AreListed lists.lists l.used (set l.records id None) → after.records ≡ split_records (is_used l.used) r l.records → after.used ≡ l.used → WasSplit lists after r
+  pub WasSplit-from : (lists : KeptLists) (after : Records) → lists.frames ≡ length l.records → AreListed lists.lists l.used (set l.records id None) → after.records ≡ split_records (is_used l.used) r l.records → after.used ≡ l.used → WasSplit lists after r
   WasSplit-from lists after room are split used =
       let long = length-set l.records id None in
       let placed = laid.placed id r is in
@@ -121,7 +122,7 @@ module _ (l : Layout) (id : ℕ) (r : Reservation) (laid : IsLaid l) (is : recor
   ]
 
   -- The reservation goes back into the lists as another one may stand in its place, where a frame of it became used or unused.
-  pub IsInOrder-again : (frames f : ℕ) (b : Bool) (o : Option Reservation) (new : Layout) (kept without after : Kept) → IsInOrder frames l kept → has_frame f (Some r) ≡ true → IsLaid new → length new.free ≡ length l.free → new.used ≡ set l.used f b → new.records ≡ set l.records id o → without.frames ≡ kept.frames → after.frames ≡ without.frames → AreListed without.lists l.used (set l.records id None) → ((records : List (Option Reservation)) → get_or records id None ≡ None → id < length records → AreListed without.lists new.used records → AreListed after.lists new.used (set records id (record_at new id))) → IsInOrder frames new after
+  pub IsInOrder-again : (frames f : ℕ) (b : Bool) (o : Option Reservation) (new : Layout) (kept without after : KeptLists) → IsInOrder frames l kept → has_frame f (Some r) ≡ true → IsLaid new → length new.free ≡ length l.free → new.used ≡ set l.used f b → new.records ≡ set l.records id o → without.frames ≡ kept.frames → after.frames ≡ without.frames → AreListed without.lists l.used (set l.records id None) → ((records : List (Option Reservation)) → get_or records id None ≡ None → id < length records → AreListed without.lists new.used records → AreListed after.lists new.used (set records id (record_at new id))) → IsInOrder frames new after
   IsInOrder-again frames f b o new kept without after order mine laid_after long used records room last are enlists =
       let known = known_record l.records id r is in
       let rest = subst (λ u. AreListed without.lists u (set l.records id None)) (sym used) (rest_listed without.lists f b mine are) in
@@ -137,7 +138,7 @@ module _ (l : Layout) (id : ℕ) (r : Reservation) (laid : IsLaid l) (is : recor
       }
 
   -- The reservation goes, and a frame of it became unused.
-  pub IsInOrder-gone : (frames f : ℕ) (new : Layout) (kept without : Kept) → IsInOrder frames l kept → has_frame f (Some r) ≡ true → IsLaid new → length new.free ≡ length l.free → new.used ≡ set l.used f false → new.records ≡ set l.records id None → without.frames ≡ kept.frames → AreListed without.lists l.used (set l.records id None) → IsInOrder frames new without
+  pub IsInOrder-gone : (frames f : ℕ) (new : Layout) (kept without : KeptLists) → IsInOrder frames l kept → has_frame f (Some r) ≡ true → IsLaid new → length new.free ≡ length l.free → new.used ≡ set l.used f false → new.records ≡ set l.records id None → without.frames ≡ kept.frames → AreListed without.lists l.used (set l.records id None) → IsInOrder frames new without
   IsInOrder-gone frames f new kept without order mine laid_after long used records room are = record {
     known = long ∙ order.known;
     few = order.few;
@@ -149,10 +150,10 @@ module _ (l : Layout) (id : ℕ) (r : Reservation) (laid : IsLaid l) (is : recor
   }
 
   -- it is the only one with a frame of it
-  pub same_owner : (f j : ℕ) (q : Reservation) → has_frame f (Some r) ≡ true → record_at l j ≡ Some q → has_frame f (Some q) ≡ true → r ≡ q
-  same_owner f j q mine stands also =
+  pub same_reservation : (f j : ℕ) (q : Reservation) → has_frame f (Some r) ≡ true → record_at l j ≡ Some q → has_frame f (Some q) ≡ true → r ≡ q
+  same_reservation f j q mine stands also =
       let here = laid.apart f id j (ap (has_frame f) is ∙ mine) (ap (has_frame f) stands ∙ also) in
-      Some-same r q (sym is ∙ ap (record_at l) here ∙ stands)
+      same_Some r q (sym is ∙ ap (record_at l) here ∙ stands)
 
 -- Splitting.
 
@@ -213,7 +214,7 @@ narrow_step l frame r q laid is has used splits at holds =
     let mine = part_of r part.0 in
     let kept = used_part (is_used l.used) r l.records splits (placed_own l r.frame r laid is) (alone_own l r.frame r laid is) frame part.0 used part.3 in
     let stands = record_at-part l r.frame r laid is part.0 splits part.1 kept in
-    let same = same_owner next mine.frame mine (Settles-split l r.frame r laid is splits).laid stands frame q.frame q part.3 at holds in
+    let same = same_reservation next mine.frame mine (Settles-split l r.frame r laid is splits).laid stands frame q.frame q part.3 at holds in
     let narrow : Reservation → Layout = λ p. split_on (narrows_to frame) (r.size - 1) p next in
     subst (λ p. (p.size < r.size) × (narrow_layout frame p next ≡ narrow_layout frame r l)) same
     (omega arith, ap narrow part.2 ∙ sym (narrow_suc (r.size - 1) frame r l (omega arith)))

@@ -12,9 +12,9 @@ use Rattle.pager_model.specs.FreeBlocks.{choice, with_range}
 use Rattle.pager_model.specs.Layouts.{Layout, Found, Placing, covers, covering, frame_for, used_in, frame_in, stamped, populated, new_reservation, reserved, preferred_in, largest_extent, placing_in, placing, is_full, record_at, is_free}
 use Rattle.pager_model.specs.Records.{is_used}
 use Rattle.reservations.proofs.ExtentLemmas.{eight_pos}
-use Rattle.reservations.proofs.HoldLemmas.{has_frame_bounds, has_frame_from, no_frame}
+use Rattle.reservations.proofs.FrameIds.{has_frame_bounds, has_frame_from, no_frame}
 use Rattle.frame_pool.specs.Laid.{IsLaid, IsIn}
-use Rattle.frame_pool.proofs.PagePlaces.{IsPageOf-covers, covers-IsPageOf, has_frame_for, covering-found, used_in-unused, frame_in-is, frame_in-none}
+use Rattle.frame_pool.proofs.PagePlaces.{CoversPageOf-covers, covers-CoversPageOf, has_frame_for, covering-found, used_in-unused, frame_in-is, frame_in-none}
 use Rattle.frame_pool.proofs.FullLayout.{EachFull-from, is_full-from, EachFull-none, none-choice, to_break-full, used-full}
 use Rattle.frame_pool.proofs.FoundExtents.{IsFound-largest_extent, largest_extent-none, none-largest_extent}
 use Rattle.frame_pool.proofs.PreferredExtent.{Misses, Misses-preferred, Misses-smaller, extent_low, extent_high}
@@ -23,7 +23,7 @@ use Rattle.frame_pool.proofs.LayoutSplit.{Settles}
 
 -- The page of the space has this frame now, which was no used place; the same frames are in the layout, and every other page
 -- keeps its place.
-pub record Places (old new : Layout) (space page frame : ℕ) : Type 0 where
+pub record WasPlaced (old new : Layout) (space page frame : ℕ) : Type 0 where
   pub laid : IsLaid new
   pub long : length new.free ≡ length old.free
   pub used : new.used ≡ set old.used frame true
@@ -34,8 +34,8 @@ pub record Places (old new : Layout) (space page frame : ℕ) : Type 0 where
   pub pages : (s p : ℕ) → frame_in new s p ≡ cond (eqb space s && eqb p page) (Some frame) (frame_in old s p)
 
 -- a reservation that may be put into the layout places the page
-Places-put : (l : Layout) (space page : ℕ) (q : Reservation) (free : List Bool) → MayPut l space page q free → Places l (put l q (frame_for page q) free) space page (frame_for page q)
-Places-put l space page q free may = record {
+WasPlaced-put : (l : Layout) (space page : ℕ) (q : Reservation) (free : List Bool) → MayPut l space page q free → WasPlaced l (put l q (frame_for page q) free) space page (frame_for page q)
+WasPlaced-put l space page q free may = record {
   laid = IsLaid-put l space page q free may;
   long = may.long;
   used = refl;
@@ -108,7 +108,7 @@ module _ (l : Layout) (stamp space page : ℕ) (found : Found) (laid : IsLaid l)
   -- a page of the extent is in no reservation
   not_had : (s p id : ℕ) (r : Reservation) → record_at l id ≡ Some r → covers s p r ≡ true → covers s p made ≡ true → ⊥
   not_had s p id r here has mine =
-      let at = IsPageOf-covers s p made mine in
+      let at = CoversPageOf-covers s p made mine in
       misses id p r here (ap (λ n. covers n p r) at.space_is ∙ has) at.low at.high
 
   nowhere : (s p : ℕ) → covers s p made ≡ true → covering s p l.records ≡ None
@@ -144,7 +144,7 @@ module _ (l : Layout) (stamp space page : ℕ) (found : Found) (laid : IsLaid l)
   ]
 
   covers_page : covers space page made ≡ true
-  covers_page = covers-IsPageOf space page made (record { space_is = refl; low = extent_low found.size page; high = extent_high found.size page })
+  covers_page = covers-CoversPageOf space page made (record { space_is = refl; low = extent_low found.size page; high = extent_high found.size page })
 
   MayPut-reserved : MayPut l space page made freed
   MayPut-reserved =
@@ -172,8 +172,8 @@ module _ (l : Layout) (stamp space page : ℕ) (found : Found) (laid : IsLaid l)
       }
 
 -- a place in a layout that differs by splittings alone is a place
-Places-settled : (l from new : Layout) (space page frame : ℕ) → Settles l from → Places from new space page frame → Places l new space page frame
-Places-settled l from new space page frame settles places = record {
+WasPlaced-settled : (l from new : Layout) (space page frame : ℕ) → Settles l from → WasPlaced from new space page frame → WasPlaced l new space page frame
+WasPlaced-settled l from new space page frame settles places = record {
   laid = places.laid;
   long = places.long ∙ settles.long;
   used = places.used ∙ ap (λ u. set u frame true) settles.used;
@@ -191,24 +191,24 @@ Misses-settled l from space page size settles misses id p r is has low high =
     misses was.0 p was.1 was.2 was.3 low high
 
 -- an extent that is found places the page
-Places-reserved : (l : Layout) (stamp space page : ℕ) (want : Want) (found : Found) → IsLaid l → covering space page l.records ≡ None → largest_extent (preferred_in l space page want) l ≡ Some found → Places l (reserved stamp space page found).layout space page (reserved stamp space page found).frame
-Places-reserved l stamp space page want found laid none is =
+WasPlaced-reserved : (l : Layout) (stamp space page : ℕ) (want : Want) (found : Found) → IsLaid l → covering space page l.records ≡ None → largest_extent (preferred_in l space page want) l ≡ Some found → WasPlaced l (reserved stamp space page found).layout space page (reserved stamp space page found).frame
+WasPlaced-reserved l stamp space page want found laid none is =
     let size = preferred_in l space page want in
     let at = IsFound-largest_extent l size found laid is in
     let misses = Misses-smaller l space page found.size size at.small (Misses-preferred l space page want none) in
     let may = MayPut-reserved found.layout stamp space page found at.settles.laid at.is (Misses-settled l found.layout space page found.size at.settles misses) in
-    Places-settled l found.layout _ space page _ at.settles (Places-put found.layout space page _ _ may)
+    WasPlaced-settled l found.layout _ space page _ at.settles (WasPlaced-put found.layout space page _ _ may)
 
-pub Places-placing : (l : Layout) (stamp space page : ℕ) (want : Want) (place : Placing) → IsLaid l → frame_in l space page ≡ None → placing stamp space page want l ≡ Some place → Places l place.layout space page place.frame
-Places-placing l stamp space page want place laid none is =
-    elim (covering space page l.records) as (λ o. covering space page l.records ≡ o → placing_in stamp space page want l o ≡ Some place → Places l place.layout space page place.frame) [
+pub WasPlaced-placing : (l : Layout) (stamp space page : ℕ) (want : Want) (place : Placing) → IsLaid l → frame_in l space page ≡ None → placing stamp space page want l ≡ Some place → WasPlaced l place.layout space page place.frame
+WasPlaced-placing l stamp space page want place laid none is =
+    elim (covering space page l.records) as (λ o. covering space page l.records ≡ o → placing_in stamp space page want l o ≡ Some place → WasPlaced l place.layout space page place.frame) [
       | Some r ↦ λ here h.
           let w = covering-found space page l.records r here in
-          subst (λ q. Places l q.layout space page q.frame) (same_Some (populated stamp page l r) place h) (Places-put l space page (stamped r stamp) l.free (MayPut-stamped l stamp space page w.0 r laid w.2 w.3 none))
+          subst (λ q. WasPlaced l q.layout space page q.frame) (same_Some (populated stamp page l r) place h) (WasPlaced-put l space page (stamped r stamp) l.free (MayPut-stamped l stamp space page w.0 r laid w.2 w.3 none))
       | None ↦ λ nowhere h.
-          elim (largest_extent (preferred_in l space page want) l) as (λ o. largest_extent (preferred_in l space page want) l ≡ o → option_map (reserved stamp space page) o ≡ Some place → Places l place.layout space page place.frame) [
+          elim (largest_extent (preferred_in l space page want) l) as (λ o. largest_extent (preferred_in l space page want) l ≡ o → option_map (reserved stamp space page) o ≡ Some place → WasPlaced l place.layout space page place.frame) [
             | None ↦ λ _ e. absurd (none-some place e)
-            | Some found ↦ λ found_is e. subst (λ q. Places l q.layout space page q.frame) (same_Some (reserved stamp space page found) place e) (Places-reserved l stamp space page want found laid nowhere found_is)
+            | Some found ↦ λ found_is e. subst (λ q. WasPlaced l q.layout space page q.frame) (same_Some (reserved stamp space page found) place e) (WasPlaced-reserved l stamp space page want found laid nowhere found_is)
           ] refl h
     ] refl is
 

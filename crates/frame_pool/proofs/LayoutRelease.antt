@@ -2,13 +2,14 @@
 use Rattle.std.proofs.Common.{◌≡◌, ◌≢◌, ℕ, ◌+◌, ◌^◌, ◌<◌, ◌≤◌, ◌↔◌, ◌⊎◌, inl, inr, Bool, true, false, cond, List, length, get_or, set, Some, None, refl, sym, ap, ◌∙◌, arith}
 use Rattle.std.proofs.lemmas.List.{get_or-set_same, get_or-set_other, length-set, set_past, get_or_past}
 use Rattle.std.proofs.lemmas.Bool.{cases_eq, cases_lt, false≢true}
+use Rattle.std.proofs.lemmas.Option.{none-some, same_Some}
 use Rattle.buddy_extents.proofs.Ranges.{length-with_range, with_range_inside, with_range_outside, range_cases}
 use Rattle.pager_model.specs.declared.reservation.Reservation.{Reservation}
 use Rattle.pager_model.specs.Agreement.{has_frame}
 use Rattle.pager_model.specs.FreeBlocks.{with_range}
 use Rattle.pager_model.specs.Layouts.{Layout, frame_in, vacate_layout, carve_layout, narrow_layout, take_out, put_back, is_last, record_at, is_free}
 use Rattle.pager_model.specs.Records.{is_used}
-use Rattle.reservations.proofs.HoldLemmas.{has_frame_bounds, has_frame_from, known_record, ArePlaced-set, Some-same, None-not_Some, no_frame, unused_in}
+use Rattle.reservations.proofs.FrameIds.{has_frame_bounds, has_frame_from, known_record, ArePlaced-set, no_frame, unused_in}
 use Rattle.frame_pool.specs.Laid.{IsLaid, IsIn}
 use Rattle.frame_pool.proofs.PagePlaces.{HasPlace, has_frame_for, frame_in-found, frame_in-from}
 use Rattle.frame_pool.proofs.SplitFrames.{some_used_in}
@@ -56,7 +57,7 @@ module _ (l : Layout) (id : ℕ) (r : Reservation) (is : record_at l id ≡ Some
   -- what stands after it stood before, at another frame
   pub stood : (j : ℕ) (q : Reservation) → get_or (set l.records id None) j None ≡ Some q → (j ≢ id) × (record_at l j ≡ Some q)
   stood j q at = elim (cases_eq j id) [
-    | inl here ↦ absurd (None-not_Some q (sym (ap (λ k. get_or (set l.records id None) k None) here ∙ get_or-set_same l.records id None None (known_record l.records id r is)) ∙ at))
+    | inl here ↦ absurd (none-some q (sym (ap (λ k. get_or (set l.records id None) k None) here ∙ get_or-set_same l.records id None None (known_record l.records id r is)) ∙ at))
     | inr other ↦ (other, sym (get_or-set_other l.records id j None None other) ∙ at)
   ]
 
@@ -83,7 +84,7 @@ pub IsLaid-without : (l : Layout) (free : List Bool) (id frame : ℕ) (r : Reser
 IsLaid-without l free id frame r laid is long freed unused has = record {
   records_long = length-set l.records id None ∙ laid.records_long ∙ sym long;
   used_long = length-set l.used frame false ∙ laid.used_long ∙ sym long;
-  placed = ArePlaced-set l.records id None laid.placed (known_record l.records id r is) (λ q e. absurd (None-not_Some q e));
+  placed = ArePlaced-set l.records id None laid.placed (known_record l.records id r is) (λ q e. absurd (none-some q e));
   apart = λ f j other one two. laid.apart f j other (had l id r is f j one).1 (had l id r is f other two).1;
   not_free = λ f j free_now has_now.
       let w = had l id r is f j has_now in
@@ -117,7 +118,7 @@ pages-without l free id frame r laid is unused now = pages_by l (record { free =
     let mine : has_frame f (Some q) ≡ true = ap (λ g. has_frame g (Some q)) place.frame ∙ has_frame_for s p q place.covers_page in
     elim (cases_eq place.id id) [
       | inl here ↦
-          let same : q ≡ r = Some-same q r (sym place.is ∙ ap (record_at l) here ∙ is) in
+          let same : q ≡ r = same_Some q r (sym place.is ∙ ap (record_at l) here ∙ is) in
           absurd (false≢true (sym (unused f (ap (λ o. has_frame f (Some o)) (sym same) ∙ mine)) ∙ used))
       | inr other ↦ record {
         id = place.id;
@@ -143,7 +144,7 @@ Gives-keeping l id frame r laid is has keeps =
       some_used = λ j q at. elim (cases_eq j id) [
         | inl here ↦
             let w = some_used_in (is_used (set l.used frame false)) r.frame (8 ^ r.size) keeps in
-            let same : r ≡ q = Some-same r q (sym is ∙ ap (record_at l) (sym here) ∙ at) in
+            let same : r ≡ q = same_Some r q (sym is ∙ ap (record_at l) (sym here) ∙ at) in
             (w.0, ap (λ s. has_frame w.0 (Some s)) (sym same) ∙ has_frame_from w.0 r w.1 w.2, w.3)
         | inr other ↦ used_elsewhere l id frame j r q laid is has at other
       ];

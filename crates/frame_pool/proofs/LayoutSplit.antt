@@ -1,6 +1,7 @@
 -- What splitting a reservation keeps: the layout stays sound, the same frames are in it, and every page keeps its place.
 use Rattle.std.proofs.Common.{◌≡◌, ◌≢◌, ℕ, ◌-◌, ◌^◌, ◌<◌, ◌⊎◌, ◌↔◌, inl, inr, true, false, length, Option, Some, None, refl, sym, ap, subst, ◌∙◌, arith}
 use Rattle.std.proofs.lemmas.Bool.{cases_Bool, cases_eq, cond-true, cond-false, false≢true}
+use Rattle.std.proofs.lemmas.Option.{none-some, same_Some}
 use Rattle.pager_model.specs.declared.reservation.Reservation.{Reservation}
 use Rattle.pager_model.specs.Agreement.{has_frame}
 use Rattle.pager_model.specs.Layouts.{Layout, covers, frame_for, frame_in, split_layout, record_at}
@@ -8,7 +9,7 @@ use Rattle.pager_model.specs.Records.{is_used, part_of, is_part_empty}
 use Rattle.reservations.specs.Kept.{IsPlaced}
 use Rattle.frame_pool.proofs.PartRecords.{IsAlone, find_part, part_in_whole, same_part, which_part, used_part}
 use Rattle.reservations.proofs.ExtentLemmas.{eight_pos, part_of_eight}
-use Rattle.reservations.proofs.HoldLemmas.{has_frame_from, Some-same, None-not_Some}
+use Rattle.reservations.proofs.FrameIds.{has_frame_from}
 use Rattle.reservations.proofs.SplitLemmas.{part_placed}
 use Rattle.frame_pool.specs.Laid.{IsLaid, IsIn}
 use Rattle.frame_pool.proofs.PagePlaces.{HasPlace, has_frame_for, frame_in-found, frame_in-from, same_option}
@@ -46,12 +47,12 @@ module _ (l new : Layout) (id : ℕ) (r : Reservation) (laid : IsLaid l) (is : r
   placed_whole = placed_at_own l id r laid is
 
   -- only the reservation has a frame of it
-  pub one_holder : (f j : ℕ) → has_frame f (Some r) ≡ true → has_frame f (record_at l j) ≡ true → j ≡ id
-  one_holder f j in_r has = laid.apart f j id has (ap (has_frame f) is ∙ in_r)
+  pub one_reservation : (f j : ℕ) → has_frame f (Some r) ≡ true → has_frame f (record_at l j) ≡ true → j ≡ id
+  one_reservation f j in_r has = laid.apart f j id has (ap (has_frame f) is ∙ in_r)
 
   -- no other record has a frame of it
   pub alone : IsAlone r l.records
-  alone = λ f j in_r has. one_holder f j in_r has ∙ sym named
+  alone = λ f j in_r has. one_reservation f j in_r has ∙ sym named
 
   -- a record beside the reservation is at no part's frame
   pub beside_parts : (j : ℕ) (q : Reservation) → j ≢ id → record_at l j ≡ Some q → (i : ℕ) → i < 8 → j ≡ (part_of r i).frame → ⊥
@@ -60,7 +61,7 @@ module _ (l new : Layout) (id : ℕ) (r : Reservation) (laid : IsLaid l) (is : r
       let ends = part_of_eight i r.size splits one in
       let in_r = has_frame_from j r (omega (arith, at)) (omega (arith, at, ends, eight_pos (r.size - 1))) in
       let in_q = has_frame_from j q (omega (arith, own.named)) (omega (arith, own.named, eight_pos q.size)) in
-      other (one_holder j j in_r (ap (has_frame j) stands ∙ in_q))
+      other (one_reservation j j in_r (ap (has_frame j) stands ∙ in_q))
 
   -- it still stands
   pub stands_still : (j : ℕ) (q : Reservation) → j ≢ id → record_at l j ≡ Some q → record_at new j ≡ Some q
@@ -76,11 +77,11 @@ module _ (l new : Layout) (id : ℕ) (r : Reservation) (laid : IsLaid l) (is : r
     | inl at ↦ elim (cases_Bool (is_part_empty (is_used l.used) r at.0)) [
       | inl empty ↦
           let none : record_at new j ≡ None = ap (record_at new) at.2 ∙ split.parts at.0 at.1 ∙ cond-true _ _ _ empty in
-          absurd (None-not_Some q (sym none ∙ stands))
+          absurd (none-some q (sym none ∙ stands))
       | inr filled ↦ inr (
         at.0,
         record { below = at.1; at = at.2; filled = filled },
-        Some-same _ q (sym (ap (record_at new) at.2 ∙ part_stands at.0 at.1 filled) ∙ stands),
+        same_Some _ q (sym (ap (record_at new) at.2 ∙ part_stands at.0 at.1 filled) ∙ stands),
       )
     ]
     | inr none ↦ inl (λ same. none 0 (omega arith) (omega (arith, same, named)), sym (split.others j none) ∙ stands)
@@ -141,10 +142,10 @@ module _ (l new : Layout) (id : ℕ) (r : Reservation) (laid : IsLaid l) (is : r
     apart = λ f j other has also. elim (who_holds f j has) [
       | inl still ↦ elim (who_holds f other also) [
         | inl both ↦ laid.apart f j other still.1 both.1
-        | inr part ↦ absurd (still.0 (one_holder f j (in_whole part.0 part.1.below f part.2) still.1))
+        | inr part ↦ absurd (still.0 (one_reservation f j (in_whole part.0 part.1.below f part.2) still.1))
       ]
       | inr part ↦ elim (who_holds f other also) [
-        | inl still ↦ absurd (still.0 (one_holder f other (in_whole part.0 part.1.below f part.2) still.1))
+        | inl still ↦ absurd (still.0 (one_reservation f other (in_whole part.0 part.1.below f part.2) still.1))
         | inr both ↦
             part.1.at ∙ ap (λ m. (part_of r m).frame) (one_part f part.0 both.0 part.2 both.2) ∙ sym both.1.at
       ]
@@ -155,7 +156,7 @@ module _ (l new : Layout) (id : ℕ) (r : Reservation) (laid : IsLaid l) (is : r
         | inr part ↦ laid.not_free f id was (ap (has_frame f) is ∙ in_whole part.0 part.1.below f part.2)
       ]
       | inr emptied ↦ elim (who_holds f j has) [
-        | inl still ↦ still.0 (one_holder f j (in_whole emptied.part emptied.below f emptied.has) still.1)
+        | inl still ↦ still.0 (one_reservation f j (in_whole emptied.part emptied.below f emptied.has) still.1)
         | inr part ↦
             let same = one_part f emptied.part part.0 emptied.has part.2 in
             false≢true (sym part.1.filled ∙ ap (is_part_empty (is_used l.used) r) (sym same) ∙ emptied.empty)
@@ -249,7 +250,7 @@ module _ (l new : Layout) (id : ℕ) (r : Reservation) (laid : IsLaid l) (is : r
       let used : is_used new.used f ≡ true = ap (λ u. is_used u f) split.used ∙ place.used in
       elim (cases_eq place.id id) [
         | inl here ↦
-            let same : r ≡ place.reservation = Some-same r place.reservation (sym is ∙ ap (record_at l) (sym here) ∙ place.is) in
+            let same : r ≡ place.reservation = same_Some r place.reservation (sym is ∙ ap (record_at l) (sym here) ∙ place.is) in
             let has : covers s p r ≡ true = ap (covers s p) same ∙ place.covers_page in
             let at : f ≡ frame_for p r = place.frame ∙ ap (frame_for p) (sym same) in
             let part = used_stands (frame_for p r) (has_frame_for s p r has) (sym (ap (is_used l.used) at) ∙ place.used) in

@@ -2,14 +2,15 @@
 use Rattle.std.proofs.Common.{◌≡◌, ◌≢◌, ℕ, ◌<◌, ◌↔◌, ◌⊎◌, Bool, true, false, cond, eqb, ◌&&◌, List, length, get_or, set, Some, None, refl, sym, ap, subst, ◌∙◌, inl, inr, arith}
 use Rattle.std.proofs.lemmas.Bool.{cases_eq, cases_Bool, cond-true, cond-false, and_parts, and_from, eqb-true, eq-eqb, false≢true, false_from_ne_true}
 use Rattle.std.proofs.lemmas.List.{get_or-set_same, get_or-set_other, length-set}
+use Rattle.std.proofs.lemmas.Option.{same_Some}
 use Rattle.pager_model.specs.declared.reservation.Reservation.{Reservation}
 use Rattle.pager_model.specs.Agreement.{has_frame}
 use Rattle.pager_model.specs.Layouts.{Layout, covers, covering, frame_for, used_in, frame_in, record_at, is_free}
 use Rattle.pager_model.specs.Records.{is_used}
 use Rattle.reservations.specs.Kept.{IsPlaced}
-use Rattle.reservations.proofs.HoldLemmas.{has_frame_bounds, Some-same, ArePlaced-set}
+use Rattle.reservations.proofs.FrameIds.{has_frame_bounds, ArePlaced-set}
 use Rattle.frame_pool.specs.Laid.{IsLaid, IsIn}
-use Rattle.frame_pool.proofs.PagePlaces.{IsPageOf-covers, has_frame_for, covering-found, covering-none, frame_in-is, used_in-used}
+use Rattle.frame_pool.proofs.PagePlaces.{CoversPageOf-covers, has_frame_for, covering-found, covering-none, frame_in-is, used_in-used}
 
 -- the layout with the reservation at its first frame, these free frames, and one more used place
 abbrev pub put : Layout → Reservation → ℕ → List Bool → Layout
@@ -89,7 +90,7 @@ module _ (l : Layout) (space page : ℕ) (q : Reservation) (free : List Bool) (m
   -- what stands in the new layout is the reservation, or stood there before
   stands : (id : ℕ) (r : Reservation) → record_at new id ≡ Some r → ((id ≡ q.frame) × (q ≡ r)) ⊎ ((id ≢ q.frame) × (record_at l id ≡ Some r))
   stands id r is = elim (cases_eq id q.frame) [
-    | inl here ↦ inl (here, Some-same q r (sym (here_is id here) ∙ is))
+    | inl here ↦ inl (here, same_Some q r (sym (here_is id here) ∙ is))
     | inr other ↦ inr (other, sym (there_is id other) ∙ is)
   ]
 
@@ -147,7 +148,7 @@ module _ (l : Layout) (space page : ℕ) (q : Reservation) (free : List Bool) (m
   IsLaid-put = record {
     records_long = length-set l.records q.frame (Some q) ∙ may.laid.records_long ∙ sym may.long;
     used_long = length-set l.used (frame_for page q) true ∙ may.laid.used_long ∙ sym may.long;
-    placed = ArePlaced-set l.records q.frame (Some q) may.laid.placed may.known (λ r is. subst (IsPlaced (length l.records) q.frame) (Some-same q r is) may.placed);
+    placed = ArePlaced-set l.records q.frame (Some q) may.laid.placed may.known (λ r is. subst (IsPlaced (length l.records) q.frame) (same_Some q r is) may.placed);
     apart = new_apart;
     not_free = new_not_free;
     places = new_places;
@@ -177,8 +178,8 @@ module _ (l : Layout) (space page : ℕ) (q : Reservation) (free : List Bool) (m
   -- pages of the reservation: the page has the new place, and the other pages have theirs
   same_page : (s p : ℕ) → covers s p q ≡ true → frame_for p q ≡ frame_for page q → (eqb space s && eqb p page) ≡ true
   same_page s p has at =
-      let one = IsPageOf-covers s p q has in
-      let two = IsPageOf-covers space page q may.has in
+      let one = CoversPageOf-covers s p q has in
+      let two = CoversPageOf-covers space page q may.has in
       let pages : p ≡ page = omega (arith, one.low, two.low) in
       and_from _ _ (eq-eqb space s (sym two.space_is ∙ one.space_is)) (eq-eqb p page pages)
 

@@ -7,11 +7,11 @@ use Rattle.pager_model.specs.Ages.{Lists, Member, list_at, with_list, with_membe
 use Rattle.pager_model.specs.Agreement.{has_frame}
 use Rattle.pager_model.specs.Headline.{member_of}
 use Rattle.pager_model.specs.Records.{Records, is_used, yield_of, part_of, kept_part}
-use Rattle.reservation_lists.specs.Kept.{Kept, is_listed}
+use Rattle.reservation_lists.specs.Kept.{KeptLists, is_listed}
 use Rattle.reservations.specs.Kept.{IsPlaced, ArePlaced}
 use Rattle.frame_pool.proofs.PartRecords.{split_suc, length-split, parts_apart, part_known, split_at, split_other}
 use Rattle.reservations.proofs.ExtentLemmas.{eight_pos, part_of_eight}
-use Rattle.reservations.proofs.HoldLemmas.{has_frame_from}
+use Rattle.reservations.proofs.FrameIds.{has_frame_from}
 use Rattle.reservations.proofs.SplitLemmas.{split_up_to, split_up_to-more, ArePlaced-part}
 use Rattle.frame_pool.specs.Listed.{AreListed, WasSplit}
 use Rattle.frame_pool.proofs.AgeLists.{AreListed-without, AreListed-with, AreListed-full, is_listed-none}
@@ -63,15 +63,15 @@ module _ (lists : Lists) (used : List Bool) (records : List (Option Reservation)
   AreListed-not_enlisted full = (AreListed-full lists used (set records id (Some r)) id r there full).1 without
 
 -- From these lists on, the first n parts that the reservation was split into went into the lists.
-pub record HasParts (n : ℕ) (start lists : Kept) (after : Records) (whole : Reservation) : Type 0 where
+pub record HasParts (n : ℕ) (start lists : KeptLists) (after : Records) (whole : Reservation) : Type 0 where
   pub was : WasSplit start after whole
   pub room : lists.frames ≡ start.frames
   pub listed : AreListed lists.lists after.used (split_up_to n (is_used after.used) whole was.records)
 
-pub HasParts-none : (start : Kept) (after : Records) (whole : Reservation) → WasSplit start after whole → HasParts 0 start start after whole
+pub HasParts-none : (start : KeptLists) (after : Records) (whole : Reservation) → WasSplit start after whole → HasParts 0 start start after whole
 HasParts-none start after whole was = record { was = was; room = refl; listed = was.listed }
 
-pub HasParts-all : (start lists : Kept) (after : Records) (whole : Reservation) → HasParts 8 start lists after whole → AreListed lists.lists after.used after.records
+pub HasParts-all : (start lists : KeptLists) (after : Records) (whole : Reservation) → HasParts 8 start lists after whole → AreListed lists.lists after.used after.records
 HasParts-all start lists after whole has = subst (AreListed lists.lists after.used) (sym has.was.split) has.listed
 
 -- no reservation begins at a frame that none has
@@ -95,7 +95,7 @@ ArePlaced-parts records used whole (suc n) splits placed are small =
     (ArePlaced-part before used whole (length records) n long splits (omega arith) placed (ArePlaced-parts records used whole n splits placed are (omega arith)))
 
 -- the next part
-module _ (n : ℕ) (start lists : Kept) (after : Records) (whole : Reservation) (splits : 0 < whole.size) (small : n < 8) (has : HasParts n start lists after whole) where
+module _ (n : ℕ) (start lists : KeptLists) (after : Records) (whole : Reservation) (splits : 0 < whole.size) (small : n < 8) (has : HasParts n start lists after whole) where
   abbrev used : ℕ → Bool
   used = is_used after.used
 
@@ -127,7 +127,7 @@ module _ (n : ℕ) (start lists : Kept) (after : Records) (whole : Reservation) 
       (ArePlaced-parts has.was.records after.used whole n splits has.was.placed has.was.others_placed (omega arith)) none_before
 
   -- it goes in where it is a reservation
-  pub HasParts-more : (new : Kept) → AreListed new.lists after.used (set before first (get_or after.records first None)) → new.frames ≡ lists.frames → HasParts (n + 1) start new after whole
+  pub HasParts-more : (new : KeptLists) → AreListed new.lists after.used (set before first (get_or after.records first None)) → new.frames ≡ lists.frames → HasParts (n + 1) start new after whole
   HasParts-more new listed room = record {
     was = has.was;
     room = room ∙ has.room;

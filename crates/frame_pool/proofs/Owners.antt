@@ -3,16 +3,16 @@ use Rattle.std.proofs.Common.{◌≡◌, ◌≢◌, ◌⊎◌, inl, inr, ℕ, �
 use Rattle.std.specs.Option.{is_none}
 use Rattle.std.proofs.lemmas.Bool.{cases_Bool, cases_eq, cases_lt, and_parts, false≢true, cond-false, eqb-true}
 use Rattle.std.proofs.lemmas.List.{get_or-set_same, get_or-set_other, get_or_past}
+use Rattle.std.proofs.lemmas.Option.{none-some, same_Some}
 use Rattle.pager_model.specs.declared.entry.Want.{Want}
 use Rattle.pager_model.specs.declared.reservation.Used.{Used}
 use Rattle.pager_model.specs.Agreement.{ClaimsOrHolds, OwnsVictim}
 use Rattle.pager_model.specs.FrameStates.{FrameState, Taking, layout_of, used_at, held_by, claim_in, frame_of, HasNothing, IsVictim, taken, take_frame, held_given, give_page, give_if_used, with_claim, claimed, dropped, dropped_in, counted, is_evictable}
 use Rattle.pager_model.specs.Layouts.{Placing, placing, frame_in}
 use Rattle.pager_model.specs.Order.{Victim}
-use Rattle.reservations.proofs.HoldLemmas.{Some-same, None-not_Some}
 use Rattle.frame_pool.specs.Laid.{IsSound}
 use Rattle.frame_pool.proofs.PageMoves.{GivesPage, GivesPage-give_page, place_in_layout}
-use Rattle.frame_pool.proofs.LayoutPlacing.{Places, Places-placing}
+use Rattle.frame_pool.proofs.LayoutPlacing.{WasPlaced, WasPlaced-placing}
 use Rattle.frame_pool.proofs.StateSoundness.{used_if_noted, claim_from, claim_taken, claim_given, claim_claimed, unset_at, taking_from, layout_of-taken, layout_of-claimed, IsSound-give_if_used}
 
 -- What a move leaves of a processor's frame: where it has nothing it still has nothing, a held frame stays held, and a claimed
@@ -55,7 +55,7 @@ Keeps-counted st c = record { nothing = HasNothing-counted st c; holds = λ f ho
 
 -- Taking.
 
-Keeps-taken : (st : FrameState) (space page : ℕ) (want : Want) (place : Placing) (c : ℕ) → frame_of st space page ≡ None → Places (layout_of st) place.layout space page place.frame → Keeps st (taken st want place) c
+Keeps-taken : (st : FrameState) (space page : ℕ) (want : Want) (place : Placing) (c : ℕ) → frame_of st space page ≡ None → WasPlaced (layout_of st) place.layout space page place.frame → Keeps st (taken st want place) c
 Keeps-taken st space page want place c none places = record {
   nothing = λ nothing. record {
     holds_none = nothing.holds_none;
@@ -65,13 +65,13 @@ Keeps-taken st space page want place c none places = record {
   claims = λ f s p claims is.
       let noted = claim_from (used_at st f) c claims in
       let other : f ≢ place.frame = λ same. (
-      let used = used_if_noted st f (λ no_note. None-not_Some noted.0 (sym no_note ∙ noted.1)) in
+      let used = used_if_noted st f (λ no_note. none-some noted.0 (sym no_note ∙ noted.1)) in
       false≢true (sym places.was_unused ∙ ap (λ k. get_or (layout_of st).used k false) (sym same) ∙ used)) in
       let apart : (eqb space s && eqb p page) ≡ false = elim (cases_Bool (eqb space s && eqb p page)) [
         | inl same ↦
             let parts = and_parts _ _ same in
             let here : frame_of st s p ≡ None = subst (λ q. frame_of st s q ≡ None) (sym (eqb-true p page parts.1)) (subst (λ t. frame_of st t page ≡ None) (eqb-true space s parts.0) none) in
-            absurd (None-not_Some f (sym here ∙ is))
+            absurd (none-some f (sym here ∙ is))
         | inr apart ↦ apart
       ] in
       let still : frame_of (taken st want place) s p ≡ frame_of st s p =
@@ -82,7 +82,7 @@ Keeps-taken st space page want place c none places = record {
 pub Keeps-take : (frames processors : ℕ) (st : FrameState) (space page : ℕ) (want : Want) (t : Taking) (c : ℕ) → IsSound frames processors st → frame_of st space page ≡ None → take_frame st space page want ≡ Some t → Keeps st t.state c
 Keeps-take frames processors st space page want t c sound none takes =
     let found = taking_from st want (placing st.entries space page want (layout_of st)) t takes in
-    let places = Places-placing (layout_of st) st.entries space page want found.0 sound.laid none found.1 in
+    let places = WasPlaced-placing (layout_of st) st.entries space page want found.0 sound.laid none found.1 in
     subst (λ u. Keeps st u.state c) found.2 (Keeps-taken st space page want found.0 c none places)
 
 -- Giving.
@@ -114,7 +114,7 @@ module _ (frames processors : ℕ) (st : FrameState) (space page frame c : ℕ) 
       claims_none = λ f claims. nothing.claims_none f (claim_given st frame f c (ap (λ used. claim_in (get_or used f None)) (sym gives.used) ∙ claims)).1;
     };
     holds = λ f holds.
-        let no_claim : claim_in (used_at st frame) ≡ Some c → ⊥ = λ claims. None-not_Some f (sym (sound.claims_known frame c claims).1 ∙ holds) in
+        let no_claim : claim_in (used_at st frame) ≡ Some c → ⊥ = λ claims. none-some f (sym (sound.claims_known frame c claims).1 ∙ holds) in
         held_now ∙ held_given-other (claim_in (used_at st frame)) frame st.held c no_claim ∙ holds;
     claims = λ f s p claims at. elim (cases_eq f frame) [
       | inl same ↦ inl (holds_claimed (ap (λ g. claim_in (used_at st g)) (sym same) ∙ claims) ∙ ap Some (sym same))
@@ -176,12 +176,12 @@ unclaimed_place (Some u) evictable = by_claim u.claim (and_parts _ _ evictable).
 -- another processor claims its victim
 pub Keeps-claimed : (st : FrameState) (space page frame d c : ℕ) → IsVictim st space page frame → c ≢ d → Keeps st (claimed st frame (Some d)) c
 Keeps-claimed st space page frame d c victim other =
-    Keeps-reclaimed st frame (Some d) c (λ same. other (sym (Some-same d c same))) (λ claims. None-not_Some c (sym (unclaimed_place (used_at st frame) victim.evictable) ∙ claims))
+    Keeps-reclaimed st frame (Some d) c (λ same. other (sym (same_Some d c same))) (λ claims. none-some c (sym (unclaimed_place (used_at st frame) victim.evictable) ∙ claims))
 
 -- another processor's claim ends
 pub Keeps-unclaimed : (st : FrameState) (frame d c : ℕ) → claim_in (used_at st frame) ≡ Some d → c ≢ d → Keeps st (claimed st frame None) c
 Keeps-unclaimed st frame d c claims other =
-    Keeps-reclaimed st frame None c (λ none. None-not_Some c none) (λ also. other (Some-same c d (sym also ∙ claims)))
+    Keeps-reclaimed st frame None c (λ none. none-some c none) (λ also. other (same_Some c d (sym also ∙ claims)))
 
 -- a processor claims its victim
 pub claims-claimed : (st : FrameState) (space page frame c : ℕ) → IsVictim st space page frame → ClaimsOrHolds (claimed st frame (Some c)) c (record { space = space; page = page; frame = frame })
@@ -192,7 +192,7 @@ claims-claimed st space page frame c victim = record { frame = inr (by_place (us
     by_place (Some u) is =
         let known : frame < length st.used = elim (cases_lt frame (length st.used)) [
           | inl known ↦ known
-          | inr past ↦ absurd (None-not_Some u (sym (get_or_past st.used frame None past) ∙ is))
+          | inr past ↦ absurd (none-some u (sym (get_or_past st.used frame None past) ∙ is))
         ] in
         ap claim_in (get_or-set_same st.used frame (with_claim (Some c) (used_at st frame)) None known) ∙ ap (λ o. claim_in (with_claim (Some c) o)) is
 
@@ -201,7 +201,7 @@ pub nothing-unclaimed : (frames processors : ℕ) (st : FrameState) (frame c : �
 nothing-unclaimed frames processors st frame c sound claims = record {
   holds_none = (sound.claims_known frame c claims).1;
   claims_none = λ f still. elim (claim_claimed st frame None f c still) [
-    | inl now ↦ None-not_Some c now.1
+    | inl now ↦ none-some c now.1
     | inr before ↦ before.0 (sound.claims_once f frame c before.1 claims)
   ];
 }
@@ -226,4 +226,4 @@ pub nothing-dropped : (frames processors : ℕ) (st : FrameState) (c frame : ℕ
 nothing-dropped frames processors st c frame sound holds =
     let hand : held_by (dropped_in st c (Some frame)) c ≡ None = unset_at st.held c c refl in
     subst (λ o. HasNothing (dropped_in st c o) c) (sym holds)
-    (record { holds_none = hand; claims_none = λ f claims. None-not_Some frame (sym (sound.claims_known f c claims).1 ∙ holds) })
+    (record { holds_none = hand; claims_none = λ f claims. none-some frame (sym (sound.claims_known f c claims).1 ∙ holds) })

@@ -2,15 +2,15 @@
 use Rattle.std.proofs.Common.{◌≡◌, ◌≢◌, ◌↔◌, ℕ, zero, suc, ◌+◌, Bool, true, false, cond, eqb, ltb, ◌&&◌, set, map, fold, is_some, Option, Some, None, inl, inr, refl, sym, ap, subst, ◌∙◌, arith}
 use Rattle.std.specs.List.{range_with_len}
 use Rattle.std.proofs.lemmas.Bool.{cases_Bool, cases_eq, cases_lt, and_parts, and_from, false≢true, cond-true, cond-false, eq-eqb, eqb-true, ne_eqb, le-leb, lt-leb, lt-ltb, le-ltb}
+use Rattle.std.proofs.lemmas.Option.{none-some, same_Some}
 use Rattle.pager_model.specs.declared.reservation.Reservation.{Reservation}
 use Rattle.pager_model.specs.Agreement.{has_frame}
 use Rattle.pager_model.specs.FrameStates.{FrameState, layout_of, used_at, claim_in, frame_of, layout_given, held_given, given, given_in, give_page, give_if_used}
 use Rattle.pager_model.specs.Layouts.{Layout, covers, frame_for, frame_in, record_at}
 use Rattle.pager_model.specs.Records.{is_used}
 use Rattle.pager_model.specs.Regions.{in_range}
-use Rattle.reservations.proofs.HoldLemmas.{Some-same, None-not_Some}
 use Rattle.frame_pool.specs.Laid.{IsLaid, IsSound, IsIn}
-use Rattle.frame_pool.proofs.PagePlaces.{IsPageOf-covers, has_frame_for, covering-is, frame_in-found, same_option}
+use Rattle.frame_pool.proofs.PagePlaces.{CoversPageOf-covers, has_frame_for, covering-is, frame_in-found, same_option}
 use Rattle.frame_pool.proofs.LayoutRelease.{Gives, Gives-vacate, Gives-carve}
 use Rattle.frame_pool.proofs.StateSoundness.{layout_of-given, IsSound-give_if_used}
 
@@ -29,9 +29,9 @@ one_page l space page s p frame laid is also =
     let r = one.reservation in
     let has_one = ap (has_frame frame) one.is ∙ ap (λ f. has_frame f (Some r)) one.frame ∙ has_frame_for space page r one.covers_page in
     let has_two = ap (has_frame frame) two.is ∙ ap (λ f. has_frame f (Some two.reservation)) two.frame ∙ has_frame_for s p two.reservation two.covers_page in
-    let same : two.reservation ≡ r = Some-same two.reservation r (sym two.is ∙ ap (record_at l) (laid.apart frame two.id one.id has_two has_one) ∙ one.is) in
-    let first = IsPageOf-covers space page r one.covers_page in
-    let second = IsPageOf-covers s p r (ap (covers s p) (sym same) ∙ two.covers_page) in
+    let same : two.reservation ≡ r = same_Some two.reservation r (sym two.is ∙ ap (record_at l) (laid.apart frame two.id one.id has_two has_one) ∙ one.is) in
+    let first = CoversPageOf-covers space page r one.covers_page in
+    let second = CoversPageOf-covers s p r (ap (covers s p) (sym same) ∙ two.covers_page) in
     let joined : frame_for page r ≡ frame_for p r = sym one.frame ∙ two.frame ∙ ap (frame_for p) same in
     (sym first.space_is ∙ second.space_is, omega (arith, joined, first.low, second.low))
 
@@ -71,8 +71,8 @@ frame_of-give_page st space page frame laid is s p =
           let parts = and_parts _ _ here in
           let was : frame_of st s p ≡ Some frame = subst (λ t. frame_of st t p ≡ Some frame) (eqb-true space s parts.0) (subst (λ q. frame_of st space q ≡ Some frame) (sym (eqb-true p page parts.1)) is) in
           same_option (frame_of (give_page st space page) s p) None
-          (λ f now. absurd (let had = (gives.pages s p f).0 now in had.0 (Some-same f frame (sym had.1 ∙ was))))
-          (λ f none. absurd (None-not_Some f none))
+          (λ f now. absurd (let had = (gives.pages s p f).0 now in had.0 (same_Some f frame (sym had.1 ∙ was))))
+          (λ f none. absurd (none-some f none))
           ∙ sym (cond-true _ _ _ here)
       | inr other ↦
           same_option (frame_of (give_page st space page) s p) (frame_of st s p)

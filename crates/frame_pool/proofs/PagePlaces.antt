@@ -5,28 +5,28 @@ use Rattle.pager_model.specs.declared.reservation.Reservation.{Reservation}
 use Rattle.pager_model.specs.Agreement.{has_frame}
 use Rattle.pager_model.specs.Layouts.{Layout, covers, covering, frame_for, used_in, frame_in, record_at}
 use Rattle.pager_model.specs.Records.{is_used}
-use Rattle.reservations.proofs.HoldLemmas.{has_frame_from}
+use Rattle.reservations.proofs.FrameIds.{has_frame_from}
 use Rattle.frame_pool.specs.Laid.{IsLaid}
 
 -- the page of the space is one of the reservation's, as the test covers says
-pub record IsPageOf (space page : ℕ) (r : Reservation) : Type 0 where
+pub record CoversPageOf (space page : ℕ) (r : Reservation) : Type 0 where
   pub space_is : r.space ≡ space
   pub low : r.first ≤ page
   pub high : page < r.first + 8 ^ r.size
 
-pub IsPageOf-covers : (space page : ℕ) (r : Reservation) → covers space page r ≡ true → IsPageOf space page r
-IsPageOf-covers space page r has =
+pub CoversPageOf-covers : (space page : ℕ) (r : Reservation) → covers space page r ≡ true → CoversPageOf space page r
+CoversPageOf-covers space page r has =
     let parts = and_parts _ _ has in
     let bounds = and_parts _ _ parts.1 in
     record { space_is = eqb-true _ _ parts.0; low = leb-true _ _ bounds.0; high = ltb-true _ _ bounds.1 }
 
-pub covers-IsPageOf : (space page : ℕ) (r : Reservation) → IsPageOf space page r → covers space page r ≡ true
-covers-IsPageOf space page r has = and_from _ _ (eq-eqb _ _ has.space_is) (and_from _ _ (le-leb _ _ has.low) (lt-ltb _ _ has.high))
+pub covers-CoversPageOf : (space page : ℕ) (r : Reservation) → CoversPageOf space page r → covers space page r ≡ true
+covers-CoversPageOf space page r has = and_from _ _ (eq-eqb _ _ has.space_is) (and_from _ _ (le-leb _ _ has.low) (lt-ltb _ _ has.high))
 
 -- the frame that a reservation joins to a page of it is one of its places
 pub has_frame_for : (space page : ℕ) (r : Reservation) → covers space page r ≡ true → has_frame (frame_for page r) (Some r) ≡ true
 has_frame_for space page r has =
-    let at = IsPageOf-covers space page r has in
+    let at = CoversPageOf-covers space page r has in
     has_frame_from (frame_for page r) r (omega arith) (omega (arith, at.low, at.high))
 
 -- what is found stands somewhere

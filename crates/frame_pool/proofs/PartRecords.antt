@@ -10,7 +10,7 @@ use Rattle.pager_model.specs.declared.reservation.Reservation.{Reservation}
 use Rattle.reservations.specs.Kept.{IsPlaced}
 use Rattle.reservations.proofs.CountLemmas.{extent_of_frame}
 use Rattle.reservations.proofs.ExtentLemmas.{eight_pos, eight_parts, part_of_eight}
-use Rattle.reservations.proofs.HoldLemmas.{has_frame_bounds, has_frame_from, unused_in}
+use Rattle.reservations.proofs.FrameIds.{has_frame_bounds, has_frame_from, unused_in}
 use Rattle.reservations.proofs.SplitLemmas.{split_up_to, split_step, split_up_to-more, kept_cases}
 
 -- no other record has a frame of the reservation

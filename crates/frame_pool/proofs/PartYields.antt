@@ -5,10 +5,10 @@ use Rattle.std.proofs.lemmas.List.Folds.{Any-from_list_any}
 use Rattle.std.proofs.lemmas.List.FromFn.{length-range_with_len, get_or-range_with_len}
 use Rattle.std.proofs.lemmas.Bool.{cases_eq, cases_Bool, cond-true, cond-false, eqb-true, eq-eqb, false≢true}
 use Rattle.std.proofs.lemmas.Nat.{div_below, div-add-mod', mod_below}
+use Rattle.std.proofs.lemmas.Option.{none-some, same_Some}
 use Rattle.pager_model.specs.Records.{none_used, has_empty, yield_of, part_of, is_part_empty, same_size, lowest_as_wide, goes_on_at}
 use Rattle.pager_model.specs.declared.reservation.Reservation.{Reservation}
 use Rattle.reservations.proofs.ExtentLemmas.{eight_pos, eight_split, eight_parts, part_inside}
-use Rattle.reservations.proofs.HoldLemmas.{Some-same, None-not_Some}
 use Rattle.reservations.proofs.YieldLemmas.{yield_below, yield_below-found, yield_below-missed, has_empty-yes}
 
 -- The yield, by the sizes that have an extent without a used place.
@@ -16,7 +16,7 @@ use Rattle.reservations.proofs.YieldLemmas.{yield_below, yield_below-found, yiel
 pub yield_narrow : (used : ℕ → Bool) (r : Reservation) (k : ℕ) → yield_of used r ≡ Some k → k < r.size → yield_below used r r.size ≡ Some k
 yield_narrow used r k is narrow = elim (cases_Bool (has_empty used r r.size)) [
   | inl all ↦
-      let whole = Some-same r.size k (sym (yield_below-found used r (suc r.size) r.size refl all) ∙ is) in
+      let whole = same_Some r.size k (sym (yield_below-found used r (suc r.size) r.size refl all) ∙ is) in
       absurd (omega (arith, whole))
   | inr some ↦ sym (yield_below-missed used r (suc r.size) r.size refl some) ∙ is
 ]
@@ -27,10 +27,10 @@ pub record IsWidest (used : ℕ → Bool) (r : Reservation) (n k : ℕ) : Type 0
   pub wider : (j : ℕ) → k < j → j < n → has_empty used r j ≡ false
 
 pub IsWidest-from : (used : ℕ → Bool) (r : Reservation) (n k : ℕ) → yield_below used r n ≡ Some k → IsWidest used r n k
-IsWidest-from used r zero k is = absurd (None-not_Some k is)
+IsWidest-from used r zero k is = absurd (none-some k is)
 IsWidest-from used r (suc m) k is = elim (cases_Bool (has_empty used r m)) [
   | inl here ↦
-      let same = Some-same m k (sym (yield_below-found used r (suc m) m refl here) ∙ is) in
+      let same = same_Some m k (sym (yield_below-found used r (suc m) m refl here) ∙ is) in
       record { below = omega (arith, same); has = ap (has_empty used r) (sym same) ∙ here; wider = λ j low high. absurd (omega (arith, same)) }
   | inr missed ↦
       let rest = IsWidest-from used r m k (sym (yield_below-missed used r (suc m) m refl missed) ∙ is) in

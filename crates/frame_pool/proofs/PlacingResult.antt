@@ -5,17 +5,17 @@ use Rattle.pager_model.specs.declared.entry.Want.{Want}
 use Rattle.pager_model.specs.declared.reservation.Reservation.{Reservation}
 use Rattle.pager_model.specs.Extents.{extent_start}
 use Rattle.pager_model.specs.Layouts.{Layout, Placing, covering, frame_for, frame_in, largest_extent, preferred_in, populated, new_reservation, reserved, placing_in, placing, record_at}
-use Rattle.reservations.specs.Kept.{HasPage}
+use Rattle.reservations.specs.Kept.{CoversPage}
 use Rattle.reservations.proofs.ExtentLemmas.{eight_pos}
 use Rattle.frame_pool.specs.Laid.{IsLaid}
 use Rattle.frame_pool.specs.Placed.{FindsExtent, PlacesPage, with_reservation, without_extent}
-use Rattle.frame_pool.proofs.PagePlaces.{IsPageOf-covers, covering-found}
-use Rattle.frame_pool.proofs.LayoutPlacing.{Places-placing}
+use Rattle.frame_pool.proofs.PagePlaces.{CoversPageOf-covers, covering-found}
+use Rattle.frame_pool.proofs.LayoutPlacing.{WasPlaced-placing}
 
 -- what the definition gives is a place of the page
 pub PlacesPage-from : (l new : Layout) (stamp space page : ℕ) (want : Want) (place : Placing) → IsLaid l → frame_in l space page ≡ None → placing stamp space page want l ≡ Some place → new ≡ place.layout → place.broken ≤ 1 → PlacesPage l new (placing stamp space page want l) place.frame place.broken
 PlacesPage-from l new stamp space page want place laid unplaced is layout few =
-    let places = Places-placing l stamp space page want place laid unplaced is in
+    let places = WasPlaced-placing l stamp space page want place laid unplaced is in
     record {
       place = place;
       is = is;
@@ -40,10 +40,10 @@ module _ (l : Layout) (space page : ℕ) (r : Reservation) (laid : IsLaid l) (co
       let w = covering-found space page l.records r covers in
       ap (record_at l) (laid.placed w.0 r w.2).named ∙ w.2
 
-  pub HasPage-covered : HasPage r page
+  pub HasPage-covered : CoversPage r page
   HasPage-covered =
       let w = covering-found space page l.records r covers in
-      let bounds = IsPageOf-covers space page r w.3 in
+      let bounds = CoversPageOf-covers space page r w.3 in
       (bounds.low, bounds.high)
 
 -- In a new reservation.
@@ -73,7 +73,7 @@ module _ (l new : Layout) (stamp space page : ℕ) (want : Want) (preferred size
 
   pub IsLaid-added : IsLaid l → frame_in l space page ≡ None → IsLaid (with_reservation added page new)
   IsLaid-added laid unplaced =
-      subst IsLaid (sym layout_is) (Places-placing l stamp space page want (reserved stamp space page finds.found) laid unplaced placing_is).laid
+      subst IsLaid (sym layout_is) (WasPlaced-placing l stamp space page want (reserved stamp space page finds.found) laid unplaced placing_is).laid
 
   pub PlacesPage-added : IsLaid l → frame_in l space page ≡ None → PlacesPage l (with_reservation added page new) (placing stamp space page want l) (frame_for page added) broken
   PlacesPage-added laid unplaced =

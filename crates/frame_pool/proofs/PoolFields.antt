@@ -22,9 +22,9 @@ use Rattle.frame_pool.specs.Laid.{IsLaid, IsSound}
 use Rattle.frame_pool.specs.Placed.{IsPageAt, PlacesPage}
 use Rattle.frame_pool.specs.PoolState.{state_of}
 use Rattle.frame_pool.specs.Pooled.{IsPool, number_in}
-use Rattle.frame_pool.proofs.PagePlaces.{covers-IsPageOf, has_frame_for, HasPlace, frame_in-from, frame_in-found, covering-is}
+use Rattle.frame_pool.proofs.PagePlaces.{covers-CoversPageOf, has_frame_for, HasPlace, frame_in-from, frame_in-found, covering-is}
 use Rattle.frame_pool.proofs.LayoutRelease.{Gives-vacate, Gives-carve}
-use Rattle.frame_pool.proofs.LayoutPlacing.{Places-placing}
+use Rattle.frame_pool.proofs.LayoutPlacing.{WasPlaced-placing}
 use Rattle.frame_pool.proofs.StateSoundness.{is_used-layout_of, used_if_noted, IsSound-take, IsSound-give_page, IsSound-claimed, IsSound-unclaimed, IsSound-dropped}
 use Rattle.frame_pool.proofs.StartStates.{IsSound-start, nothing_used}
 
@@ -160,7 +160,7 @@ page_of st frame page r laid is noted at =
       id = r.frame;
       reservation = r;
       is = is;
-      covers_page = covers-IsPageOf r.space page r (record { space_is = refl; low = at.has.0; high = at.has.1 });
+      covers_page = covers-CoversPageOf r.space page r (record { space_is = refl; low = at.has.0; high = at.has.1 });
       frame = sym at.joined;
       used = used_if_noted st frame noted;
     })
@@ -197,7 +197,7 @@ module _ (p : Inside) (space page : ℕ) (want : Want) (m : Layout) (frame broke
   -- the frame is known, and wasn't used
   pub frame_known : frame < length p.frames.items
   frame_known =
-      let places = Places-placing (layout_of (state_of p)) p.entries space page want placed.place pool.sound.laid none placing_is in
+      let places = WasPlaced-placing (layout_of (state_of p)) p.entries space page want placed.place pool.sound.laid none placing_is in
       omega (arith, places.known, placed.same_frame, pool.frames_known)
 
   pub was_unused : is_some (used_at (state_of p) frame) ≡ false

@@ -14,38 +14,38 @@ use Rattle.reservations.specs.Kept.{IsPlaced}
 use Rattle.frame_pool.proofs.PartRecords.{length-split, split_at, split_other}
 use Rattle.reservations.proofs.CountLemmas.{extent_of_frame}
 use Rattle.reservations.proofs.ExtentLemmas.{part_of_eight}
-use Rattle.reservations.proofs.HoldLemmas.{has_frame_bounds, has_frame_from}
+use Rattle.reservations.proofs.FrameIds.{has_frame_bounds, has_frame_from}
 use Rattle.reservations.proofs.SplitLemmas.{range_more}
-use Rattle.frame_pool.proofs.PagePlaces.{IsPageOf-covers, covers-IsPageOf}
+use Rattle.frame_pool.proofs.PagePlaces.{CoversPageOf-covers, covers-CoversPageOf}
 
 -- The pages of a reservation and of its parts.
 
 -- a page of a part is a page of the whole
 pub covers_whole : (s p i : ℕ) (r : Reservation) → 0 < r.size → i < 8 → covers s p (part_of r i) ≡ true → covers s p r ≡ true
 covers_whole s p i r splits one has =
-    let at = IsPageOf-covers s p (part_of r i) has in
+    let at = CoversPageOf-covers s p (part_of r i) has in
     let ends = part_of_eight i r.size splits one in
-    covers-IsPageOf s p r (record { space_is = at.space_is; low = omega (arith, at.low); high = omega (arith, at.high, ends) })
+    covers-CoversPageOf s p r (record { space_is = at.space_is; low = omega (arith, at.low); high = omega (arith, at.high, ends) })
 
 -- a part joins its pages to the same frames as the whole does
 pub frame_for_part : (s p i : ℕ) (r : Reservation) → covers s p (part_of r i) ≡ true → frame_for p (part_of r i) ≡ frame_for p r
-frame_for_part s p i r has = let at = IsPageOf-covers s p (part_of r i) has in omega (arith, at.low)
+frame_for_part s p i r has = let at = CoversPageOf-covers s p (part_of r i) has in omega (arith, at.low)
 
 -- a page is a page of one part only
 pub one_part_covers : (s p i j : ℕ) (r : Reservation) → covers s p (part_of r i) ≡ true → covers s p (part_of r j) ≡ true → i ≡ j
 one_part_covers s p i j r by_i by_j =
     let w = 8 ^ (r.size - 1) in
-    let in_i = IsPageOf-covers s p (part_of r i) by_i in
-    let in_j = IsPageOf-covers s p (part_of r j) by_j in
+    let in_i = CoversPageOf-covers s p (part_of r i) by_i in
+    let in_j = CoversPageOf-covers s p (part_of r j) by_j in
     sym (extent_of_frame i w (p - r.first) (omega (arith, in_i.low)) (omega (arith, in_i.low, in_i.high)))
     ∙ extent_of_frame j w (p - r.first) (omega (arith, in_j.low)) (omega (arith, in_j.low, in_j.high))
 
 -- the part that has the frame of a page has the page
 pub part_covers : (s p i : ℕ) (r : Reservation) → covers s p r ≡ true → has_frame (frame_for p r) (Some (part_of r i)) ≡ true → covers s p (part_of r i) ≡ true
 part_covers s p i r has in_part =
-    let at = IsPageOf-covers s p r has in
+    let at = CoversPageOf-covers s p r has in
     let within = has_frame_bounds (frame_for p r) (part_of r i) in_part in
-    covers-IsPageOf s p (part_of r i) (record { space_is = at.space_is; low = omega (arith, at.low, within.0); high = omega (arith, at.low, within.1) })
+    covers-CoversPageOf s p (part_of r i) (record { space_is = at.space_is; low = omega (arith, at.low, within.0); high = omega (arith, at.low, within.1) })
 
 -- some frame is a used place, where not none of them is
 pub some_used_in : (p : ℕ → Bool) (first n : ℕ) → none_used p first n ≡ false → (f : ℕ) × (first ≤ f) × (f < first + n) × (p f ≡ true)

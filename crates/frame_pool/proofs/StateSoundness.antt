@@ -5,6 +5,7 @@ use Rattle.std.proofs.lemmas.List.{get_or-set_same, get_or-set_other, length-set
 use Rattle.std.proofs.Math.ListN.{get_or-map}
 use Rattle.std.proofs.Math.Seq.{map-set_same}
 use Rattle.std.specs.List.{range_with_len}
+use Rattle.std.proofs.lemmas.Option.{none-some, same_Some}
 use Rattle.pager_model.specs.declared.call.Call.{Call}
 use Rattle.pager_model.specs.declared.call.Call.TheVariants.{Map, Grow, Unmap, Protect, Load, Store, Sync, Evict}
 use Rattle.pager_model.specs.declared.entry.Want.{Want}
@@ -16,10 +17,10 @@ use Rattle.pager_model.specs.Agreement.{has_frame}
 use Rattle.pager_model.specs.FrameStates.{FrameState, Taking, layout_of, used_at, held_by, claim_in, frame_of, HasNothing, taken, taking, take_frame, state_taken, layout_given, held_given, given, given_in, give_page, give_if_used, with_claim, claimed, dropped, dropped_in, counted, named_space, moved, moved_by_answer, AllowsAnswer, FramesAllow}
 use Rattle.pager_model.specs.Layouts.{Layout, Placing, placing, frame_for, record_at}
 use Rattle.pager_model.specs.Records.{is_used}
-use Rattle.reservations.proofs.HoldLemmas.{has_frame_bounds, Some-same, None-not_Some}
+use Rattle.reservations.proofs.FrameIds.{has_frame_bounds}
 use Rattle.frame_pool.specs.Laid.{IsLaid, IsSound, IsIn}
 use Rattle.frame_pool.proofs.PagePlaces.{has_frame_for, frame_in-found, covering-is}
-use Rattle.frame_pool.proofs.LayoutPlacing.{Places, Places-placing}
+use Rattle.frame_pool.proofs.LayoutPlacing.{WasPlaced, WasPlaced-placing}
 use Rattle.frame_pool.proofs.LayoutRelease.{Gives, Gives-vacate, Gives-carve, PutsBack-put_back}
 
 -- What is noted of the frames.
@@ -46,7 +47,7 @@ same_used l used same = ap (λ u. record { free = l.free; records = l.records; u
 
 -- a claim is noted of a used place
 pub claim_from : (o : Option Used) (c : ℕ) → claim_in o ≡ Some c → (u : Used) × (o ≡ Some u) × (u.claim ≡ Some c)
-claim_from None c claims = absurd (None-not_Some c claims)
+claim_from None c claims = absurd (none-some c claims)
 claim_from (Some u) c claims = (u, refl, claims)
 
 -- What stands in a list of options after one was written.
@@ -58,14 +59,14 @@ set_cases xs i j o x is = elim (cases_eq j i) [
       let at : get_or (set xs i o) i None ≡ Some x = ap (λ k. get_or (set xs i o) k None) (sym here) ∙ is in
       elim (cases_lt i (length xs)) [
         | inl known ↦ inl (here, sym (get_or-set_same xs i o None known) ∙ at)
-        | inr past ↦ absurd (None-not_Some x (sym (ap (λ ys. get_or ys i None) (set_past xs i o past) ∙ get_or_past xs i None past) ∙ at))
+        | inr past ↦ absurd (none-some x (sym (ap (λ ys. get_or ys i None) (set_past xs i o past) ∙ get_or_past xs i None past) ∙ at))
       ]
   | inr other ↦ inr (other, sym (get_or-set_other xs i j o None other) ∙ is)
 ]
 
 -- after None was written a value that stands somewhere stood there before, and None was written elsewhere
 unset_cases : {A : Type 0} (xs : List (Option A)) (i j : ℕ) (x : A) → get_or (set xs i None) j None ≡ Some x → (j ≢ i) × (get_or xs j None ≡ Some x)
-unset_cases xs i j x is = elim (set_cases xs i j None x is) [ inl here ↦ absurd (None-not_Some x here.1) | inr there ↦ there ]
+unset_cases xs i j x is = elim (set_cases xs i j None x is) [ inl here ↦ absurd (none-some x here.1) | inr there ↦ there ]
 
 -- None stands where None was written
 pub unset_at : {A : Type 0} (xs : List (Option A)) (i j : ℕ) → j ≡ i → get_or (set xs i None) j None ≡ None
@@ -80,16 +81,16 @@ unset_at xs i j here = ap (λ k. get_or (set xs i None) k None) here ∙ elim (c
 pub record Takes (before : FrameState) (space page : ℕ) (t : Taking) : Type 0 where
   pub place : Placing
   pub layout : layout_of t.state ≡ place.layout
-  pub places : Places (layout_of before) place.layout space page t.frame
+  pub places : WasPlaced (layout_of before) place.layout space page t.frame
   pub entries : t.state.entries ≡ before.entries
 
 -- a taking is one at a place that was found
 pub taking_from : (st : FrameState) (want : Want) (o : Option Placing) (t : Taking) → option_map (taking st want) o ≡ Some t → (place : Placing) × (o ≡ Some place) × (taking st want place ≡ t)
-taking_from st want None t takes = absurd (None-not_Some t takes)
-taking_from st want (Some place) t takes = (place, refl, Some-same (taking st want place) t takes)
+taking_from st want None t takes = absurd (none-some t takes)
+taking_from st want (Some place) t takes = (place, refl, same_Some (taking st want place) t takes)
 
 -- the layout after a taking at a place is that of the place
-pub layout_of-taken : (st : FrameState) (space page : ℕ) (want : Want) (place : Placing) → Places (layout_of st) place.layout space page place.frame → layout_of (taken st want place) ≡ place.layout
+pub layout_of-taken : (st : FrameState) (space page : ℕ) (want : Want) (place : Placing) → WasPlaced (layout_of st) place.layout space page place.frame → layout_of (taken st want place) ≡ place.layout
 layout_of-taken st space page want place places =
     let note : Option Used = Some (record { age = st.entries; wired = want.wired; claim = None }) in
     same_used place.layout (map is_some (set st.used place.frame note)) (map-set is_some st.used place.frame note ∙ sym places.used)
@@ -98,7 +99,7 @@ pub Takes-take_frame : (frames processors : ℕ) (st : FrameState) (space page :
 Takes-take_frame frames processors st space page want t sound none takes =
     let found = taking_from st want (placing st.entries space page want (layout_of st)) t takes in
     let place = found.0 in
-    let places = Places-placing (layout_of st) st.entries space page want place sound.laid none found.1 in
+    let places = WasPlaced-placing (layout_of st) st.entries space page want place sound.laid none found.1 in
     subst (Takes st space page) found.2 (record { place = place; layout = layout_of-taken st space page want place places; places = places; entries = refl })
 
 -- each move keeps the state sound, with the entry counted
@@ -123,15 +124,15 @@ claim_taken st want place f c claims =
     let note : Used = record { age = st.entries; wired = want.wired; claim = None } in
     let noted = claim_from (used_at (taken st want place) f) c claims in
     elim (set_cases st.used place.frame f (Some note) noted.0 noted.1) [
-      | inl here ↦ absurd (None-not_Some c (ap (λ u. u.claim) (Some-same note noted.0 here.1) ∙ noted.2))
+      | inl here ↦ absurd (none-some c (ap (λ u. u.claim) (same_Some note noted.0 here.1) ∙ noted.2))
       | inr there ↦ ap claim_in there.1 ∙ noted.2
     ]
 
 -- the state after a taking at a place
-IsSound-taken : (frames processors : ℕ) (st : FrameState) (space page : ℕ) (want : Want) (place : Placing) → IsSound frames processors st → Places (layout_of st) place.layout space page place.frame → IsSound frames processors (counted (taken st want place))
+IsSound-taken : (frames processors : ℕ) (st : FrameState) (space page : ℕ) (want : Want) (place : Placing) → IsSound frames processors st → WasPlaced (layout_of st) place.layout space page place.frame → IsSound frames processors (counted (taken st want place))
 IsSound-taken frames processors st space page want place sound places =
     let note : Used = record { age = st.entries; wired = want.wired; claim = None } in
-    let age_of : (u : Used) → Some note ≡ Some u → st.entries ≡ u.age = λ u e. ap (λ v. v.age) (Some-same note u e) in
+    let age_of : (u : Used) → Some note ≡ Some u → st.entries ≡ u.age = λ u e. ap (λ v. v.age) (same_Some note u e) in
     record {
       known = places.long ∙ sound.known;
       processors_known = sound.processors_known;
@@ -160,7 +161,7 @@ IsSound-taken frames processors st space page want place sound places =
 pub IsSound-take : (frames processors : ℕ) (st : FrameState) (space page : ℕ) (want : Want) (t : Taking) → IsSound frames processors st → frame_of st space page ≡ None → take_frame st space page want ≡ Some t → IsSound frames processors (counted t.state)
 IsSound-take frames processors st space page want t sound none takes =
     let found = taking_from st want (placing st.entries space page want (layout_of st)) t takes in
-    let places = Places-placing (layout_of st) st.entries space page want found.0 sound.laid none found.1 in
+    let places = WasPlaced-placing (layout_of st) st.entries space page want found.0 sound.laid none found.1 in
     subst (λ u. IsSound frames processors (counted u.state)) found.2 (IsSound-taken frames processors st space page want found.0 sound places)
 
 -- Giving.
@@ -233,13 +234,13 @@ module _ (frames processors : ℕ) (st : FrameState) (id frame : ℕ) (r : Reser
           | inr other ↦ elim (sound.accounted f known) [
             | inl within ↦ inl ((gives.within f).1 (within, other))
             | inr holds ↦
-                let another : holds.0 ≢ c = λ same. None-not_Some f (sym had.1 ∙ ap (held_by st) (sym same) ∙ holds.1) in
+                let another : holds.0 ≢ c = λ same. none-some f (sym had.1 ∙ ap (held_by st) (sym same) ∙ holds.1) in
                 inr (holds.0, get_or-set_other st.held c holds.0 (Some frame) None another ∙ holds.1)
           ]
         ];
         held_apart = λ d f holds. elim (set_cases st.held c d (Some frame) f holds) [
           | inl now ↦
-              let same : frame ≡ f = Some-same frame f now.1 in
+              let same : frame ≡ f = same_Some frame f now.1 in
               (subst (λ g. g < frames) same frame_known, λ within. ((gives.within f).0 within).1 (sym same))
           | inr before ↦ let apart = sound.held_apart d f before.1 in (apart.0, λ within. apart.1 ((gives.within f).0 within).0)
         ];
@@ -293,12 +294,12 @@ layout_of-claimed st frame claim =
 
 -- a note with a claim written into it has the age that it had
 noted_before : (claim : Option ℕ) (o : Option Used) (u : Used) → with_claim claim o ≡ Some u → (v : Used) × (o ≡ Some v) × (v.age ≡ u.age)
-noted_before claim None u is = absurd (None-not_Some u is)
-noted_before claim (Some v) u is = (v, refl, ap (λ w. w.age) (Some-same _ u is))
+noted_before claim None u is = absurd (none-some u is)
+noted_before claim (Some v) u is = (v, refl, ap (λ w. w.age) (same_Some _ u is))
 
 -- and has this claim
 claim_written : (claim : Option ℕ) (o : Option Used) (c : ℕ) → claim_in (with_claim claim o) ≡ Some c → claim ≡ Some c
-claim_written claim None c claims = absurd (None-not_Some c claims)
+claim_written claim None c claims = absurd (none-some c claims)
 claim_written claim (Some v) c claims = claims
 
 -- a claim changes no age
@@ -353,11 +354,11 @@ IsSound-reclaimed frames processors st frame claim sound may = record {
 pub IsSound-claimed : (frames processors : ℕ) (st : FrameState) (frame c : ℕ) → IsSound frames processors st → c < processors → HasNothing st c → IsSound frames processors (claimed st frame (Some c))
 IsSound-claimed frames processors st frame c sound known nothing =
     IsSound-reclaimed frames processors st frame (Some c) sound
-    (λ d is. subst (λ e. (e < processors) × HasNothing st e) (Some-same c d is) (known, nothing))
+    (λ d is. subst (λ e. (e < processors) × HasNothing st e) (same_Some c d is) (known, nothing))
 
 pub IsSound-unclaimed : (frames processors : ℕ) (st : FrameState) (frame : ℕ) → IsSound frames processors st → IsSound frames processors (claimed st frame None)
 IsSound-unclaimed frames processors st frame sound =
-    IsSound-reclaimed frames processors st frame None sound (λ c is. absurd (None-not_Some c is))
+    IsSound-reclaimed frames processors st frame None sound (λ c is. absurd (none-some c is))
 
 -- Dropping.
 
@@ -373,7 +374,7 @@ IsSound-dropped_in frames processors st c frame sound holds =
       accounted = λ f known. elim (sound.accounted f known) [
         | inl within ↦ inl ((puts.within f).1 (inl within))
         | inr held ↦ elim (cases_eq held.0 c) [
-          | inl here ↦ inl ((puts.within f).1 (inr (Some-same f frame (sym held.1 ∙ ap (held_by st) here ∙ holds))))
+          | inl here ↦ inl ((puts.within f).1 (inr (same_Some f frame (sym held.1 ∙ ap (held_by st) here ∙ holds))))
           | inr other ↦ inr (held.0, get_or-set_other st.held c held.0 None None other ∙ held.1)
         ]
       ];

@@ -8,7 +8,7 @@ use Rattle.pager_model.specs.Agreement.{has_frame}
 use Rattle.pager_model.specs.FreeBlocks.{choice}
 use Rattle.pager_model.specs.Layouts.{Layout, Found, break_layout, broken_at, to_break, chosen, extent_of, largest_extent, record_at, is_free}
 use Rattle.pager_model.specs.Records.{is_used, yield_of}
-use Rattle.reservation_lists.specs.Kept.{Kept}
+use Rattle.reservation_lists.specs.Kept.{KeptLists}
 use Rattle.frame_pool.specs.Laid.{IsLaid}
 use Rattle.frame_pool.specs.Listed.{IsInOrder}
 use Rattle.frame_pool.specs.Placed.{CanBreak, FindsExtent, without_extent}
@@ -68,7 +68,7 @@ module _ (found : Found) (laid : IsLaid found.layout) (is : choice found.layout.
   }
 
 -- the lists are those of the layout without its frames
-pub IsInOrder-without : (frames : ℕ) (found : Found) (kept : Kept) → IsInOrder frames found.layout kept → choice found.layout.free found.size ≡ Some found.first → IsInOrder frames (without_extent found) kept
+pub IsInOrder-without : (frames : ℕ) (found : Found) (kept : KeptLists) → IsInOrder frames found.layout kept → choice found.layout.free found.size ≡ Some found.first → IsInOrder frames (without_extent found) kept
 IsInOrder-without frames found kept order is = record {
   known = without-long found order.laid is ∙ order.known;
   few = order.few;

@@ -5,7 +5,7 @@ use Rattle.pager_model.specs.declared.reservation.Reservation.{Reservation}
 use Rattle.pager_model.specs.Agreement.{has_frame}
 use Rattle.pager_model.specs.Records.{none_used, has_empty, yield_up_to, yield_of}
 use Rattle.reservations.proofs.ExtentLemmas.{eight_split, part_inside}
-use Rattle.reservations.proofs.HoldLemmas.{has_frame_from}
+use Rattle.reservations.proofs.FrameIds.{has_frame_from}
 
 -- tests that agree on the numbers of a range find alike in it
 list_any-agree : (p q : ℕ → Bool) (a n : ℕ) → ((i : ℕ) → a ≤ i → i < a + n → p i ≡ q i) → list_any p (range_with_len a n) ≡ list_any q (range_with_len a n)

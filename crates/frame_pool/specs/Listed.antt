@@ -5,7 +5,7 @@ use Rattle.pager_model.specs.Ages.{Lists, list_at}
 use Rattle.pager_model.specs.Layouts.{Layout, list_of}
 use Rattle.pager_model.specs.Agreement.{has_frame}
 use Rattle.pager_model.specs.Records.{Records, is_used, split_records}
-use Rattle.reservation_lists.specs.Kept.{Kept}
+use Rattle.reservation_lists.specs.Kept.{KeptLists}
 use Rattle.reservations.specs.Kept.{IsPlaced, ArePlaced}
 use Rattle.frame_pool.specs.Laid.{IsLaid}
 
@@ -14,7 +14,7 @@ abbrev pub AreListed : Lists → List Bool → List (Option Reservation) → Typ
 AreListed lists used records = (k : ℕ) → k < 3 → list_at lists k ≡ list_of used k records
 
 -- the layout of so many frames is sound, and the lists are its
-pub record IsInOrder (frames : ℕ) (l : Layout) (kept : Kept) : Type 0 where
+pub record IsInOrder (frames : ℕ) (l : Layout) (kept : KeptLists) : Type 0 where
   pub known : length l.free ≡ frames
   pub few : frames ≤ 32768
   pub laid : IsLaid l
@@ -22,7 +22,7 @@ pub record IsInOrder (frames : ℕ) (l : Layout) (kept : Kept) : Type 0 where
   pub room : kept.frames ≡ frames
 
 -- From records in which the reservation was none any more, and whose lists these are, the reservation was split.
-pub record WasSplit (lists : Kept) (after : Records) (whole : Reservation) : Type 0 where
+pub record WasSplit (lists : KeptLists) (after : Records) (whole : Reservation) : Type 0 where
   pub records : List (Option Reservation)
   pub placed : IsPlaced (length records) whole.frame whole
   pub others_placed : ArePlaced records

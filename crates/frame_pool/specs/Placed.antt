@@ -6,7 +6,7 @@ use Rattle.pager_model.specs.Extents.{IsExtent}
 use Rattle.pager_model.specs.FreeBlocks.{with_range}
 use Rattle.pager_model.specs.Layouts.{Layout, Found, Placing, frame_for, record_at}
 use Rattle.pager_model.specs.Records.{is_used, yield_of}
-use Rattle.reservations.specs.Kept.{HasPage}
+use Rattle.reservations.specs.Kept.{CoversPage}
 
 -- the first frame of a reservation
 abbrev pub first_of : Option Reservation → Option ℕ
@@ -53,5 +53,5 @@ pub record PlacesPage (old new : Layout) (places : Option Placing) (frame broken
 
 -- the page is the one that the reservation joins to the frame
 pub record IsPageAt (r : Reservation) (frame page : ℕ) : Type 0 where
-  pub has : HasPage r page
+  pub has : CoversPage r page
   pub joined : frame_for page r ≡ frame

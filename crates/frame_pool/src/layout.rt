@@ -8,7 +8,7 @@ ghost use Rattle.pager_model.specs.Layouts.{carve_layout, narrow_layout, take_ou
 ghost use Rattle.pager_model.specs.Layouts.{extent_of, largest_extent, populated, placing};
 ghost use Rattle.pager_model.specs.PreferredSize.{IsWanted};
 ghost use Rattle.pager_model.specs.Records.{is_used, goes_on_at};
-ghost use Rattle.reservations.specs.Kept.{HasPage, IsPlaced};
+ghost use Rattle.reservations.specs.Kept.{CoversPage, IsPlaced};
 ghost use Rattle.reservations.specs.Parts.{told_parts};
 ghost use Rattle.frame_pool.specs.Laid.{IsIn, IsLaid};
 ghost use Rattle.frame_pool.specs.Placed.{CanBreak, FindsExtent, PlacesPage, with_reservation};
@@ -78,12 +78,12 @@ impl Layout {
     }
 
     /// The reservation that has the frame, if one has it.
-    pub(crate) fn owner(&self, frame: u32) -> Option<Reservation>
-        ensures owner { IfSome result (λ r. (record_at self.now r.frame ≡ Some r) × (has_frame frame (Some r) ≡ true)) }
+    pub(crate) fn reservation_of(&self, frame: u32) -> Option<Reservation>
+        ensures found { IfSome result (λ r. (record_at self.now r.frame ≡ Some r) × (has_frame frame (Some r) ≡ true)) }
         ensures none { IfNone result ((id : ℕ) → has_frame frame (record_at self.now id) ≡ false) }
         ensures laid { IsLaid self.now }
     {
-        let id = self.reservations.holder(frame)?;
+        let id = self.reservations.id_of(frame)?;
         self.reservations.get(id)
     }
 
@@ -133,7 +133,7 @@ impl Layout {
     /// Uses the page's place in the reservation, which is as young as the stamp from then on. Answers the place's frame.
     fn populate(&mut self, reservation: &Reservation, page: u32, stamp: u64) -> u32
         requires there { record_at self.old reservation.now.frame ≡ Some reservation.now }
-        requires has { HasPage reservation.now page }
+        requires has { CoversPage reservation.now page }
         requires unused { is_used self.old.used (frame_for page reservation.now) ≡ false }
         ensures layout { self.new ≡ (populated stamp page self.old reservation.now).layout }
         ensures frame { result ≡ frame_for page reservation.now }
@@ -148,7 +148,7 @@ impl Layout {
     /// Adds a reservation of frames that are in none, whose one used place is the page's, where the layout is sound with it.
     /// Answers the place's frame.
     fn add(&mut self, reservation: Reservation, page: u32) -> u32
-        requires has { HasPage reservation page }
+        requires has { CoversPage reservation page }
         requires placed { IsPlaced (length self.old.free) reservation.frame reservation }
         requires apart { (frame id : ℕ) → has_frame frame (Some reservation) ≡ true → has_frame frame (record_at self.old id) ≡ false }
         requires laid { IsLaid (with_reservation reservation page self.old) }
@@ -262,7 +262,7 @@ impl Layout {
         requires { is_used self.old.used frame ≡ true }
         ensures { (id : ℕ) → IfSome (record_at self.old id) (λ r. has_frame frame (Some r) ≡ true → self.new ≡ vacate_layout frame r self.old) }
     {
-        let reservation = self.owner(frame).unwrap();
+        let reservation = self.reservation_of(frame).unwrap();
         let id = reservation.frame;
         unlist(&mut self.lists, &self.reservations, id);
         if self.reservations.vacate(id, page_at(&reservation, frame)) {
@@ -295,10 +295,10 @@ impl Layout {
         ensures narrowed { (id : ℕ) → IfSome (record_at self.old id) (λ r. has_frame frame (Some r) ≡ true → self.new ≡ narrow_layout frame r self.old) }
         ensures alone { IsSomeAnd (record_at self.new frame) (λ r. (r.size ≡ 0) × (r.first ≡ result)) }
     {
-        let mut part = self.owner(frame).unwrap();
+        let mut part = self.reservation_of(frame).unwrap();
         while part.size.level() > 0 {
             self.split(part.frame);
-            part = self.owner(frame).unwrap();
+            part = self.reservation_of(frame).unwrap();
         }
         part.first
     }

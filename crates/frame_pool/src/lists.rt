@@ -1,7 +1,7 @@
 ghost use Rattle.std.specs.Prelude.{◌≡◌, ℕ, ◌<◌, false, List, Option, length, slice_set, slice_index_or, None, IsSome, IsSomeAnd};
 ghost use Rattle.pager_model.specs.declared.reservation.Reservation.{Reservation};
 ghost use Rattle.reservation_lists.specs.Kept.{is_listed};
-ghost use Rattle.reservations.specs.Kept.{record_at, ArePlaced};
+ghost use Rattle.reservations.specs.Kept.{reservation_at, ArePlaced};
 ghost use Rattle.frame_pool.specs.Listed.{AreListed, WasSplit};
 
 use pager_model::Reservation;
@@ -10,7 +10,7 @@ use reservations::Reservations;
 
 /// Takes the reservation that begins at the frame `id` out of its list, where it stands in one.
 pub(crate) fn unlist(lists: &mut Lists, reservations: &Reservations, id: u32)
-    requires there { IsSome (record_at reservations.now id) }
+    requires there { IsSome (reservation_at reservations.now id) }
     requires placed { ArePlaced reservations.now.records }
     requires listed { AreListed lists.old.lists reservations.now.used reservations.now.records }
     ensures listed { AreListed lists.new.lists reservations.now.used (slice_set reservations.now.records id None) }
@@ -26,12 +26,12 @@ pub(crate) fn unlist(lists: &mut Lists, reservations: &Reservations, id: u32)
 
 /// Puts the reservation that begins at the frame `id` into its list, where it isn't full.
 pub(crate) fn enlist(lists: &mut Lists, reservations: &Reservations, id: u32)
-    requires there { IsSomeAnd (record_at reservations.now id) (λ r. r.frame ≡ id) }
+    requires there { IsSomeAnd (reservation_at reservations.now id) (λ r. r.frame ≡ id) }
     requires known { id < lists.old.frames }
     requires unlisted { is_listed id lists.old.lists ≡ false }
     ensures listed { (records : List (Option Reservation)) → slice_index_or records id None ≡ None → id < length records
         → AreListed lists.old.lists reservations.now.used records
-        → AreListed lists.new.lists reservations.now.used (slice_set records id (record_at reservations.now id)) }
+        → AreListed lists.new.lists reservations.now.used (slice_set records id (reservation_at reservations.now id)) }
     ensures room { lists.new.frames ≡ lists.old.frames }
 {
     if let Some(size) = reservations.yields(id) {

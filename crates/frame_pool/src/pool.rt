@@ -156,7 +156,7 @@ impl Pool {
             });
         };
         let frame = at as u32;
-        let reservation = self.layout.owner(frame).unwrap();
+        let reservation = self.layout.reservation_of(frame).unwrap();
         self.note_claim(at, Some(processor));
         self.entries += 1;
         Ok(Victim {

@@ -5,7 +5,7 @@ ghost use Rattle.pager_model.specs.PreferredSize.{IsWanted, preferred_size};
 ghost use Rattle.pager_model.specs.Agreement.{has_frame};
 ghost use Rattle.pager_model.specs.Extents.{IsExtent};
 ghost use Rattle.pager_model.specs.Records.{is_used, part_of, yield_of, lowest_as_wide};
-ghost use Rattle.reservations.specs.Kept.{IsPlaced, HasPage, record_at};
+ghost use Rattle.reservations.specs.Kept.{IsPlaced, CoversPage, reservation_at};
 ghost use Rattle.frame_pool.specs.Placed.{IsPageAt, first_of};
 
 use pager_model::{Extent, Reservation, Size, Want};
@@ -116,7 +116,7 @@ pub(crate) fn lowest_as_wide(
 ) -> Option<u32>
     requires splits { 0 < whole.now.size }
     requires placed { IsPlaced (length reservations.now.records) whole.now.frame whole.now }
-    requires parts { (i : ℕ) → i < 8 → record_at reservations.now (part_of whole.now i).frame ≡ Some (part_of whole.now i) }
+    requires parts { (i : ℕ) → i < 8 → reservation_at reservations.now (part_of whole.now i).frame ≡ Some (part_of whole.now i) }
     requires width { width ≡ yield_of (is_used reservations.now.used) whole.now }
     ensures { result ≡ first_of (option_map (part_of whole.now) (lowest_as_wide (is_used reservations.now.used) whole.now)) }
 {

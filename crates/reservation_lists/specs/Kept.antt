@@ -4,7 +4,7 @@ use Rattle.std.specs.List.{list_any}
 use Rattle.pager_model.specs.Ages.{Member, Lists}
 
 -- the lists, and the number of frames: each list has room for a member of each frame
-pub record Kept : Type 0 where
+pub record KeptLists : Type 0 where
   pub lists : Lists
   pub frames : ℕ
 

@@ -87,9 +87,9 @@ pub struct Lists {
 
 impl Model for Lists {
     ghost use Rattle.std.specs.Prelude.{vec_capacity};
-    ghost use Rattle.reservation_lists.specs.Kept.{Kept, HasRoom};
+    ghost use Rattle.reservation_lists.specs.Kept.{KeptLists, HasRoom};
 
-    ghost Value = { Kept };
+    ghost Value = { KeptLists };
 
     ghost view = { λ l. record {
       lists = record { base = l.base.items; small = l.small.items; middle = l.middle.items };

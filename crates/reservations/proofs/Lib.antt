@@ -1,5 +1,5 @@
 pub mod CountLemmas
 pub mod ExtentLemmas
-pub mod HoldLemmas
+pub mod FrameIds
 pub mod SplitLemmas
 pub mod YieldLemmas

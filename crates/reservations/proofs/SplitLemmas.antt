@@ -5,11 +5,12 @@ use Rattle.std.proofs.lemmas.List.{set-set, map-id}
 use Rattle.std.proofs.lemmas.List.FromFn.{map-range_with_len_more}
 use Rattle.std.proofs.lemmas.List.Sums.{fold_push}
 use Rattle.std.proofs.lemmas.Bool.{cases_Bool, cond-true, cond-false}
+use Rattle.std.proofs.lemmas.Option.{none-some, same_Some}
 use Rattle.pager_model.specs.Records.{is_used, part_of, is_part_empty, kept_part, split_records}
 use Rattle.pager_model.specs.declared.reservation.Reservation.{Reservation}
-use Rattle.reservations.specs.Kept.{IsPlaced, ArePlaced, AreHeld, IsFilled, first_frame}
+use Rattle.reservations.specs.Kept.{IsPlaced, ArePlaced, AreNoted, IsFilled, first_frame}
 use Rattle.reservations.proofs.ExtentLemmas.{eight_pos, part_of_eight, aligned_part}
-use Rattle.reservations.proofs.HoldLemmas.{Belongs, AreHeld-place, ArePlaced-set, vacant_in_gap, unused_in, None-not_Some, Some-same}
+use Rattle.reservations.proofs.FrameIds.{Belongs, AreNoted-place, ArePlaced-set, vacant_in_gap, unused_in}
 
 -- one part is noted
 abbrev pub split_step : (ℕ → Bool) → Reservation → List (Option Reservation) → ℕ → List (Option Reservation)
@@ -60,9 +61,9 @@ module _ (records : List (Option Reservation)) (used : List Bool) (r : Reservati
   pub ArePlaced-part : ArePlaced records → ArePlaced (set records (r.frame + i * 8 ^ (r.size - 1)) (kept_part (is_used used) r i))
   ArePlaced-part are = ArePlaced-set records (r.frame + i * 8 ^ (r.size - 1)) (kept_part (is_used used) r i) are part_known (λ q e.
       elim (kept_cases (is_used used) r i) [
-        | inl empty ↦ absurd (None-not_Some q (sym empty.0 ∙ e))
+        | inl empty ↦ absurd (none-some q (sym empty.0 ∙ e))
         | inr whole ↦
-            let same = Some-same (part_of r i) q (sym whole ∙ e) in
+            let same = same_Some (part_of r i) q (sym whole ∙ e) in
             subst (λ p. IsPlaced (length records) (r.frame + i * 8 ^ (r.size - 1)) p) same
             (subst (λ n. IsPlaced n (r.frame + i * 8 ^ (r.size - 1)) (part_of r i)) (sym long) (part_placed frames i r placed splits one))
       ])
@@ -76,12 +77,12 @@ module _ (records : List (Option Reservation)) (used : List Bool) (r : Reservati
   ]
 
   -- and leaves a gap at the later parts
-  pub AreHeld-part : (holders after : List (Option ℕ)) → ArePlaced records → AreHeld records holders used (r.frame + i * 8 ^ (r.size - 1)) (r.frame + 8 ^ r.size) → IsFilled holders after (r.frame + i * 8 ^ (r.size - 1)) (8 ^ (r.size - 1)) (first_frame (kept_part (is_used used) r i)) → AreHeld (set records (r.frame + i * 8 ^ (r.size - 1)) (kept_part (is_used used) r i)) after used (r.frame + (i + 1) * 8 ^ (r.size - 1)) (r.frame + 8 ^ r.size)
-  AreHeld-part holders after are held filled =
+  pub AreNoted-part : (ids after : List (Option ℕ)) → ArePlaced records → AreNoted records ids used (r.frame + i * 8 ^ (r.size - 1)) (r.frame + 8 ^ r.size) → IsFilled ids after (r.frame + i * 8 ^ (r.size - 1)) (8 ^ (r.size - 1)) (first_frame (kept_part (is_used used) r i)) → AreNoted (set records (r.frame + i * 8 ^ (r.size - 1)) (kept_part (is_used used) r i)) after used (r.frame + (i + 1) * 8 ^ (r.size - 1)) (r.frame + 8 ^ r.size)
+  AreNoted-part ids after are noted filled =
       let w = 8 ^ (r.size - 1) in
       let low = r.frame + i * w in
       let ends = part_of_eight i r.size splits one in
-      let vacant = vacant_in_gap records holders used low (r.frame + 8 ^ r.size) are held (omega (arith, ends, eight_pos (r.size - 1))) in
+      let vacant = vacant_in_gap records ids used low (r.frame + 8 ^ r.size) are noted (omega (arith, ends, eight_pos (r.size - 1))) in
       let next : low + w ≡ r.frame + (i + 1) * w = omega arith in
-      subst (λ n. AreHeld (set records low (kept_part (is_used used) r i)) after used n (r.frame + 8 ^ r.size)) next
-      (AreHeld-place records holders after used low (r.frame + 8 ^ r.size) w (kept_part (is_used used) r i) held vacant part_known (omega (arith, ends)) part_belongs filled)
+      subst (λ n. AreNoted (set records low (kept_part (is_used used) r i)) after used n (r.frame + 8 ^ r.size)) next
+      (AreNoted-place records ids after used low (r.frame + 8 ^ r.size) w (kept_part (is_used used) r i) noted vacant part_known (omega (arith, ends)) part_belongs filled)

@@ -7,8 +7,8 @@ use Rattle.pager_model.specs.Records.{Records, is_used}
 use Rattle.pager_model.specs.declared.reservation.Reservation.{Reservation}
 
 -- the reservation that begins at the frame, where one does
-abbrev pub record_at : Records → ℕ → Option Reservation
-record_at st frame = slice_index_or st.records frame None
+abbrev pub reservation_at : Records → ℕ → Option Reservation
+reservation_at st frame = slice_index_or st.records frame None
 
 abbrev pub with_record : Records → ℕ → Option Reservation → Records
 with_record st frame r = record { records = slice_set st.records frame r; used = st.used }
@@ -24,12 +24,12 @@ pub record IsPlaced (frames id : ℕ) (r : Reservation) : Type 0 where
   pub pages_aligned : IsExtent r.size r.first
 
 -- the page is one of the reservation's
-abbrev pub HasPage : Reservation → ℕ → Type 0
-HasPage r page = (r.first ≤ page) × (page < r.first + 8 ^ r.size)
+abbrev pub CoversPage : Reservation → ℕ → Type 0
+CoversPage r page = (r.first ≤ page) × (page < r.first + 8 ^ r.size)
 
 -- the reservation that begins at the frame has the page, at a place that is used or isn't
 abbrev pub HasPlace : Records → ℕ → ℕ → Bool → Type 0
-HasPlace st id page b = IsSomeAnd (record_at st id) (λ r. HasPage r page × (is_used st.used (frame_for page r) ≡ b))
+HasPlace st id page b = IsSomeAnd (reservation_at st id) (λ r. CoversPage r page × (is_used st.used (frame_for page r) ≡ b))
 
 -- each record is in its place
 abbrev pub ArePlaced : List (Option Reservation) → Type 0
@@ -37,17 +37,17 @@ ArePlaced records = (id : ℕ) (r : Reservation) → slice_index_or records id N
 
 -- Of each frame outside the gap from low up to high it is noted which reservation has it, and a frame without one is no used
 -- place; no reservation has a frame of the gap.
-pub record AreHeld (records : List (Option Reservation)) (holders : List (Option ℕ)) (used : List Bool) (low high : ℕ) : Type 0 where
-  pub noted : (frame id : ℕ) → (frame < low) ⊎ (high ≤ frame) → (slice_index_or holders frame None ≡ Some id) ↔ (has_frame frame (slice_index_or records id None) ≡ true)
-  pub idle : (frame : ℕ) → (frame < low) ⊎ (high ≤ frame) → slice_index_or holders frame None ≡ None → is_used used frame ≡ false
+pub record AreNoted (records : List (Option Reservation)) (ids : List (Option ℕ)) (used : List Bool) (low high : ℕ) : Type 0 where
+  pub exact : (frame id : ℕ) → (frame < low) ⊎ (high ≤ frame) → (slice_index_or ids frame None ≡ Some id) ↔ (has_frame frame (slice_index_or records id None) ≡ true)
+  pub idle : (frame : ℕ) → (frame < low) ⊎ (high ≤ frame) → slice_index_or ids frame None ≡ None → is_used used frame ≡ false
   pub gap : (frame id : ℕ) → low ≤ frame → frame < high → has_frame frame (slice_index_or records id None) ≡ true → ⊥
 
 -- the reservations are kept: there is no gap
-pub record AreKept (records : List (Option Reservation)) (holders : List (Option ℕ)) (used : List Bool) : Type 0 where
-  pub holders_long : length holders ≡ length records
+pub record AreKept (records : List (Option Reservation)) (ids : List (Option ℕ)) (used : List Bool) : Type 0 where
+  pub ids_long : length ids ≡ length records
   pub used_long : length used ≡ length records
   pub placed : ArePlaced records
-  pub held : AreHeld records holders used 0 0
+  pub noted : AreNoted records ids used 0 0
 
 -- the value is noted at the count frames from first on, and nothing else changes
 pub record IsFilled (old new : List (Option ℕ)) (first count : ℕ) (value : Option ℕ) : Type 0 where

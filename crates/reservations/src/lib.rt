@@ -11,8 +11,8 @@ ghost use Rattle.pager_model.specs.Agreement.{has_frame};
 ghost use Rattle.pager_model.specs.Extents.{IsExtent};
 ghost use Rattle.pager_model.specs.Layouts.{frame_for, stamped};
 ghost use Rattle.pager_model.specs.Records.{is_used, none_used, yield_of, kept_part, split_records};
-ghost use Rattle.reservations.specs.Kept.{record_at, with_record, with_used, first_frame};
-ghost use Rattle.reservations.specs.Kept.{ArePlaced, AreHeld, HasPage, HasPlace, IsFilled, IsPlaced};
+ghost use Rattle.reservations.specs.Kept.{reservation_at, with_record, with_used, first_frame};
+ghost use Rattle.reservations.specs.Kept.{ArePlaced, AreNoted, CoversPage, HasPlace, IsFilled, IsPlaced};
 ghost use Rattle.reservations.specs.Parts.{told_parts};
 
 mod part;
@@ -20,7 +20,7 @@ mod places;
 
 use pager_model::{NoMemory, Reservation, Size};
 pub use part::Part;
-use places::{Places, smaller};
+use places::{UsedPlaces, smaller};
 use std::alloc::Global;
 use std::marker::Model;
 
@@ -30,8 +30,8 @@ pub struct Reservations {
     /// For each frame the reservation that begins at it.
     records: Vec<Option<Reservation>>,
     /// For each frame the first frame of the reservation that has it.
-    holders: Vec<Option<u32>>,
-    used: Places,
+    ids: Vec<Option<u32>>,
+    used: UsedPlaces,
 }
 
 impl Model for Reservations {
@@ -42,7 +42,7 @@ impl Model for Reservations {
 
     ghost view = { λ r. record { records = r.records.items; used = r.used } };
 
-    ghost invariant = { λ r. AreKept r.records.items r.holders.items r.used };
+    ghost invariant = { λ r. AreKept r.records.items r.ids.items r.used };
 }
 
 impl Reservations {
@@ -53,24 +53,24 @@ impl Reservations {
     {
         Ok(Reservations {
             records: vec![in alloc; None; frames as usize]?,
-            holders: vec![in alloc; None; frames as usize]?,
-            used: Places::create(alloc, frames)?,
+            ids: vec![in alloc; None; frames as usize]?,
+            used: UsedPlaces::create(alloc, frames)?,
         })
     }
 
     /// The reservation that begins at the frame `id`, if one does.
     pub fn get(&self, id: u32) -> Option<Reservation>
-        ensures record { result ≡ record_at self.now id }
+        ensures record { result ≡ reservation_at self.now id }
         ensures placed { IfSome result (IsPlaced (length self.now.records) id) }
     {
         self.records.get(id as usize).copied().flatten()
     }
 
     /// The first frame of the reservation that has the frame, as a used place or not, if one has it.
-    pub fn holder(&self, frame: u32) -> Option<u32>
-        ensures { (id : ℕ) → (result ≡ Some id) ↔ (has_frame frame (record_at self.now id) ≡ true) }
+    pub fn id_of(&self, frame: u32) -> Option<u32>
+        ensures { (id : ℕ) → (result ≡ Some id) ↔ (has_frame frame (reservation_at self.now id) ≡ true) }
     {
-        self.holders.get(frame as usize).copied().flatten()
+        self.ids.get(frame as usize).copied().flatten()
     }
 
     /// Whether the frame is a used place.
@@ -83,8 +83,8 @@ impl Reservations {
     /// The yield of the reservation that begins at the frame `id`: the largest size of an extent inside it without a used
     /// place, and `None` where it is full.
     pub fn yields(&self, id: u32) -> Option<Size>
-        requires { IsSome (record_at self.now id) }
-        ensures { IfSome (record_at self.now id) (λ r. result ≡ yield_of (is_used self.now.used) r) }
+        requires { IsSome (reservation_at self.now id) }
+        ensures { IfSome (reservation_at self.now id) (λ r. result ≡ yield_of (is_used self.now.used) r) }
     {
         let reservation = self.get(id).unwrap();
         self.used.yield_of(&reservation)
@@ -92,12 +92,12 @@ impl Reservations {
 
     /// Adds a reservation whose first page to be populated is this one.
     pub fn add(&mut self, reservation: Reservation, page: u32)
-        requires page { HasPage reservation page }
+        requires page { CoversPage reservation page }
         requires frames { IsExtent reservation.size reservation.frame }
         requires known { reservation.frame + 8 ^ reservation.size ≤ length self.old.records }
         requires pages { IsExtent reservation.size reservation.first }
         requires apart { (frame id : ℕ) → has_frame frame (Some reservation) ≡ true
-            → has_frame frame (record_at self.old id) ≡ false }
+            → has_frame frame (reservation_at self.old id) ≡ false }
         ensures { self.new ≡ with_used (with_record self.old reservation.frame (Some reservation))
             (frame_for page reservation) true }
     {
@@ -105,7 +105,7 @@ impl Reservations {
         self.used.insert(place);
         write(
             self.records.as_mut_slice(),
-            self.holders.as_mut_slice(),
+            self.ids.as_mut_slice(),
             reservation.frame,
             reservation.size,
             Some(reservation),
@@ -116,7 +116,7 @@ impl Reservations {
     /// stamp from then on.
     pub fn populate(&mut self, id: u32, page: u32, stamp: u64)
         requires { HasPlace self.old id page false }
-        ensures { IfSome (record_at self.old id) (λ r.
+        ensures { IfSome (reservation_at self.old id) (λ r.
             self.new ≡ with_used (with_record self.old id (Some (stamped r stamp))) (frame_for page r) true) }
     {
         let mut reservation = self.get(id).unwrap();
@@ -129,9 +129,9 @@ impl Reservations {
     /// reservation has no used place now.
     pub fn vacate(&mut self, id: u32, page: u32) -> bool
         requires { HasPlace self.old id page true }
-        ensures vacated { IfSome (record_at self.old id)
+        ensures vacated { IfSome (reservation_at self.old id)
             (λ r. self.new ≡ with_used self.old (frame_for page r) false) }
-        ensures last { IfSome (record_at self.old id)
+        ensures last { IfSome (reservation_at self.old id)
             (λ r. result ≡ none_used (is_used self.new.used) r.frame (8 ^ r.size)) }
     {
         let reservation = self.get(id).unwrap();
@@ -142,10 +142,10 @@ impl Reservations {
     /// Splits the reservation that begins at the frame `id` into its eight parts: those with a used place are reservations
     /// of the same stamp from then on, and the frames of the others are in none.
     pub fn split(&mut self, id: u32) -> [Part; 8]
-        requires { IsSomeAnd (record_at self.old id) (λ r. 0 < r.size) }
-        ensures parts { IfSome (record_at self.old id)
+        requires { IsSomeAnd (reservation_at self.old id) (λ r. 0 < r.size) }
+        ensures parts { IfSome (reservation_at self.old id)
             (λ r. result ≡ told_parts (is_used self.old.used) r) }
-        ensures records { IfSome (record_at self.old id)
+        ensures records { IfSome (reservation_at self.old id)
             (λ r. self.new.records ≡ split_records (is_used self.old.used) r self.old.records) }
         ensures used { self.new.used ≡ self.old.used }
     {
@@ -154,7 +154,7 @@ impl Reservations {
         self.records[id as usize] = None;
         write_parts(
             self.records.as_mut_slice(),
-            self.holders.as_mut_slice(),
+            self.ids.as_mut_slice(),
             &self.used,
             &whole,
         );
@@ -163,14 +163,14 @@ impl Reservations {
 
     /// Removes the reservation that begins at the frame `id`, which has no used place.
     pub fn dissolve(&mut self, id: u32)
-        requires { IsSomeAnd (record_at self.old id)
+        requires { IsSomeAnd (reservation_at self.old id)
             (λ r. none_used (is_used self.old.used) r.frame (8 ^ r.size) ≡ true) }
         ensures { self.new ≡ with_record self.old id None }
     {
         let reservation = self.get(id).unwrap();
         write(
             self.records.as_mut_slice(),
-            self.holders.as_mut_slice(),
+            self.ids.as_mut_slice(),
             id,
             reservation.size,
             None,
@@ -180,7 +180,7 @@ impl Reservations {
 
 /// The frame that a reservation joins to a page of it.
 pub fn frame_for(reservation: &Reservation, page: u32) -> u32
-    requires page { HasPage reservation.now page }
+    requires page { CoversPage reservation.now page }
     requires frames { IsExtent reservation.now.size reservation.now.frame }
     ensures { result ≡ frame_for page reservation.now }
 {
@@ -190,25 +190,25 @@ pub fn frame_for(reservation: &Reservation, page: u32) -> u32
 /// Notes that this reservation, or none, begins at the frame `first` and has the frames of an extent from there on.
 fn write(
     records: &mut [Option<Reservation>],
-    holders: &mut [Option<u32>],
+    ids: &mut [Option<u32>],
     first: u32,
     size: Size,
     reservation: Option<Reservation>,
 )
     requires known { first < length records.old }
-    requires inside { first + 8 ^ size ≤ length holders.old }
+    requires inside { first + 8 ^ size ≤ length ids.old }
     ensures records { records.new ≡ slice_set records.old first reservation }
-    ensures holders { IsFilled holders.old holders.new first (8 ^ size) (first_frame reservation) }
+    ensures ids { IsFilled ids.old ids.new first (8 ^ size) (first_frame reservation) }
 {
-    let holder = reservation.as_ref().map(|r| r.frame);
+    let id = reservation.as_ref().map(|r| r.frame);
     records[first as usize] = reservation;
     for frame in first as usize..first as usize + size.pages() as usize {
-        holders[frame] = holder;
+        ids[frame] = id;
     }
 }
 
 /// The part of the reservation, where it has a used place and stays a reservation.
-fn kept_part(used: &Places, whole: &Reservation, i: u32) -> Option<Reservation>
+fn kept_part(used: &UsedPlaces, whole: &Reservation, i: u32) -> Option<Reservation>
     requires placed { IsPlaced (length used.now) whole.now.frame whole.now }
     requires splits { 0 < whole.now.size }
     requires one { i < 8 }
@@ -229,25 +229,25 @@ fn kept_part(used: &Places, whole: &Reservation, i: u32) -> Option<Reservation>
 /// Notes the parts of the reservation, which isn't noted any more, as reservations where they have a used place.
 fn write_parts(
     records: &mut [Option<Reservation>],
-    holders: &mut [Option<u32>],
-    used: &Places,
+    ids: &mut [Option<u32>],
+    used: &UsedPlaces,
     whole: &Reservation,
 )
     requires splits { 0 < whole.now.size }
     requires whole_placed { IsPlaced (length used.now) whole.now.frame whole.now }
     requires records_long { length records.old ≡ length used.now }
-    requires holders_long { length holders.old ≡ length used.now }
+    requires ids_long { length ids.old ≡ length used.now }
     requires placed { ArePlaced records.old }
-    requires held { AreHeld records.old holders.old used.now
+    requires noted { AreNoted records.old ids.old used.now
         whole.now.frame (whole.now.frame + 8 ^ whole.now.size) }
     ensures records { records.new ≡ split_records (is_used used.now) whole.now records.old }
     ensures placed { ArePlaced records.new }
-    ensures held { AreHeld records.new holders.new used.now 0 0 }
+    ensures noted { AreNoted records.new ids.new used.now 0 0 }
 {
     let size = smaller(whole.size);
     for i in 0..8 {
         let first = whole.frame + i * size.pages();
-        write(records, holders, first, size, kept_part(used, whole, i));
+        write(records, ids, first, size, kept_part(used, whole, i));
     }
 }
 

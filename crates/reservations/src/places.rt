@@ -14,14 +14,14 @@ use std::marker::Model;
 ///
 /// Contracts see it as the list that says of each frame whether it is one.
 #[derive(Debug, Drop)]
-pub(crate) struct Places {
+pub(crate) struct UsedPlaces {
     used: Vec<bool>,
     small: Vec<u16>,
     middle: Vec<u16>,
     large: Vec<u16>,
 }
 
-impl Model for Places {
+impl Model for UsedPlaces {
     ghost use Rattle.std.specs.Prelude.{List, Bool};
     ghost use Rattle.reservations.specs.Counts.{AreCounts};
 
@@ -42,12 +42,12 @@ fn zeros(alloc: Global, frames: u32, pages: u32) -> Result<Vec<u16>, NoMemory>
     Ok(vec![in alloc; 0; (frames / pages) as usize + 1]?)
 }
 
-impl Places {
+impl UsedPlaces {
     /// No frame is a used place.
-    pub(crate) fn create(alloc: Global, frames: u32) -> Result<Places, NoMemory>
+    pub(crate) fn create(alloc: Global, frames: u32) -> Result<UsedPlaces, NoMemory>
         ensures { IfOk result (λ places. places ≡ replicate frames false) }
     {
-        Ok(Places {
+        Ok(UsedPlaces {
             used: vec![in alloc; false; frames as usize]?,
             small: zeros(alloc, frames, 8)?,
             middle: zeros(alloc, frames, 64)?,
@@ -122,7 +122,7 @@ pub(crate) fn smaller(size: Size) -> Size
 }
 
 /// What the used places say of a reservation.
-impl Places {
+impl UsedPlaces {
     /// Whether some extent of a size inside the reservation has no used place.
     fn has_empty(&self, whole: &Reservation, size: Size) -> bool
         requires placed { IsPlaced (length self.now) whole.now.frame whole.now }

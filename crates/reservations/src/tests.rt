@@ -2,7 +2,7 @@ ghost use Rattle.std.specs.Prelude.{◌≡◌, ℕ, ◌<◌, ◌≤◌, ◌+◌,
 ghost use Rattle.pager_model.specs.Records.{is_used, none_used};
 ghost use Rattle.pager_model.specs.Agreement.{has_frame};
 ghost use Rattle.pager_model.specs.Layouts.{frame_for};
-ghost use Rattle.reservations.specs.Kept.{record_at, HasPage};
+ghost use Rattle.reservations.specs.Kept.{reservation_at, CoversPage};
 
 use super::*;
 use pager_model::Extent;
@@ -34,10 +34,10 @@ fn reservation(level: u8, first: u32, frame: u32, stamp: u64) -> Reservation
 /// Whether these frames are in no reservation.
 fn is_free(kept: &Reservations, first: u32, count: u32) -> bool
     requires { first + count < 2 ^ 32 }
-    ensures { result ≡ true → (frame id : ℕ) → first ≤ frame → frame < first + count → has_frame frame (record_at kept.now id) ≡ false }
+    ensures { result ≡ true → (frame id : ℕ) → first ≤ frame → frame < first + count → has_frame frame (reservation_at kept.now id) ≡ false }
 {
     for frame in first..first + count {
-        if kept.holder(frame).is_some() {
+        if kept.id_of(frame).is_some() {
             return false;
         }
     }
@@ -59,7 +59,7 @@ fn add(rt: &impl Abort, kept: &mut Reservations, reservation: Reservation, page:
 
 /// The frame that the reservation at `id` joins to a page of it.
 fn place(rt: &impl Abort, kept: &Reservations, id: u32, page: u32) -> u32
-    ensures { IsSomeAnd (record_at kept.now id) (λ r. HasPage r page × (result ≡ frame_for page r)) }
+    ensures { IsSomeAnd (reservation_at kept.now id) (λ r. CoversPage r page × (result ≡ frame_for page r)) }
 {
     let reservation = kept.get(id).expect(rt, "a reservation");
     assert!(rt; reservation.first <= page && page - reservation.first < reservation.size.pages());
@@ -73,7 +73,7 @@ fn populate(rt: &impl Abort, kept: &mut Reservations, id: u32, page: u32, stamp:
 }
 
 fn vacate(rt: &impl Abort, kept: &mut Reservations, id: u32, page: u32) -> bool
-    ensures { IsSomeAnd (record_at kept.new id) (λ r. result ≡ none_used (is_used kept.new.used) r.frame (8 ^ r.size)) }
+    ensures { IsSomeAnd (reservation_at kept.new id) (λ r. result ≡ none_used (is_used kept.new.used) r.frame (8 ^ r.size)) }
 {
     let frame = place(rt, kept, id, page);
     assert!(rt; kept.used(frame));
@@ -161,7 +161,7 @@ fn assert_part(
     let frame = part.frame;
     let is_kept = yield_of_kept.is_some();
     assert_eq!(rt; kept.get(frame), is_kept.then_some(part));
-    assert_eq!(rt; kept.holder(frame), is_kept.then_some(frame));
+    assert_eq!(rt; kept.id_of(frame), is_kept.then_some(frame));
     if let Some(expected) = yield_of_kept {
         assert_eq!(rt; yields(rt, kept, frame), expected);
     }
@@ -225,7 +225,7 @@ fn no_reservation_and_no_used_place_at_first(rt: HostRuntime) -> Result<(), Fail
             .ok_or("no memory")?;
         for frame in [0, 1, FRAMES - 1, FRAMES, u32::MAX] {
             assert_eq!(rt; kept.get(frame), None);
-            assert_eq!(rt; kept.holder(frame), None);
+            assert_eq!(rt; kept.id_of(frame), None);
             assert!(rt; !kept.used(frame));
         }
     }
@@ -233,7 +233,7 @@ fn no_reservation_and_no_used_place_at_first(rt: HostRuntime) -> Result<(), Fail
 }
 
 #[test]
-fn the_place_of_the_page_is_used_and_every_frame_has_its_holder(
+fn the_place_of_the_page_is_used_and_every_frame_has_its_reservation(
     rt: HostRuntime,
 ) -> Result<(), Fail> {
     let mut kept = Reservations::create(rt.alloc(), FRAMES)
@@ -252,8 +252,8 @@ fn the_place_of_the_page_is_used_and_every_frame_has_its_holder(
         (72, Some(72), true),
         (73, None, false),
     ];
-    for (frame, holder, used) in rows {
-        assert_eq!(rt; kept.holder(frame), holder, "of frame {frame}");
+    for (frame, id, used) in rows {
+        assert_eq!(rt; kept.id_of(frame), id, "of frame {frame}");
         assert_eq!(rt; kept.used(frame), used, "at frame {frame}");
     }
     Ok(())
@@ -297,8 +297,8 @@ fn a_dissolved_reservation_has_no_frame(rt: HostRuntime) -> Result<(), Fail> {
     add(&rt, &mut kept, reservation(1, 8, 0, 3), 8);
     add(&rt, &mut kept, reservation(1, 0, 8, 4), 0);
     vacate_and_dissolve(&rt, &mut kept, 0, 8);
-    for (frame, holder) in [(0, None), (7, None), (8, Some(8)), (15, Some(8))] {
-        assert_eq!(rt; kept.holder(frame), holder, "of frame {frame}");
+    for (frame, id) in [(0, None), (7, None), (8, Some(8)), (15, Some(8))] {
+        assert_eq!(rt; kept.id_of(frame), id, "of frame {frame}");
     }
     assert_eq!(rt; kept.get(0), None);
     assert_eq!(rt; kept.get(8), Some(reservation(1, 0, 8, 4)));

@@ -52,26 +52,23 @@ call_back name words =
 abbrev line_back : List (List ℕ) → Line
 line_back words = record { processor = number_back words 0; call = call_back (get_or words 1 []) words }
 
-value : (n : ℕ) → n < 2 ^ 64 → digits_value 10 (decimal n) ≡ n
-value n small = decimal_value n small
-
 call_is_back : (spaces processor : ℕ) (call : Call) → spaces ≤ 2 ^ 64 → processor < 2 ^ 64 → IsCall spaces call → line_back (decimal processor ∷ call_words call) ≡ record { processor = processor; call = call }
 call_is_back spaces processor (Map space page len kind rights) few small is =
-    rw (value processor small, value space (omega arith), value page (omega arith), value len (omega arith), kind_again kind, rights_again rights) refl
+    rw (decimal_value processor small, decimal_value space (omega arith), decimal_value page (omega arith), decimal_value len (omega arith), kind_again kind, rights_again rights) refl
 call_is_back spaces processor (Grow space page by) few small is =
-    rw (value processor small, value space (omega arith), value page (omega arith), value by (omega arith)) refl
+    rw (decimal_value processor small, decimal_value space (omega arith), decimal_value page (omega arith), decimal_value by (omega arith)) refl
 call_is_back spaces processor (Unmap space page) few small is =
-    rw (value processor small, value space (omega arith), value page (omega arith)) refl
+    rw (decimal_value processor small, decimal_value space (omega arith), decimal_value page (omega arith)) refl
 call_is_back spaces processor (Protect space page len rights) few small is =
-    rw (value processor small, value space (omega arith), value page (omega arith), value len (omega arith), rights_again rights) refl
+    rw (decimal_value processor small, decimal_value space (omega arith), decimal_value page (omega arith), decimal_value len (omega arith), rights_again rights) refl
 call_is_back spaces processor (Load space address) few small is =
-    rw (value processor small, value space (omega arith), value address (omega arith)) refl
+    rw (decimal_value processor small, decimal_value space (omega arith), decimal_value address (omega arith)) refl
 call_is_back spaces processor (Store space address word) few small is =
-    rw (value processor small, value space (omega arith), value address (omega arith), value word is.3) refl
+    rw (decimal_value processor small, decimal_value space (omega arith), decimal_value address (omega arith), decimal_value word is.3) refl
 call_is_back spaces processor (Sync space page) few small is =
-    rw (value processor small, value space (omega arith), value page (omega arith)) refl
+    rw (decimal_value processor small, decimal_value space (omega arith), decimal_value page (omega arith)) refl
 call_is_back spaces processor (Evict space page) few small is =
-    rw (value processor small, value space (omega arith), value page (omega arith)) refl
+    rw (decimal_value processor small, decimal_value space (omega arith), decimal_value page (omega arith)) refl
 
 -- the calls of the lines up to the end
 abbrev calls_back : List (List ℕ) → List Line
@@ -92,9 +89,9 @@ plan_back text = plan_of (words_of (get_or (lines_of text) 0 [])) (drop 1 (lines
 
 plan_is_back : (plan : Plan) → HasText plan → plan_back (text_of plan) ≡ plan
 plan_is_back plan has =
-    let frames = value plan.frames (omega (arith, has.frames_in)) in
-    let processors = value plan.processors (omega (arith, has.processors_in)) in
-    let spaces = value plan.spaces (omega (arith, has.spaces_in)) in
+    let frames = decimal_value plan.frames (omega (arith, has.frames_in)) in
+    let processors = decimal_value plan.processors (omega (arith, has.processors_in)) in
+    let spaces = decimal_value plan.spaces (omega (arith, has.spaces_in)) in
     let calls = calls_are_back plan.processors plan.spaces plan.calls (omega (arith, has.processors_in)) (omega (arith, has.spaces_in)) (recursion_from_All _ plan.calls has.lines) in
     rw (first_again plan has, first_words_again plan has, frames, processors, spaces, calls, sym has.no_daemon) refl
 

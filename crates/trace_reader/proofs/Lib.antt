@@ -3,7 +3,7 @@ pub mod Splits
 pub mod Forms
 pub mod Lines
 pub mod Refusals
-pub mod Came
+pub mod SourceBytes
 pub mod Again
 pub mod Fillings
 pub mod Back

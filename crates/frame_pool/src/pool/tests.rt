@@ -3,7 +3,7 @@ ghost use Rattle.pager_model.specs.FrameStates.{frame_of, used_at, held_by, clai
 
 mod plain;
 
-use super::{Collected, Full, Pool, claimed_by};
+use super::{Collected, Full, NoneLeft, Pool, claimed_by};
 use crate::layout::tests::frame_in;
 use pager_model::{Frame, Want};
 use plain::Plain;
@@ -247,6 +247,11 @@ impl Both {
         }
     }
 
+    /// How often the arm was reached.
+    fn count(&self, arm: Arm) -> u32 {
+        self.reached.get(arm as usize).copied().unwrap_or(0)
+    }
+
     /// The region of a space.
     fn want(&self, space: u32) -> Want {
         self.spaces.get(space as usize).copied().unwrap_or(PLAIN)
@@ -473,6 +478,63 @@ fn carves_out_of_a_reservation_of_every_size(rt: HostRuntime) -> Result<(), Fail
         both.drop_held(&rt, 0);
         both.compare(&rt);
     }
+    Ok(())
+}
+
+/// All frames are used: the first three by pages that may be paged out, and the others by pages of a wired region.
+fn full(rt: &impl Abort, alloc: Global) -> Result<Both, Fail> {
+    let loose = Want {
+        high: 3,
+        cap: 3,
+        ..PLAIN
+    };
+    let wired = Want {
+        wired: true,
+        ..PLAIN
+    };
+    let mut both = Both::create(alloc, [loose, wired, wired])?;
+    for page in 0..3 {
+        both.take(rt, 0, page)?;
+    }
+    for page in 3..FRAMES {
+        both.take(rt, 1, page)?;
+    }
+    assert_eq!(rt; both.count(Arm::Took), FRAMES);
+    Ok(both)
+}
+
+/// What the last processor is told that claims a frame, where it can't.
+fn none_left(rt: &impl Abort, both: &mut Both) -> Option<NoneLeft> {
+    assert!(rt; both.pool.entries < 1 << 40 && 3 < both.pool.held.len());
+    assert!(rt; both.pool.is_idle(3));
+    both.pool.claim(3).err()
+}
+
+#[test]
+fn of_a_full_pool_the_pages_that_may_go_are_claimed_and_then_none_is_left(
+    rt: HostRuntime,
+) -> Result<(), Fail> {
+    let mut both = full(&rt, rt.alloc())?;
+    for processor in 0..3 {
+        both.claim(&rt, processor);
+    }
+    let mut told = NoneLeft {
+        wired: 509,
+        claimed: 3,
+        held: 0,
+    };
+    assert_eq!(rt; none_left(&rt, &mut both), Some(told));
+    // The page of frame 0 gives it up, and the processor holds it; so it isn't free.
+    both.give(&rt, 0)?;
+    told.claimed = 2;
+    told.held = 1;
+    assert_eq!(rt; none_left(&rt, &mut both), Some(told));
+    both.take(&rt, 1, FRAMES)?;
+    assert_eq!(rt; both.count(Arm::Full), 1);
+    both.drop_held(&rt, 0);
+    both.take(&rt, 1, FRAMES)?;
+    assert_eq!(rt; both.count(Arm::Took), FRAMES + 1);
+    both.compare(&rt);
     Ok(())
 }
 

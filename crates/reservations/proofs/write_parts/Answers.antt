@@ -1,7 +1,7 @@
 use Rattle.std.proofs.Common.{◌≡◌, ◌-◌, ◌^◌, arith, ap, sym, ◌∙◌, set, length}
 use Rattle.pager_model.specs.Records.{is_used, part_of, kept_part}
 use Rattle.reservations.proofs.ExtentLemmas.{eight_pos, eight_small, part_of_eight, aligned_end}
-use Rattle.reservations.proofs.SplitLemmas.{split_up_to-more, ArePlaced-part, AreHeld-part}
+use Rattle.reservations.proofs.SplitLemmas.{split_up_to-more, ArePlaced-part, AreNoted-part}
 use Rattle.reservations.proofs.write_parts.Goals as goal
 
 pub overflow_mul-first : goal.overflow_mul-first
@@ -34,11 +34,11 @@ loop-i-preserved c =
     let pages : c.pages.result ≡ 8 ^ (r.size - 1) = c.pages.ensures ∙ ap (λ k. 8 ^ k) c.smaller-size.ensures in
     let long : length c.loop-i.records ≡ length used = omega (arith, c.loop-i.auto.records, c.requires.records_long) in
     let noted = rw (pages, c.kept_part.ensures) at c.write.ensures.records in
-    let filled = rw (pages, c.smaller-size.ensures, c.kept_part.ensures) at c.write.ensures.holders in
+    let filled = rw (pages, c.smaller-size.ensures, c.kept_part.ensures) at c.write.ensures.ids in
     record {
       split =
           noted ∙ ap (λ rs. set rs (part_of r i).frame (kept_part (is_used used) r i)) was.split
           ∙ sym (split_up_to-more i (is_used used) r c.args.records.now);
       placed = rw noted (ArePlaced-part c.loop-i.records used r _ i long c.requires.splits c.loop-i-test.true c.requires.whole_placed was.placed);
-      held = rw noted (AreHeld-part c.loop-i.records used r _ i long c.requires.splits c.loop-i-test.true c.requires.whole_placed _ _ was.placed was.held filled);
+      noted = rw noted (AreNoted-part c.loop-i.records used r _ i long c.requires.splits c.loop-i-test.true c.requires.whole_placed _ _ was.placed was.noted filled);
     }

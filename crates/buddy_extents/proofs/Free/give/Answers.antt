@@ -1,7 +1,7 @@
 use Rattle.std.proofs.Common.{◌^◌, true, length, ap, ◌∙◌, arith}
 use Rattle.std.proofs.Math.Nat.{one-le-pow}
 use Rattle.pager_model.specs.FreeBlocks.{with_range}
-use Rattle.buddy_extents.proofs.Moves.{length-free_in}
+use Rattle.buddy_extents.proofs.BlockMoves.{length-free_in}
 use Rattle.buddy_extents.proofs.Extents.{IsGiven, few_free, give_by_nodes}
 use Rattle.buddy_extents.proofs.Free.give.Given.{Over}
 use Rattle.buddy_extents.proofs.Free.give.Goals as goal

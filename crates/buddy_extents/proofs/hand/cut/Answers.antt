@@ -1,7 +1,7 @@
 use Rattle.std.proofs.Common.{◌≡◌, ◌+◌, ◌-◌, true, length, ap, subst, ◌∙◌, arith}
 use Rattle.std.proofs.Math.ListN.{length-set}
 use Rattle.buddy_extents.specs.Blocks.{InHand}
-use Rattle.buddy_extents.proofs.Moves.{cut}
+use Rattle.buddy_extents.proofs.BlockMoves.{cut}
 use Rattle.buddy_extents.proofs.hand.cut.Goals as goal
 
 pub loop-order-preserved : goal.loop-order-preserved

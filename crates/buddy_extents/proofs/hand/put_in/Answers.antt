@@ -1,7 +1,7 @@
 use Rattle.std.proofs.Common.{◌≡◌, false, length, get_or, ap, sym, subst, ◌∙◌, arith}
 use Rattle.std.proofs.Math.ListN.{length-set}
 use Rattle.buddy_extents.specs.Blocks.{InHand}
-use Rattle.buddy_extents.proofs.Moves.{join, put_beside, put_largest}
+use Rattle.buddy_extents.proofs.BlockMoves.{join, put_beside, put_largest}
 use Rattle.buddy_extents.proofs.hand.put_in.Goals as goal
 
 pub returns-then-not-has-clause-put : goal.returns-then-not-has-clause-put

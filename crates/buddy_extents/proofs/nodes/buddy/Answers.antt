@@ -1,6 +1,6 @@
 use Rattle.std.proofs.Common.{arith}
 use Rattle.std.proofs.lemmas.Nat.{one_shl}
-use Rattle.buddy_extents.proofs.Numbering.{IsBuddy-xor}
+use Rattle.buddy_extents.proofs.NodeNumbers.{IsBuddy-xor}
 use Rattle.buddy_extents.proofs.nodes.buddy.Goals as goal
 
 pub returns : goal.returns

@@ -1,6 +1,6 @@
 use Rattle.std.proofs.Common.{◌<◌, ◌-◌, ◌*◌, ◌^◌, arith}
 use Rattle.buddy_extents.specs.Blocks.{first_node}
-use Rattle.buddy_extents.proofs.Numbering.{first_frame_known}
+use Rattle.buddy_extents.proofs.NodeNumbers.{first_frame_known}
 use Rattle.buddy_extents.proofs.nodes.first_frame.Goals as goal
 
 pub returns-clause-known : goal.returns-clause-known

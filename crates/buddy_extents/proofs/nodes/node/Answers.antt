@@ -1,4 +1,4 @@
-use Rattle.buddy_extents.proofs.Numbering.{node_below}
+use Rattle.buddy_extents.proofs.NodeNumbers.{node_below}
 use Rattle.buddy_extents.proofs.nodes.node.Goals as goal
 
 pub returns-clause-below : goal.returns-clause-below

@@ -1,4 +1,4 @@
-use Rattle.buddy_extents.proofs.Numbering.{order_by_zeros}
+use Rattle.buddy_extents.proofs.NodeNumbers.{order_by_zeros}
 use Rattle.buddy_extents.proofs.nodes.order_of.Goals as goal
 
 pub overflow_sub-result-2 : goal.overflow_sub-result-2

@@ -1,6 +1,6 @@
 use Rattle.std.proofs.Common.{◌≡◌, Some, sym, ◌∙◌, arith}
-use Rattle.reservations.specs.Kept.{record_at}
-use Rattle.reservations.proofs.HoldLemmas.{Some-same, None-not_Some}
+use Rattle.std.proofs.lemmas.Option.{none-some, same_Some}
+use Rattle.reservations.specs.Kept.{reservation_at}
 use Rattle.frame_pool.proofs.ListsByFrame.{found_record_and, AreListed-enlisted, AreListed-not_enlisted}
 use Rattle.frame_pool.proofs.lists.enlist.Goals as goal
 
@@ -8,7 +8,7 @@ pub returns-then-level-lt3-clause-listed : goal.returns-then-level-lt3-clause-li
 returns-then-level-lt3-clause-listed c = λ records none known are.
     let st = c.args.reservations.now in
     let r = c.unwrap-reservation.result in
-    let is : record_at st c.args.id ≡ Some r = sym c.get.ensures.record ∙ c.unwrap-reservation.ensures in
+    let is : reservation_at st c.args.id ≡ Some r = sym c.get.ensures.record ∙ c.unwrap-reservation.ensures in
     let told = rw is at c.yields.ensures in
     let named = rw is at c.requires.there in
     rw (c.insert.ensures, is)
@@ -17,17 +17,17 @@ returns-then-level-lt3-clause-listed c = λ records none known are.
 pub returns-else-level-lt3-clause-listed : goal.returns-else-level-lt3-clause-listed
 returns-else-level-lt3-clause-listed c = λ records none known are.
     let st = c.args.reservations.now in
-    let found = found_record_and (record_at st c.args.id) (λ r. r.frame ≡ c.args.id) c.requires.there in
+    let found = found_record_and (reservation_at st c.args.id) (λ r. r.frame ≡ c.args.id) c.requires.there in
     let told = rw found.1 at c.yields.ensures in
     rw found.1
     (AreListed-not_enlisted c.args.lists.now.lists st.used records c.args.id found.0 none known are
-    (λ k yields. omega (arith, Some-same c.in-Some.size k (sym c.in-Some.is ∙ told ∙ yields))))
+    (λ k yields. omega (arith, same_Some c.in-Some.size k (sym c.in-Some.is ∙ told ∙ yields))))
 
 pub returns-in_default-clause-listed : goal.returns-in_default-clause-listed
 returns-in_default-clause-listed c = λ records none known are.
     let st = c.args.reservations.now in
-    let found = found_record_and (record_at st c.args.id) (λ r. r.frame ≡ c.args.id) c.requires.there in
+    let found = found_record_and (reservation_at st c.args.id) (λ r. r.frame ≡ c.args.id) c.requires.there in
     let told = rw found.1 at c.yields.ensures in
     rw found.1
     (AreListed-not_enlisted c.args.lists.now.lists st.used records c.args.id found.0 none known are
-    (λ k yields. absurd (None-not_Some k (sym c.in_default.is ∙ told ∙ yields))))
+    (λ k yields. absurd (none-some k (sym c.in_default.is ∙ told ∙ yields))))

@@ -1,5 +1,5 @@
 use Rattle.std.proofs.Common.{◌≡◌, ℕ, ◌+◌, ◌-◌, ◌*◌, ◌/◌, ◌^◌, ◌<◌, is_some, arith, ap, sym, subst, ◌∙◌}
-use Rattle.reservations.specs.Kept.{record_at}
+use Rattle.reservations.specs.Kept.{reservation_at}
 use Rattle.reservations.proofs.ExtentLemmas.{eight_pos, eight_quotient, part_of_eight, aligned_end}
 use Rattle.frame_pool.proofs.ListsByFrame.{no_record, HasParts, HasParts-none, HasParts-all, HasParts-more, HasParts-skip, part_in_room, part_unlisted, none_before, known_before}
 use Rattle.frame_pool.proofs.lists.enlist_parts.Goals as goal
@@ -51,7 +51,7 @@ loop-i-preserved c =
           let known = known_before i start lists st r splits small has in
           rw w.lists-is (HasParts-more i start lists st r splits small has w.enlist.new.lists (listed _ none known has.listed) w.enlist.ensures.room)
       | else-is_some w ↦
-          let none = no_record (record_at st (r.frame + i * (c.pages-pages.result / 8))) (ap is_some (sym c.get.ensures.record) ∙ sym c.is_some.ensures ∙ w.if-is_some.false) in
+          let none = no_record (reservation_at st (r.frame + i * (c.pages-pages.result / 8))) (ap is_some (sym c.get.ensures.record) ∙ sym c.is_some.ensures ∙ w.if-is_some.false) in
           rw w.lists-is (HasParts-skip i start lists st r splits small has (rw pages at none))
     ]
 

@@ -1,6 +1,6 @@
 use Rattle.std.proofs.Common.{◌≡◌, Some, sym, ◌∙◌, arith}
-use Rattle.reservations.specs.Kept.{record_at}
-use Rattle.reservations.proofs.HoldLemmas.{Some-same, None-not_Some}
+use Rattle.std.proofs.lemmas.Option.{none-some, same_Some}
+use Rattle.reservations.specs.Kept.{reservation_at}
 use Rattle.frame_pool.proofs.AgeLists.{AreListed-full}
 use Rattle.frame_pool.proofs.ListsByFrame.{found_record, AreListed-unlisted}
 use Rattle.frame_pool.proofs.lists.unlist.Goals as goal
@@ -9,7 +9,7 @@ pub returns-then-level-lt3-clause-listed : goal.returns-then-level-lt3-clause-li
 returns-then-level-lt3-clause-listed c =
     let st = c.args.reservations.now in
     let r = c.unwrap-reservation.result in
-    let is : record_at st c.args.id ≡ Some r = sym c.get.ensures.record ∙ c.unwrap-reservation.ensures in
+    let is : reservation_at st c.args.id ≡ Some r = sym c.get.ensures.record ∙ c.unwrap-reservation.ensures in
     let told = rw is at c.yields.ensures in
     rw c.remove.ensures
     (AreListed-unlisted c.args.lists.now.lists st.used st.records c.args.id c.in-Some.size r c.requires.listed c.requires.placed is (sym told ∙ c.in-Some.is) (omega arith))
@@ -17,15 +17,15 @@ returns-then-level-lt3-clause-listed c =
 pub returns-else-level-lt3-clause-listed : goal.returns-else-level-lt3-clause-listed
 returns-else-level-lt3-clause-listed c =
     let st = c.args.reservations.now in
-    let found = found_record (record_at st c.args.id) c.requires.there in
+    let found = found_record (reservation_at st c.args.id) c.requires.there in
     let told = rw found.1 at c.yields.ensures in
     (AreListed-full c.args.lists.now.lists st.used st.records c.args.id found.0 found.1
-    (λ k yields. omega (arith, Some-same c.in-Some.size k (sym c.in-Some.is ∙ told ∙ yields)))).0 c.requires.listed
+    (λ k yields. omega (arith, same_Some c.in-Some.size k (sym c.in-Some.is ∙ told ∙ yields)))).0 c.requires.listed
 
 pub returns-in_default-clause-listed : goal.returns-in_default-clause-listed
 returns-in_default-clause-listed c =
     let st = c.args.reservations.now in
-    let found = found_record (record_at st c.args.id) c.requires.there in
+    let found = found_record (reservation_at st c.args.id) c.requires.there in
     let told = rw found.1 at c.yields.ensures in
     (AreListed-full c.args.lists.now.lists st.used st.records c.args.id found.0 found.1
-    (λ k yields. absurd (None-not_Some k (sym c.in_default.is ∙ told ∙ yields)))).0 c.requires.listed
+    (λ k yields. absurd (none-some k (sym c.in_default.is ∙ told ∙ yields)))).0 c.requires.listed

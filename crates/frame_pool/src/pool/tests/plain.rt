@@ -246,7 +246,7 @@ impl Plain {
                     frame,
                     stamp: self.entries,
                 })?;
-                return Ok(self.owner(frame));
+                return Ok(self.reservation_of(frame));
             }
         }
         Ok(None)
@@ -286,7 +286,7 @@ impl Plain {
     }
 
     /// The reservation that has the frame.
-    fn owner(&self, frame: u32) -> Option<Reservation> {
+    fn reservation_of(&self, frame: u32) -> Option<Reservation> {
         self.records
             .iter()
             .find(|r| overlap(r.frame, r.size.pages(), frame, 1))
@@ -306,11 +306,11 @@ impl Plain {
             }
         }
         let (_, frame) = victim?;
-        let owner = self.owner(frame)?;
-        let page = owner
+        let whole = self.reservation_of(frame)?;
+        let page = whole
             .first
-            .saturating_add(frame.saturating_sub(owner.frame));
-        Some((owner.space, page, frame))
+            .saturating_add(frame.saturating_sub(whole.frame));
+        Some((whole.space, page, frame))
     }
 
     /// The frame is claimed by this processor, or by none.
@@ -331,7 +331,7 @@ impl Plain {
     /// The page gives the frame up; answers who holds it then.
     pub fn give(&mut self, frame: u32) -> Result<Option<u32>, AllocError> {
         let claim = self.used_at(frame).and_then(|used| used.claim);
-        let Some(owner) = self.owner(frame) else {
+        let Some(whole) = self.reservation_of(frame) else {
             return Ok(None);
         };
         if let Some(processor) = claim {
@@ -342,18 +342,18 @@ impl Plain {
             return Ok(claim);
         }
         self.note(frame, None);
-        if self.none_used(owner.frame, owner.size.pages()) {
-            self.remove(owner.frame);
-            self.set_free(owner.frame, owner.size.pages(), true);
+        if self.none_used(whole.frame, whole.size.pages()) {
+            self.remove(whole.frame);
+            self.set_free(whole.frame, whole.size.pages(), true);
         }
         Ok(None)
     }
 
     fn carve(&mut self, frame: u32) -> Result<(), AllocError> {
         for _ in 0..3 {
-            if let Some(owner) = self.owner(frame) {
-                if owner.size.level() > 0 {
-                    self.split(&owner)?;
+            if let Some(whole) = self.reservation_of(frame) {
+                if whole.size.level() > 0 {
+                    self.split(&whole)?;
                 }
             }
         }

@@ -3,7 +3,7 @@ use Rattle.std.proofs.lemmas.List.{length-map}
 use Rattle.std.proofs.lemmas.List.FromFn.{length-range_with_len}
 use Rattle.journal_core.specs.Journals.{JournalState, PassState}
 use Rattle.journal_core.specs.Views.{rest_view}
-use Rattle.journal_core.proofs.Closing.{whole_meets, fits, logs_placed, merged, numbers_told, history_told, authors_told, passes_told}
+use Rattle.journal_core.proofs.WholeHistory.{whole_meets, fits, logs_placed, merged, numbers_told, history_told, authors_told, passes_told}
 use Rattle.journal_core.proofs.journal.close.Goals as goal
 
 pub board_passes-requires-clause-logs : goal.board_passes-requires-clause-logs

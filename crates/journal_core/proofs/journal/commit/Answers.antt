@@ -1,8 +1,8 @@
 use Rattle.std.proofs.Common.{sym, subst, ◌∙◌}
 use Rattle.journal_core.specs.declared.view.View.{View}
 use Rattle.journal_core.specs.Views.{MayGrow}
-use Rattle.journal_core.proofs.Commits.{one_may}
-use Rattle.journal_core.proofs.Tells.{board_one, one_tells}
+use Rattle.journal_core.proofs.CommittedEntries.{one_may}
+use Rattle.journal_core.proofs.JoinedViews.{board_one, one_tells}
 use Rattle.journal_core.proofs.journal.commit.Goals as goal
 
 pub write-number-requires-clause-entry : goal.write-number-requires-clause-entry

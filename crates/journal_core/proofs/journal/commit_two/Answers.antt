@@ -1,7 +1,7 @@
 use Rattle.std.proofs.Common.{sym, subst, ◌∙◌}
 use Rattle.journal_core.specs.declared.view.View.{View}
 use Rattle.journal_core.specs.Views.{MayGrow}
-use Rattle.journal_core.proofs.Tells.{board_two, two_tells, two_may}
+use Rattle.journal_core.proofs.JoinedViews.{board_two, two_tells, two_may}
 use Rattle.journal_core.proofs.journal.commit_two.Goals as goal
 
 pub write-number-requires-clause-entry : goal.write-number-requires-clause-entry

@@ -1,5 +1,5 @@
 use Rattle.std.proofs.Common.{arith}
-use Rattle.journal_core.proofs.Deals.{begins}
+use Rattle.journal_core.proofs.DealtSeats.{begins}
 use Rattle.journal_core.proofs.journal.create.Goals as goal
 
 pub of_words-requires : goal.of_words-requires

@@ -2,7 +2,7 @@ use Rattle.std.proofs.Common.{arith, [], ◌∷◌, ◌++◌, ◌∙◌, ap, ap�
 use Rattle.std.proofs.lemmas.List.FromFn.{map-range_with_len_more}
 use Rattle.journal_core.specs.Journals.{new_author}
 use Rattle.journal_core.specs.Seats.{name_of}
-use Rattle.journal_core.proofs.Deals.{author_rest, author_dealt, author_is}
+use Rattle.journal_core.proofs.DealtSeats.{author_rest, author_dealt, author_is}
 use Rattle.journal_core.proofs.journal.deal_authors.Goals as goal
 
 pub of-requires : goal.of-requires

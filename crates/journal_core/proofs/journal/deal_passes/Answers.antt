@@ -3,7 +3,7 @@ use Rattle.std.proofs.lemmas.List.{take_more}
 use Rattle.pager_model.specs.declared.entry.Numbered.{Numbered}
 use Rattle.journal_core.specs.Journals.{PassState, new_pass, new_passes}
 use Rattle.journal_core.specs.Seats.{IsPass, name_of, pass_of}
-use Rattle.journal_core.proofs.Deals.{pass_rest, pass_dealt, pass_is, new_passes-push}
+use Rattle.journal_core.proofs.DealtSeats.{pass_rest, pass_dealt, pass_is, new_passes-push}
 use Rattle.journal_core.proofs.journal.deal_passes.Goals as goal
 
 pub of-requires : goal.of-requires

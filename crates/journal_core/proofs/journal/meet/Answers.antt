@@ -1,5 +1,5 @@
 use Rattle.std.proofs.Common.{sym, ◌∙◌}
-use Rattle.journal_core.proofs.Tells.{board_one, one_tells}
+use Rattle.journal_core.proofs.JoinedViews.{board_one, one_tells}
 use Rattle.journal_core.proofs.journal.meet.Goals as goal
 
 pub returns-clause-one_history : goal.returns-clause-one_history

@@ -1,5 +1,5 @@
 use Rattle.std.proofs.Common.{arith}
-use Rattle.journal_core.proofs.Moves.{pass_splits}
+use Rattle.journal_core.proofs.RuleSteps.{pass_splits}
 use Rattle.journal_core.proofs.steps.alight_pass.Goals as goal
 
 pub split_seat-requires : goal.split_seat-requires

@@ -1,5 +1,5 @@
 use Rattle.std.proofs.Common.{arith}
-use Rattle.journal_core.proofs.Moves.{joins}
+use Rattle.journal_core.proofs.RuleSteps.{joins}
 use Rattle.journal_core.proofs.steps.board.Goals as goal
 
 pub join_seat-requires : goal.join_seat-requires

@@ -1,7 +1,7 @@
 use Rattle.std.proofs.Common.{arith}
 use mathlib.Core.Option.{none}
 use Rattle.atomic_table.specs.Table.{step}
-use Rattle.journal_core.proofs.Moves.{enters_keep}
+use Rattle.journal_core.proofs.RuleSteps.{enters_keep}
 use Rattle.journal_core.proofs.steps.enter.Goals as goal
 
 pub load_new_seat-requires : goal.load_new_seat-requires

@@ -1,7 +1,7 @@
 use Rattle.std.proofs.Common.{arith}
 use mathlib.Core.Option.{none}
 use Rattle.atomic_table.specs.Table.{step}
-use Rattle.journal_core.proofs.Moves.{looks}
+use Rattle.journal_core.proofs.RuleSteps.{looks}
 use Rattle.journal_core.proofs.steps.look.Goals as goal
 
 pub load-requires : goal.load-requires

@@ -2,7 +2,7 @@ use Rattle.std.proofs.Common.{arith, subst, sym}
 use mathlib.Core.Option.{none}
 use Rattle.atomic_table.specs.Table.{step}
 use Rattle.journal_core.specs.Views.{MayGrow}
-use Rattle.journal_core.proofs.Grows.{writes}
+use Rattle.journal_core.proofs.GrownHistory.{writes}
 use Rattle.journal_core.proofs.steps.write_named.Goals as goal
 
 pub fetch_add-requires : goal.fetch_add-requires

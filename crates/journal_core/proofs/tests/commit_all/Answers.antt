@@ -1,4 +1,4 @@
-use Rattle.journal_core.proofs.Sampling.{answer_allowed, answer_next, filled_more}
+use Rattle.journal_core.proofs.SampleAnswers.{answer_allowed, answer_next, filled_more}
 use Rattle.journal_core.proofs.tests.commit_all.Goals as goal
 
 pub commit-next_author-requires-clause-allowed : goal.commit-next_author-requires-clause-allowed

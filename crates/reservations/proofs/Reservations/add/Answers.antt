@@ -2,7 +2,7 @@ use Rattle.std.proofs.Common.{◌≡◌, Some, length, set, arith, refl, ap, ◌
 use Rattle.pager_model.specs.Layouts.{frame_for}
 use Rattle.pager_model.specs.Agreement.{has_frame}
 use Rattle.reservations.specs.Kept.{IsPlaced}
-use Rattle.reservations.proofs.HoldLemmas.{AreKept-add, unused_if_free, has_frame_from, whole_slice}
+use Rattle.reservations.proofs.FrameIds.{AreKept-add, unused_if_free, has_frame_from, whole_slice}
 use Rattle.reservations.proofs.Reservations.add.Goals as goal
 
 pub insert-requires-clause-unused : goal.insert-requires-clause-unused
@@ -21,14 +21,14 @@ invariant_of-self c =
     let apart = rw (← c.self.view_is) at c.requires.apart in
     let known = rw (← c.self.view_is) at c.requires.known in
     let placed : IsPlaced (length c.self.inside.records.items) r.frame r = record { named = refl; aligned = c.requires.frames; within = known; pages_aligned = c.requires.pages } in
-    let filled = rw c.as_mut_slice-2.ensures.value at c.write.ensures.holders in
+    let filled = rw c.as_mut_slice-2.ensures.value at c.write.ensures.ids in
     let noted = c.write.ensures.records ∙ ap (λ rs. set rs r.frame (Some r)) c.as_mut_slice.ensures.value in
-    let holders_long : length c.write.new.holders ≡ length c.self.inside.holders.items = omega (arith, c.write.auto.holders, c.as_mut_slice-2.ensures.len, c.self.inside.holders.ok.0) in
+    let ids_long : length c.write.new.ids ≡ length c.self.inside.ids.items = omega (arith, c.write.auto.ids, c.as_mut_slice-2.ensures.len, c.self.inside.ids.ok.0) in
     rw (
       whole_slice c.self.inside.records.len c.write.new.records c.self.inside.records.items (omega (arith, c.write.auto.records, c.as_mut_slice.ensures.len)),
-      whole_slice c.self.inside.holders.len c.write.new.holders c.self.inside.holders.items (omega (arith, c.write.auto.holders, c.as_mut_slice-2.ensures.len)),
+      whole_slice c.self.inside.ids.len c.write.new.ids c.self.inside.ids.items (omega (arith, c.write.auto.ids, c.as_mut_slice-2.ensures.len)),
       noted,
       c.insert.ensures,
       c.frame_for-place.ensures,
     )
-    (AreKept-add _ _ _ _ r place c.self.invariant placed apart has filled holders_long)
+    (AreKept-add _ _ _ _ r place c.self.invariant placed apart has filled ids_long)

@@ -1,10 +1,10 @@
 use Rattle.std.proofs.Common.{◌≡◌, None, replicate, rules}
-use Rattle.reservations.proofs.HoldLemmas.{AreKept-none}
+use Rattle.reservations.proofs.FrameIds.{AreKept-none}
 use Rattle.reservations.proofs.Reservations.create.Goals as goal
 
 pub invariant_of-result : goal.invariant_of-result
 invariant_of-result c =
     let frames = c.args.frames in
     let records : c.in_ok-vec.field-0.items ≡ replicate frames None = c.in_ok-vec.ensures.items_if_clones_equal (λ y same. search rules) in
-    let holders : c.in_ok-vec-2.field-0.items ≡ replicate frames None = c.in_ok-vec-2.ensures.items_if_clones_equal (λ y same. search rules) in
-    rw (records, holders, c.in_ok-create.ensures) (AreKept-none frames)
+    let ids : c.in_ok-vec-2.field-0.items ≡ replicate frames None = c.in_ok-vec-2.ensures.items_if_clones_equal (λ y same. search rules) in
+    rw (records, ids, c.in_ok-create.ensures) (AreKept-none frames)

@@ -2,14 +2,14 @@ use Rattle.std.proofs.Common.{◌≡◌, Some, true, arith, refl, sym, ◌∙◌
 use Rattle.pager_model.specs.Layouts.{frame_for}
 use Rattle.pager_model.specs.Agreement.{has_frame}
 use Rattle.pager_model.specs.Layouts.{stamped}
-use Rattle.reservations.specs.Kept.{record_at}
-use Rattle.reservations.proofs.HoldLemmas.{AreKept-populate, has_frame_from}
+use Rattle.reservations.specs.Kept.{reservation_at}
+use Rattle.reservations.proofs.FrameIds.{AreKept-populate, has_frame_from}
 use Rattle.reservations.proofs.Reservations.populate.Goals as goal
 
 pub invariant_of-self : goal.invariant_of-self
 invariant_of-self c =
     let r = c.unwrap-reservation.result in
-    let found : record_at c.args.self.now c.args.id ≡ Some r = sym c.get.ensures.record ∙ c.unwrap-reservation.ensures in
+    let found : reservation_at c.args.self.now c.args.id ≡ Some r = sym c.get.ensures.record ∙ c.unwrap-reservation.ensures in
     let is = rw (← c.self.view_is) at found in
     let has_place = rw found at c.requires in
     let has : has_frame (frame_for c.args.page r) (Some r) ≡ true =

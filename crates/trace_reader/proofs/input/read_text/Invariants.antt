@@ -1,5 +1,5 @@
 use Rattle.std.proofs.Common.{◌-◌, ◌≤◌, vec_len}
-use Rattle.trace_reader.proofs.Came.{Took}
+use Rattle.trace_reader.proofs.SourceBytes.{Took}
 use Rattle.trace_reader.proofs.input.read_text.Given as goal
 
 abbrev pub invariant-pieces : goal.invariant-pieces

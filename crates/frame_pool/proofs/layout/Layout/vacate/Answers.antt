@@ -3,22 +3,22 @@ use Rattle.std.proofs.lemmas.List.{set-get_or}
 use Rattle.pager_model.specs.Layouts.{Layout, vacate_layout, record_at}
 use Rattle.pager_model.specs.Records.{Records}
 use Rattle.reservations.specs.Kept.{with_record, with_used}
-use Rattle.reservations.proofs.HoldLemmas.{has_frame_from}
+use Rattle.reservations.proofs.FrameIds.{has_frame_from}
 use Rattle.frame_pool.specs.Laid.{IsLaid}
 use Rattle.frame_pool.proofs.LayoutRelease.{Gives-vacate}
-use Rattle.frame_pool.proofs.LayoutInOrder.{IfSome-from, IsInOrder-again, IsInOrder-gone, not_free_there, rest_unlisted, same_owner, vacated}
+use Rattle.frame_pool.proofs.LayoutInOrder.{IfSome-from, IsInOrder-again, IsInOrder-gone, not_free_there, rest_unlisted, same_reservation, vacated}
 use Rattle.frame_pool.proofs.layout.Layout.vacate.Goals as goal
 
 pub page_at-requires-clause-pages : goal.page_at-requires-clause-pages
 page_at-requires-clause-pages c =
     let r = c.unwrap-reservation.result in
-    let found = rw (c.unwrap-reservation.ensures, ← c.self.view_is) at c.owner.ensures.owner in
+    let found = rw (c.unwrap-reservation.ensures, ← c.self.view_is) at c.reservation_of.ensures.found in
     (c.self.invariant.laid.placed r.frame r found.0).pages_aligned
 
 pub give-requires-clause-within : goal.give-requires-clause-within
 give-requires-clause-within c =
     let r = c.unwrap-reservation.result in
-    let found = rw (c.unwrap-reservation.ensures, ← c.self.view_is) at c.owner.ensures.owner in
+    let found = rw (c.unwrap-reservation.ensures, ← c.self.view_is) at c.reservation_of.ensures.found in
     let placed = c.self.invariant.laid.placed r.frame r found.0 in
     omega (arith, placed.within, c.self.invariant.laid.records_long)
 
@@ -27,7 +27,7 @@ give-requires-clause-taken c =
     let inside = c.self.inside in
     let r = c.unwrap-reservation.result in
     let l : Layout = record { free = inside.free; records = inside.reservations.records; used = inside.reservations.used } in
-    let found = rw (c.unwrap-reservation.ensures, ← c.self.view_is) at c.owner.ensures.owner in
+    let found = rw (c.unwrap-reservation.ensures, ← c.self.view_is) at c.reservation_of.ensures.found in
     λ f low high. not_free_there l r.frame r c.self.invariant.laid found.0 f (has_frame_from f r low high)
 
 pub enlist-requires-clause-unlisted : goal.enlist-requires-clause-unlisted
@@ -35,7 +35,7 @@ enlist-requires-clause-unlisted c =
     let inside = c.self.inside in
     let r = c.unwrap-reservation.result in
     let l : Layout = record { free = inside.free; records = inside.reservations.records; used = inside.reservations.used } in
-    let found = rw (c.unwrap-reservation.ensures, ← c.self.view_is) at c.owner.ensures.owner in
+    let found = rw (c.unwrap-reservation.ensures, ← c.self.view_is) at c.reservation_of.ensures.found in
     rest_unlisted l r.frame r c.self.invariant.laid found.0 c.unlist.new.lists.lists c.unlist.ensures.listed
 
 pub invariant_of-self : goal.invariant_of-self
@@ -44,7 +44,7 @@ invariant_of-self c =
     let r = c.unwrap-reservation.result in
     let frame = c.args.frame in
     let l : Layout = record { free = inside.free; records = inside.reservations.records; used = inside.reservations.used } in
-    let found = rw (c.unwrap-reservation.ensures, ← c.self.view_is) at c.owner.ensures.owner in
+    let found = rw (c.unwrap-reservation.ensures, ← c.self.view_is) at c.reservation_of.ensures.found in
     let at_place = rw found.0 at c.vacate.ensures.vacated in
     let unused : c.vacate.new.self ≡ with_used inside.reservations frame false = at_place ∙ ap (λ f. with_used inside.reservations f false) c.page_at.ensures.joined in
     let empty = rw (found.0, unused) at c.vacate.ensures.last in
@@ -63,7 +63,7 @@ returns-then-vacate c =
     let r = c.unwrap-reservation.result in
     let frame = c.args.frame in
     let l : Layout = record { free = inside.free; records = inside.reservations.records; used = inside.reservations.used } in
-    let found = rw (c.unwrap-reservation.ensures, ← c.self.view_is) at c.owner.ensures.owner in
+    let found = rw (c.unwrap-reservation.ensures, ← c.self.view_is) at c.reservation_of.ensures.found in
     let at_place = rw found.0 at c.vacate.ensures.vacated in
     let unused : c.vacate.new.self ≡ with_used inside.reservations frame false = at_place ∙ ap (λ f. with_used inside.reservations f false) c.page_at.ensures.joined in
     let empty = rw (found.0, unused) at c.vacate.ensures.last in
@@ -71,7 +71,7 @@ returns-then-vacate c =
     let after = vacated l frame r true c.give.new.free c.dissolve.new.self (sym empty ∙ c.if-vacate.true) c.give.ensures gone in
     λ id. IfSome-from (record_at c.args.self.now id) _ (λ q stands has.
     let there = rw (← c.self.view_is) at stands in
-    after ∙ ap (λ p. vacate_layout frame p l) (same_owner l r.frame r c.self.invariant.laid found.0 frame id q found.1 there has) ∙ ap (vacate_layout frame q) c.self.view_is)
+    after ∙ ap (λ p. vacate_layout frame p l) (same_reservation l r.frame r c.self.invariant.laid found.0 frame id q found.1 there has) ∙ ap (vacate_layout frame q) c.self.view_is)
 
 pub invariant_of-self-2 : goal.invariant_of-self-2
 invariant_of-self-2 c =
@@ -79,7 +79,7 @@ invariant_of-self-2 c =
     let r = c.unwrap-reservation.result in
     let frame = c.args.frame in
     let l : Layout = record { free = inside.free; records = inside.reservations.records; used = inside.reservations.used } in
-    let found = rw (c.unwrap-reservation.ensures, ← c.self.view_is) at c.owner.ensures.owner in
+    let found = rw (c.unwrap-reservation.ensures, ← c.self.view_is) at c.reservation_of.ensures.found in
     let at_place = rw found.0 at c.vacate.ensures.vacated in
     let unused : c.vacate.new.self ≡ with_used inside.reservations frame false = at_place ∙ ap (λ f. with_used inside.reservations f false) c.page_at.ensures.joined in
     let some = rw (found.0, unused) at c.vacate.ensures.last in
@@ -98,11 +98,11 @@ returns c =
     let r = c.unwrap-reservation.result in
     let frame = c.args.frame in
     let l : Layout = record { free = inside.free; records = inside.reservations.records; used = inside.reservations.used } in
-    let found = rw (c.unwrap-reservation.ensures, ← c.self.view_is) at c.owner.ensures.owner in
+    let found = rw (c.unwrap-reservation.ensures, ← c.self.view_is) at c.reservation_of.ensures.found in
     let at_place = rw found.0 at c.vacate.ensures.vacated in
     let unused : c.vacate.new.self ≡ with_used inside.reservations frame false = at_place ∙ ap (λ f. with_used inside.reservations f false) c.page_at.ensures.joined in
     let some = rw (found.0, unused) at c.vacate.ensures.last in
     let after = vacated l frame r false inside.free c.vacate.new.self (sym some ∙ c.if-vacate.false) refl unused in
     λ id. IfSome-from (record_at c.args.self.now id) _ (λ q stands has.
     let there = rw (← c.self.view_is) at stands in
-    after ∙ ap (λ p. vacate_layout frame p l) (same_owner l r.frame r c.self.invariant.laid found.0 frame id q found.1 there has) ∙ ap (vacate_layout frame q) c.self.view_is)
+    after ∙ ap (λ p. vacate_layout frame p l) (same_reservation l r.frame r c.self.invariant.laid found.0 frame id q found.1 there has) ∙ ap (vacate_layout frame q) c.self.view_is)
