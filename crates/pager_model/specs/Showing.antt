@@ -1,5 +1,5 @@
 -- Which histories are of a trace: each processor's answers are its calls, and the entries come in the order of the lines.
-use Rattle.std.specs.Prelude.{ℕ, ◌≡◌, ◌+◌, ◌<◌, true, false, ◌==◌, List, [], ◌∷◌, ◌++◌, filter, map, filter_map, replicate, Option, Some, None}
+use Rattle.std.specs.Prelude.{ℕ, ◌≡◌, ◌+◌, ◌<◌, true, ◌==◌, List, [], ◌∷◌, ◌++◌, filter, map, filter_map, replicate, Option, Some, None}
 use Rattle.std.specs.List.{enumerate_from, AllByRecursion}
 use Rattle.pager_model.specs.declared.call.Call.{Call}
 use Rattle.pager_model.specs.declared.call.Line.{Line}
