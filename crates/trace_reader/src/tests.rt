@@ -472,10 +472,9 @@ fn takes_as_many_bytes_as_a_text_may_have(rt: HostRuntime) -> Result<(), Fail> {
     let fault = read_in_pieces(rt.alloc(), &text, 4096)?.err();
     assert_eq!(rt; fault, Some(line(2, Form)));
     text.push(b'\n')?;
-    for piece in [1, 4096] {
-        let fault = read_in_pieces(rt.alloc(), &text, piece)?.err();
-        assert_eq!(rt; fault, Some(TraceFault::TooLong));
-    }
+    let fault = read_in_pieces(rt.alloc(), &text, 4096)?.err();
+    assert_eq!(rt; fault, Some(TraceFault::TooLong));
+    // A byte a read takes the most reads.
     let mut endless = Endless { reads: 0 };
     let fault = read_trace(rt.alloc(), &mut endless).err();
     assert_eq!(rt; fault, Some(TraceFault::TooLong));
