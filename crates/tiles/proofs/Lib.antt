@@ -1,0 +1,4 @@
+pub mod Changing
+pub mod Eligible
+pub mod Extents
+pub mod Largest
