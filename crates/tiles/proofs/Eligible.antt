@@ -9,6 +9,7 @@ use Rattle.pager_model.specs.declared.region.Rights.TheVariants.{NoAccess, Read,
 use Rattle.pager_model.specs.declared.tile.Mapping.{Mapping}
 use Rattle.pager_model.specs.declared.tile.Tile.{Tile}
 use Rattle.pager_model.specs.Extents.{extent_start}
+use Rattle.tiles.specs.Beside.{whole}
 use Rattle.tiles.proofs.Extents.{in_extent, of_extent, length_positive, first_of_extent, lies_in, in_part, part_of, part_within}
 use Rattle.pager_model.specs.Tiles.{moved_by, rights_level, same_rights, same_flag, is_mapping, is_uniform, is_eligible, tile_with, eligible_with, eligible_at}
 
@@ -134,10 +135,6 @@ pub record HasExtent (pages : ℕ → Option Mapping) (k page : ℕ) : Type 0 wh
   pub head : Mapping
   pub begins : pages (extent_start k page) ≡ Some head
   pub is : IsWhole pages k (extent_start k page) head
-
--- an extent is eligible
-pub whole : (ℕ → Option Mapping) → ℕ → ℕ → Bool
-whole pages k page = is_some (eligible_at pages k page)
 
 pub eligible_is : (pages : ℕ → Option Mapping) (k page : ℕ) (h : HasExtent pages k page) → eligible_at pages k page ≡ Some (tile_with k (extent_start k page) h.head)
 eligible_is pages k page h =

@@ -8,7 +8,8 @@ use Rattle.pager_model.specs.declared.tile.Mapping.{Mapping}
 use Rattle.pager_model.specs.declared.tile.Tile.{Tile}
 use Rattle.pager_model.specs.Extents.{extent_start}
 use Rattle.pager_model.specs.Tiles.{moved_by, tile_with, eligible_at, largest_up_to, tile_of, size_in, size_at, begins_at}
-use Rattle.tiles.proofs.Eligible.{HasExtent, IsWhole, whole, whole_has, has_whole, whole_none, none_whole, eligible_is, whole_alike, page_in, smaller, page_whole}
+use Rattle.tiles.specs.Beside.{whole}
+use Rattle.tiles.proofs.Eligible.{HasExtent, IsWhole, whole_has, has_whole, whole_none, none_whole, eligible_is, whole_alike, page_in, smaller, page_whole}
 use Rattle.tiles.proofs.Extents.{StartsBelow, starts_below}
 
 cases_Option : {X : Type 0} (o : Option X) → (o ≡ None) ⊎ ((x : X) × (o ≡ Some x))
@@ -174,3 +175,6 @@ begins_if pages page m at =
     let starts = starts_below k page (size_small pages page) in
     let within = starts.within in
     ap (begins_at page) (tile_by_own pages page m at).is ∙ grind (arith, nat_tests)
+
+pub tile_begins : (pages : ℕ → Option Mapping) (page size : ℕ) → HasTile pages page size → begins_at page (tile_of pages page) ≡ eqb (extent_start size page) page
+tile_begins pages page size tile = ap (begins_at page) tile.is

@@ -1,4 +1,5 @@
 pub mod Changing
+pub mod Counting
 pub mod Eligible
 pub mod Extents
 pub mod Largest

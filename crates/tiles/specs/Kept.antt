@@ -16,6 +16,11 @@ size_of_number places (Some number) = size_in_place (slice_index_or places numbe
 unfoldable pub size_kept : Resident → ℕ → ℕ
 size_kept pages page = size_of_number pages.places (slice_index_or pages.numbers page None)
 
+-- what is kept of a page, where it is resident
+abbrev pub place_of_number : List (Option Place) → Option ℕ → Option Place
+place_of_number places None = None
+place_of_number places (Some number) = slice_index_or places number None
+
 -- The number of a resident page names a place where it is kept what is said of it, and no two pages have one number.
 pub record ArePages (pages : Resident) : Type 0 where
   pub numbers : length pages.numbers ≡ 1048576
@@ -31,5 +36,6 @@ AreSizes pages = (p : ℕ) → size_kept pages p ≡ size_at (mapping_at pages) 
 abbrev pub SizesBut : ℕ → Resident → Resident → Type 0
 SizesBut page old new = (p : ℕ) → p ≢ page → size_kept new p ≡ size_kept old p
 
+-- no page's size is changed
 abbrev pub SameSizes : Resident → Resident → Type 0
 SameSizes old new = (p : ℕ) → size_kept new p ≡ size_kept old p

@@ -2,8 +2,8 @@
 
 ghost use Rattle.std.specs.Prelude.{◌≡◌, ◌≤◌, ℕ, Option, Some};
 ghost use Rattle.pager_model.specs.declared.tile.Mapping.{Mapping};
-ghost use Rattle.pager_model.specs.Tiles.{size_at};
+ghost use Rattle.pager_model.specs.Tiles.{size_at, promotions_between};
 
 pub fn scratch()
-    ensures { (pages : ℕ → Option Mapping) (page : ℕ) → size_at pages page ≤ 3 }
+    ensures { (pages old : ℕ → Option Mapping) → ((p : ℕ) → old p ≡ pages p) → promotions_between pages old ≡ 0 }
 {}
