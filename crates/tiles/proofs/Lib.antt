@@ -2,4 +2,5 @@ pub mod Changing
 pub mod Counting
 pub mod Eligible
 pub mod Extents
+pub mod Keeping
 pub mod Largest

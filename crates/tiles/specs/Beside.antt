@@ -1,8 +1,8 @@
 -- The sizes of the tiles beside a page that changed.
-use Rattle.std.specs.Prelude.{ℕ, ◌≡◌, ◌≢◌, ◌/◌, ◌^◌, Bool, ◌==◌, if◌then◌else◌, Option, Some, None, is_some}
+use Rattle.std.specs.Prelude.{ℕ, ◌≡◌, ◌≢◌, ◌/◌, ◌^◌, Bool, ◌==◌, if◌then◌else◌, Option, is_some}
 use Rattle.pager_model.specs.declared.tile.Mapping.{Mapping}
 use Rattle.pager_model.specs.Tiles.{eligible_at, size_at}
-use Rattle.tiles.specs.Kept.{size_kept}
+use Rattle.tiles.specs.Kept.{size_kept, sized}
 use Rattle.tiles.specs.Resident.{Resident, mapping_at, frames_in}
 
 -- the extent of a size round a page is eligible
@@ -29,11 +29,6 @@ pub record AreKeptBut (page : ℕ) (old : ℕ → Option Mapping) (pages : Resid
 pub record SamePages (old new : Resident) : Type 0 where
   pub frames : frames_in new ≡ frames_in old
   pub at : (p : ℕ) → mapping_at new p ≡ mapping_at old p
-
--- a size is kept of a resident page alone
-abbrev pub sized : Option Mapping → ℕ → ℕ
-sized None size = 0
-sized (Some m) size = size
 
 -- the pages of the extent of size over round a page have the sizes beside it, and the others those that they had
 abbrev pub Spreads : ℕ → ℕ → ℕ → Resident → Resident → Type 0

@@ -1,5 +1,6 @@
 -- What is kept of the resident pages.
-use Rattle.std.specs.Prelude.{ℕ, ◌≡◌, ◌≢◌, ◌<◌, ◌≤◌, List, length, slice_index_or, Option, Some, None}
+use Rattle.std.specs.Prelude.{ℕ, ◌≡◌, ◌≢◌, ◌<◌, ◌≤◌, ◌==◌, if◌then◌else◌, List, length, slice_index_or, Option, Some, None}
+use Rattle.pager_model.specs.declared.tile.Mapping.{Mapping}
 use Rattle.pager_model.specs.Tiles.{size_at}
 use Rattle.tiles.specs.declared.pages.Place.{Place}
 use Rattle.tiles.specs.Resident.{Resident, mapping_at, frames_in}
@@ -20,6 +21,19 @@ size_kept pages page = size_of_number pages.places (slice_index_or pages.numbers
 abbrev pub place_of_number : List (Option Place) → Option ℕ → Option Place
 place_of_number places None = None
 place_of_number places (Some number) = slice_index_or places number None
+
+-- what is said of a resident page of which this is kept
+abbrev pub said_by : Place → Mapping → Mapping
+said_by place m = record { frame = m.frame; region = place.region; rights = place.rights; dirty = place.dirty }
+
+-- a size is kept of a resident page alone
+abbrev pub sized : Option Mapping → ℕ → ℕ
+sized None size = 0
+sized (Some m) size = size
+
+-- the size of one page is changed, where it is resident
+abbrev pub Sizes : ℕ → ℕ → Resident → Resident → Type 0
+Sizes page size old new = (p : ℕ) → size_kept new p ≡ (if p == page then sized (mapping_at old page) size else size_kept old p)
 
 -- The number of a resident page names a place where it is kept what is said of it, and no two pages have one number.
 pub record ArePages (pages : Resident) : Type 0 where

@@ -1,9 +1,9 @@
 //! What a tile is: each is a function that does nothing, whose contract the gate proves.
 
 ghost use Rattle.std.specs.Prelude.{◌≡◌, ◌≤◌, ℕ, Option, Some};
-ghost use Rattle.pager_model.specs.declared.tile.Mapping.{Mapping};
-ghost use Rattle.pager_model.specs.Tiles.{size_at, promotions_between};
+ghost use Rattle.tiles.specs.Resident.{Resident, mapping_at, mapping_of_number};
+ghost use Rattle.std.specs.Prelude.{slice_index_or, None};
 
 pub fn scratch()
-    ensures { (pages old : ℕ → Option Mapping) → ((p : ℕ) → old p ≡ pages p) → promotions_between pages old ≡ 0 }
+    ensures { (r : Resident) (p : ℕ) → mapping_at r p ≡ mapping_of_number r.places (slice_index_or r.numbers p None) }
 {}

@@ -1,8 +1,9 @@
 //! The resident pages of a space, and what is kept of each.
 
-ghost use Rattle.std.specs.Prelude.{◌≡◌, ◌≢◌, ◌<◌, ◌≤◌, ℕ, None, Some, IfOk, IfSome};
-ghost use Rattle.tiles.specs.Resident.{mapping_at, frames_in, frame_of_page, Maps, with_flag};
-ghost use Rattle.tiles.specs.Kept.{size_kept, SizesBut, SameSizes};
+ghost use Rattle.std.specs.Prelude.{◌≡◌, ◌≢◌, ◌<◌, ◌≤◌, ℕ, None, Some, IfOk, IfSome, option_map, replicate, slice_index_or};
+ghost use Rattle.tiles.specs.Resident.{mapping_at, frames_in, frame_of_page, Maps, with_flag, with_rights};
+ghost use Rattle.tiles.specs.Kept.{size_kept, place_of_number, said_by, Sizes, SizesBut, SameSizes};
+ghost use Rattle.tiles.specs.Beside.{SamePages};
 
 use pager_model::{Mapping, NoMemory, Rights, Size};
 use std::alloc::Global;
@@ -59,18 +60,23 @@ impl Pages {
         ensures sizes { IfOk result (λ pages. (p : ℕ) → size_kept pages p ≡ 0) }
     {
         Ok(Pages {
-            numbers: vec![in alloc; None; PAGES as usize]?,
-            places: vec![in alloc; None; frames as usize]?,
+            numbers: empty_places(alloc, PAGES)?,
+            places: empty_places(alloc, frames)?,
         })
     }
 
     /// The number of a page's frame, where it is resident.
-    fn number(&self, page: u32) -> Option<u16> {
+    fn number(&self, page: u32) -> Option<u16>
+        ensures number { result ≡ slice_index_or self.now.numbers page None }
+        ensures known { IfSome result (λ number. (page < 1048576) × (number < frames_in self.now)) }
+    {
         *self.numbers.get(page as usize)?
     }
 
     /// What is kept of a page, where it is resident.
-    fn place(&self, page: u32) -> Option<Place> {
+    fn place(&self, page: u32) -> Option<Place>
+        ensures { result ≡ place_of_number self.now.places (slice_index_or self.now.numbers page None) }
+    {
         let number = self.number(page)?;
         self.places[number as usize]
     }
@@ -109,13 +115,13 @@ impl Pages {
         ensures maps { Maps page (Some mapping) self.old self.new }
         ensures sizes { SizesBut page self.old self.new }
     {
-        self.numbers[page as usize] = Some(mapping.frame as u16);
         self.places[mapping.frame as usize] = Some(Place {
             region: mapping.region,
             rights: mapping.rights,
             dirty: mapping.dirty,
             size: size_of(0),
         });
+        self.numbers[page as usize] = Some(mapping.frame as u16);
     }
 
     /// A page is resident no more.
@@ -130,30 +136,53 @@ impl Pages {
     }
 
     /// Writes what is kept of a resident page.
-    fn write(&mut self, page: u32, place: Place) {
+    fn write(&mut self, page: u32, place: Place)
+        ensures maps { Maps page (option_map (said_by place) (mapping_at self.old page)) self.old self.new }
+        ensures sizes { Sizes page place.size self.old self.new }
+    {
         if let Some(number) = self.number(page) {
             self.places[number as usize] = Some(place);
         }
     }
 
     /// A page has this dirty flag, where it is resident.
-    pub(crate) fn set_dirty(&mut self, page: u32, dirty: bool) {
+    pub(crate) fn set_dirty(&mut self, page: u32, dirty: bool)
+        ensures maps { Maps page (option_map (with_flag dirty) (mapping_at self.old page)) self.old self.new }
+        ensures sizes { SameSizes self.old self.new }
+    {
         if let Some(place) = self.place(page) {
             self.write(page, Place { dirty, ..place });
         }
     }
 
     /// A page has these rights, where it is resident.
-    pub(crate) fn set_rights(&mut self, page: u32, rights: Rights) {
+    pub(crate) fn set_rights(&mut self, page: u32, rights: Rights)
+        ensures maps { Maps page (option_map (with_rights rights) (mapping_at self.old page)) self.old self.new }
+        ensures sizes { SameSizes self.old self.new }
+    {
         if let Some(place) = self.place(page) {
             self.write(page, Place { rights, ..place });
         }
     }
 
     /// The size of a page's tile is this, where the page is resident.
-    pub(crate) fn set_size(&mut self, page: u32, size: Size) {
+    pub(crate) fn set_size(&mut self, page: u32, size: Size)
+        ensures same { SamePages self.old self.new }
+        ensures sizes { Sizes page size self.old self.new }
+    {
         if let Some(place) = self.place(page) {
             self.write(page, Place { size, ..place });
         }
     }
+}
+
+/// So many places with nothing in them.
+fn empty_places<T: Drop>(alloc: Global, count: u32) -> Result<Vec<Option<T>>, NoMemory>
+    ensures { IfOk result (λ places. places.items ≡ replicate count None) }
+{
+    let mut places = Vec::with_capacity(alloc, count as usize)?;
+    for _ in 0..count {
+        places.push(None)?;
+    }
+    Ok(places)
 }

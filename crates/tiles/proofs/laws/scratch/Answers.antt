@@ -1,5 +1,5 @@
-use Rattle.tiles.proofs.Changing.{promotions_same}
+use Rattle.tiles.proofs.Keeping.{mapping_at-is}
 use Rattle.tiles.proofs.laws.scratch.Goals as goal
 
 pub returns : goal.returns
-returns c = promotions_same
+returns c = mapping_at-is
