@@ -57,19 +57,19 @@ size_far old new page other others before after =
 
 -- ---- the sizes beside a page
 
-beside_same : (page other s : ℕ) → other / 8 ^ s ≡ page / 8 ^ s → size_beside page other s ≡ s
+pub beside_same : (page other s : ℕ) → other / 8 ^ s ≡ page / 8 ^ s → size_beside page other s ≡ s
 unfolding size_beside
 beside_same page other s same = grind (arith, nat_tests)
 
-beside_zero : (page other s : ℕ) → other / 8 ^ s ≢ page / 8 ^ s → other / 8 ≡ page / 8 → size_beside page other s ≡ 0
+pub beside_zero : (page other s : ℕ) → other / 8 ^ s ≢ page / 8 ^ s → other / 8 ≡ page / 8 → size_beside page other s ≡ 0
 unfolding size_beside
 beside_zero page other s apart same = grind (arith, nat_tests)
 
-beside_one : (page other s : ℕ) → other / 8 ^ s ≢ page / 8 ^ s → other / 8 ≢ page / 8 → other / 64 ≡ page / 64 → size_beside page other s ≡ 1
+pub beside_one : (page other s : ℕ) → other / 8 ^ s ≢ page / 8 ^ s → other / 8 ≢ page / 8 → other / 64 ≡ page / 64 → size_beside page other s ≡ 1
 unfolding size_beside
 beside_one page other s apart eight same = grind (arith, nat_tests)
 
-beside_two : (page other s : ℕ) → other / 8 ^ s ≢ page / 8 ^ s → other / 8 ≢ page / 8 → other / 64 ≢ page / 64 → size_beside page other s ≡ 2
+pub beside_two : (page other s : ℕ) → other / 8 ^ s ≢ page / 8 ^ s → other / 8 ≢ page / 8 → other / 64 ≢ page / 64 → size_beside page other s ≡ 2
 unfolding size_beside
 beside_two page other s apart eight sixty_four = grind (arith, nat_tests)
 

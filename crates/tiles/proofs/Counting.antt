@@ -85,3 +85,15 @@ count_pages_most f = at 1048576 refl
   where
     at : (many : ℕ) → many ≡ 1048576 → count_pages f ≤ 1048576
     at many e = omega (arith, count_pages-is f many e, count-most f 0 many)
+
+pub count-sum : (f g h : ℕ → Bool) (from many : ℕ) → ((n : ℕ) → from ≤ n → n < from + many → one_if (f n) ≡ one_if (g n) + one_if (h n)) → count f from many ≡ count g from many + count h from many
+count-sum f g h from zero each = omega (arith, count-zero f from, count-zero g from, count-zero h from)
+count-sum f g h from (suc many) each =
+    omega (
+      arith,
+      count-suc f from many,
+      count-suc g from many,
+      count-suc h from many,
+      each from (omega arith) (omega arith),
+      count-sum f g h (from + 1) many (λ n low high. each n (omega arith) (omega arith)),
+    )

@@ -4,3 +4,5 @@ pub mod Eligible
 pub mod Extents
 pub mod Keeping
 pub mod Largest
+pub mod Settling
+pub mod Promoting

@@ -1,5 +1,5 @@
 -- The sizes of the tiles beside a page that changed.
-use Rattle.std.specs.Prelude.{ℕ, ◌≡◌, ◌≢◌, ◌/◌, ◌^◌, Bool, ◌==◌, if◌then◌else◌, Option, is_some}
+use Rattle.std.specs.Prelude.{ℕ, ◌≡◌, ◌≢◌, ◌/◌, ◌^◌, ◌≤◌, ◌⊎◌, Bool, ◌==◌, if◌then◌else◌, Option, Some, is_some}
 use Rattle.pager_model.specs.declared.tile.Mapping.{Mapping}
 use Rattle.pager_model.specs.Tiles.{eligible_at, size_at}
 use Rattle.tiles.specs.Kept.{size_kept, sized}
@@ -34,3 +34,7 @@ pub record SamePages (old new : Resident) : Type 0 where
 abbrev pub Spreads : ℕ → ℕ → ℕ → Resident → Resident → Type 0
 Spreads page over size old new =
     (p : ℕ) → size_kept new p ≡ (if p / 8 ^ over == page / 8 ^ over then sized (mapping_at old p) (size_beside page p size) else size_kept old p)
+
+-- the extent of size part from a page on begins with this mapping, and is the one round another page or lies in a tile
+abbrev pub GoesOnAt : Resident → ℕ → ℕ → ℕ → Mapping → Type 0
+GoesOnAt pages page first part mapping = (mapping_at pages first ≡ Some mapping) × ((first / 8 ^ part ≡ page / 8 ^ part) ⊎ (part ≤ size_kept pages first))

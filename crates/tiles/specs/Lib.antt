@@ -1,3 +1,4 @@
 pub mod Beside
+pub mod Blocks
 pub mod Kept
 pub mod Resident

@@ -1,6 +1,8 @@
-ghost use Rattle.std.specs.Prelude.{◌≡◌, ◌≢◌, ◌∷◌, [], ℕ, ◌+◌, ◌<◌, ◌≤◌, true, None, Some, IfOk, IfSome, option_map};
-ghost use Rattle.pager_model.specs.Tiles.{tile_of, is_tile, tiles_of_size};
-ghost use Rattle.tiles.specs.Resident.{mapping_at, frames_in, frame_of_page, large_tiles_in, Maps, Protects, AreMoves, with_flag};
+ghost use Rattle.std.specs.Prelude.{◌≡◌, ◌≢◌, ◌∷◌, [], ℕ, ◌+◌, ◌<◌, ◌≤◌, true, false, Option, None, Some, IfOk, IfSome, option_map, slice_index};
+ghost use Rattle.pager_model.specs.Tiles.{tile_of, is_tile, size_at, tiles_of_size};
+ghost use Rattle.pager_model.specs.declared.tile.Mapping.{Mapping};
+ghost use Rattle.tiles.specs.Resident.{mapping_at, frames_in, frame_of_page, large_tiles_in, Maps, Protects, AreMoves, with_flag, with_rights, begins_large};
+ghost use Rattle.tiles.specs.Blocks.{KeepsRights, ProtectsTo, ProtectsInBlock, AreSizesOfBlock, OutsideSame, AreMovesOf, begun_at};
 
 use crate::moves::Moves;
 use crate::pages::{PAGES, Pages, size_of};
@@ -47,12 +49,19 @@ impl Base {
         self.pages.mapping(page)
     }
 
+    /// The size of a page's tile, and a page's where it isn't resident.
+    fn size(&self, page: u32) -> Size
+        ensures { result ≡ size_at (mapping_at self.now) page }
+    {
+        self.pages.size(page)
+    }
+
     /// The tile of a page, where it is resident.
     pub fn tile_of(&self, page: u32) -> Option<Tile>
         ensures { result ≡ tile_of (mapping_at self.now) page }
     {
         let mapping = self.mapping(page)?;
-        let size = self.pages.size(page);
+        let size = self.size(page);
         let offset = page % size.pages();
         Some(Tile {
             extent: Extent {
@@ -91,6 +100,9 @@ impl Base {
         ensures maps { Maps page None self.old self.new }
         ensures moves { AreMoves self.old self.new result }
     {
+        if self.pages.mapping(page).is_none() {
+            return Moves::NONE;
+        }
         let before = self.pages.size(page);
         self.pages.remove(page);
         let size = self.pages.settle(page, before);
@@ -102,68 +114,112 @@ impl Base {
         ensures maps { Maps page (option_map (with_flag dirty) (mapping_at self.old page)) self.old self.new }
         ensures moves { AreMoves self.old self.new result }
     {
+        if !self.has_other_flag(page, dirty) {
+            return Moves::NONE;
+        }
         let before = self.pages.size(page);
         self.pages.set_dirty(page, dirty);
         let size = self.pages.settle(page, before);
         Moves::of_one(before, size)
     }
 
-    /// A page has these rights, where it is resident.
-    fn after_rights_of_one(&mut self, page: u32, rights: Rights) {
-        let before = self.pages.size(page);
-        self.pages.set_rights(page, rights);
-        self.pages.settle(page, before);
+    /// Whether a page is resident with another dirty flag.
+    fn has_other_flag(&self, page: u32, dirty: bool) -> bool
+        ensures changes { result ≡ true → mapping_at self.now page ≢ None }
+        ensures keeps { result ≡ false → option_map (with_flag dirty) (mapping_at self.now page) ≡ mapping_at self.now page }
+    {
+        match self.pages.mapping(page) {
+            Some(mapping) => mapping.dirty != dirty,
+            None => false,
+        }
     }
 
-    /// Whether a resident page of a range has other rights.
-    fn has_other_rights(&self, first: u32, end: u32, rights: Rights) -> bool {
+    /// Whether a page is resident with other rights.
+    fn has_other_rights(&self, page: u32, rights: Rights) -> bool
+        ensures changes { result ≡ true → mapping_at self.now page ≢ None }
+        ensures keeps { result ≡ false → option_map (with_rights rights) (mapping_at self.now page) ≡ mapping_at self.now page }
+    {
+        match self.pages.mapping(page) {
+            Some(mapping) => mapping.rights != rights,
+            None => false,
+        }
+    }
+
+    /// Whether a page of a range is resident with other rights.
+    fn any_has_other_rights(&self, first: u32, end: u32, rights: Rights) -> bool
+        ensures { result ≡ false → KeepsRights first end rights (mapping_at self.now) }
+    {
         for page in first..end {
-            if let Some(mapping) = self.pages.mapping(page) {
-                if mapping.rights != rights {
-                    return true;
-                }
+            if self.has_other_rights(page, rights) {
+                return true;
             }
         }
         false
     }
 
+    /// A page has these rights, where it is resident.
+    fn after_rights_of_one(&mut self, page: u32, rights: Rights)
+        ensures { Maps page (option_map (with_rights rights) (mapping_at self.old page)) self.old self.new }
+    {
+        if !self.has_other_rights(page, rights) {
+            return;
+        }
+        let before = self.pages.size(page);
+        self.pages.set_rights(page, rights);
+        self.pages.settle(page, before);
+    }
+
+    /// The resident pages of a range have these rights.
+    fn after_rights_of_all(&mut self, first: u32, end: u32, rights: Rights)
+        ensures { ProtectsTo first end rights self.old self.new }
+    {
+        for page in first..end {
+            self.after_rights_of_one(page, rights);
+        }
+    }
+
     /// The sizes of the tiles at the first of each eight pages of a block.
-    fn sizes_of_block(&self, block: u32) -> [u8; 64] {
+    fn sizes_of_block(&self, block: u32) -> [u8; 64]
+        requires { block < 2048 }
+        ensures sizes { AreSizesOfBlock block result (mapping_at self.now) }
+        ensures small { (i : ℕ) → i < 64 → slice_index result i ≤ 3 }
+    {
         let mut sizes = [0; 64];
         for i in 0..64 {
-            sizes[i] = self.pages.size(block * BLOCK + 8 * i as u32).level();
+            sizes[i] = self.size(block * BLOCK + 8 * i as u32).level();
         }
         sizes
     }
 
-    /// The tiles of a block that are larger than their first pages' tiles were, and those that were larger than these pages' tiles are.
-    fn moves_of_block(&self, block: u32, before: &[u8; 64]) -> Moves {
+    /// The moves of a change within a block, before which its first of each eight pages had tiles of these sizes.
+    fn moves_of_block(&self, block: u32, before: &[u8; 64]) -> Moves
+        requires block { block < 2048 }
+        requires small { (i : ℕ) → i < 64 → slice_index before.now i ≤ 3 }
+        ensures { (old : ℕ → Option Mapping) → AreSizesOfBlock block before.now old → OutsideSame block old (mapping_at self.now)
+            → AreMovesOf old (mapping_at self.now) result }
+    {
         let mut moves = Moves::NONE;
         for i in 0..64 {
             let page = block * BLOCK + 8 * i as u32;
-            let size = self.pages.size(page);
-            let had = size_of(before[i]);
-            if had < size && page % size.pages() == 0 {
-                moves.promotions += 1;
-            }
-            if size < had && page % had.pages() == 0 {
-                moves.demotions += 1;
-            }
+            moves = moves.and(Moves::at(page, before[i], self.size(page).level()));
         }
         moves
     }
 
-    /// The resident pages of a range within a block have these rights.
-    fn after_rights_in_block(&mut self, block: u32, first: u32, end: u32, rights: Rights) -> Moves {
-        if !self.has_other_rights(first, end, rights) {
+    /// The resident pages of a range that are in a block have these rights.
+    fn after_rights_in_block(&mut self, block: u32, first: u32, length: u32, rights: Rights) -> Moves
+        requires range { first + length ≤ 1048576 }
+        requires block { block < 2048 }
+        ensures protects { ProtectsInBlock block first length rights self.old self.new }
+        ensures moves { AreMoves self.old self.new result }
+    {
+        let from = first.max(block * BLOCK);
+        let end = (first + length).min(block * BLOCK + BLOCK);
+        if !self.any_has_other_rights(from, end, rights) {
             return Moves::NONE;
         }
         let before = self.sizes_of_block(block);
-        for page in first..end {
-            if self.has_other_rights(page, page + 1, rights) {
-                self.after_rights_of_one(page, rights);
-            }
-        }
+        self.after_rights_of_all(from, end, rights);
         self.moves_of_block(block, &before)
     }
 
@@ -173,28 +229,20 @@ impl Base {
         ensures protects { Protects first length rights self.old self.new }
         ensures moves { AreMoves self.old self.new result }
     {
-        let end = first + length;
         let mut moves = Moves::NONE;
-        for block in first / BLOCK..end.div_ceil(BLOCK) {
-            let from = first.max(block * BLOCK);
-            let to = end.min(block * BLOCK + BLOCK);
-            moves = moves.and(self.after_rights_in_block(block, from, to, rights));
+        for block in first / BLOCK..(first + length).div_ceil(BLOCK) {
+            moves = moves.and(self.after_rights_in_block(block, first, length, rights));
         }
         moves
     }
 
-    /// Whether a page is the first of a tile of size 1 or more.
-    fn begins_large(&self, page: u32) -> bool {
-        let size = self.pages.size(page);
-        size.level() > 0 && page % size.pages() == 0
-    }
-
     /// The level of the tile that begins at a page, where one does.
-    fn begun(&self, page: u32) -> Option<u8> {
-        self.pages.mapping(page)?;
-        let size = self.pages.size(page);
-        if page % size.pages() == 0 {
-            Some(size.level())
+    fn begun(&self, page: u32) -> Option<u8>
+        ensures { result ≡ begun_at (mapping_at self.now) page }
+    {
+        let tile = self.tile_of(page)?;
+        if tile.extent.first == page {
+            Some(tile.extent.size.level())
         } else {
             None
         }
@@ -212,6 +260,14 @@ impl Base {
             }
         }
         count
+    }
+
+    /// Whether a page is the first of a tile of size 1 or more.
+    fn begins_large(&self, page: u32) -> bool
+        ensures { result ≡ begins_large (mapping_at self.now) page }
+    {
+        let size = self.size(page);
+        size.level() > 0 && page % size.pages() == 0
     }
 
     /// How many tiles there are of each size.

@@ -1,9 +1,10 @@
 //! What a tile is: each is a function that does nothing, whose contract the gate proves.
 
-ghost use Rattle.std.specs.Prelude.{◌≡◌, ◌≤◌, ℕ, Option, Some};
-ghost use Rattle.tiles.specs.Resident.{Resident, mapping_at, mapping_of_number};
-ghost use Rattle.std.specs.Prelude.{slice_index_or, None};
+ghost use Rattle.std.specs.Prelude.{◌≡◌, ◌≢◌, ◌≤◌, ◌<◌, ◌^◌, ◌+◌, ◌/◌, ℕ, Option, Some};
+ghost use Rattle.pager_model.specs.declared.tile.Mapping.{Mapping};
+ghost use Rattle.pager_model.specs.Tiles.{promotions_between};
+ghost use Rattle.tiles.specs.Blocks.{OutsideSame};
 
 pub fn scratch()
-    ensures { (r : Resident) (p : ℕ) → mapping_at r p ≡ mapping_of_number r.places (slice_index_or r.numbers p None) }
+    ensures { (old mid new : ℕ → Option Mapping) (block : ℕ) → ((p : ℕ) → p / 512 ≡ block → mid p ≡ old p) → OutsideSame block mid new → promotions_between old new ≡ promotions_between old mid + promotions_between mid new }
 {}

@@ -69,6 +69,7 @@ impl Pages {
     fn number(&self, page: u32) -> Option<u16>
         ensures number { result ≡ slice_index_or self.now.numbers page None }
         ensures known { IfSome result (λ number. (page < 1048576) × (number < frames_in self.now)) }
+        ensures small { IfSome result (λ number. number < 32768) }
     {
         *self.numbers.get(page as usize)?
     }
@@ -85,6 +86,7 @@ impl Pages {
     pub(crate) fn mapping(&self, page: u32) -> Option<Mapping>
         ensures mapping { result ≡ mapping_at self.now page }
         ensures in_space { IfSome result (λ m. (page < 1048576) × (m.frame < frames_in self.now)) }
+        ensures small { IfSome result (λ m. m.frame < 32768) }
     {
         let number = self.number(page)?;
         let place = self.place(page)?;
