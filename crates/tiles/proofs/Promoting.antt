@@ -8,7 +8,7 @@ use Rattle.pager_model.specs.Tiles.{tile_of, begins_at, size_at, is_promoted, pr
 use Rattle.tiles.specs.declared.moves.Moves.{Moves}
 use Rattle.tiles.specs.Beside.{AreKeptBut, SamePages, whole}
 use Rattle.tiles.specs.Blocks.{AreMovesOf, OutsideSame, is_grown_at}
-use Rattle.tiles.specs.Kept.{size_kept, AreSizes, SizesBut}
+use Rattle.tiles.specs.Kept.{size_kept, AreSizes, SizesBut, SameSizes}
 use Rattle.tiles.specs.Resident.{Resident, mapping_at, frames_in, Maps, AreMoves}
 use Rattle.tiles.proofs.Changing.{others_back, promotions_one, promotions_same}
 use Rattle.tiles.proofs.Counting.{count, one_if, count_pages-is, count-sum, count-same}
@@ -25,6 +25,9 @@ kept_but r s page given sizes maps but = record {
   others = λ p apart. maps.at p ∙ ap (λ (b : Bool). if b then given else mapping_at r p) (eqb_no p page apart);
   sizes = λ p apart. but p apart ∙ sizes p;
 }
+
+pub same_sizes_but : (r s : Resident) (page : ℕ) → SameSizes r s → SizesBut page r s
+same_sizes_but r s page same p apart = same p
 
 pub maps_settled : (r s t : Resident) (page : ℕ) (given : Option Mapping) → Maps page given r s → SamePages s t → Maps page given r t
 maps_settled r s t page given maps same = record { frames = same.frames ∙ maps.frames; at = λ p. same.at p ∙ maps.at p }

@@ -125,7 +125,7 @@ impl Base {
 
     /// Whether a page is resident with another dirty flag.
     fn has_other_flag(&self, page: u32, dirty: bool) -> bool
-        ensures changes { result ≡ true → mapping_at self.now page ≢ None }
+        ensures in_space { result ≡ true → page < 1048576 }
         ensures keeps { result ≡ false → option_map (with_flag dirty) (mapping_at self.now page) ≡ mapping_at self.now page }
     {
         match self.pages.mapping(page) {
@@ -136,7 +136,7 @@ impl Base {
 
     /// Whether a page is resident with other rights.
     fn has_other_rights(&self, page: u32, rights: Rights) -> bool
-        ensures changes { result ≡ true → mapping_at self.now page ≢ None }
+        ensures in_space { result ≡ true → page < 1048576 }
         ensures keeps { result ≡ false → option_map (with_rights rights) (mapping_at self.now page) ≡ mapping_at self.now page }
     {
         match self.pages.mapping(page) {
