@@ -120,3 +120,28 @@ promotions_add old mid new block within outside = at 1048576 refl
           count_pages-is (is_promoted mid new) many e,
           count-sum (is_promoted old new) (is_promoted old mid) (is_promoted mid new) 0 many (λ q low high. each q),
         )
+
+pub demotions_add : (old mid new : ℕ → Option Mapping) (block : ℕ) → ((p : ℕ) → p / 512 ≡ block → mid p ≡ old p) → OutsideSame block mid new → demotions_between old new ≡ demotions_between old mid + demotions_between mid new
+demotions_add old mid new block within outside = at 1048576 refl
+  where
+    each : (q : ℕ) → one_if (is_promoted new old q) ≡ one_if (is_promoted mid old q) + one_if (is_promoted new mid q)
+    each q = elim (cases_eq (q / 512) block) [
+      | inl e ↦
+          let same : size_at mid q ≡ size_at old q = size_local old mid q (λ p joined. within p (joined ∙ e)) in
+          let first : is_promoted new old q ≡ is_promoted new mid q = promoted_test new old q ∙ ap (λ n. is_grown_at q (size_at new q) n) (sym same) ∙ sym (promoted_test new mid q) in
+          omega (arith, ap one_if first, ap one_if (promoted_none mid old q (sym same)))
+      | inr apart ↦
+          let same : size_at new q ≡ size_at mid q = size_local mid new q (λ p joined. outside p (λ e. apart (sym joined ∙ e))) in
+          let first : is_promoted new old q ≡ is_promoted mid old q = promoted_test new old q ∙ ap (λ n. is_grown_at q n (size_at old q)) same ∙ sym (promoted_test mid old q) in
+          omega (arith, ap one_if first, ap one_if (promoted_none new mid q (sym same)))
+    ]
+
+    at : (many : ℕ) → many ≡ 1048576 → demotions_between old new ≡ demotions_between old mid + demotions_between mid new
+    at many e =
+        omega (
+          arith,
+          count_pages-is (is_promoted new old) many e,
+          count_pages-is (is_promoted mid old) many e,
+          count_pages-is (is_promoted new mid) many e,
+          count-sum (is_promoted new old) (is_promoted mid old) (is_promoted new mid) 0 many (λ q low high. each q),
+        )

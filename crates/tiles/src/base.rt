@@ -1,4 +1,4 @@
-ghost use Rattle.std.specs.Prelude.{◌≡◌, ◌≢◌, ◌∷◌, [], ℕ, ◌+◌, ◌<◌, ◌≤◌, true, false, Option, None, Some, IfOk, IfSome, option_map, slice_index};
+ghost use Rattle.std.specs.Prelude.{◌≡◌, ◌≢◌, ◌∷◌, [], ℕ, ◌+◌, ◌*◌, ◌<◌, ◌≤◌, true, false, Option, None, Some, IfOk, IfSome, option_map, slice_index};
 ghost use Rattle.pager_model.specs.Tiles.{tile_of, is_tile, size_at, tiles_of_size};
 ghost use Rattle.pager_model.specs.declared.tile.Mapping.{Mapping};
 ghost use Rattle.tiles.specs.Resident.{mapping_at, frames_in, frame_of_page, large_tiles_in, Maps, Protects, AreMoves, with_flag, with_rights, begins_large};
@@ -171,6 +171,7 @@ impl Base {
 
     /// The resident pages of a range have these rights.
     fn after_rights_of_all(&mut self, first: u32, end: u32, rights: Rights)
+        requires { first ≤ end }
         ensures { ProtectsTo first end rights self.old self.new }
     {
         for page in first..end {
@@ -210,6 +211,8 @@ impl Base {
     fn after_rights_in_block(&mut self, block: u32, first: u32, length: u32, rights: Rights) -> Moves
         requires range { first + length ≤ 1048576 }
         requires block { block < 2048 }
+        requires from { first ≤ block * 512 + 512 }
+        requires to { block * 512 ≤ first + length }
         ensures protects { ProtectsInBlock block first length rights self.old self.new }
         ensures moves { AreMoves self.old self.new result }
     {
@@ -238,7 +241,8 @@ impl Base {
 
     /// The level of the tile that begins at a page, where one does.
     fn begun(&self, page: u32) -> Option<u8>
-        ensures { result ≡ begun_at (mapping_at self.now) page }
+        ensures begun { result ≡ begun_at (mapping_at self.now) page }
+        ensures small { IfSome result (λ level. level ≤ 3) }
     {
         let tile = self.tile_of(page)?;
         if tile.extent.first == page {

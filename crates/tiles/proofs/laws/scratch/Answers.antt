@@ -1,5 +1,5 @@
-use Rattle.tiles.proofs.Promoting.{promotions_add}
+use Rattle.tiles.proofs.Blocks.{outside_same}
 use Rattle.tiles.proofs.laws.scratch.Goals as goal
 
 pub returns : goal.returns
-returns c = promotions_add
+returns c = outside_same
