@@ -1,5 +1,6 @@
 -- A change of rights in the blocks of a range, and how its moves are counted.
 use Rattle.std.proofs.Common.{◌≡◌, ◌≢◌, ℕ, zero, suc, ◌+◌, ◌-◌, ◌*◌, ◌/◌, ◌%◌, ◌^◌, ◌<◌, ◌≤◌, Bool, true, false, cond, eqb, ltb, ◌==◌, if◌then◌else◌, ◌&&◌, nat_le, nat_lt, max, min, List, [], ◌∷◌, length, slice_index, slice_index_or, slice_set, Option, Some, None, option_map, refl, sym, ap, inl, inr, ◌∙◌, ◌⊎◌, arith, subst}
+use Rattle.std.specs.Int.{div_ceil}
 use Rattle.std.proofs.lemmas.Bool.{cases_Bool, cases_eq, cases_lt}
 use Rattle.std.proofs.lemmas.Bool.Decides.{nat_tests}
 use Rattle.std.proofs.lemmas.List.{get_or-set_other, get_or-set_same, length-set}
@@ -297,3 +298,184 @@ counts_all block old new moves known outside counts = record {
   promotions = counts.promotions ∙ count_block old new block known outside;
   demotions = counts.demotions ∙ count_block new old block known (λ p apart. sym (outside p apart));
 }
+
+pub one_most : (b : Bool) → one_if b ≤ 1
+one_most true = omega arith
+one_most false = omega arith
+
+-- ---- the tiles that begin at a page
+
+-- a page begins a large tile where its tile is one, and it is a multiple of the tile's length
+pub large_test : (pages : ℕ → Option Mapping) (page : ℕ) → begins_large pages page ≡ (nat_lt 0 (size_at pages page) && eqb (page % 8 ^ size_at pages page) 0)
+large_test pages page =
+    let s = size_at pages page in
+    swapped (begins_at page (tile_of pages page)) (ltb 0 s) (eqb (page % 8 ^ s) 0) (λ large. tile_begins pages page s (none_size pages page (positive s large)) ∙ starts page s (starts_below s page (size_small pages page)))
+  where
+    positive : (s : ℕ) → ltb 0 s ≡ true → 0 < s
+    positive s h = grind (arith, nat_tests)
+
+    starts : (q s : ℕ) → StartsBelow s q → eqb (extent_start s q) q ≡ eqb (q % 8 ^ s) 0
+    starts q s at =
+        let first = at.first in
+        let within = at.within in
+        grind (arith, nat_tests)
+
+    swapped : (a b x : Bool) → (b ≡ true → a ≡ x) → (a && b) ≡ (b && x)
+    swapped true true x f = f refl
+    swapped false true x f = f refl
+    swapped true false x f = refl
+    swapped false false x f = refl
+
+pub large_yes : (pages : ℕ → Option Mapping) (page size length : ℕ) → size ≡ size_at pages page → length ≡ 8 ^ size → 0 < size → eqb (page % length) 0 ≡ begins_large pages page
+large_yes pages page size length is long above =
+    ap (λ n. eqb (page % n) 0) (long ∙ ap (λ k. 8 ^ k) is) ∙ sym (large_test pages page ∙ ap (λ b. b && eqb (page % 8 ^ size_at pages page) 0) (lt_yes (size_at pages page) (omega arith)))
+  where
+    lt_yes : (s : ℕ) → 0 < s → ltb 0 s ≡ true
+    lt_yes s h = grind (arith, nat_tests)
+
+pub large_no : (pages : ℕ → Option Mapping) (page level : ℕ) → level ≡ size_at pages page → level ≤ 0 → ltb 0 level ≡ begins_large pages page
+large_no pages page level is small = lt_no level small ∙ sym (large_test pages page ∙ ap (λ b. b && eqb (page % 8 ^ size_at pages page) 0) (lt_no (size_at pages page) (omega arith)))
+  where
+    lt_no : (s : ℕ) → s ≤ 0 → ltb 0 s ≡ false
+    lt_no s h = grind (arith, nat_tests)
+
+-- a count of the pages of a range
+pub count_in_range : (f : ℕ → Bool) (first len : ℕ) → first + len ≤ 1048576 → count_pages (λ p. in_range first len p && f p) ≡ count f first len
+count_in_range f first len known = at 1048576 refl
+  where
+    g : ℕ → Bool
+    g p = in_range first len p && f p
+
+    inside : (p : ℕ) → first ≤ p → p < first + len → (in_range first len p && f p) ≡ f p
+    inside p low high = let t : in_range first len p ≡ true = grind (arith, nat_tests) in ap (λ b. b && f p) t
+
+    before : (p : ℕ) → p < first → (in_range first len p && f p) ≡ false
+    before p low = let t : in_range first len p ≡ false = grind (arith, nat_tests) in ap (λ b. b && f p) t
+
+    past : (p : ℕ) → first + len ≤ p → (in_range first len p && f p) ≡ false
+    past p high = let t : in_range first len p ≡ false = grind (arith, nat_tests) in ap (λ b. b && f p) t
+
+    at : (many : ℕ) → many ≡ 1048576 → count_pages (λ p. in_range first len p && f p) ≡ count f first len
+    at many e =
+        let h : ℕ → Bool = λ p. in_range first len p && f p in
+        let rest = many - (first + len) in
+        let zero_from : 0 + first ≡ first = omega arith in
+        omega (
+          arith,
+          count_pages-is h many e,
+          ap (count h 0) {x = many} {y = first + (len + rest)} (omega arith),
+          count-apart h 0 first (len + rest) first zero_from,
+          count-apart h first len rest (first + len) refl,
+          count-none h 0 first (λ n low high. before n (omega arith)),
+          count-same h f first len (λ n low high. inside n low high),
+          count-none h (first + len) rest (λ n low high. past n low),
+        )
+
+-- one page more
+pub count_on : (f : ℕ → Bool) (first page : ℕ) → first ≤ page → count f first (page + 1 - first) ≡ count f first (page - first) + one_if (f page)
+count_on f first page from = ap (count f first) {x = page + 1 - first} {y = page - first + 1} (omega arith) ∙ count-more f first (page - first) page (omega arith)
+
+-- ---- the counts of all sizes
+
+-- what begins at a page has this size
+abbrev pub is_size : Option ℕ → ℕ → Bool
+is_size None size = false
+is_size (Some n) size = eqb n size
+
+begins_if : (b : Bool) (n size : ℕ) → (b && eqb n size) ≡ is_size (if b then Some n else None) size
+begins_if true n size = refl
+begins_if false n size = refl
+
+begins_in : (page size : ℕ) (o : Option Tile) → (begins_at page o && eqb (size_in o) size) ≡ is_size (begun_in page o) size
+begins_in page size None = refl
+begins_in page size (Some t) = begins_if (eqb t.extent.first page) t.extent.size size
+
+pub begins_by : (pages : ℕ → Option Mapping) (size page : ℕ) (o : Option ℕ) → o ≡ begun_at pages page → begins_tile pages size page ≡ is_size o size
+begins_by pages size page o e = begins_in page size (tile_of pages page) ∙ ap (λ x. is_size x size) (sym e)
+
+-- The tiles of each size that begin at the pages so far.
+pub record CountsSizes (pages : ℕ → Option Mapping) (to : ℕ) (counts : List ℕ) : Type 0 where
+  pub long : length counts ≡ 4
+  pub at : (size : ℕ) → size < 4 → slice_index counts size ≡ count (begins_tile pages size) 0 to
+  pub few : (size : ℕ) → size < 4 → slice_index counts size ≤ to
+
+pub sizes_none : (pages : ℕ → Option Mapping) → CountsSizes pages 0 (0 ∷ 0 ∷ 0 ∷ 0 ∷ [])
+sizes_none pages = record {
+  long = refl;
+  at = λ size low. zero_at size low ∙ sym (count-zero (begins_tile pages size) 0);
+  few = λ size low. omega (arith, zero_at size low);
+}
+  where
+    zero_at : (size : ℕ) → size < 4 → slice_index (0 ∷ 0 ∷ 0 ∷ 0 ∷ []) size ≡ 0
+    zero_at zero low = refl
+    zero_at (suc zero) low = refl
+    zero_at (suc (suc zero)) low = refl
+    zero_at (suc (suc (suc zero))) low = refl
+    zero_at (suc (suc (suc (suc size)))) low = absurd (omega arith)
+
+pub sizes_other : (pages : ℕ → Option Mapping) (to : ℕ) (counts : List ℕ) → CountsSizes pages to counts → None ≡ begun_at pages to → CountsSizes pages (to + 1) counts
+sizes_other pages to counts so_far none = record {
+  long = so_far.long;
+  at = λ size low.
+      omega (arith, so_far.at size low, count-more (begins_tile pages size) 0 to to (omega arith), ap one_if (begins_by pages size to None none));
+  few = λ size low. omega (arith, so_far.few size low);
+}
+
+pub sizes_one : (pages : ℕ → Option Mapping) (to level : ℕ) (counts : List ℕ) → CountsSizes pages to counts → level ≤ 3 → Some level ≡ begun_at pages to → CountsSizes pages (to + 1) (slice_set counts level (slice_index counts level + 1))
+sizes_one pages to level counts so_far small is = record {
+  long = length-set counts level (slice_index counts level + 1) ∙ so_far.long;
+  at = λ size low. elim (cases_eq size level) [
+    | inl e ↦
+        let long = so_far.long in
+        omega (
+          arith,
+          ap (slice_index (slice_set counts level (slice_index counts level + 1))) e,
+          get_or-set_same counts level (slice_index counts level + 1) 0 (omega arith),
+          so_far.at level (omega arith),
+          ap (λ k. count (begins_tile pages k) 0 (to + 1)) e,
+          count-more (begins_tile pages level) 0 to to (omega arith),
+          ap one_if (begins_by pages level to (Some level) is ∙ eqb_yes level level refl),
+        )
+    | inr other ↦
+        omega (
+          arith,
+          get_or-set_other counts level size (slice_index counts level + 1) 0 other,
+          so_far.at size low,
+          count-more (begins_tile pages size) 0 to to (omega arith),
+          ap one_if (begins_by pages size to (Some level) is ∙ eqb_no level size (λ e. other (sym e))),
+        )
+  ];
+  few = λ size low. elim (cases_eq size level) [
+    | inl e ↦
+        let long = so_far.long in
+        omega (
+          arith,
+          ap (slice_index (slice_set counts level (slice_index counts level + 1))) e,
+          get_or-set_same counts level (slice_index counts level + 1) 0 (omega arith),
+          so_far.few level (omega arith),
+        )
+    | inr other ↦ omega (arith, get_or-set_other counts level size (slice_index counts level + 1) 0 other, so_far.few size low)
+  ];
+}
+
+pub sizes_all : (pages : ℕ → Option Mapping) (to : ℕ) (counts : List ℕ) → to ≡ 1048576 → CountsSizes pages to counts
+    → counts ≡ tiles_of_size pages 0 ∷ tiles_of_size pages 1 ∷ tiles_of_size pages 2 ∷ tiles_of_size pages 3 ∷ []
+sizes_all pages to counts all so_far =
+    four counts so_far.long (count_of 0 (omega arith)) (count_of 1 (omega arith)) (count_of 2 (omega arith)) (count_of 3 (omega arith))
+  where
+    count_of : (size : ℕ) → size < 4 → slice_index counts size ≡ tiles_of_size pages size
+    count_of size low = so_far.at size low ∙ sym (count_pages-is (begins_tile pages size) to all)
+
+    four : {a b c d : ℕ} (xs : List ℕ) → length xs ≡ 4 → slice_index xs 0 ≡ a → slice_index xs 1 ≡ b → slice_index xs 2 ≡ c → slice_index xs 3 ≡ d → xs ≡ a ∷ b ∷ c ∷ d ∷ []
+    four [] long e f g h = absurd (omega arith)
+    four (w ∷ []) long e f g h = absurd (omega arith)
+    four (w ∷ x ∷ []) long e f g h = absurd (omega arith)
+    four (w ∷ x ∷ y ∷ []) long e f g h = absurd (omega arith)
+    four (w ∷ x ∷ y ∷ z ∷ []) long e f g h = cc
+    four (w ∷ x ∷ y ∷ z ∷ v ∷ vs) long e f g h = absurd (omega arith)
+
+pub blocks_past : (n block : ℕ) → div_ceil n 512 ≤ block → n ≤ block * 512
+blocks_past n block past = grind (arith, nat_tests)
+
+pub block_meets : (n block : ℕ) → block < div_ceil n 512 → block * 512 < n
+block_meets n block before = grind (arith, nat_tests)
