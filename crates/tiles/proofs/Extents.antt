@@ -99,9 +99,9 @@ part_within (suc zero) part low few = omega arith
 part_within (suc (suc zero)) part low few = omega arith
 part_within (suc (suc (suc k))) part low few = absurd (omega arith)
 
--- the part that begins where a page's extent of the smaller size does is that extent
-pub own_part : (k page part : ℕ) → suc k ≤ 3 → part < 8 → (extent_start (suc k) page + part * 8 ^ k) / 8 ^ k ≡ page / 8 ^ k → extent_start k page ≡ extent_start (suc k) page + part * 8 ^ k
-own_part zero page part low few same = omega arith
-own_part (suc zero) page part low few same = omega arith
-own_part (suc (suc zero)) page part low few same = omega arith
-own_part (suc (suc (suc k))) page part low few same = absurd (omega arith)
+pub start_aligned : (k page : ℕ) → k ≤ 3 → extent_start k page % 8 ^ k ≡ 0
+start_aligned zero page low = omega arith
+start_aligned (suc zero) page low = omega arith
+start_aligned (suc (suc zero)) page low = omega arith
+start_aligned (suc (suc (suc zero))) page low = omega arith
+start_aligned (suc (suc (suc (suc k)))) page low = absurd (omega arith)

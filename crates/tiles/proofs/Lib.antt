@@ -1,5 +1,6 @@
 pub mod Blocks
 pub mod Changing
+pub mod Cleared
 pub mod Counting
 pub mod Eligible
 pub mod Extents
@@ -7,3 +8,4 @@ pub mod Keeping
 pub mod Largest
 pub mod Promoting
 pub mod Settling
+pub mod TileLaws
