@@ -68,29 +68,38 @@ cut_is block first len from end p cut_from cut_end = elim (cases_eq (p / 512) bl
   where
     le_yes : (a b : ℕ) → a ≤ b → nat_le a b ≡ true
     le_yes a b h = grind (arith, nat_tests)
+
     le_no : (a b : ℕ) → b < a → nat_le a b ≡ false
     le_no a b h = grind (arith, nat_tests)
+
     lt_yes : (a b : ℕ) → a < b → nat_lt a b ≡ true
     lt_yes a b h = grind (arith, nat_tests)
+
     lt_no : (a b : ℕ) → b ≤ a → nat_lt a b ≡ false
     lt_no a b h = grind (arith, nat_tests)
+
     range_yes : (first len p : ℕ) → first ≤ p → p < first + len → in_range first len p ≡ true
     range_yes first len p low high = grind (arith, nat_tests)
+
     range_before : (first len p : ℕ) → p < first → in_range first len p ≡ false
     range_before first len p low = grind (arith, nat_tests)
+
     range_past : (first len p : ℕ) → first + len ≤ p → in_range first len p ≡ false
     range_past first len p high = grind (arith, nat_tests)
+
     both_yes : (a b x y : Bool) → a ≡ true → b ≡ true → x ≡ true → y ≡ true → (a && b) ≡ (x && y)
     both_yes true true true true h i j l = refl
     both_yes true true true false h i j l = sym l
     both_yes true true false y h i j l = sym j
     both_yes true false x y h i j l = absurd (cc)
     both_yes false b x y h i j l = absurd (cc)
+
     is_no : (a b : Bool) → (a ≡ false) ⊎ (b ≡ false) → (a && b) ≡ false
     is_no false b h = refl
     is_no true false h = refl
     is_no true true (inl h) = h
     is_no true true (inr h) = h
+
     both_no : (a b x y : Bool) → (a ≡ false) ⊎ (b ≡ false) → (x ≡ false) ⊎ (y ≡ false) → (a && b) ≡ (x && y)
     both_no a b x y h i = is_no a b h ∙ sym (is_no x y i)
 
@@ -110,6 +119,7 @@ module _ (block first len from end : ℕ) (rights : Rights) (r s : Resident) (cu
         where
           low : (from p end : ℕ) → (nat_le from p && nat_lt p end) ≡ true → from ≤ p
           low from p end h = grind (arith, nat_tests)
+
           high : (from p end : ℕ) → (nat_le from p && nat_lt p end) ≡ true → p < end
           high from p end h = grind (arith, nat_tests)
 
@@ -153,10 +163,13 @@ blocks_more to first len rights r s t so_far protects = record {
     right_no : (a : Bool) (m n : ℕ) → n ≤ m → (a && nat_lt m n) ≡ false
     right_no true m n h = grind (arith, nat_tests)
     right_no false m n h = refl
+
     right_same : (a b c : Bool) → b ≡ c → (a && b) ≡ (a && c)
     right_same a b c e = ap (λ x. a && x) e
+
     lt_yes : (a b : ℕ) → a < b → nat_lt a b ≡ true
     lt_yes a b h = grind (arith, nat_tests)
+
     lt_more : (m n : ℕ) → m ≢ n → nat_lt m n ≡ nat_lt m (n + 1)
     lt_more m n h = grind (arith, nat_tests)
 
@@ -180,6 +193,7 @@ blocks_all to first len rights r s past so_far = record { frames = so_far.frames
         right_yes : (a : Bool) (m n : ℕ) → m < n → (a && nat_lt m n) ≡ a
         right_yes true m n h = grind (arith, nat_tests)
         right_yes false m n h = refl
+
         range_past : (first len p : ℕ) → first + len ≤ p → in_range first len p ≡ false
         range_past first len p high = grind (arith, nat_tests)
 
@@ -199,8 +213,7 @@ pub moves_fit : (to first len : ℕ) (rights : Rights) (r s t : Resident) (so_fa
     → (so_far.promotions + more.promotions ≤ 1048576) × (so_far.demotions + more.demotions ≤ 1048576)
 moves_fit to first len rights r s t so_far more before protects moved moves =
     let untouched = block_untouched to first len rights r s before in
-    let outside = outside_same to first len rights s t protects in
-    (
+    let outside = outside_same to first len rights s t protects in (
       omega (arith, promotions_add (mapping_at r) (mapping_at s) (mapping_at t) to untouched outside, moved.promotions, moves.promotions, count_pages_most (is_promoted (mapping_at r) (mapping_at t))),
       omega (arith, demotions_add (mapping_at r) (mapping_at s) (mapping_at t) to untouched outside, moved.demotions, moves.demotions, count_pages_most (is_promoted (mapping_at t) (mapping_at r))),
     )

@@ -44,8 +44,8 @@ size_far old new page other others before after =
     let n = size_at old other in
     size_is new other n (size_small old other)
     (λ positive. sym (whole_other old new page n other others (size_small old other) (λ same.
-        let passes = sym (whole_alike old n page other same) ∙ whole_within old other n positive (omega arith) in
-        before (up n (size_at old page) page other (within_size old page n (size_small old other) passes) (size_small old page) same)))
+    let passes = sym (whole_alike old n page other same) ∙ whole_within old other n positive (omega arith) in
+    before (up n (size_at old page) page other (within_size old page n (size_small old other) passes) (size_small old page) same)))
     ∙ whole_within old other n positive (omega arith))
     (λ k more at. elim (cases_eq (other / 8 ^ k) (page / 8 ^ k)) [
       | inr apart ↦ sym (whole_other old new page k other others at apart) ∙ whole_beyond old other k more at

@@ -115,8 +115,8 @@ whole_eligible : (pages : ℕ → Option Mapping) (k first : ℕ) (m : Mapping) 
 whole_eligible pages k first m w =
     and_both _ _ (eqb_same _ _ w.aligned)
     (all_into (λ i. is_mapping (moved_by i m) (pages (first + i))) 0 (8 ^ k) (λ i low.
-        let e : 0 + i ≡ i = omega arith in
-        rw e (ap (is_mapping (moved_by i m)) (w.uniform i low) ∙ mapping_same (moved_by i m))))
+    let e : 0 + i ≡ i = omega arith in
+    rw e (ap (is_mapping (moved_by i m)) (w.uniform i low) ∙ mapping_same (moved_by i m))))
 
 some_if : {X : Type 0} (b : Bool) (x y : X) → cond b (Some x) None ≡ Some y → (b ≡ true) × (y ≡ x)
 some_if true x y h = (refl, sym (same_Some x y h))

@@ -36,26 +36,32 @@ largest pages page (suc top) = elim (cases_Bool (whole pages (suc top) page)) [
   | inl passes ↦
       let h = whole_has pages (suc top) page passes in
       let e = eligible_is pages (suc top) page h in
-      inr (suc top, record {
-        low = omega arith;
-        has = h;
-        is = ap (λ o. option_or o (largest_up_to pages top page)) e ∙ sym e;
-        larger = λ j above below. absurd (omega arith);
-      })
+      inr (
+        suc top,
+        record {
+          low = omega arith;
+          has = h;
+          is = ap (λ o. option_or o (largest_up_to pages top page)) e ∙ sym e;
+          larger = λ j above below. absurd (omega arith);
+        },
+      )
   | inr misses ↦
       let e = whole_none pages (suc top) page misses in
       let further = ap (λ o. option_or o (largest_up_to pages top page)) e in
       elim (largest pages page top) [
         | inl none ↦ inl (record {
-            is = further ∙ none.is;
-            fails = λ j below. elim (cases_eq j (suc top)) [ inl at ↦ ap (λ i. whole pages i page) at ∙ misses | inr n ↦ none.fails j (omega arith) ];
-          })
-        | inr some ↦ inr (some.0, record {
+          is = further ∙ none.is;
+          fails = λ j below. elim (cases_eq j (suc top)) [ inl at ↦ ap (λ i. whole pages i page) at ∙ misses | inr n ↦ none.fails j (omega arith) ];
+        })
+        | inr some ↦ inr (
+          some.0,
+          record {
             low = omega (arith, some.1.low);
             has = some.1.has;
             is = further ∙ some.1.is;
             larger = λ j above below. elim (cases_eq j (suc top)) [ inl at ↦ ap (λ i. whole pages i page) at ∙ misses | inr n ↦ some.1.larger j above (omega arith) ];
-          })
+          },
+        )
       ]
 ]
 

@@ -58,14 +58,16 @@ module _ (old : ℕ → Option Mapping) (r : Resident) (page : ℕ) (kept : AreK
   pub parts_go_on : (k : ℕ) → suc k ≤ 3 → (h : HasExtent (mapping_at r) (suc k) page) → (part : ℕ) → part < 8 → GoesOnAt r page (extent_start (suc k) page + part * 8 ^ k) k (moved_by (part * 8 ^ k) h.head)
   parts_go_on k low h part few =
       let first = extent_start (suc k) page + part * 8 ^ k in
-      let goes = whole_parts (mapping_at r) k page h low part few in
-      (goes.follows, elim (cases_eq (first / 8 ^ k) (page / 8 ^ k)) [
-        | inl same ↦ inl same
-        | inr apart ↦
-            let other : first ≢ page = λ e. apart (ap (λ n. n / 8 ^ k) e) in
-            let within : k ≤ size_at old first = within_size old first k (omega arith) (whole_other old (mapping_at r) page k first kept.others (omega arith) apart ∙ goes.eligible) in
-            inr (omega (arith, kept.sizes first other))
-      ])
+      let goes = whole_parts (mapping_at r) k page h low part few in (
+        goes.follows,
+        elim (cases_eq (first / 8 ^ k) (page / 8 ^ k)) [
+          | inl same ↦ inl same
+          | inr apart ↦
+              let other : first ≢ page = λ e. apart (ap (λ n. n / 8 ^ k) e) in
+              let within : k ≤ size_at old first = within_size old first k (omega arith) (whole_other old (mapping_at r) page k first kept.others (omega arith) apart ∙ goes.eligible) in
+              inr (omega (arith, kept.sizes first other))
+        ],
+      )
 
 -- The same as the code looks at it: by the pages of the extent of a level, and of a part.
 module _ (old : ℕ → Option Mapping) (r : Resident) (page level pages : ℕ) (kept : AreKeptBut page old r) (above : 0 < level) (low : level ≤ 3) (pages_is : pages ≡ 8 ^ level) where

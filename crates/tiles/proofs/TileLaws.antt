@@ -41,7 +41,7 @@ largest_tile pages page t is starts =
     let here : eligible_at pages s page ≡ Some t = sym (eligible_alike pages s page t.extent.first same) ∙ is.eligible in
     let has = eligible_has pages s page t here in
     let size : size_at pages page ≡ s = size_is pages page s low (λ positive. has_whole pages s page has) (λ k more small.
-        sym (whole_alike pages k page t.extent.first (up s k page t.extent.first (omega arith) small same)) ∙ none_whole pages k t.extent.first (is.largest k more small)) in
+    sym (whole_alike pages k page t.extent.first (up s k page t.extent.first (omega arith) small same)) ∙ none_whole pages k t.extent.first (is.largest k more small)) in
     let tile = resident_tile pages page _ (page_in pages s page page has low refl) in
     tile.is ∙ sym (eligible_is pages (size_at pages page) page tile.has) ∙ ap (λ k. eligible_at pages k page) size ∙ here
 
@@ -68,9 +68,8 @@ module _ (pages : ℕ → Option Mapping) (t : Tile) (is : IsTile pages t) where
   tile_aligned = ap (λ (u : Tile). u.frame % 8 ^ size) same ∙ has.is.aligned
 
   pub tile_uniform : (region : ℕ) × ((i : ℕ) → i < 8 ^ t.extent.size → pages (t.extent.first + i) ≡ Some (record { frame = t.frame + i; region = region; rights = t.rights; dirty = t.dirty }))
-  tile_uniform =
-      (
-        has.head.region,
-        λ i within. ap (λ n. pages (n + i)) (sym start_is) ∙ has.is.uniform i within
-            ∙ ap (λ (u : Tile). let m : Mapping = record { frame = u.frame + i; region = has.head.region; rights = u.rights; dirty = u.dirty } in Some m) (sym same),
-      )
+  tile_uniform = (
+    has.head.region,
+    λ i within. ap (λ n. pages (n + i)) (sym start_is) ∙ has.is.uniform i within
+        ∙ ap (λ (u : Tile). let m : Mapping = record { frame = u.frame + i; region = has.head.region; rights = u.rights; dirty = u.dirty } in Some m) (sym same),
+  )

@@ -208,7 +208,13 @@ impl Base {
     }
 
     /// The resident pages of a range that are in a block have these rights.
-    fn after_rights_in_block(&mut self, block: u32, first: u32, length: u32, rights: Rights) -> Moves
+    fn after_rights_in_block(
+        &mut self,
+        block: u32,
+        first: u32,
+        length: u32,
+        rights: Rights,
+    ) -> Moves
         requires range { first + length ≤ 1048576 }
         requires block { block < 2048 }
         requires from { first ≤ block * 512 + 512 }

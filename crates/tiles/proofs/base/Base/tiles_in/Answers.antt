@@ -18,13 +18,13 @@ loop-page-preserved c =
     let f = begins_large (mapping_at c.args.self.now) in
     elim c.if-begins_large.branch [
       | then-begins_large w ↦ record {
-          counted = omega (arith, w.count-is, so_far.counted, count_on f c.args.first c.loop-page.page from, ap one_if (sym c.begins_large.ensures ∙ w.if-begins_large.true));
-          few = omega (arith, w.count-is, so_far.few, from);
-        }
+        counted = omega (arith, w.count-is, so_far.counted, count_on f c.args.first c.loop-page.page from, ap one_if (sym c.begins_large.ensures ∙ w.if-begins_large.true));
+        few = omega (arith, w.count-is, so_far.few, from);
+      }
       | else-begins_large w ↦ record {
-          counted = omega (arith, w.count-is, so_far.counted, count_on f c.args.first c.loop-page.page from, ap one_if (sym c.begins_large.ensures ∙ w.if-begins_large.false));
-          few = omega (arith, w.count-is, so_far.few, from);
-        }
+        counted = omega (arith, w.count-is, so_far.counted, count_on f c.args.first c.loop-page.page from, ap one_if (sym c.begins_large.ensures ∙ w.if-begins_large.false));
+        few = omega (arith, w.count-is, so_far.few, from);
+      }
     ]
 
 pub returns : goal.returns
