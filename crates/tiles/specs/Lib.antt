@@ -1,1 +1,5 @@
+pub mod Beside
+pub mod Blocks
+pub mod Cleared
+pub mod Kept
 pub mod Resident

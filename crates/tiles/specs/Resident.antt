@@ -4,8 +4,8 @@ use Rattle.pager_model.specs.declared.region.Rights.{Rights}
 use Rattle.pager_model.specs.declared.tile.Mapping.{Mapping}
 use Rattle.pager_model.specs.Regions.{in_range}
 use Rattle.pager_model.specs.Tiles.{tile_of, size_at, begins_at, count_pages, promotions_between, demotions_between}
-use Rattle.tiles.specs.declared.base.Moves.{Moves}
-use Rattle.tiles.specs.declared.base.Place.{Place}
+use Rattle.tiles.specs.declared.moves.Moves.{Moves}
+use Rattle.tiles.specs.declared.pages.Place.{Place}
 
 pub record Resident : Type 0 where
   -- of each page the number of its frame, where it is resident

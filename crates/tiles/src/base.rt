@@ -1,50 +1,33 @@
-ghost use Rattle.std.specs.Prelude.{◌≡◌, ◌≢◌, ◌∷◌, [], ℕ, ◌+◌, ◌<◌, ◌≤◌, true, None, Some, IfOk, IfSome, option_map};
-ghost use Rattle.pager_model.specs.Tiles.{tile_of, is_tile, tiles_of_size};
-ghost use Rattle.tiles.specs.Resident.{mapping_at, frames_in, frame_of_page, large_tiles_in, Maps, Protects, AreMoves, with_flag};
+ghost use Rattle.std.specs.Prelude.{◌≡◌, ◌≢◌, ◌∷◌, [], ℕ, ◌+◌, ◌*◌, ◌<◌, ◌≤◌, true, false, Option, None, Some, IfOk, IfSome, option_map, slice_index};
+ghost use Rattle.pager_model.specs.Tiles.{tile_of, is_tile, size_at, tiles_of_size};
+ghost use Rattle.pager_model.specs.declared.tile.Mapping.{Mapping};
+ghost use Rattle.tiles.specs.Resident.{mapping_at, frames_in, frame_of_page, large_tiles_in, Maps, Protects, AreMoves, with_flag, with_rights, begins_large};
+ghost use Rattle.tiles.specs.Blocks.{KeepsRights, ProtectsTo, ProtectsInBlock, AreSizesOfBlock, OutsideSame, AreMovesOf, begun_at};
 
+use crate::moves::Moves;
+use crate::pages::{PAGES, Pages, size_of};
 use pager_model::{Extent, Mapping, NoMemory, Rights, Size, Tile};
 use std::alloc::Global;
 use std::marker::Model;
 
-/// The number of pages of a space.
-const PAGES: u32 = 1 << 20;
+/// The pages of the largest extent.
+const BLOCK: u32 = 512;
 
-/// How many tiles of size 1 or more a change made where there was none as large, and how many it broke.
-#[derive(Clone, Copy, Debug, PartialEq, Eq)]
-pub struct Moves {
-    pub promotions: u32,
-    pub demotions: u32,
-}
-
-/// What is kept of a resident page, at its frame's number.
-#[derive(Clone, Copy, Debug)]
-pub struct Place {
-    /// The first page of its region.
-    region: u32,
-    rights: Rights,
-    dirty: bool,
-    /// The size of its tile.
-    size: Size,
-}
-
-/// The resident pages of a space.
+/// The resident pages of a space, and the size of the tile of each.
 #[derive(Drop)]
 pub struct Base {
-    /// For each page the number of its frame, where it is resident.
-    numbers: Vec<Option<u16>>,
-    /// For each number what is said of the page that has the frame.
-    places: Vec<Option<Place>>,
+    pages: Pages,
 }
 
 impl Model for Base {
     ghost use Rattle.tiles.specs.Resident.{Resident};
-    ghost use Rattle.tiles.specs.Kept.{IsBase};
+    ghost use Rattle.tiles.specs.Kept.{AreSizes};
 
     ghost Value = { Resident };
 
-    ghost view = { λ b. record { numbers = b.numbers.items; places = b.places.items } };
+    ghost view = { λ b. b.pages };
 
-    ghost invariant = { λ b. IsBase (record { numbers = b.numbers.items; places = b.places.items }) };
+    ghost invariant = { λ b. AreSizes b.pages };
 }
 
 impl Base {
@@ -54,10 +37,8 @@ impl Base {
         ensures frames { IfOk result (λ b. frames_in b ≡ frames) }
         ensures none { IfOk result (λ b. (p : ℕ) → mapping_at b p ≡ None) }
     {
-        Ok(Base {
-            numbers: vec![in alloc; None; PAGES as usize]?,
-            places: vec![in alloc; None; frames as usize]?,
-        })
+        let pages = Pages::create(alloc, frames)?;
+        Ok(Base { pages })
     }
 
     /// What is said of a page, where it is resident.
@@ -65,14 +46,14 @@ impl Base {
         ensures mapping { result ≡ mapping_at self.now page }
         ensures in_space { IfSome result (λ m. (page < 1048576) × (m.frame < frames_in self.now)) }
     {
-        let number = (*self.numbers.get(page as usize)?)?;
-        let place = self.places[number as usize]?;
-        Some(Mapping {
-            frame: u32::from(number),
-            region: place.region,
-            rights: place.rights,
-            dirty: place.dirty,
-        })
+        self.pages.mapping(page)
+    }
+
+    /// The size of a page's tile, and a page's where it isn't resident.
+    fn size(&self, page: u32) -> Size
+        ensures { result ≡ size_at (mapping_at self.now) page }
+    {
+        self.pages.size(page)
     }
 
     /// The tile of a page, where it is resident.
@@ -80,7 +61,7 @@ impl Base {
         ensures { result ≡ tile_of (mapping_at self.now) page }
     {
         let mapping = self.mapping(page)?;
-        let size = self.size_of(page);
+        let size = self.size(page);
         let offset = page % size.pages();
         Some(Tile {
             extent: Extent {
@@ -109,38 +90,206 @@ impl Base {
         ensures maps { Maps page (Some mapping) self.old self.new }
         ensures moves { AreMoves self.old self.new result }
     {
-        self.numbers[page as usize] = Some(mapping.frame as u16);
-        self.places[mapping.frame as usize] = Some(Place {
-            region: mapping.region,
-            rights: mapping.rights,
-            dirty: mapping.dirty,
-            size: Size::BASE,
-        });
-        self.settle(page, Size::BASE)
+        self.pages.put(page, mapping);
+        let size = self.pages.settle(page, size_of(0));
+        Moves::of_one(size_of(0), size)
     }
 
     /// A page is resident no more.
     pub fn after_remove(&mut self, page: u32) -> Moves
         ensures maps { Maps page None self.old self.new }
         ensures moves { AreMoves self.old self.new result }
+    {
+        if self.pages.mapping(page).is_none() {
+            return Moves::NONE;
+        }
+        let before = self.pages.size(page);
+        self.pages.remove(page);
+        let size = self.pages.settle(page, before);
+        Moves::of_one(before, size)
+    }
 
     /// A page has this dirty flag, where it is resident.
     pub fn after_dirty(&mut self, page: u32, dirty: bool) -> Moves
         ensures maps { Maps page (option_map (with_flag dirty) (mapping_at self.old page)) self.old self.new }
         ensures moves { AreMoves self.old self.new result }
+    {
+        if !self.has_other_flag(page, dirty) {
+            return Moves::NONE;
+        }
+        let before = self.pages.size(page);
+        self.pages.set_dirty(page, dirty);
+        let size = self.pages.settle(page, before);
+        Moves::of_one(before, size)
+    }
+
+    /// Whether a page is resident with another dirty flag.
+    fn has_other_flag(&self, page: u32, dirty: bool) -> bool
+        ensures in_space { result ≡ true → page < 1048576 }
+        ensures keeps { result ≡ false → option_map (with_flag dirty) (mapping_at self.now page) ≡ mapping_at self.now page }
+    {
+        match self.pages.mapping(page) {
+            Some(mapping) => mapping.dirty != dirty,
+            None => false,
+        }
+    }
+
+    /// Whether a page is resident with other rights.
+    fn has_other_rights(&self, page: u32, rights: Rights) -> bool
+        ensures in_space { result ≡ true → page < 1048576 }
+        ensures keeps { result ≡ false → option_map (with_rights rights) (mapping_at self.now page) ≡ mapping_at self.now page }
+    {
+        match self.pages.mapping(page) {
+            Some(mapping) => mapping.rights != rights,
+            None => false,
+        }
+    }
+
+    /// Whether a page of a range is resident with other rights.
+    fn any_has_other_rights(&self, first: u32, end: u32, rights: Rights) -> bool
+        ensures { result ≡ false → KeepsRights first end rights (mapping_at self.now) }
+    {
+        for page in first..end {
+            if self.has_other_rights(page, rights) {
+                return true;
+            }
+        }
+        false
+    }
+
+    /// A page has these rights, where it is resident.
+    fn after_rights_of_one(&mut self, page: u32, rights: Rights)
+        ensures { Maps page (option_map (with_rights rights) (mapping_at self.old page)) self.old self.new }
+    {
+        if !self.has_other_rights(page, rights) {
+            return;
+        }
+        let before = self.pages.size(page);
+        self.pages.set_rights(page, rights);
+        self.pages.settle(page, before);
+    }
+
+    /// The resident pages of a range have these rights.
+    fn after_rights_of_all(&mut self, first: u32, end: u32, rights: Rights)
+        requires { first ≤ end }
+        ensures { ProtectsTo first end rights self.old self.new }
+    {
+        for page in first..end {
+            self.after_rights_of_one(page, rights);
+        }
+    }
+
+    /// The sizes of the tiles at the first of each eight pages of a block.
+    fn sizes_of_block(&self, block: u32) -> [u8; 64]
+        requires { block < 2048 }
+        ensures sizes { AreSizesOfBlock block result (mapping_at self.now) }
+        ensures small { (i : ℕ) → i < 64 → slice_index result i ≤ 3 }
+    {
+        let mut sizes = [0; 64];
+        for i in 0..64 {
+            sizes[i] = self.size(block * BLOCK + 8 * i as u32).level();
+        }
+        sizes
+    }
+
+    /// The moves of a change within a block, before which its first of each eight pages had tiles of these sizes.
+    fn moves_of_block(&self, block: u32, before: &[u8; 64]) -> Moves
+        requires block { block < 2048 }
+        requires small { (i : ℕ) → i < 64 → slice_index before.now i ≤ 3 }
+        ensures { (old : ℕ → Option Mapping) → AreSizesOfBlock block before.now old → OutsideSame block old (mapping_at self.now)
+            → AreMovesOf old (mapping_at self.now) result }
+    {
+        let mut moves = Moves::NONE;
+        for i in 0..64 {
+            let page = block * BLOCK + 8 * i as u32;
+            moves = moves.and(Moves::at(page, before[i], self.size(page).level()));
+        }
+        moves
+    }
+
+    /// The resident pages of a range that are in a block have these rights.
+    fn after_rights_in_block(
+        &mut self,
+        block: u32,
+        first: u32,
+        length: u32,
+        rights: Rights,
+    ) -> Moves
+        requires range { first + length ≤ 1048576 }
+        requires block { block < 2048 }
+        requires from { first ≤ block * 512 + 512 }
+        requires to { block * 512 ≤ first + length }
+        ensures protects { ProtectsInBlock block first length rights self.old self.new }
+        ensures moves { AreMoves self.old self.new result }
+    {
+        let from = first.max(block * BLOCK);
+        let end = (first + length).min(block * BLOCK + BLOCK);
+        if !self.any_has_other_rights(from, end, rights) {
+            return Moves::NONE;
+        }
+        let before = self.sizes_of_block(block);
+        self.after_rights_of_all(from, end, rights);
+        self.moves_of_block(block, &before)
+    }
 
     /// The resident pages of a range have these rights. Moves are those of the whole change.
     pub fn after_rights(&mut self, first: u32, length: u32, rights: Rights) -> Moves
         requires { first + length ≤ 1048576 }
         ensures protects { Protects first length rights self.old self.new }
         ensures moves { AreMoves self.old self.new result }
+    {
+        let mut moves = Moves::NONE;
+        for block in first / BLOCK..(first + length).div_ceil(BLOCK) {
+            moves = moves.and(self.after_rights_in_block(block, first, length, rights));
+        }
+        moves
+    }
+
+    /// The level of the tile that begins at a page, where one does.
+    fn begun(&self, page: u32) -> Option<u8>
+        ensures begun { result ≡ begun_at (mapping_at self.now) page }
+        ensures small { IfSome result (λ level. level ≤ 3) }
+    {
+        let tile = self.tile_of(page)?;
+        if tile.extent.first == page {
+            Some(tile.extent.size.level())
+        } else {
+            None
+        }
+    }
 
     /// How many tiles of size 1 or more begin in the range.
     pub fn tiles_in(&self, first: u32, length: u32) -> u32
         requires { first + length ≤ 1048576 }
         ensures { result ≡ large_tiles_in first length (mapping_at self.now) }
+    {
+        let mut count = 0;
+        for page in first..first + length {
+            if self.begins_large(page) {
+                count += 1;
+            }
+        }
+        count
+    }
+
+    /// Whether a page is the first of a tile of size 1 or more.
+    fn begins_large(&self, page: u32) -> bool
+        ensures { result ≡ begins_large (mapping_at self.now) page }
+    {
+        let size = self.size(page);
+        size.level() > 0 && page % size.pages() == 0
+    }
 
     /// How many tiles there are of each size.
     pub fn counts(&self) -> [u32; 4]
         ensures { result ≡ tiles_of_size (mapping_at self.now) 0 ∷ tiles_of_size (mapping_at self.now) 1 ∷ tiles_of_size (mapping_at self.now) 2 ∷ tiles_of_size (mapping_at self.now) 3 ∷ [] }
+    {
+        let mut counts = [0; 4];
+        for page in 0..PAGES {
+            if let Some(level) = self.begun(page) {
+                counts[level as usize] += 1;
+            }
+        }
+        counts
+    }
 }

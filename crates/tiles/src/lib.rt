@@ -5,5 +5,13 @@
 #![tactic(auto)]
 
 mod base;
+pub mod laws;
+mod moves;
+mod pages;
+mod sizes;
 
-pub use base::{Base, Moves};
+pub use base::Base;
+pub use moves::Moves;
+
+#[cfg(test)]
+mod tests;

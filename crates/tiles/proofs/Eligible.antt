@@ -1,0 +1,270 @@
+-- Eligible extents: each of their pages has its first page's mapping, moved. Eight that continue each other make a larger one.
+use Rattle.std.proofs.Common.{◌≡◌, ◌≢◌, ℕ, zero, suc, ◌+◌, ◌-◌, ◌*◌, ◌/◌, ◌%◌, ◌^◌, ◌<◌, ◌≤◌, Bool, true, false, cond, ◌&&◌, eqb, List, length, get_or, Option, Some, None, is_some, refl, sym, ap, inl, inr, ◌∙◌, ◌⊎◌, arith, subst}
+use Rattle.std.specs.List.{range_with_len, list_all, All}
+use Rattle.std.proofs.lemmas.Bool.{cases_Bool, cases_eq}
+use Rattle.std.proofs.lemmas.Bool.Decides.{nat_tests}
+use Rattle.std.proofs.lemmas.Option.{none-some, same_Some}
+use Rattle.pager_model.specs.declared.region.Rights.{Rights}
+use Rattle.pager_model.specs.declared.region.Rights.TheVariants.{NoAccess, Read, Write}
+use Rattle.pager_model.specs.declared.tile.Mapping.{Mapping}
+use Rattle.pager_model.specs.declared.tile.Tile.{Tile}
+use Rattle.pager_model.specs.Extents.{extent_start}
+use Rattle.tiles.specs.Beside.{whole}
+use Rattle.tiles.proofs.Extents.{in_extent, of_extent, length_positive, first_of_extent, lies_in, in_part, part_of, part_within}
+use Rattle.pager_model.specs.Tiles.{moved_by, rights_level, same_rights, same_flag, is_mapping, is_uniform, is_eligible, tile_with, eligible_with, eligible_at}
+
+-- ---- tests of equality
+
+rights_one : (a b : Rights) → same_rights a b ≡ true → a ≡ b
+rights_one NoAccess NoAccess h = refl
+rights_one NoAccess Read h = absurd (cc)
+rights_one NoAccess Write h = absurd (cc)
+rights_one Read NoAccess h = absurd (cc)
+rights_one Read Read h = refl
+rights_one Read Write h = absurd (cc)
+rights_one Write NoAccess h = absurd (cc)
+rights_one Write Read h = absurd (cc)
+rights_one Write Write h = refl
+
+rights_same : (a : Rights) → same_rights a a ≡ true
+rights_same NoAccess = refl
+rights_same Read = refl
+rights_same Write = refl
+
+flag_one : (a b : Bool) → same_flag a b ≡ true → a ≡ b
+flag_one true true h = refl
+flag_one true false h = absurd (cc)
+flag_one false true h = absurd (cc)
+flag_one false false h = refl
+
+flag_same : (a : Bool) → same_flag a a ≡ true
+flag_same true = refl
+flag_same false = refl
+
+and_left : (a b : Bool) → (a && b) ≡ true → a ≡ true
+and_left true b h = refl
+and_left false b h = absurd (cc)
+
+and_right : (a b : Bool) → (a && b) ≡ true → b ≡ true
+and_right true b h = h
+and_right false b h = absurd (cc)
+
+and_both : (a b : Bool) → a ≡ true → b ≡ true → (a && b) ≡ true
+and_both true true h k = refl
+and_both true false h k = k
+and_both false b h k = h
+
+eqb_one : (a b : ℕ) → eqb a b ≡ true → a ≡ b
+eqb_one a b h = grind (arith, nat_tests)
+
+eqb_same : (a b : ℕ) → a ≡ b → eqb a b ≡ true
+eqb_same a b h = grind (arith, nat_tests)
+
+same_mapping : (n m : Mapping) → n.frame ≡ m.frame → n.region ≡ m.region → n.rights ≡ m.rights → n.dirty ≡ m.dirty → n ≡ m
+same_mapping n m a b c d =
+    ap (λ (x : ℕ). let r : Mapping = record { frame = x; region = n.region; rights = n.rights; dirty = n.dirty } in r) a
+    ∙ ap (λ (x : ℕ). let r : Mapping = record { frame = m.frame; region = x; rights = n.rights; dirty = n.dirty } in r) b
+    ∙ ap (λ (x : Rights). let r : Mapping = record { frame = m.frame; region = m.region; rights = x; dirty = n.dirty } in r) c
+    ∙ ap (λ (x : Bool). let r : Mapping = record { frame = m.frame; region = m.region; rights = m.rights; dirty = x } in r) d
+
+mapping_one : (m : Mapping) (o : Option Mapping) → is_mapping m o ≡ true → o ≡ Some m
+mapping_one m None h = absurd (cc)
+mapping_one m (Some n) h =
+    let ab = and_left (eqb n.frame m.frame && eqb n.region m.region) (same_rights n.rights m.rights && same_flag n.dirty m.dirty) h in
+    let cd = and_right (eqb n.frame m.frame && eqb n.region m.region) (same_rights n.rights m.rights && same_flag n.dirty m.dirty) h in
+    let a = eqb_one n.frame m.frame (and_left (eqb n.frame m.frame) (eqb n.region m.region) ab) in
+    let b = eqb_one n.region m.region (and_right (eqb n.frame m.frame) (eqb n.region m.region) ab) in
+    let c = rights_one n.rights m.rights (and_left (same_rights n.rights m.rights) (same_flag n.dirty m.dirty) cd) in
+    let d = flag_one n.dirty m.dirty (and_right (same_rights n.rights m.rights) (same_flag n.dirty m.dirty) cd) in
+    ap Some (same_mapping n m a b c d)
+
+mapping_same : (m : Mapping) → is_mapping m (Some m) ≡ true
+mapping_same m =
+    and_both _ _ (and_both _ _ (eqb_same m.frame m.frame refl) (eqb_same m.region m.region refl)) (and_both _ _ (rights_same m.rights) (flag_same m.dirty))
+
+-- ---- all of the numbers from one on
+
+all_from : (f : ℕ → Bool) (from count i : ℕ) → list_all f (range_with_len from count) ≡ true → i < count → f (from + i) ≡ true
+all_from f from zero i h low = absurd (omega arith)
+all_from f from (suc count) zero h low = ap f {x = from + 0} {y = from} (omega arith) ∙ and_left _ _ h
+all_from f from (suc count) (suc i) h low =
+    ap f {x = from + suc i} {y = from + 1 + i} (omega arith) ∙ all_from f (from + 1) count i (and_right (f from) _ h) (omega arith)
+
+all_into : (f : ℕ → Bool) (from count : ℕ) → ((i : ℕ) → i < count → f (from + i) ≡ true) → list_all f (range_with_len from count) ≡ true
+all_into f from zero h = refl
+all_into f from (suc count) h =
+    and_both _ _ (ap f {x = from} {y = from + 0} (omega arith) ∙ h 0 (omega arith)) (all_into f (from + 1) count (λ i low. ap f {x = from + 1 + i} {y = from + suc i} (omega arith) ∙ h (suc i) (omega arith)))
+
+-- ---- an eligible extent round a page
+
+-- each page of the extent has the first one's mapping, moved
+pub record IsWhole (pages : ℕ → Option Mapping) (k first : ℕ) (m : Mapping) : Type 0 where
+  pub aligned : m.frame % 8 ^ k ≡ 0
+  pub uniform : (i : ℕ) → i < 8 ^ k → pages (first + i) ≡ Some (moved_by i m)
+
+eligible_whole : (pages : ℕ → Option Mapping) (k first : ℕ) (m : Mapping) → is_eligible pages k first m ≡ true → IsWhole pages k first m
+eligible_whole pages k first m h = record {
+  aligned = eqb_one _ _ (and_left _ _ h);
+  uniform = λ i low.
+      let at = all_from (λ i. is_mapping (moved_by i m) (pages (first + i))) 0 (8 ^ k) i (and_right (eqb (m.frame % 8 ^ k) 0) _ h) low in
+      let e : 0 + i ≡ i = omega arith in
+      mapping_one (moved_by i m) (pages (first + i)) (rw e at at);
+}
+
+whole_eligible : (pages : ℕ → Option Mapping) (k first : ℕ) (m : Mapping) → IsWhole pages k first m → is_eligible pages k first m ≡ true
+whole_eligible pages k first m w =
+    and_both _ _ (eqb_same _ _ w.aligned)
+    (all_into (λ i. is_mapping (moved_by i m) (pages (first + i))) 0 (8 ^ k) (λ i low.
+    let e : 0 + i ≡ i = omega arith in
+    rw e (ap (is_mapping (moved_by i m)) (w.uniform i low) ∙ mapping_same (moved_by i m))))
+
+some_if : {X : Type 0} (b : Bool) (x y : X) → cond b (Some x) None ≡ Some y → (b ≡ true) × (y ≡ x)
+some_if true x y h = (refl, sym (same_Some x y h))
+some_if false x y h = absurd (none-some y h)
+
+some_there : {X : Type 0} (o : Option X) → is_some o ≡ true → (x : X) × (o ≡ Some x)
+some_there None h = absurd (cc)
+some_there (Some x) h = (x, refl)
+
+none_there : {X : Type 0} (o : Option X) → is_some o ≡ false → o ≡ None
+none_there None h = refl
+none_there (Some x) h = absurd (cc)
+
+-- the extent of a size round a page is eligible, and its first page has this mapping
+pub record HasExtent (pages : ℕ → Option Mapping) (k page : ℕ) : Type 0 where
+  pub head : Mapping
+  pub begins : pages (extent_start k page) ≡ Some head
+  pub is : IsWhole pages k (extent_start k page) head
+
+pub eligible_is : (pages : ℕ → Option Mapping) (k page : ℕ) (h : HasExtent pages k page) → eligible_at pages k page ≡ Some (tile_with k (extent_start k page) h.head)
+eligible_is pages k page h =
+    ap (eligible_with pages k (extent_start k page)) h.begins
+    ∙ ap (λ (b : Bool). cond b (Some (tile_with k (extent_start k page) h.head)) None) (whole_eligible pages k (extent_start k page) h.head h.is)
+
+has_with : (pages : ℕ → Option Mapping) (k first : ℕ) (o : Option Mapping) (t : Tile) → eligible_with pages k first o ≡ Some t → (m : Mapping) × (o ≡ Some m) × IsWhole pages k first m
+has_with pages k first None t h = absurd (none-some t h)
+has_with pages k first (Some m) t h = (m, refl, eligible_whole pages k first m (some_if (is_eligible pages k first m) (tile_with k first m) t h).0)
+
+pub eligible_has : (pages : ℕ → Option Mapping) (k page : ℕ) (t : Tile) → eligible_at pages k page ≡ Some t → HasExtent pages k page
+eligible_has pages k page t h =
+    let w = has_with pages k (extent_start k page) (pages (extent_start k page)) t h in
+    record { head = w.0; begins = w.1; is = w.2 }
+
+pub whole_has : (pages : ℕ → Option Mapping) (k page : ℕ) → whole pages k page ≡ true → HasExtent pages k page
+unfolding whole
+whole_has pages k page h = let t = some_there (eligible_at pages k page) h in eligible_has pages k page t.0 t.1
+
+pub has_whole : (pages : ℕ → Option Mapping) (k page : ℕ) → HasExtent pages k page → whole pages k page ≡ true
+unfolding whole
+has_whole pages k page h = ap is_some (eligible_is pages k page h)
+
+pub whole_none : (pages : ℕ → Option Mapping) (k page : ℕ) → whole pages k page ≡ false → eligible_at pages k page ≡ None
+unfolding whole
+whole_none pages k page h = none_there (eligible_at pages k page) h
+
+pub none_whole : (pages : ℕ → Option Mapping) (k page : ℕ) → eligible_at pages k page ≡ None → whole pages k page ≡ false
+unfolding whole
+none_whole pages k page h = ap is_some h
+
+-- pages of one extent have it
+pub whole_alike : (pages : ℕ → Option Mapping) (k page other : ℕ) → other / 8 ^ k ≡ page / 8 ^ k → whole pages k other ≡ whole pages k page
+unfolding whole
+whole_alike pages k page other same = ap (λ n. is_some (eligible_with pages k (n * 8 ^ k) (pages (n * 8 ^ k)))) same
+
+-- the mapping of a page in it
+pub page_in : (pages : ℕ → Option Mapping) (k page other : ℕ) (h : HasExtent pages k page) → k ≤ 3 → other / 8 ^ k ≡ page / 8 ^ k → pages other ≡ Some (moved_by (other - extent_start k page) h.head)
+page_in pages k page other h low same =
+    let at = in_extent k page other low same in
+    let e : extent_start k page + (other - extent_start k page) ≡ other = omega (arith, at.0) in
+    ap pages (sym e) ∙ h.is.uniform (other - extent_start k page) at.1
+
+moved_twice : (by i n : ℕ) (m : Mapping) → by + i ≡ n → moved_by n m ≡ moved_by i (moved_by by m)
+moved_twice by i n m e = ap (λ f. record { frame = f; region = m.region; rights = m.rights; dirty = m.dirty }) {x = m.frame + n} {y = m.frame + by + i} (omega arith)
+
+-- ---- smaller and larger extents
+
+-- a part of an eligible extent is eligible
+one_smaller : (pages : ℕ → Option Mapping) (k page : ℕ) → suc k ≤ 3 → HasExtent pages (suc k) page → HasExtent pages k page
+one_smaller pages k page low h =
+    let by = extent_start k page - extent_start (suc k) page in
+    let lies = lies_in k page low in
+    let positive = length_positive k (omega arith) in
+    record {
+      head = moved_by by h.head;
+      begins = ap pages lies.moved ∙ h.is.uniform by (omega (arith, lies.within, positive));
+      is = record {
+        aligned = lies.aligned h.head.frame h.is.aligned;
+        uniform = λ i within.
+            let e : extent_start k page + i ≡ extent_start (suc k) page + (by + i) = omega (arith, lies.moved) in
+            ap pages e ∙ h.is.uniform (by + i) (omega (arith, lies.within)) ∙ ap Some (moved_twice by i (by + i) h.head refl);
+      };
+    }
+
+pub smaller : (pages : ℕ → Option Mapping) (j k page : ℕ) → j ≤ k → k ≤ 3 → HasExtent pages k page → HasExtent pages j page
+smaller pages j zero page less low h =
+    let e : 0 ≡ j = omega arith in
+    subst (λ (i : ℕ). HasExtent pages i page) e h
+smaller pages j (suc k) page less low h = elim (cases_eq (suc k) j) [
+  | inl e ↦ subst (λ (i : ℕ). HasExtent pages i page) e h
+  | inr n ↦ smaller pages j k page (omega arith) (omega arith) (one_smaller pages k page low h)
+]
+
+-- A part of the extent of a size round a page continues the extent's first page, and is eligible.
+pub record GoesOn (pages : ℕ → Option Mapping) (k page part : ℕ) (head : Mapping) : Type 0 where
+  pub follows : pages (extent_start (suc k) page + part * 8 ^ k) ≡ Some (moved_by (part * 8 ^ k) head)
+  pub eligible : whole pages k (extent_start (suc k) page + part * 8 ^ k) ≡ true
+
+-- eight parts that continue each other make the whole
+pub eight_join : (pages : ℕ → Option Mapping) (k page : ℕ) (head : Mapping) → suc k ≤ 3 → pages (extent_start (suc k) page) ≡ Some head → head.frame % 8 ^ suc k ≡ 0 → ((part : ℕ) → part < 8 → GoesOn pages k page part head) → HasExtent pages (suc k) page
+eight_join pages k page head low begins aligned parts = record { head = head; begins = begins; is = record { aligned = aligned; uniform = uniform } }
+  where
+    uniform : (x : ℕ) → x < 8 ^ suc k → pages (extent_start (suc k) page + x) ≡ Some (moved_by x head)
+    uniform x within =
+        let part = x / 8 ^ k in
+        let rest = x % 8 ^ k in
+        let at = in_part k page x low within in
+        let first = extent_start (suc k) page + part * 8 ^ k in
+        let goes = parts part at.part_in in
+        let has = whole_has pages k first goes.eligible in
+        let same : has.head ≡ moved_by (part * 8 ^ k) head = same_Some has.head (moved_by (part * 8 ^ k) head) (sym has.begins ∙ ap pages at.first ∙ goes.follows) in
+        let e : extent_start (suc k) page + x ≡ extent_start k first + rest = omega (arith, at.split, at.first) in
+        ap pages e ∙ has.is.uniform rest at.rest_in ∙ ap (λ (m : Mapping). Some (moved_by rest m)) same ∙ ap Some (sym (moved_twice (part * 8 ^ k) rest x head at.split))
+
+-- and conversely
+pub whole_parts : (pages : ℕ → Option Mapping) (k page : ℕ) (h : HasExtent pages (suc k) page) → suc k ≤ 3 → (part : ℕ) → part < 8 → GoesOn pages k page part h.head
+whole_parts pages k page h low part few =
+    let first = extent_start (suc k) page + part * 8 ^ k in
+    record {
+      follows = h.is.uniform (part * 8 ^ k) (part_within k part low few);
+      eligible = has_whole pages k first (one_smaller pages k first low (whole_has pages (suc k) first (whole_alike pages (suc k) page first (part_of k page part low few) ∙ has_whole pages (suc k) page h)));
+    }
+
+-- a resident page is an eligible extent by itself, and only a resident one is
+pub page_whole : (pages : ℕ → Option Mapping) (page : ℕ) (m : Mapping) → pages page ≡ Some m → HasExtent pages 0 page
+page_whole pages page m at = record {
+  head = m;
+  begins = ap pages {x = extent_start 0 page} {y = page} (omega arith) ∙ at;
+  is = record {
+    aligned = omega arith;
+    uniform = λ i within. ap pages {x = extent_start 0 page + i} {y = page} (omega arith) ∙ at ∙ ap (λ f. Some (record { frame = f; region = m.region; rights = m.rights; dirty = m.dirty })) {x = m.frame} {y = m.frame + i} (omega arith);
+  };
+}
+
+pub both_true : (a b : Bool) → (a ≡ true → b ≡ true) → (b ≡ true → a ≡ true) → a ≡ b
+both_true true b f g = sym (f refl)
+both_true false true f g = g refl
+both_true false false f g = refl
+
+-- an extent is eligible by its pages alone
+local_one : (old new : ℕ → Option Mapping) (k page : ℕ) → k ≤ 3 → ((other : ℕ) → other / 8 ^ k ≡ page / 8 ^ k → old other ≡ new other) → whole old k page ≡ true → whole new k page ≡ true
+local_one old new k page low same is =
+    let h = whole_has old k page is in
+    has_whole new k page (record {
+      head = h.head;
+      begins = sym (same (extent_start k page) (first_of_extent k page low)) ∙ h.begins;
+      is = record { aligned = h.is.aligned; uniform = λ i within. sym (same (extent_start k page + i) (of_extent k page i low within)) ∙ h.is.uniform i within };
+    })
+
+pub whole_local : (old new : ℕ → Option Mapping) (k page : ℕ) → k ≤ 3 → ((other : ℕ) → other / 8 ^ k ≡ page / 8 ^ k → old other ≡ new other) → whole old k page ≡ whole new k page
+whole_local old new k page low same =
+    both_true (whole old k page) (whole new k page) (local_one old new k page low same) (local_one new old k page low (λ other at. sym (same other at)))

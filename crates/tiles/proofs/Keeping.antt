@@ -1,0 +1,320 @@
+-- What becomes of the kept pages when what is kept of one is written, a page is put in, or one is taken out.
+use Rattle.std.proofs.Common.{◌≡◌, ◌≢◌, ℕ, ◌+◌, ◌<◌, ◌≤◌, Bool, true, false, ◌==◌, if◌then◌else◌, eqb, List, Option, Some, None, option_map, length, replicate, slice_index_or, slice_set, refl, sym, ap, inl, inr, ◌∙◌, arith, subst}
+use Rattle.std.proofs.lemmas.Bool.{cases_eq, cases_lt}
+use Rattle.std.proofs.lemmas.Bool.Decides.{nat_tests}
+use Rattle.std.proofs.lemmas.List.{get_or-set_other, get_or-set_same, length-set, get_or_past, get_or_read, get_or-replicate, length-replicate}
+use Rattle.std.proofs.lemmas.Option.{none-some, same_Some}
+use Rattle.pager_model.specs.declared.region.Rights.{Rights}
+use Rattle.pager_model.specs.declared.tile.Mapping.{Mapping}
+use Rattle.tiles.specs.declared.pages.Place.{Place}
+use Rattle.tiles.specs.Resident.{Resident, mapping_in, mapping_of_number, mapping_at, frames_in, frame_of_page, Maps}
+use Rattle.tiles.specs.Kept.{size_in_place, size_of_number, size_kept, place_of_number, said_by, sized, Sizes, ArePages, SizesBut, SameSizes}
+use Rattle.tiles.specs.Beside.{SamePages}
+
+-- the number of a page's frame
+abbrev pub number_at : Resident → ℕ → Option ℕ
+number_at r p = slice_index_or r.numbers p None
+
+pub mapping_at-is : (r : Resident) (p : ℕ) → mapping_at r p ≡ mapping_of_number r.places (number_at r p)
+unfolding mapping_at
+mapping_at-is r p = refl
+
+pub size_kept-is : (r : Resident) (p : ℕ) → size_kept r p ≡ size_of_number r.places (number_at r p)
+unfolding size_kept
+size_kept-is r p = refl
+
+pub within : {X : Type 0} (xs : List (Option X)) (i : ℕ) (x : X) → slice_index_or xs i None ≡ Some x → i < length xs
+within xs i x h =
+    elim (cases_lt i (length xs)) [ inl l ↦ l | inr past ↦ absurd (none-some x (sym (get_or_past xs i None past) ∙ h)) ]
+
+cases_place : (o : Option Place) → o ≢ None → (place : Place) × (o ≡ Some place)
+cases_place None h = absurd (h refl)
+cases_place (Some place) h = (place, refl)
+
+-- what is kept at the number of a resident page
+pub place_there : (r : Resident) → ArePages r → (p n : ℕ) → number_at r p ≡ Some n → (place : Place) × (slice_index_or r.places n None ≡ Some place)
+place_there r kept p n h = cases_place (slice_index_or r.places n None) (kept.found p n h)
+
+pub number_within : (r : Resident) → ArePages r → (p n : ℕ) → number_at r p ≡ Some n → n < length r.places
+number_within r kept p n h = let at = place_there r kept p n h in within r.places n at.0 at.1
+
+pub page_within : (r : Resident) → ArePages r → (p n : ℕ) → number_at r p ≡ Some n → p < 1048576
+page_within r kept p n h = omega (arith, within r.numbers p n h, kept.numbers)
+
+-- the page isn't resident
+pub mapping-absent : (r : Resident) (p : ℕ) → number_at r p ≡ None → mapping_at r p ≡ None
+mapping-absent r p h = mapping_at-is r p ∙ ap (mapping_of_number r.places) h
+
+pub size-absent : (r : Resident) (p : ℕ) → number_at r p ≡ None → size_kept r p ≡ 0
+size-absent r p h = size_kept-is r p ∙ ap (size_of_number r.places) h
+
+-- or it is, and this is kept of it
+pub mapping-found : (r : Resident) (p n : ℕ) (o : Option Place) → number_at r p ≡ Some n → slice_index_or r.places n None ≡ o → mapping_at r p ≡ mapping_in n o
+mapping-found r p n o h is = mapping_at-is r p ∙ ap (mapping_of_number r.places) h ∙ ap (mapping_in n) is
+
+pub size-found : (r : Resident) (p n : ℕ) (o : Option Place) → number_at r p ≡ Some n → slice_index_or r.places n None ≡ o → size_kept r p ≡ size_in_place o
+size-found r p n o h is = size_kept-is r p ∙ ap (size_of_number r.places) h ∙ ap size_in_place is
+
+cases_number : (o : Option ℕ) → (o ≢ None → (n : ℕ) × (o ≡ Some n))
+cases_number None h = absurd (h refl)
+cases_number (Some n) h = (n, refl)
+
+frame_by : (r : Resident) → ArePages r → (p : ℕ) (o : Option ℕ) → number_at r p ≡ o → frame_of_page r p ≡ o
+frame_by r kept p None h = ap (option_map (λ (m : Mapping). m.frame)) (mapping-absent r p h)
+frame_by r kept p (Some n) h =
+    let at = place_there r kept p n h in
+    ap (option_map (λ (m : Mapping). m.frame)) (mapping-found r p n (Some at.0) h at.1)
+
+-- a page's frame is its number
+pub frame-number : (r : Resident) → ArePages r → (p : ℕ) → frame_of_page r p ≡ number_at r p
+frame-number r kept p = frame_by r kept p (number_at r p) refl
+
+number_absent : (r : Resident) → ArePages r → (p : ℕ) (o : Option ℕ) → number_at r p ≡ o → mapping_at r p ≡ None → o ≡ None
+number_absent r kept p None h none = refl
+number_absent r kept p (Some n) h none =
+    let at = place_there r kept p n h in
+    absurd (none-some _ (sym none ∙ mapping-found r p n (Some at.0) h at.1))
+
+-- a write at a number leaves what is kept of the pages with another
+mapping-other : (places : List (Option Place)) (k : ℕ) (v : Option Place) (o : Option ℕ) → o ≢ Some k → mapping_of_number (slice_set places k v) o ≡ mapping_of_number places o
+mapping-other places k v None h = refl
+mapping-other places k v (Some n) h = ap (mapping_in n) (get_or-set_other places k n v None (λ e. h (ap Some e)))
+
+size-other : (places : List (Option Place)) (k : ℕ) (v : Option Place) (o : Option ℕ) → o ≢ Some k → size_of_number (slice_set places k v) o ≡ size_of_number places o
+size-other places k v None h = refl
+size-other places k v (Some n) h = ap size_in_place (get_or-set_other places k n v None (λ e. h (ap Some e)))
+
+-- A page's number and what is kept at a number are written, where no other page has that number.
+module _ (r : Resident) (kept : ArePages r) (page k : ℕ) (given : Option ℕ) (v : Option Place) (in_space : page < 1048576) (known : k < length r.places) (others : (p : ℕ) → p ≢ page → number_at r p ≢ Some k)
+    (own : (n : ℕ) → given ≡ Some n → n ≡ k) (there : given ≢ None → v ≢ None) where
+  abbrev pub moved : Resident
+  moved = record { numbers = slice_set r.numbers page given; places = slice_set r.places k v }
+
+  number-own : number_at moved page ≡ given
+  number-own = get_or-set_same r.numbers page given None (omega (arith, kept.numbers))
+
+  number-other : (p : ℕ) → p ≢ page → number_at moved p ≡ number_at r p
+  number-other p n = get_or-set_other r.numbers page p given None n
+
+  pub moved_other : (p : ℕ) → p ≢ page → mapping_at moved p ≡ mapping_at r p
+  moved_other p n =
+      mapping_at-is moved p ∙ ap (mapping_of_number (slice_set r.places k v)) (number-other p n) ∙ mapping-other r.places k v (number_at r p) (others p n) ∙ sym (mapping_at-is r p)
+
+  pub moved_size : (p : ℕ) → p ≢ page → size_kept moved p ≡ size_kept r p
+  moved_size p n =
+      size_kept-is moved p ∙ ap (size_of_number (slice_set r.places k v)) (number-other p n) ∙ size-other r.places k v (number_at r p) (others p n) ∙ sym (size_kept-is r p)
+
+  pub moved_maps : (m : Option Mapping) → mapping_of_number (slice_set r.places k v) given ≡ m → Maps page m r moved
+  moved_maps m is = record {
+    frames = length-set r.places k v;
+    at = λ p. elim (cases_eq p page) [
+      | inl e ↦
+          let here : mapping_at moved page ≡ m = mapping_at-is moved page ∙ ap (mapping_of_number (slice_set r.places k v)) number-own ∙ is in
+          let t : eqb p page ≡ true = grind (arith, nat_tests) in
+          ap (mapping_at moved) e ∙ here ∙ sym (ap (λ (b : Bool). if b then m else mapping_at r p) t)
+      | inr n ↦
+          let t : eqb p page ≡ false = grind (arith, nat_tests) in
+          moved_other p n ∙ sym (ap (λ (b : Bool). if b then m else mapping_at r p) t)
+    ];
+  }
+
+  pub moved_kept : ArePages moved
+  moved_kept = record {
+    numbers = length-set r.numbers page given ∙ kept.numbers;
+    few = omega (arith, length-set r.places k v, kept.few);
+    found = λ p n h. elim (cases_eq p page) [
+      | inl e ↦
+          let is : given ≡ Some n = sym number-own ∙ ap (number_at moved) (sym e) ∙ h in
+          let at : slice_index_or (slice_set r.places k v) n None ≡ v = ap (λ (i : ℕ). slice_index_or (slice_set r.places k v) i None) (own n is) ∙ get_or-set_same r.places k v None known in
+          λ none. there (λ absent. none-some n (sym absent ∙ is)) (sym at ∙ none)
+      | inr other ↦
+          let before : number_at r p ≡ Some n = sym (number-other p other) ∙ h in
+          let apart : n ≢ k = λ e. others p other (before ∙ ap Some e) in
+          λ none. kept.found p n before (sym (get_or-set_other r.places k n v None apart) ∙ none)
+    ];
+    apart = λ p q n hp hq. elim (cases_eq p page) [
+      | inl e ↦ elim (cases_eq q page) [
+        | inl f ↦ e ∙ sym f
+        | inr other ↦
+            let is : given ≡ Some n = sym number-own ∙ ap (number_at moved) (sym e) ∙ hp in
+            absurd (others q other (sym (number-other q other) ∙ hq ∙ ap Some (own n is)))
+      ]
+      | inr other ↦ elim (cases_eq q page) [
+        | inl f ↦
+            let is : given ≡ Some n = sym number-own ∙ ap (number_at moved) (sym f) ∙ hq in
+            absurd (others p other (sym (number-other p other) ∙ hp ∙ ap Some (own n is)))
+        | inr another ↦ kept.apart p q n (sym (number-other p other) ∙ hp) (sym (number-other q another) ∙ hq)
+      ]
+    ];
+  }
+
+others_apart : (r : Resident) → ArePages r → (page k : ℕ) → number_at r page ≡ Some k → (p : ℕ) → p ≢ page → number_at r p ≢ Some k
+others_apart r kept page k h p n e = n (kept.apart p page k e h)
+
+-- A page that isn't resident is put in.
+module _ (r : Resident) (kept : ArePages r) (page : ℕ) (m : Mapping) (in_space : page < 1048576) (known : m.frame < length r.places) (others : (p : ℕ) → frame_of_page r p ≢ Some m.frame) where
+  abbrev pub put_place : Place
+  put_place = record { region = m.region; rights = m.rights; dirty = m.dirty; size = 0 }
+
+  apart : (p : ℕ) → p ≢ page → number_at r p ≢ Some m.frame
+  apart p n e = others p (frame-number r kept p ∙ e)
+
+  abbrev pub put : Resident
+  put = record { numbers = slice_set r.numbers page (Some m.frame); places = slice_set r.places m.frame (Some put_place) }
+
+  pub put_kept : ArePages put
+  put_kept = moved_kept r kept page m.frame (Some m.frame) (Some put_place) in_space known apart (λ n h. sym (same_Some m.frame n h)) (λ _ none. none-some put_place (sym none))
+
+  pub put_maps : Maps page (Some m) r put
+  put_maps =
+      moved_maps r kept page m.frame (Some m.frame) (Some put_place) in_space known apart (λ n h. sym (same_Some m.frame n h)) (λ _ none. none-some put_place (sym none))
+      (Some m) (ap (mapping_in m.frame) (get_or-set_same r.places m.frame (Some put_place) None known))
+
+  pub put_sizes : SizesBut page r put
+  put_sizes = moved_size r kept page m.frame (Some m.frame) (Some put_place) in_space known apart (λ n h. sym (same_Some m.frame n h)) (λ _ none. none-some put_place (sym none))
+
+-- A resident page is taken out.
+module _ (r : Resident) (kept : ArePages r) (page k : ℕ) (has : number_at r page ≡ Some k) where
+  abbrev pub taken : Resident
+  taken = record { numbers = slice_set r.numbers page None; places = slice_set r.places k None }
+
+  pub taken_kept : ArePages taken
+  taken_kept =
+      moved_kept r kept page k None None (page_within r kept page k has) (number_within r kept page k has) (others_apart r kept page k has) (λ n h. absurd (none-some n h)) (λ h. absurd (h refl))
+
+  pub taken_maps : Maps page None r taken
+  taken_maps =
+      moved_maps r kept page k None None (page_within r kept page k has) (number_within r kept page k has) (others_apart r kept page k has) (λ n h. absurd (none-some n h)) (λ h. absurd (h refl)) None refl
+
+  pub taken_sizes : SizesBut page r taken
+  taken_sizes = moved_size r kept page k None None (page_within r kept page k has) (number_within r kept page k has) (others_apart r kept page k has) (λ n h. absurd (none-some n h)) (λ h. absurd (h refl))
+
+-- where this is said of a page already, nothing changes
+pub maps_same : (r : Resident) (page : ℕ) (m : Option Mapping) → mapping_at r page ≡ m → Maps page m r r
+maps_same r page m is = record {
+  frames = refl;
+  at = λ p. elim (cases_eq p page) [
+    | inl e ↦
+        let t : eqb p page ≡ true = grind (arith, nat_tests) in
+        ap (mapping_at r) e ∙ is ∙ sym (ap (λ (b : Bool). if b then m else mapping_at r p) t)
+    | inr n ↦
+        let t : eqb p page ≡ false = grind (arith, nat_tests) in
+        sym (ap (λ (b : Bool). if b then m else mapping_at r p) t)
+  ];
+}
+
+pub same_if_maps : (r s : Resident) (page : ℕ) (m : Option Mapping) → mapping_at r page ≡ m → Maps page m r s → SamePages r s
+same_if_maps r s page m is maps = record { frames = maps.frames; at = λ p. maps.at p ∙ sym ((maps_same r page m is).at p) }
+
+pub sizes_same : (r : Resident) (page n : ℕ) → size_kept r page ≡ sized (mapping_at r page) n → Sizes page n r r
+sizes_same r page n is p = elim (cases_eq p page) [
+  | inl e ↦
+      let t : eqb p page ≡ true = grind (arith, nat_tests) in
+      ap (size_kept r) e ∙ is ∙ sym (ap (λ (b : Bool). if b then sized (mapping_at r page) n else size_kept r p) t)
+  | inr other ↦
+      let t : eqb p page ≡ false = grind (arith, nat_tests) in
+      sym (ap (λ (b : Bool). if b then sized (mapping_at r page) n else size_kept r p) t)
+]
+
+pub same_if_sizes : (r s : Resident) (page n : ℕ) → size_kept r page ≡ sized (mapping_at r page) n → Sizes page n r s → SameSizes r s
+same_if_sizes r s page n is sizes p = sizes p ∙ sym (sizes_same r page n is p)
+
+-- This is kept of a page.
+pub record KeepsPlace (r : Resident) (page : ℕ) (place : Place) : Type 0 where
+  pub number : ℕ
+  pub mapping : mapping_at r page ≡ Some (record { frame = number; region = place.region; rights = place.rights; dirty = place.dirty })
+  pub size : size_kept r page ≡ place.size
+
+keeps_by : (r : Resident) (page : ℕ) (place : Place) (o : Option ℕ) → number_at r page ≡ o → place_of_number r.places o ≡ Some place → KeepsPlace r page place
+keeps_by r page place None h is = absurd (none-some place is)
+keeps_by r page place (Some n) h is = record { number = n; mapping = mapping-found r page n (Some place) h is; size = size-found r page n (Some place) h is }
+
+pub keeps_place : (r : Resident) (page : ℕ) (place : Place) → place_of_number r.places (number_at r page) ≡ Some place → KeepsPlace r page place
+keeps_place r page place is = keeps_by r page place (number_at r page) refl is
+
+-- nothing is kept of a page that isn't resident
+pub record KeepsNone (r : Resident) (page : ℕ) : Type 0 where
+  pub mapping : mapping_at r page ≡ None
+  pub size : size_kept r page ≡ 0
+
+none_by : (r : Resident) (page : ℕ) (o : Option ℕ) → number_at r page ≡ o → place_of_number r.places o ≡ None → KeepsNone r page
+none_by r page None h is = record { mapping = mapping-absent r page h; size = size-absent r page h }
+none_by r page (Some n) h is = record { mapping = mapping-found r page n None h is; size = size-found r page n None h is }
+
+pub keeps_none : (r : Resident) (page : ℕ) → place_of_number r.places (number_at r page) ≡ None → KeepsNone r page
+keeps_none r page is = none_by r page (number_at r page) refl is
+
+-- What is kept of a resident page is written.
+module _ (r : Resident) (kept : ArePages r) (page k : ℕ) (place : Place) (has : number_at r page ≡ Some k) where
+  abbrev pub written : Resident
+  written = record { numbers = r.numbers; places = slice_set r.places k (Some place) }
+
+  has_written : number_at written page ≡ Some k
+  has_written = has
+
+  at_written : slice_index_or (slice_set r.places k (Some place)) k None ≡ Some place
+  at_written = get_or-set_same r.places k (Some place) None (number_within r kept page k has)
+
+  pub written_kept : ArePages written
+  written_kept = record {
+    numbers = kept.numbers;
+    few = omega (arith, length-set r.places k (Some place), kept.few);
+    found = λ p n h. elim (cases_eq n k) [
+      | inl e ↦ λ none. none-some place (sym none ∙ ap (λ (i : ℕ). slice_index_or (slice_set r.places k (Some place)) i None) e ∙ at_written)
+      | inr other ↦ λ none. kept.found p n h (sym (get_or-set_other r.places k n (Some place) None other) ∙ none)
+    ];
+    apart = kept.apart;
+  }
+
+  old_mapping : (m : Mapping) × (mapping_at r page ≡ Some m) × (m.frame ≡ k)
+  old_mapping =
+      let there = place_there r kept page k has in
+      (record { frame = k; region = there.0.region; rights = there.0.rights; dirty = there.0.dirty }, mapping-found r page k (Some there.0) has there.1, refl)
+
+  pub written_maps : Maps page (option_map (said_by place) (mapping_at r page)) r written
+  unfolding old_mapping
+  written_maps = record {
+    frames = length-set r.places k (Some place);
+    at = λ p. elim (cases_eq p page) [
+      | inl e ↦
+          let t : eqb p page ≡ true = grind (arith, nat_tests) in
+          ap (mapping_at written) e ∙ mapping-found written page k (Some place) has at_written ∙ sym (ap (option_map (said_by place)) old_mapping.1)
+          ∙ sym (ap (λ (b : Bool). if b then option_map (said_by place) (mapping_at r page) else mapping_at r p) t)
+      | inr n ↦
+          let t : eqb p page ≡ false = grind (arith, nat_tests) in
+          mapping_at-is written p ∙ mapping-other r.places k (Some place) (number_at r p) (others_apart r kept page k has p n) ∙ sym (mapping_at-is r p)
+          ∙ sym (ap (λ (b : Bool). if b then option_map (said_by place) (mapping_at r page) else mapping_at r p) t)
+    ];
+  }
+
+  pub written_sizes : Sizes page place.size r written
+  written_sizes p = elim (cases_eq p page) [
+    | inl e ↦
+        let t : eqb p page ≡ true = grind (arith, nat_tests) in
+        ap (size_kept written) e ∙ size-found written page k (Some place) has at_written ∙ sym (ap (λ o. sized o place.size) old_mapping.1)
+        ∙ sym (ap (λ (b : Bool). if b then sized (mapping_at r page) place.size else size_kept r p) t)
+    | inr n ↦
+        let t : eqb p page ≡ false = grind (arith, nat_tests) in
+        size_kept-is written p ∙ size-other r.places k (Some place) (number_at r p) (others_apart r kept page k has p n) ∙ sym (size_kept-is r p)
+        ∙ sym (ap (λ (b : Bool). if b then sized (mapping_at r page) place.size else size_kept r p) t)
+  ]
+
+-- nothing is resident
+empty_place : {X : Type 0} (n p : ℕ) → ◌≡◌ {A = Option X} (slice_index_or (replicate n None) p None) None
+empty_place {X} n p =
+    elim (cases_lt p n) [ inl l ↦ get_or-replicate n p None None l | inr past ↦ get_or_past (replicate n None) p None (omega (arith, length-replicate {A = Option X} n None)) ]
+
+module _ (r : Resident) (pages frames : ℕ) (numbers : r.numbers ≡ replicate pages None) (places : r.places ≡ replicate frames None) where
+  pub fresh_number : (p : ℕ) → number_at r p ≡ None
+  fresh_number p = ap (λ (ns : List (Option ℕ)). slice_index_or ns p None) numbers ∙ empty_place pages p
+
+  pub fresh_frames : frames_in r ≡ frames
+  fresh_frames = ap length places ∙ length-replicate {A = Option Place} frames None
+
+  pub fresh_kept : pages ≡ 1048576 → frames ≤ 32768 → ArePages r
+  fresh_kept all few = record {
+    numbers = ap length numbers ∙ length-replicate {A = Option ℕ} pages None ∙ all;
+    few = omega (arith, ap length places, length-replicate {A = Option Place} frames None);
+    found = λ p n h. absurd (none-some n (sym (fresh_number p) ∙ h));
+    apart = λ p q n h _. absurd (none-some n (sym (fresh_number p) ∙ h));
+  }

@@ -1,0 +1,11 @@
+pub mod Blocks
+pub mod Changing
+pub mod Cleared
+pub mod Counting
+pub mod Eligible
+pub mod Extents
+pub mod Keeping
+pub mod Largest
+pub mod Promoting
+pub mod Settling
+pub mod TileLaws

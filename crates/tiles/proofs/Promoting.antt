@@ -1,0 +1,147 @@
+-- The moves of a change of one page, and of changes in blocks that lie apart.
+use Rattle.std.proofs.Common.{◌≡◌, ◌≢◌, ℕ, zero, suc, ◌+◌, ◌-◌, ◌*◌, ◌/◌, ◌%◌, ◌^◌, ◌<◌, ◌≤◌, Bool, true, false, cond, eqb, ltb, ◌==◌, if◌then◌else◌, ◌&&◌, nat_le, nat_lt, Option, Some, None, option_map, refl, sym, ap, inl, inr, ◌∙◌, ◌⊎◌, arith, subst}
+use Rattle.std.proofs.lemmas.Bool.{cases_Bool, cases_eq, cases_lt}
+use Rattle.std.proofs.lemmas.Bool.Decides.{nat_tests}
+use Rattle.pager_model.specs.declared.tile.Mapping.{Mapping}
+use Rattle.pager_model.specs.Extents.{extent_start}
+use Rattle.pager_model.specs.Tiles.{tile_of, begins_at, size_at, is_promoted, promotions_between, demotions_between, count_pages}
+use Rattle.tiles.specs.declared.moves.Moves.{Moves}
+use Rattle.tiles.specs.Beside.{AreKeptBut, SamePages, whole}
+use Rattle.tiles.specs.Blocks.{AreMovesOf, OutsideSame, is_grown_at}
+use Rattle.tiles.specs.Kept.{size_kept, AreSizes, SizesBut, SameSizes}
+use Rattle.tiles.specs.Resident.{Resident, mapping_at, frames_in, Maps, AreMoves}
+use Rattle.tiles.proofs.Changing.{others_back, promotions_one, promotions_same}
+use Rattle.tiles.proofs.Counting.{count, one_if, count_pages-is, count-sum, count-same}
+use Rattle.tiles.proofs.Eligible.{whole_local}
+use Rattle.tiles.proofs.Extents.{up, StartsBelow, starts_below}
+use Rattle.tiles.proofs.Largest.{size_small, size_is, whole_within, whole_beyond, none_size, tile_begins}
+use Rattle.tiles.proofs.Settling.{eqb_yes, eqb_no}
+
+-- ---- one page
+
+-- one page changed, and of the others the sizes are kept
+pub kept_but : (r s : Resident) (page : ℕ) (given : Option Mapping) → AreSizes r → Maps page given r s → SizesBut page r s → AreKeptBut page (mapping_at r) s
+kept_but r s page given sizes maps but = record {
+  others = λ p apart. maps.at p ∙ ap (λ (b : Bool). if b then given else mapping_at r p) (eqb_no p page apart);
+  sizes = λ p apart. but p apart ∙ sizes p;
+}
+
+pub same_sizes_but : (r s : Resident) (page : ℕ) → SameSizes r s → SizesBut page r s
+same_sizes_but r s page same p apart = same p
+
+pub maps_settled : (r s t : Resident) (page : ℕ) (given : Option Mapping) → Maps page given r s → SamePages s t → Maps page given r t
+maps_settled r s t page given maps same = record { frames = same.frames ∙ maps.frames; at = λ p. same.at p ∙ maps.at p }
+
+pub moves_one : (r s t : Resident) (page before after : ℕ) (moves : Moves) → AreKeptBut page (mapping_at r) s → SamePages s t → page < 1048576 → before ≡ size_at (mapping_at r) page → after ≡ size_at (mapping_at s) page
+    → moves.promotions ≡ (if nat_lt before after then 1 else 0) → moves.demotions ≡ (if nat_lt after before then 1 else 0) → AreMoves r t moves
+moves_one r s t page before after moves kept same in_space had has promoted demoted =
+    let one : mapping_at t ≡ mapping_at s = λ i p. same.at p i in
+    record {
+      promotions = promoted ∙ ap (λ n. cond (ltb n after) 1 0) had ∙ ap (λ n. cond (ltb (size_at (mapping_at r) page) n) 1 0) has ∙ sym (promotions_one (mapping_at r) (mapping_at s) page kept.others in_space)
+          ∙ sym (ap (λ (pages : ℕ → Option Mapping). promotions_between (mapping_at r) pages) one);
+      demotions = demoted ∙ ap (λ n. cond (ltb n before) 1 0) has ∙ ap (λ n. cond (ltb (size_at (mapping_at s) page) n) 1 0) had
+          ∙ sym (promotions_one (mapping_at s) (mapping_at r) page (others_back (mapping_at r) (mapping_at s) page kept.others) in_space)
+          ∙ sym (ap (λ (pages : ℕ → Option Mapping). promotions_between pages (mapping_at r)) one);
+    }
+
+-- nothing moves where nothing changes
+pub moves_same : (r s : Resident) (moves : Moves) → ((p : ℕ) → mapping_at s p ≡ mapping_at r p) → moves.promotions ≡ 0 → moves.demotions ≡ 0 → AreMoves r s moves
+moves_same r s moves same no_promotion no_demotion = record {
+  promotions = no_promotion ∙ sym (promotions_same (mapping_at r) (mapping_at s) same);
+  demotions = no_demotion ∙ sym (promotions_same (mapping_at s) (mapping_at r) (λ p. sym (same p)));
+}
+
+-- ---- blocks
+
+-- the size of a page's tile is seen in its block
+pub size_local : (old new : ℕ → Option Mapping) (q : ℕ) → ((p : ℕ) → p / 512 ≡ q / 512 → new p ≡ old p) → size_at new q ≡ size_at old q
+size_local old new q same =
+    let n = size_at old q in
+    let alike : (k : ℕ) → k ≤ 3 → whole old k q ≡ whole new k q = λ k low. whole_local old new k q low (λ p joined. sym (same p (up k 3 q p low (omega arith) joined))) in
+    size_is new q n (size_small old q) (λ positive. sym (alike n (size_small old q)) ∙ whole_within old q n positive (omega arith)) (λ k more low. sym (alike k low) ∙ whole_beyond old q k more low)
+
+swap : (a b x y : Bool) → (y ≡ true → a ≡ x) → b ≡ y → (a && b) ≡ (y && x)
+swap true true x true f e = f refl
+swap true false x true f e = absurd (cc)
+swap false true x true f e = f refl
+swap false false x true f e = absurd (cc)
+swap true b x false f e = e
+swap false b x false f e = refl
+
+-- a page is promoted by its tile's sizes alone
+pub promoted_test : (old new : ℕ → Option Mapping) (q : ℕ) → is_promoted old new q ≡ is_grown_at q (size_at old q) (size_at new q)
+promoted_test old new q =
+    let s = size_at new q in
+    swap (begins_at q (tile_of new q)) (ltb (size_at old q) s) (eqb (q % 8 ^ s) 0) (ltb (size_at old q) s)
+    (λ grew.
+    let above : 0 < s = positive (size_at old q) s grew in
+    tile_begins new q s (none_size new q above) ∙ starts q s (starts_below s q (size_small new q))) refl
+  where
+    positive : (a b : ℕ) → ltb a b ≡ true → 0 < b
+    positive a b h = grind (arith, nat_tests)
+
+    starts : (q s : ℕ) → StartsBelow s q → eqb (extent_start s q) q ≡ eqb (q % 8 ^ s) 0
+    starts q s at =
+        let first = at.first in
+        let within = at.within in
+        grind (arith, nat_tests)
+
+-- where a tile's size stays there is no move
+pub promoted_none : (old new : ℕ → Option Mapping) (q : ℕ) → size_at new q ≡ size_at old q → is_promoted old new q ≡ false
+promoted_none old new q same = promoted_test old new q ∙ grown_none q (size_at old q) (size_at new q) same
+  where
+    grown_none : (q a b : ℕ) → b ≡ a → is_grown_at q a b ≡ false
+    grown_none q a b e =
+        let t : ltb a b ≡ false = grind (arith, nat_tests) in
+        ap (λ x. x && eqb (q % 8 ^ b) 0) t
+
+-- moves of changes in blocks that lie apart add up
+pub promotions_add : (old mid new : ℕ → Option Mapping) (block : ℕ) → ((p : ℕ) → p / 512 ≡ block → mid p ≡ old p) → OutsideSame block mid new → promotions_between old new ≡ promotions_between old mid + promotions_between mid new
+promotions_add old mid new block within outside = at 1048576 refl
+  where
+    each : (q : ℕ) → one_if (is_promoted old new q) ≡ one_if (is_promoted old mid q) + one_if (is_promoted mid new q)
+    each q = elim (cases_eq (q / 512) block) [
+      | inl e ↦
+          let same : size_at mid q ≡ size_at old q = size_local old mid q (λ p joined. within p (joined ∙ e)) in
+          let first : is_promoted old new q ≡ is_promoted mid new q = promoted_test old new q ∙ ap (λ n. is_grown_at q n (size_at new q)) (sym same) ∙ sym (promoted_test mid new q) in
+          omega (arith, ap one_if first, ap one_if (promoted_none old mid q same))
+      | inr apart ↦
+          let same : size_at new q ≡ size_at mid q = size_local mid new q (λ p joined. outside p (λ e. apart (sym joined ∙ e))) in
+          let first : is_promoted old new q ≡ is_promoted old mid q = promoted_test old new q ∙ ap (λ n. is_grown_at q (size_at old q) n) same ∙ sym (promoted_test old mid q) in
+          omega (arith, ap one_if first, ap one_if (promoted_none mid new q same))
+    ]
+
+    at : (many : ℕ) → many ≡ 1048576 → promotions_between old new ≡ promotions_between old mid + promotions_between mid new
+    at many e =
+        omega (
+          arith,
+          count_pages-is (is_promoted old new) many e,
+          count_pages-is (is_promoted old mid) many e,
+          count_pages-is (is_promoted mid new) many e,
+          count-sum (is_promoted old new) (is_promoted old mid) (is_promoted mid new) 0 many (λ q low high. each q),
+        )
+
+pub demotions_add : (old mid new : ℕ → Option Mapping) (block : ℕ) → ((p : ℕ) → p / 512 ≡ block → mid p ≡ old p) → OutsideSame block mid new → demotions_between old new ≡ demotions_between old mid + demotions_between mid new
+demotions_add old mid new block within outside = at 1048576 refl
+  where
+    each : (q : ℕ) → one_if (is_promoted new old q) ≡ one_if (is_promoted mid old q) + one_if (is_promoted new mid q)
+    each q = elim (cases_eq (q / 512) block) [
+      | inl e ↦
+          let same : size_at mid q ≡ size_at old q = size_local old mid q (λ p joined. within p (joined ∙ e)) in
+          let first : is_promoted new old q ≡ is_promoted new mid q = promoted_test new old q ∙ ap (λ n. is_grown_at q (size_at new q) n) (sym same) ∙ sym (promoted_test new mid q) in
+          omega (arith, ap one_if first, ap one_if (promoted_none mid old q (sym same)))
+      | inr apart ↦
+          let same : size_at new q ≡ size_at mid q = size_local mid new q (λ p joined. outside p (λ e. apart (sym joined ∙ e))) in
+          let first : is_promoted new old q ≡ is_promoted mid old q = promoted_test new old q ∙ ap (λ n. is_grown_at q n (size_at old q)) same ∙ sym (promoted_test mid old q) in
+          omega (arith, ap one_if first, ap one_if (promoted_none new mid q (sym same)))
+    ]
+
+    at : (many : ℕ) → many ≡ 1048576 → demotions_between old new ≡ demotions_between old mid + demotions_between mid new
+    at many e =
+        omega (
+          arith,
+          count_pages-is (is_promoted new old) many e,
+          count_pages-is (is_promoted mid old) many e,
+          count_pages-is (is_promoted new mid) many e,
+          count-sum (is_promoted new old) (is_promoted mid old) (is_promoted new mid) 0 many (λ q low high. each q),
+        )

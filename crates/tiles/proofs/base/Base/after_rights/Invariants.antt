@@ -1,0 +1,10 @@
+use Rattle.tiles.specs.Resident.{AreMoves}
+use Rattle.tiles.proofs.Blocks.{ProtectsBlocks}
+use Rattle.tiles.proofs.base.Base.after_rights.Given as goal
+
+-- the blocks so far have the rights, and the moves are of these
+abbrev pub invariant-loop-block : goal.invariant-loop-block
+invariant-loop-block l = record {
+  protects : ProtectsBlocks l.block l.first l.length l.rights l.fn.self l.self;
+  moves : AreMoves l.fn.self l.self l.moves;
+}

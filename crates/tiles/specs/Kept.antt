@@ -1,0 +1,55 @@
+-- What is kept of the resident pages.
+use Rattle.std.specs.Prelude.{ℕ, ◌≡◌, ◌≢◌, ◌<◌, ◌≤◌, ◌==◌, if◌then◌else◌, List, length, slice_index_or, Option, Some, None}
+use Rattle.pager_model.specs.declared.tile.Mapping.{Mapping}
+use Rattle.pager_model.specs.Tiles.{size_at}
+use Rattle.tiles.specs.declared.pages.Place.{Place}
+use Rattle.tiles.specs.Resident.{Resident, mapping_at, frames_in}
+
+abbrev pub size_in_place : Option Place → ℕ
+size_in_place None = 0
+size_in_place (Some place) = place.size
+
+abbrev pub size_of_number : List (Option Place) → Option ℕ → ℕ
+size_of_number places None = 0
+size_of_number places (Some number) = size_in_place (slice_index_or places number None)
+
+-- the size that is kept of a page's tile, and 0 where the page isn't resident
+unfoldable pub size_kept : Resident → ℕ → ℕ
+size_kept pages page = size_of_number pages.places (slice_index_or pages.numbers page None)
+
+-- what is kept of a page, where it is resident
+abbrev pub place_of_number : List (Option Place) → Option ℕ → Option Place
+place_of_number places None = None
+place_of_number places (Some number) = slice_index_or places number None
+
+-- what is said of a resident page of which this is kept
+abbrev pub said_by : Place → Mapping → Mapping
+said_by place m = record { frame = m.frame; region = place.region; rights = place.rights; dirty = place.dirty }
+
+-- a size is kept of a resident page alone
+abbrev pub sized : Option Mapping → ℕ → ℕ
+sized None size = 0
+sized (Some m) size = size
+
+-- the size of one page is changed, where it is resident
+abbrev pub Sizes : ℕ → ℕ → Resident → Resident → Type 0
+Sizes page size old new = (p : ℕ) → size_kept new p ≡ (if p == page then sized (mapping_at old page) size else size_kept old p)
+
+-- The number of a resident page names a place where it is kept what is said of it, and no two pages have one number.
+pub record ArePages (pages : Resident) : Type 0 where
+  pub numbers : length pages.numbers ≡ 1048576
+  pub few : length pages.places ≤ 32768
+  pub found : (p number : ℕ) → slice_index_or pages.numbers p None ≡ Some number → slice_index_or pages.places number None ≢ None
+  pub apart : (p q number : ℕ) → slice_index_or pages.numbers p None ≡ Some number → slice_index_or pages.numbers q None ≡ Some number → p ≡ q
+
+-- the sizes that are kept are those of the tiles
+abbrev pub AreSizes : Resident → Type 0
+AreSizes pages = (p : ℕ) → size_kept pages p ≡ size_at (mapping_at pages) p
+
+-- no other page's size is changed
+abbrev pub SizesBut : ℕ → Resident → Resident → Type 0
+SizesBut page old new = (p : ℕ) → p ≢ page → size_kept new p ≡ size_kept old p
+
+-- no page's size is changed
+abbrev pub SameSizes : Resident → Resident → Type 0
+SameSizes old new = (p : ℕ) → size_kept new p ≡ size_kept old p

@@ -1,0 +1,190 @@
+//! The resident pages of a space, and what is kept of each.
+
+ghost use Rattle.std.specs.Prelude.{◌≡◌, ◌≢◌, ◌<◌, ◌≤◌, ℕ, None, Some, IfOk, IfSome, option_map, replicate, slice_index_or};
+ghost use Rattle.tiles.specs.Resident.{mapping_at, frames_in, frame_of_page, Maps, with_flag, with_rights};
+ghost use Rattle.tiles.specs.Kept.{size_kept, place_of_number, said_by, Sizes, SizesBut, SameSizes};
+ghost use Rattle.tiles.specs.Beside.{SamePages};
+
+use pager_model::{Mapping, NoMemory, Rights, Size};
+use std::alloc::Global;
+use std::marker::Model;
+
+/// The number of pages of a space.
+pub(crate) const PAGES: u32 = 1 << 20;
+
+/// What is kept of a resident page, at its frame's number.
+#[derive(Clone, Copy, Debug)]
+pub struct Place {
+    /// The first page of its region.
+    region: u32,
+    rights: Rights,
+    dirty: bool,
+    /// The size of its tile.
+    size: Size,
+}
+
+/// The resident pages of a space.
+#[derive(Drop)]
+pub(crate) struct Pages {
+    /// For each page the number of its frame, where it is resident.
+    numbers: Vec<Option<u16>>,
+    /// For each number what is said of the page that has the frame.
+    places: Vec<Option<Place>>,
+}
+
+impl Model for Pages {
+    ghost use Rattle.tiles.specs.Resident.{Resident};
+    ghost use Rattle.tiles.specs.Kept.{ArePages};
+
+    ghost Value = { Resident };
+
+    ghost view = { λ p. record { numbers = p.numbers.items; places = p.places.items } };
+
+    ghost invariant = { λ p. ArePages (record { numbers = p.numbers.items; places = p.places.items }) };
+}
+
+/// The size of a level.
+pub(crate) fn size_of(level: u8) -> Size
+    requires { level ≤ 3 }
+    ensures { result ≡ level }
+{
+    Size::of(level).unwrap()
+}
+
+impl Pages {
+    /// Room for the pages of a space in so many frames; none is resident.
+    pub(crate) fn create(alloc: Global, frames: u32) -> Result<Pages, NoMemory>
+        requires { frames ≤ 32768 }
+        ensures frames { IfOk result (λ pages. frames_in pages ≡ frames) }
+        ensures none { IfOk result (λ pages. (p : ℕ) → mapping_at pages p ≡ None) }
+        ensures sizes { IfOk result (λ pages. (p : ℕ) → size_kept pages p ≡ 0) }
+    {
+        Ok(Pages {
+            numbers: empty_places(alloc, PAGES)?,
+            places: empty_places(alloc, frames)?,
+        })
+    }
+
+    /// The number of a page's frame, where it is resident.
+    fn number(&self, page: u32) -> Option<u16>
+        ensures number { result ≡ slice_index_or self.now.numbers page None }
+        ensures known { IfSome result (λ number. (page < 1048576) × (number < frames_in self.now)) }
+        ensures small { IfSome result (λ number. number < 32768) }
+    {
+        *self.numbers.get(page as usize)?
+    }
+
+    /// What is kept of a page, where it is resident.
+    fn place(&self, page: u32) -> Option<Place>
+        ensures { result ≡ place_of_number self.now.places (slice_index_or self.now.numbers page None) }
+    {
+        let number = self.number(page)?;
+        self.places[number as usize]
+    }
+
+    /// What is said of a page, where it is resident.
+    pub(crate) fn mapping(&self, page: u32) -> Option<Mapping>
+        ensures mapping { result ≡ mapping_at self.now page }
+        ensures in_space { IfSome result (λ m. (page < 1048576) × (m.frame < frames_in self.now)) }
+        ensures small { IfSome result (λ m. m.frame < 32768) }
+    {
+        let number = self.number(page)?;
+        let place = self.place(page)?;
+        Some(Mapping {
+            frame: u32::from(number),
+            region: place.region,
+            rights: place.rights,
+            dirty: place.dirty,
+        })
+    }
+
+    /// The size that is kept of a page's tile, and a page's where it isn't resident.
+    pub(crate) fn size(&self, page: u32) -> Size
+        ensures { result ≡ size_kept self.now page }
+    {
+        match self.place(page) {
+            Some(place) => place.size,
+            None => size_of(0),
+        }
+    }
+
+    /// A page that isn't resident is, with this mapping; no other page has its frame.
+    pub(crate) fn put(&mut self, page: u32, mapping: Mapping)
+        requires page { page < 1048576 }
+        requires absent { mapping_at self.old page ≡ None }
+        requires known { mapping.frame < frames_in self.old }
+        requires other { (p : ℕ) → frame_of_page self.old p ≢ Some mapping.frame }
+        ensures maps { Maps page (Some mapping) self.old self.new }
+        ensures sizes { SizesBut page self.old self.new }
+    {
+        self.places[mapping.frame as usize] = Some(Place {
+            region: mapping.region,
+            rights: mapping.rights,
+            dirty: mapping.dirty,
+            size: size_of(0),
+        });
+        self.numbers[page as usize] = Some(mapping.frame as u16);
+    }
+
+    /// A page is resident no more.
+    pub(crate) fn remove(&mut self, page: u32)
+        ensures maps { Maps page None self.old self.new }
+        ensures sizes { SizesBut page self.old self.new }
+    {
+        if let Some(number) = self.number(page) {
+            self.numbers[page as usize] = None;
+            self.places[number as usize] = None;
+        }
+    }
+
+    /// Writes what is kept of a resident page.
+    fn write(&mut self, page: u32, place: Place)
+        ensures maps { Maps page (option_map (said_by place) (mapping_at self.old page)) self.old self.new }
+        ensures sizes { Sizes page place.size self.old self.new }
+    {
+        if let Some(number) = self.number(page) {
+            self.places[number as usize] = Some(place);
+        }
+    }
+
+    /// A page has this dirty flag, where it is resident.
+    pub(crate) fn set_dirty(&mut self, page: u32, dirty: bool)
+        ensures maps { Maps page (option_map (with_flag dirty) (mapping_at self.old page)) self.old self.new }
+        ensures sizes { SameSizes self.old self.new }
+    {
+        if let Some(place) = self.place(page) {
+            self.write(page, Place { dirty, ..place });
+        }
+    }
+
+    /// A page has these rights, where it is resident.
+    pub(crate) fn set_rights(&mut self, page: u32, rights: Rights)
+        ensures maps { Maps page (option_map (with_rights rights) (mapping_at self.old page)) self.old self.new }
+        ensures sizes { SameSizes self.old self.new }
+    {
+        if let Some(place) = self.place(page) {
+            self.write(page, Place { rights, ..place });
+        }
+    }
+
+    /// The size of a page's tile is this, where the page is resident.
+    pub(crate) fn set_size(&mut self, page: u32, size: Size)
+        ensures same { SamePages self.old self.new }
+        ensures sizes { Sizes page size self.old self.new }
+    {
+        if let Some(place) = self.place(page) {
+            self.write(page, Place { size, ..place });
+        }
+    }
+}
+
+/// So many places with nothing in them.
+fn empty_places<T: Drop>(alloc: Global, count: u32) -> Result<Vec<Option<T>>, NoMemory>
+    ensures { IfOk result (λ places. places.items ≡ replicate count None) }
+{
+    let mut places = Vec::with_capacity(alloc, count as usize)?;
+    for _ in 0..count {
+        places.push(None)?;
+    }
+    Ok(places)
+}
