@@ -1,7 +1,7 @@
 -- A change of rights in the blocks of a range, and how its moves are counted.
-use Rattle.std.proofs.Common.{◌≡◌, ◌≢◌, ℕ, zero, suc, ◌+◌, ◌-◌, ◌*◌, ◌/◌, ◌%◌, ◌^◌, ◌<◌, ◌≤◌, Bool, true, false, cond, eqb, ltb, ◌==◌, if◌then◌else◌, ◌&&◌, nat_le, nat_lt, max, min, List, [], ◌∷◌, length, slice_index, slice_index_or, slice_set, Option, Some, None, option_map, refl, sym, ap, inl, inr, ◌∙◌, ◌⊎◌, arith, subst}
+use Rattle.std.proofs.Common.{◌≡◌, ◌≢◌, ℕ, zero, suc, ◌+◌, ◌-◌, ◌*◌, ◌/◌, ◌%◌, ◌^◌, ◌<◌, ◌≤◌, Bool, true, false, eqb, ltb, if◌then◌else◌, ◌&&◌, nat_lt, List, [], ◌∷◌, length, slice_index, slice_set, Option, Some, None, option_map, refl, sym, ap, inl, inr, ◌∙◌, arith}
 use Rattle.std.specs.Int.{div_ceil}
-use Rattle.std.proofs.lemmas.Bool.{cases_Bool, cases_eq, cases_lt}
+use Rattle.std.proofs.lemmas.Bool.{cases_eq, cases_lt}
 use Rattle.std.proofs.lemmas.Bool.Decides.{nat_tests}
 use Rattle.std.proofs.lemmas.List.{get_or-set_other, get_or-set_same, length-set}
 use Rattle.pager_model.specs.declared.region.Rights.{Rights}
@@ -9,10 +9,10 @@ use Rattle.pager_model.specs.declared.tile.Mapping.{Mapping}
 use Rattle.pager_model.specs.declared.tile.Tile.{Tile}
 use Rattle.pager_model.specs.Extents.{extent_start}
 use Rattle.pager_model.specs.Regions.{in_range}
-use Rattle.pager_model.specs.Tiles.{tile_of, begins_at, size_at, size_in, is_promoted, promotions_between, demotions_between, count_pages, begins_tile, tiles_of_size}
+use Rattle.pager_model.specs.Tiles.{tile_of, begins_at, size_at, size_in, is_promoted, promotions_between, count_pages, begins_tile, tiles_of_size}
 use Rattle.tiles.specs.declared.moves.Moves.{Moves}
-use Rattle.tiles.specs.Blocks.{KeepsRights, ProtectsTo, ProtectsInBlock, AreSizesOfBlock, OutsideSame, AreMovesOf, is_grown_at, begun_in, begun_at}
-use Rattle.tiles.specs.Resident.{Resident, mapping_at, frames_in, with_rights, Maps, Protects, AreMoves, begins_large, large_tiles_in}
+use Rattle.tiles.specs.Blocks.{ProtectsInBlock, OutsideSame, AreMovesOf, is_grown_at, begun_in, begun_at}
+use Rattle.tiles.specs.Resident.{Resident, mapping_at, frames_in, with_rights, Protects, AreMoves, begins_large}
 use Rattle.tiles.proofs.Counting.{count, one_if, count-zero, count-suc, count-more, count-apart, count-none, count-same, count_pages-is, count_pages_most}
 use Rattle.tiles.proofs.Extents.{StartsBelow, starts_below}
 use Rattle.tiles.proofs.Largest.{size_small, none_size, tile_begins}
@@ -23,105 +23,6 @@ use Rattle.tiles.proofs.Settling.{eqb_yes, eqb_no}
 
 abbrev protected : Bool → Rights → Option Mapping → Option Mapping
 protected b rights m = if b then option_map (with_rights rights) m else m
-
-pub protects_none : (first : ℕ) (rights : Rights) (r : Resident) → ProtectsTo first first rights r r
-protects_none first rights r = record {
-  frames = refl;
-  at = λ p. let t : (nat_le first p && nat_lt p first) ≡ false = grind (arith, nat_tests) in sym (ap (λ b. protected b rights (mapping_at r p)) t);
-}
-
-pub protects_more : (first to : ℕ) (rights : Rights) (r s t : Resident) → first ≤ to → ProtectsTo first to rights r s → Maps to (option_map (with_rights rights) (mapping_at s to)) s t → ProtectsTo first (to + 1) rights r t
-protects_more first to rights r s t from so_far maps = record {
-  frames = maps.frames ∙ so_far.frames;
-  at = λ p. elim (cases_eq p to) [
-    | inl e ↦
-        let before : (nat_le first to && nat_lt to to) ≡ false = grind (arith, nat_tests) in
-        let after : (nat_le first p && nat_lt p (to + 1)) ≡ true = grind (arith, nat_tests) in
-        let here : mapping_at s to ≡ mapping_at r to = so_far.at to ∙ ap (λ b. protected b rights (mapping_at r to)) before in
-        maps.at p ∙ ap (λ (b : Bool). if b then option_map (with_rights rights) (mapping_at s to) else mapping_at s p) (eqb_yes p to e)
-        ∙ ap (option_map (with_rights rights)) here ∙ ap (λ q. option_map (with_rights rights) (mapping_at r q)) (sym e) ∙ sym (ap (λ b. protected b rights (mapping_at r p)) after)
-    | inr other ↦
-        let same : (nat_le first p && nat_lt p to) ≡ (nat_le first p && nat_lt p (to + 1)) = grind (arith, nat_tests) in
-        maps.at p ∙ ap (λ (b : Bool). if b then option_map (with_rights rights) (mapping_at s to) else mapping_at s p) (eqb_no p to other)
-        ∙ so_far.at p ∙ ap (λ b. protected b rights (mapping_at r p)) same
-  ];
-}
-
--- within a block the range is cut to it
-cut_is : (block first len from end p : ℕ) → from ≡ max first (block * 512) → end ≡ min (first + len) (block * 512 + 512) → (nat_le from p && nat_lt p end) ≡ (in_range first len p && eqb (p / 512) block)
-cut_is block first len from end p cut_from cut_end = elim (cases_eq (p / 512) block) [
-  | inl e ↦
-      let low : block * 512 ≤ p = omega arith in
-      let high : p < block * 512 + 512 = omega arith in
-      elim (cases_lt p first) [
-        | inl before ↦ both_no (nat_le from p) (nat_lt p end) (in_range first len p) (eqb (p / 512) block) (inl (le_no from p (omega arith))) (inl (range_before first len p before))
-        | inr after ↦ elim (cases_lt p (first + len)) [
-          | inl within ↦ both_yes (nat_le from p) (nat_lt p end) (in_range first len p) (eqb (p / 512) block) (le_yes from p (omega arith)) (lt_yes p end (omega arith)) (range_yes first len p after within) (eqb_yes (p / 512) block e)
-          | inr past ↦ both_no (nat_le from p) (nat_lt p end) (in_range first len p) (eqb (p / 512) block) (inr (lt_no p end (omega arith))) (inl (range_past first len p past))
-        ]
-      ]
-  | inr apart ↦ both_no (nat_le from p) (nat_lt p end) (in_range first len p) (eqb (p / 512) block) (elim (cases_lt p (block * 512)) [
-    | inl below ↦ inl (le_no from p (omega arith))
-    | inr above ↦ inr (lt_no p end (let past : block * 512 + 512 ≤ p = omega arith in omega arith))
-  ]) (inr (eqb_no (p / 512) block apart))
-]
-  where
-    le_yes : (a b : ℕ) → a ≤ b → nat_le a b ≡ true
-    le_yes a b h = grind (arith, nat_tests)
-
-    le_no : (a b : ℕ) → b < a → nat_le a b ≡ false
-    le_no a b h = grind (arith, nat_tests)
-
-    lt_yes : (a b : ℕ) → a < b → nat_lt a b ≡ true
-    lt_yes a b h = grind (arith, nat_tests)
-
-    lt_no : (a b : ℕ) → b ≤ a → nat_lt a b ≡ false
-    lt_no a b h = grind (arith, nat_tests)
-
-    range_yes : (first len p : ℕ) → first ≤ p → p < first + len → in_range first len p ≡ true
-    range_yes first len p low high = grind (arith, nat_tests)
-
-    range_before : (first len p : ℕ) → p < first → in_range first len p ≡ false
-    range_before first len p low = grind (arith, nat_tests)
-
-    range_past : (first len p : ℕ) → first + len ≤ p → in_range first len p ≡ false
-    range_past first len p high = grind (arith, nat_tests)
-
-    both_yes : (a b x y : Bool) → a ≡ true → b ≡ true → x ≡ true → y ≡ true → (a && b) ≡ (x && y)
-    both_yes true true true true h i j l = refl
-    both_yes true true true false h i j l = sym l
-    both_yes true true false y h i j l = sym j
-    both_yes true false x y h i j l = absurd (cc)
-    both_yes false b x y h i j l = absurd (cc)
-
-    is_no : (a b : Bool) → (a ≡ false) ⊎ (b ≡ false) → (a && b) ≡ false
-    is_no false b h = refl
-    is_no true false h = refl
-    is_no true true (inl h) = h
-    is_no true true (inr h) = h
-
-    both_no : (a b x y : Bool) → (a ≡ false) ⊎ (b ≡ false) → (x ≡ false) ⊎ (y ≡ false) → (a && b) ≡ (x && y)
-    both_no a b x y h i = is_no a b h ∙ sym (is_no x y i)
-
-module _ (block first len from end : ℕ) (rights : Rights) (r s : Resident) (cut_from : from ≡ max first (block * 512)) (cut_end : end ≡ min (first + len) (block * 512 + 512)) where
-  pub protects_cut : ProtectsTo from end rights r s → ProtectsInBlock block first len rights r s
-  protects_cut protects = record { frames = protects.frames; at = λ p. protects.at p ∙ ap (λ b. protected b rights (mapping_at r p)) (cut_is block first len from end p cut_from cut_end) }
-
-  -- where the pages have the rights already
-  pub protects_kept : KeepsRights from end rights (mapping_at r) → ProtectsInBlock block first len rights r r
-  protects_kept keeps = record { frames = refl; at = λ p. sym (ap (λ b. protected b rights (mapping_at r p)) (sym (cut_is block first len from end p cut_from cut_end)) ∙ kept p) }
-    where
-      kept : (p : ℕ) → protected (nat_le from p && nat_lt p end) rights (mapping_at r p) ≡ mapping_at r p
-      kept p = elim (cases_Bool (nat_le from p && nat_lt p end)) [
-        | inl is ↦ ap (λ b. protected b rights (mapping_at r p)) is ∙ keeps p (low from p end is) (high from p end is)
-        | inr isnt ↦ ap (λ b. protected b rights (mapping_at r p)) isnt
-      ]
-        where
-          low : (from p end : ℕ) → (nat_le from p && nat_lt p end) ≡ true → from ≤ p
-          low from p end h = grind (arith, nat_tests)
-
-          high : (from p end : ℕ) → (nat_le from p && nat_lt p end) ≡ true → p < end
-          high from p end h = grind (arith, nat_tests)
 
 pub outside_same : (block first len : ℕ) (rights : Rights) (r s : Resident) → ProtectsInBlock block first len rights r s → OutsideSame block (mapping_at r) (mapping_at s)
 outside_same block first len rights r s protects p apart =
@@ -489,6 +390,3 @@ sizes_all pages to counts all so_far =
 
 pub blocks_past : (n block : ℕ) → div_ceil n 512 ≤ block → n ≤ block * 512
 blocks_past n block past = grind (arith, nat_tests)
-
-pub block_meets : (n block : ℕ) → block < div_ceil n 512 → block * 512 < n
-block_meets n block before = grind (arith, nat_tests)

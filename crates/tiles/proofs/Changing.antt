@@ -1,6 +1,6 @@
 -- What a change of one page does to the sizes of the tiles.
-use Rattle.std.proofs.Common.{◌≡◌, ◌≢◌, ℕ, zero, suc, ◌+◌, ◌-◌, ◌*◌, ◌/◌, ◌%◌, ◌^◌, ◌<◌, ◌≤◌, Bool, true, false, ◌&&◌, eqb, ltb, cond, Option, Some, None, refl, sym, ap, inl, inr, ◌∙◌, ◌⊎◌, arith, subst}
-use Rattle.std.proofs.lemmas.Bool.{cases_Bool, cases_eq, cases_lt}
+use Rattle.std.proofs.Common.{◌≡◌, ◌≢◌, ℕ, suc, ◌*◌, ◌/◌, ◌^◌, ◌<◌, ◌≤◌, Bool, true, false, ◌&&◌, eqb, ltb, cond, Option, refl, sym, ap, inl, inr, ◌∙◌, ◌⊎◌, arith, subst}
+use Rattle.std.proofs.lemmas.Bool.{cases_eq, cases_lt}
 use Rattle.std.proofs.lemmas.Bool.Decides.{nat_tests}
 use Rattle.pager_model.specs.declared.tile.Mapping.{Mapping}
 use Rattle.pager_model.specs.Tiles.{size_at, tile_of, begins_at, is_promoted, promotions_between, count_pages}
@@ -8,7 +8,7 @@ use Rattle.pager_model.specs.Extents.{extent_start}
 use Rattle.tiles.specs.Beside.{OthersSame, size_beside, whole}
 use Rattle.tiles.proofs.Eligible.{whole_alike, whole_local}
 use Rattle.tiles.proofs.Counting.{count_pages_at, count_pages_none}
-use Rattle.tiles.proofs.Extents.{up, first_of_extent, starts_below, StartsBelow}
+use Rattle.tiles.proofs.Extents.{up, first_of_extent, starts_below}
 use Rattle.tiles.proofs.Largest.{HasTile, none_size, tile_begins, size_small, whole_within, whole_beyond, within_size, size_is}
 
 pub others_back : (old new : ℕ → Option Mapping) (page : ℕ) → OthersSame page old new → OthersSame page new old

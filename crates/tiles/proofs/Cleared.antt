@@ -1,6 +1,6 @@
 -- What becomes of the tiles where a region's pages are cleared, and where nothing changes.
-use Rattle.std.proofs.Common.{◌≡◌, ◌≢◌, ℕ, ◌+◌, ◌-◌, ◌/◌, ◌%◌, ◌^◌, ◌<◌, ◌≤◌, Bool, true, false, ◌==◌, eqb, ltb, if◌then◌else◌, ◌&&◌, nat_lt, Option, Some, None, refl, sym, ap, inl, inr, ◌∙◌, arith}
-use Rattle.std.proofs.lemmas.Bool.{cases_Bool, cases_lt}
+use Rattle.std.proofs.Common.{◌≡◌, ℕ, ◌-◌, ◌/◌, ◌%◌, ◌^◌, ◌≤◌, Bool, true, false, eqb, ltb, if◌then◌else◌, ◌&&◌, nat_lt, Option, Some, None, refl, sym, ap, inl, inr, ◌∙◌, arith}
+use Rattle.std.proofs.lemmas.Bool.{cases_Bool}
 use Rattle.std.proofs.lemmas.Bool.Decides.{nat_tests}
 use Rattle.std.proofs.lemmas.Option.{none-some}
 use Rattle.pager_model.specs.declared.tile.Mapping.{Mapping}
@@ -14,7 +14,7 @@ use Rattle.tiles.specs.Cleared.{Clears}
 use Rattle.tiles.specs.Resident.{begins_large, large_tiles_in}
 use Rattle.tiles.proofs.Changing.{promotions_same}
 use Rattle.tiles.proofs.Counting.{count_pages_none}
-use Rattle.tiles.proofs.Eligible.{HasExtent, whole_has, whole_local, page_in}
+use Rattle.tiles.proofs.Eligible.{whole_has, whole_local, page_in}
 use Rattle.tiles.proofs.Largest.{size_small, size_absent, size_is, whole_within, whole_beyond}
 use Rattle.tiles.proofs.Promoting.{promoted_test, promoted_none}
 

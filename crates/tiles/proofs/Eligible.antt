@@ -1,7 +1,7 @@
 -- Eligible extents: each of their pages has its first page's mapping, moved. Eight that continue each other make a larger one.
-use Rattle.std.proofs.Common.{◌≡◌, ◌≢◌, ℕ, zero, suc, ◌+◌, ◌-◌, ◌*◌, ◌/◌, ◌%◌, ◌^◌, ◌<◌, ◌≤◌, Bool, true, false, cond, ◌&&◌, eqb, List, length, get_or, Option, Some, None, is_some, refl, sym, ap, inl, inr, ◌∙◌, ◌⊎◌, arith, subst}
-use Rattle.std.specs.List.{range_with_len, list_all, All}
-use Rattle.std.proofs.lemmas.Bool.{cases_Bool, cases_eq}
+use Rattle.std.proofs.Common.{◌≡◌, ℕ, zero, suc, ◌+◌, ◌-◌, ◌*◌, ◌/◌, ◌%◌, ◌^◌, ◌<◌, ◌≤◌, Bool, true, false, cond, ◌&&◌, eqb, Option, Some, None, is_some, refl, sym, ap, inl, inr, ◌∙◌, arith, subst}
+use Rattle.std.specs.List.{range_with_len, list_all}
+use Rattle.std.proofs.lemmas.Bool.{cases_eq}
 use Rattle.std.proofs.lemmas.Bool.Decides.{nat_tests}
 use Rattle.std.proofs.lemmas.Option.{none-some, same_Some}
 use Rattle.pager_model.specs.declared.region.Rights.{Rights}
@@ -11,7 +11,7 @@ use Rattle.pager_model.specs.declared.tile.Tile.{Tile}
 use Rattle.pager_model.specs.Extents.{extent_start}
 use Rattle.tiles.specs.Beside.{whole}
 use Rattle.tiles.proofs.Extents.{in_extent, of_extent, length_positive, first_of_extent, lies_in, in_part, part_of, part_within}
-use Rattle.pager_model.specs.Tiles.{moved_by, rights_level, same_rights, same_flag, is_mapping, is_uniform, is_eligible, tile_with, eligible_with, eligible_at}
+use Rattle.pager_model.specs.Tiles.{moved_by, same_rights, same_flag, is_mapping, is_eligible, tile_with, eligible_with, eligible_at}
 
 -- ---- tests of equality
 

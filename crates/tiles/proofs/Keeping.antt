@@ -1,10 +1,9 @@
 -- What becomes of the kept pages when what is kept of one is written, a page is put in, or one is taken out.
-use Rattle.std.proofs.Common.{◌≡◌, ◌≢◌, ℕ, ◌+◌, ◌<◌, ◌≤◌, Bool, true, false, ◌==◌, if◌then◌else◌, eqb, List, Option, Some, None, option_map, length, replicate, slice_index_or, slice_set, refl, sym, ap, inl, inr, ◌∙◌, arith, subst}
+use Rattle.std.proofs.Common.{◌≡◌, ◌≢◌, ℕ, ◌<◌, ◌≤◌, Bool, true, false, if◌then◌else◌, eqb, List, Option, Some, None, option_map, length, replicate, slice_index_or, slice_set, refl, sym, ap, inl, inr, ◌∙◌, arith}
 use Rattle.std.proofs.lemmas.Bool.{cases_eq, cases_lt}
 use Rattle.std.proofs.lemmas.Bool.Decides.{nat_tests}
-use Rattle.std.proofs.lemmas.List.{get_or-set_other, get_or-set_same, length-set, get_or_past, get_or_read, get_or-replicate, length-replicate}
+use Rattle.std.proofs.lemmas.List.{get_or-set_other, get_or-set_same, length-set, get_or_past, get_or-replicate, length-replicate}
 use Rattle.std.proofs.lemmas.Option.{none-some, same_Some}
-use Rattle.pager_model.specs.declared.region.Rights.{Rights}
 use Rattle.pager_model.specs.declared.tile.Mapping.{Mapping}
 use Rattle.tiles.specs.declared.pages.Place.{Place}
 use Rattle.tiles.specs.Resident.{Resident, mapping_in, mapping_of_number, mapping_at, frames_in, frame_of_page, Maps}
@@ -248,9 +247,6 @@ keeps_none r page is = none_by r page (number_at r page) refl is
 module _ (r : Resident) (kept : ArePages r) (page k : ℕ) (place : Place) (has : number_at r page ≡ Some k) where
   abbrev pub written : Resident
   written = record { numbers = r.numbers; places = slice_set r.places k (Some place) }
-
-  has_written : number_at written page ≡ Some k
-  has_written = has
 
   at_written : slice_index_or (slice_set r.places k (Some place)) k None ≡ Some place
   at_written = get_or-set_same r.places k (Some place) None (number_within r kept page k has)

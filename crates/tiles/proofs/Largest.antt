@@ -1,5 +1,5 @@
 -- The size of a page's tile: the largest at which the extent round it is eligible.
-use Rattle.std.proofs.Common.{◌≡◌, ◌≢◌, ℕ, zero, suc, ◌+◌, ◌-◌, ◌*◌, ◌/◌, ◌%◌, ◌^◌, ◌<◌, ◌≤◌, Bool, true, false, Option, Some, None, is_some, eqb, refl, sym, ap, inl, inr, ◌∙◌, ◌⊎◌, arith, subst}
+use Rattle.std.proofs.Common.{◌≡◌, ℕ, zero, suc, ◌+◌, ◌-◌, ◌%◌, ◌^◌, ◌<◌, ◌≤◌, Bool, true, false, Option, Some, None, eqb, refl, sym, ap, inl, inr, ◌∙◌, ◌⊎◌, arith, subst}
 use Rattle.std.specs.Option.{option_or}
 use Rattle.std.proofs.lemmas.Bool.{cases_Bool, cases_eq, cases_lt}
 use Rattle.std.proofs.lemmas.Bool.Decides.{nat_tests}
@@ -9,7 +9,7 @@ use Rattle.pager_model.specs.declared.tile.Tile.{Tile}
 use Rattle.pager_model.specs.Extents.{extent_start}
 use Rattle.pager_model.specs.Tiles.{moved_by, tile_with, eligible_at, largest_up_to, tile_of, size_in, size_at, begins_at}
 use Rattle.tiles.specs.Beside.{whole}
-use Rattle.tiles.proofs.Eligible.{HasExtent, IsWhole, whole_has, has_whole, whole_none, none_whole, eligible_is, whole_alike, page_in, smaller, page_whole}
+use Rattle.tiles.proofs.Eligible.{HasExtent, whole_has, has_whole, whole_none, eligible_is, page_in, smaller, page_whole}
 use Rattle.tiles.proofs.Extents.{StartsBelow, starts_below}
 
 cases_Option : {X : Type 0} (o : Option X) → (o ≡ None) ⊎ ((x : X) × (o ≡ Some x))
@@ -139,13 +139,6 @@ size_is pages page n low passes misses =
         | inr to ↦ omega arith
       ]
     ]
-
--- the pages of a tile have tiles of its size
-pub size_alike : (pages : ℕ → Option Mapping) (page other : ℕ) → other / 8 ^ size_at pages page ≡ page / 8 ^ size_at pages page → ((k : ℕ) → size_at pages page < k → k ≤ 3 → other / 8 ^ k ≡ page / 8 ^ k) → size_at pages other ≡ size_at pages page
-size_alike pages page other same above =
-    size_is pages other (size_at pages page) (size_small pages page)
-    (λ positive. whole_alike pages (size_at pages page) page other same ∙ whole_within pages page (size_at pages page) positive (omega arith))
-    (λ k more low. whole_alike pages k page other (above k more low) ∙ whole_beyond pages page k more low)
 
 -- ---- the tile of a page by its own mapping
 

@@ -1,21 +1,21 @@
 -- The moves of a change of one page, and of changes in blocks that lie apart.
-use Rattle.std.proofs.Common.{◌≡◌, ◌≢◌, ℕ, zero, suc, ◌+◌, ◌-◌, ◌*◌, ◌/◌, ◌%◌, ◌^◌, ◌<◌, ◌≤◌, Bool, true, false, cond, eqb, ltb, ◌==◌, if◌then◌else◌, ◌&&◌, nat_le, nat_lt, Option, Some, None, option_map, refl, sym, ap, inl, inr, ◌∙◌, ◌⊎◌, arith, subst}
-use Rattle.std.proofs.lemmas.Bool.{cases_Bool, cases_eq, cases_lt}
+use Rattle.std.proofs.Common.{◌≡◌, ℕ, ◌+◌, ◌/◌, ◌%◌, ◌^◌, ◌<◌, ◌≤◌, Bool, true, false, cond, eqb, ltb, if◌then◌else◌, ◌&&◌, nat_lt, Option, refl, sym, ap, inl, inr, ◌∙◌, arith}
+use Rattle.std.proofs.lemmas.Bool.{cases_eq}
 use Rattle.std.proofs.lemmas.Bool.Decides.{nat_tests}
 use Rattle.pager_model.specs.declared.tile.Mapping.{Mapping}
 use Rattle.pager_model.specs.Extents.{extent_start}
-use Rattle.pager_model.specs.Tiles.{tile_of, begins_at, size_at, is_promoted, promotions_between, demotions_between, count_pages}
+use Rattle.pager_model.specs.Tiles.{tile_of, begins_at, size_at, is_promoted, promotions_between, demotions_between}
 use Rattle.tiles.specs.declared.moves.Moves.{Moves}
 use Rattle.tiles.specs.Beside.{AreKeptBut, SamePages, whole}
-use Rattle.tiles.specs.Blocks.{AreMovesOf, OutsideSame, is_grown_at}
-use Rattle.tiles.specs.Kept.{size_kept, AreSizes, SizesBut, SameSizes}
-use Rattle.tiles.specs.Resident.{Resident, mapping_at, frames_in, Maps, AreMoves}
+use Rattle.tiles.specs.Blocks.{OutsideSame, is_grown_at}
+use Rattle.tiles.specs.Kept.{AreSizes, SizesBut, SameSizes}
+use Rattle.tiles.specs.Resident.{Resident, mapping_at, Maps, AreMoves}
 use Rattle.tiles.proofs.Changing.{others_back, promotions_one, promotions_same}
-use Rattle.tiles.proofs.Counting.{count, one_if, count_pages-is, count-sum, count-same}
+use Rattle.tiles.proofs.Counting.{one_if, count_pages-is, count-sum}
 use Rattle.tiles.proofs.Eligible.{whole_local}
 use Rattle.tiles.proofs.Extents.{up, StartsBelow, starts_below}
 use Rattle.tiles.proofs.Largest.{size_small, size_is, whole_within, whole_beyond, none_size, tile_begins}
-use Rattle.tiles.proofs.Settling.{eqb_yes, eqb_no}
+use Rattle.tiles.proofs.Settling.{eqb_no}
 
 -- ---- one page
 
@@ -28,9 +28,6 @@ kept_but r s page given sizes maps but = record {
 
 pub same_sizes_but : (r s : Resident) (page : ℕ) → SameSizes r s → SizesBut page r s
 same_sizes_but r s page same p apart = same p
-
-pub maps_settled : (r s t : Resident) (page : ℕ) (given : Option Mapping) → Maps page given r s → SamePages s t → Maps page given r t
-maps_settled r s t page given maps same = record { frames = same.frames ∙ maps.frames; at = λ p. same.at p ∙ maps.at p }
 
 pub moves_one : (r s t : Resident) (page before after : ℕ) (moves : Moves) → AreKeptBut page (mapping_at r) s → SamePages s t → page < 1048576 → before ≡ size_at (mapping_at r) page → after ≡ size_at (mapping_at s) page
     → moves.promotions ≡ (if nat_lt before after then 1 else 0) → moves.demotions ≡ (if nat_lt after before then 1 else 0) → AreMoves r t moves

@@ -1,5 +1,5 @@
 -- How the sizes of the tiles are settled after a change of one page.
-use Rattle.std.proofs.Common.{◌≡◌, ◌≢◌, ℕ, zero, suc, ◌+◌, ◌-◌, ◌*◌, ◌/◌, ◌%◌, ◌^◌, ◌<◌, ◌≤◌, Bool, true, false, eqb, ◌==◌, if◌then◌else◌, ◌&&◌, nat_le, nat_lt, max, Option, Some, None, refl, sym, ap, inl, inr, ◌∙◌, ◌⊎◌, arith, subst}
+use Rattle.std.proofs.Common.{◌≡◌, ◌≢◌, ℕ, zero, suc, ◌+◌, ◌-◌, ◌*◌, ◌/◌, ◌%◌, ◌^◌, ◌<◌, ◌≤◌, Bool, true, false, eqb, if◌then◌else◌, ◌&&◌, nat_le, nat_lt, max, Option, Some, None, refl, sym, ap, inl, inr, ◌∙◌, arith, subst}
 use Rattle.std.proofs.lemmas.Bool.{cases_Bool, cases_eq, cases_lt}
 use Rattle.std.proofs.lemmas.Bool.Decides.{nat_tests}
 use Rattle.std.proofs.Math.Nat.{one-le-pow}
@@ -8,12 +8,12 @@ use Rattle.pager_model.specs.declared.tile.Mapping.{Mapping}
 use Rattle.pager_model.specs.Extents.{extent_start}
 use Rattle.pager_model.specs.Tiles.{moved_by, size_at}
 use Rattle.tiles.specs.Beside.{whole, size_beside, GoesOnAt, AreKeptBut, SamePages, Spreads}
-use Rattle.tiles.specs.Kept.{size_kept, sized, AreSizes, Sizes}
+use Rattle.tiles.specs.Kept.{size_kept, sized, AreSizes}
 use Rattle.tiles.specs.Resident.{Resident, mapping_at}
 use Rattle.tiles.proofs.Changing.{IsOver, whole_other, size_settled, size_stays}
-use Rattle.tiles.proofs.Eligible.{HasExtent, IsWhole, GoesOn, whole_has, has_whole, whole_alike, eight_join, whole_parts, page_whole, smaller}
-use Rattle.tiles.proofs.Extents.{StartsBelow, starts_below, in_extent, of_extent, length_positive}
-use Rattle.tiles.proofs.Largest.{size_small, size_absent, size_is, within_size, whole_within}
+use Rattle.tiles.proofs.Eligible.{HasExtent, GoesOn, whole_has, has_whole, whole_alike, eight_join, whole_parts, page_whole, smaller}
+use Rattle.tiles.proofs.Extents.{starts_below, in_extent, of_extent}
+use Rattle.tiles.proofs.Largest.{size_absent, within_size, whole_within}
 
 pub power_positive : (n : ℕ) → 0 < 8 ^ n
 power_positive n = one-le-pow n 8 (omega arith)
@@ -27,9 +27,6 @@ eqb_no a b h = grind (arith, nat_tests)
 -- ---- whether an extent joins
 
 module _ (old : ℕ → Option Mapping) (r : Resident) (page : ℕ) (kept : AreKeptBut page old r) where
-  old_new : (p : ℕ) → p ≢ page → mapping_at r p ≡ old p
-  old_new = kept.others
-
   -- a part that goes on is eligible
   part_eligible : (k first : ℕ) (m : Mapping) → k ≤ 3 → (0 < k → whole (mapping_at r) k page ≡ true) → GoesOnAt r page first k m → whole (mapping_at r) k first ≡ true
   part_eligible zero first m low own at = has_whole (mapping_at r) 0 first (page_whole (mapping_at r) first m at.0)
@@ -146,27 +143,6 @@ spread_sizes old r s page over kept is low same spreads p =
 abbrev pub SetTo : ℕ → ℕ → ℕ → ℕ → Resident → Resident → Type 0
 SetTo page size first to old new = (p : ℕ) → size_kept new p ≡ (if nat_le first p && nat_lt p to then sized (mapping_at old p) (size_beside page p size) else size_kept old p)
 
-pub set_none : (page size first : ℕ) (r : Resident) → SetTo page size first first r r
-set_none page size first r p =
-    let t : (nat_le first p && nat_lt p first) ≡ false = grind (arith, nat_tests) in
-    sym (ap (λ (b : Bool). if b then sized (mapping_at r p) (size_beside page p size) else size_kept r p) t)
-
-pub set_more : (page size first to : ℕ) (old r s : Resident) → first ≤ to → SamePages old r → SetTo page size first to old r → Sizes to (size_beside page to size) r s → SetTo page size first (to + 1) old s
-set_more page size first to old r s from same sets sizes p = elim (cases_eq p to) [
-  | inl e ↦
-      let t : eqb p to ≡ true = grind (arith, nat_tests) in
-      let u : (nat_le first p && nat_lt p (to + 1)) ≡ true = grind (arith, nat_tests) in
-      sizes p ∙ ap (λ (b : Bool). if b then sized (mapping_at r to) (size_beside page to size) else size_kept r p) t
-      ∙ ap (λ o. sized o (size_beside page to size)) (same.at to)
-      ∙ ap (λ q. sized (mapping_at old q) (size_beside page q size)) (sym e)
-      ∙ sym (ap (λ (b : Bool). if b then sized (mapping_at old p) (size_beside page p size) else size_kept old p) u)
-  | inr other ↦
-      let t : eqb p to ≡ false = grind (arith, nat_tests) in
-      let u : (nat_le first p && nat_lt p to) ≡ (nat_le first p && nat_lt p (to + 1)) = grind (arith, nat_tests) in
-      sizes p ∙ ap (λ (b : Bool). if b then sized (mapping_at r to) (size_beside page to size) else size_kept r p) t ∙ sets p
-      ∙ ap (λ (b : Bool). if b then sized (mapping_at old p) (size_beside page p size) else size_kept old p) u
-]
-
 -- over all pages of an extent
 pub set_all : (page size over first to : ℕ) (old new : Resident) → over ≤ 3 → first ≡ page - page % 8 ^ over → to ≡ first + 8 ^ over → SetTo page size first to old new → Spreads page over size old new
 set_all page size over first to old new low from end sets p =
@@ -189,9 +165,6 @@ set_all page size over first to old new low from end sets p =
         ]
       ]
     ]
-
-pub same_trans : (r s t : Resident) → SamePages r s → SamePages s t → SamePages r t
-same_trans r s t one two = record { frames = two.frames ∙ one.frames; at = λ p. two.at p ∙ one.at p }
 
 pub over_max : (b s over : ℕ) → over ≡ max b s → IsOver b s over
 over_max b s over e = elim (cases_lt b s) [

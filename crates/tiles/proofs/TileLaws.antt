@@ -1,12 +1,11 @@
 -- What a tile is.
-use Rattle.std.proofs.Common.{◌≡◌, ◌≢◌, ℕ, ◌+◌, ◌-◌, ◌*◌, ◌/◌, ◌%◌, ◌^◌, ◌<◌, ◌≤◌, Bool, true, false, Option, Some, None, refl, sym, ap, inl, inr, ◌∙◌, arith, subst}
+use Rattle.std.proofs.Common.{◌≡◌, ℕ, ◌+◌, ◌*◌, ◌/◌, ◌%◌, ◌^◌, ◌<◌, ◌≤◌, Option, Some, refl, sym, ap, inl, inr, ◌∙◌, arith, subst}
 use Rattle.std.proofs.lemmas.Option.{none-some, same_Some}
 use Rattle.pager_model.specs.declared.tile.Mapping.{Mapping}
 use Rattle.pager_model.specs.declared.tile.Tile.{Tile}
 use Rattle.pager_model.specs.Extents.{extent_start}
-use Rattle.pager_model.specs.Tiles.{IsTile, moved_by, tile_with, eligible_with, eligible_at, tile_of, size_at}
-use Rattle.tiles.specs.Beside.{whole}
-use Rattle.tiles.proofs.Eligible.{HasExtent, whole_has, has_whole, whole_none, none_whole, whole_alike, eligible_is, eligible_has, page_in}
+use Rattle.pager_model.specs.Tiles.{IsTile, tile_with, eligible_with, eligible_at, tile_of, size_at}
+use Rattle.tiles.proofs.Eligible.{HasExtent, has_whole, whole_none, none_whole, whole_alike, eligible_is, eligible_has, page_in}
 use Rattle.tiles.proofs.Extents.{up, starts_below, first_of_extent, start_aligned}
 use Rattle.tiles.proofs.Largest.{HasTile, tiles, resident_tile, size_is}
 

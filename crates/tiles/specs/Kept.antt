@@ -1,9 +1,9 @@
 -- What is kept of the resident pages.
-use Rattle.std.specs.Prelude.{ℕ, ◌≡◌, ◌≢◌, ◌<◌, ◌≤◌, ◌==◌, if◌then◌else◌, List, length, slice_index_or, Option, Some, None}
+use Rattle.std.specs.Prelude.{ℕ, ◌≡◌, ◌≢◌, ◌≤◌, ◌==◌, if◌then◌else◌, List, length, slice_index_or, Option, Some, None}
 use Rattle.pager_model.specs.declared.tile.Mapping.{Mapping}
 use Rattle.pager_model.specs.Tiles.{size_at}
 use Rattle.tiles.specs.declared.pages.Place.{Place}
-use Rattle.tiles.specs.Resident.{Resident, mapping_at, frames_in}
+use Rattle.tiles.specs.Resident.{Resident, mapping_at}
 
 abbrev pub size_in_place : Option Place → ℕ
 size_in_place None = 0

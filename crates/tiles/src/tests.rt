@@ -236,7 +236,7 @@ fn drawn_changes_leave_the_tiles_of_a_scan(rt: HostRuntime) -> Result<(), Fail> 
     let mut before = tiles(rt.alloc(), &both.pages)?;
     both.compares(&rt, &before);
     let mut drawn = 7;
-    for _ in 0..60 {
+    for _ in 0..100 {
         drawn = next(drawn);
         let moves = both.change(drawn);
         let after = tiles(rt.alloc(), &both.pages)?;

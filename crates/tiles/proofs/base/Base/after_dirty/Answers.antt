@@ -1,5 +1,4 @@
-use Rattle.std.proofs.Common.{◌≡◌, ◌∙◌, sym, ap, refl, option_map}
-use Rattle.pager_model.specs.Tiles.{size_at}
+use Rattle.std.proofs.Common.{◌∙◌, refl, option_map}
 use Rattle.tiles.specs.Resident.{mapping_at, with_flag}
 use Rattle.tiles.proofs.Promoting.{kept_but, same_sizes_but, moves_one, moves_same}
 use Rattle.tiles.proofs.base.Base.after_dirty.Goals as goal

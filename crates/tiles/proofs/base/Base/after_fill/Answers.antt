@@ -1,5 +1,4 @@
-use Rattle.std.proofs.Common.{◌≡◌, ◌∙◌, sym, ap, Some, if◌then◌else◌, nat_lt}
-use Rattle.pager_model.specs.Tiles.{size_at}
+use Rattle.std.proofs.Common.{◌∙◌, sym, Some}
 use Rattle.tiles.specs.Resident.{mapping_at}
 use Rattle.tiles.proofs.Largest.{size_absent}
 use Rattle.tiles.proofs.Promoting.{kept_but, moves_one}

@@ -1,7 +1,6 @@
-use Rattle.std.proofs.Common.{◌≡◌, ◌<◌, ◌∙◌, sym, ap, ℕ, Bool, true, false, not, Option, Some, None, is_some, refl}
+use Rattle.std.proofs.Common.{◌≡◌, ◌<◌, ◌∙◌, ap, ℕ, true, not, Option, Some, None, is_some, refl}
 use Rattle.std.specs.Option.{IfSome}
 use Rattle.pager_model.specs.declared.tile.Mapping.{Mapping}
-use Rattle.pager_model.specs.Tiles.{size_at}
 use Rattle.tiles.specs.Resident.{mapping_at}
 use Rattle.tiles.proofs.Promoting.{kept_but, moves_one, moves_same}
 use Rattle.tiles.proofs.base.Base.after_remove.Goals as goal

@@ -1,6 +1,5 @@
-use Rattle.std.proofs.Common.{◌≡◌, ◌∙◌, ◌+◌, ◌*◌, ◌≤◌, ◌<◌, sym, ap, refl, arith}
-use Rattle.std.specs.Int.{div_ceil}
-use Rattle.tiles.proofs.Blocks.{blocks_none, blocks_more, blocks_all, moves_more, moves_fit, blocks_past, block_meets}
+use Rattle.std.proofs.Common.{◌+◌, refl, arith}
+use Rattle.tiles.proofs.Blocks.{blocks_none, blocks_more, blocks_all, moves_more, moves_fit, blocks_past}
 use Rattle.tiles.proofs.Promoting.{moves_same}
 use Rattle.tiles.proofs.base.Base.after_rights.Goals as goal
 

@@ -1,4 +1,4 @@
-use Rattle.std.proofs.Common.{◌≤◌, ◌+◌, ◌*◌, ◌∙◌, ◌≡◌, ℕ, sym, refl, subst, slice_index, arith}
+use Rattle.std.proofs.Common.{◌+◌, ◌*◌, ◌∙◌, ◌≡◌, ℕ, refl, subst, slice_index, arith}
 use Rattle.tiles.specs.Blocks.{is_grown_at}
 use Rattle.tiles.specs.Resident.{mapping_at}
 use Rattle.tiles.proofs.Blocks.{CountsTo, counts_none, counts_more, counts_all, one_most}

@@ -1,4 +1,4 @@
-use Rattle.std.proofs.Common.{◌≡◌, ◌∙◌, sym, arith}
+use Rattle.std.proofs.Common.{◌∙◌, sym, arith}
 use Rattle.tiles.specs.Resident.{mapping_at}
 use Rattle.tiles.proofs.Largest.{tile_absent, tile_found, offset_within}
 use Rattle.tiles.proofs.Settling.{power_positive}

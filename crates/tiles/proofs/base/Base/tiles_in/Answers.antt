@@ -1,4 +1,4 @@
-use Rattle.std.proofs.Common.{◌≡◌, ◌∙◌, ◌+◌, ◌-◌, ◌<◌, ◌≤◌, sym, ap, arith, zero-add, true, false, refl}
+use Rattle.std.proofs.Common.{◌∙◌, ◌-◌, sym, ap, arith}
 use Rattle.tiles.specs.Resident.{mapping_at, begins_large}
 use Rattle.tiles.proofs.Blocks.{count_in_range, count_on}
 use Rattle.tiles.proofs.Counting.{count, one_if, count-zero}

@@ -1,4 +1,4 @@
-use Rattle.std.proofs.Common.{◌≡◌, sym, ℕ, ◌<◌, Option, None, Some, slice_index_or, arith}
+use Rattle.std.proofs.Common.{◌≡◌, sym, ℕ, ◌<◌, Option, None, Some, arith}
 use Rattle.std.specs.Option.{IfSome}
 use Rattle.tiles.specs.Kept.{ArePages}
 use Rattle.tiles.specs.Resident.{Resident, frames_in}

@@ -1,5 +1,4 @@
 use Rattle.std.proofs.Common.{◌∙◌, sym, None}
-use Rattle.tiles.specs.contracts.pages.Pages.{the_view}
 use Rattle.tiles.proofs.Keeping.{taken_kept, taken_maps, taken_sizes, maps_same, mapping-absent}
 use Rattle.tiles.proofs.pages.Pages.remove.Goals as goal
 

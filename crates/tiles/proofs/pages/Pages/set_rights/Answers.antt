@@ -1,4 +1,4 @@
-use Rattle.std.proofs.Common.{◌≡◌, ◌∙◌, sym, ap, None, option_map, Option, subst}
+use Rattle.std.proofs.Common.{◌≡◌, ◌∙◌, sym, ap, option_map, Option, subst}
 use Rattle.pager_model.specs.declared.tile.Mapping.{Mapping}
 use Rattle.tiles.specs.declared.pages.Place.{Place}
 use Rattle.tiles.specs.Kept.{said_by, sized}

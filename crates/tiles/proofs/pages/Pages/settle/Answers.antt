@@ -1,8 +1,7 @@
-use Rattle.std.proofs.Common.{◌≡◌, ◌∙◌, sym, ap, subst, ℕ, arith, max}
+use Rattle.std.proofs.Common.{◌≡◌, ◌∙◌, ap, subst, ℕ, arith, max}
 use Rattle.pager_model.specs.Tiles.{size_at}
 use Rattle.tiles.specs.Beside.{Spreads}
 use Rattle.tiles.specs.Resident.{mapping_at}
-use Rattle.tiles.proofs.Changing.{IsOver}
 use Rattle.tiles.proofs.Settling.{over_max, spread_sizes}
 use Rattle.tiles.proofs.pages.Pages.settle.Goals as goal
 

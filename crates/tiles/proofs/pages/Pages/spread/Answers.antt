@@ -1,5 +1,5 @@
-use Rattle.std.proofs.Common.{◌≡◌, ◌∙◌, sym, ap, subst, ◌+◌, ◌-◌, ◌%◌, ◌^◌, ℕ, arith}
-use Rattle.tiles.proofs.Settling.{SetTo, power_positive, set_none, set_more, set_all, same_trans}
+use Rattle.std.proofs.Common.{ap, ◌-◌, ◌%◌, arith}
+use Rattle.tiles.proofs.Settling.{power_positive, set_all}
 use Rattle.tiles.proofs.pages.Pages.spread.Goals as goal
 
 pub nonzero_rem-first : goal.nonzero_rem-first
