@@ -1,3 +1,5 @@
+//! The resident pages of a space, and what each change does to their tiles.
+
 ghost use Rattle.std.specs.Prelude.{◌≡◌, ◌≢◌, ◌∷◌, [], ℕ, ◌+◌, ◌*◌, ◌<◌, ◌≤◌, true, false, Option, None, Some, IfOk, IfSome, option_map, slice_index};
 ghost use Rattle.pager_model.specs.Tiles.{tile_of, is_tile, size_at, tiles_of_size};
 ghost use Rattle.pager_model.specs.declared.tile.Mapping.{Mapping};
