@@ -6,6 +6,7 @@ mod machines;
 mod recorded;
 mod runs;
 mod stored_runs;
+mod takings;
 mod turns;
 
 use super::*;
