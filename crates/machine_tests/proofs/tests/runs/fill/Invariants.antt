@@ -1,5 +1,5 @@
 use Rattle.std.proofs.Common.{◌≡◌, ◌<◌, length}
-use Rattle.superpager.proofs.tests.runs.fill.Given as goal
+use Rattle.machine_tests.proofs.tests.runs.fill.Given as goal
 
 abbrev pub invariant-loop : goal.invariant-loop
 invariant-loop g l =

@@ -1,5 +1,5 @@
 use Rattle.std.proofs.Common.{◌≡◌, ◌≤◌, length}
-use Rattle.superpager.proofs.tests.turns.take_turns.Given as goal
+use Rattle.machine_tests.proofs.tests.turns.take_turns.Given as goal
 
 abbrev pub invariant-loop : goal.invariant-loop
 invariant-loop l =

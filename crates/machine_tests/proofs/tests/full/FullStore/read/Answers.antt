@@ -1,6 +1,6 @@
 use Rattle.std.proofs.Common.{◌∙◌, ap, replicate}
 use Rattle.store_core.specs.Stored.{copy_at}
-use Rattle.superpager.proofs.tests.full.FullStore.read.Goals as goal
+use Rattle.machine_tests.proofs.tests.full.FullStore.read.Goals as goal
 
 pub returns-clause-read : goal.returns-clause-read
 unfolding copy_at
