@@ -1,34 +1,39 @@
-//! Whole histories, entry by entry, with few frames left and over stores that fail.
+//! Whole histories, entry by entry. Those that are expected were made by an independent checker.
+mod drawn;
+mod fills;
 mod full;
 mod lines;
-mod machines;
+mod named;
 mod recorded;
 mod runs;
-mod stored_runs;
 mod turns;
+mod walks;
 
 use io_core::MemorySource;
+use pager_model::Trace;
 use std::alloc::{AllocError, Global};
-use store_core::MemoryStore;
+use std::test::Fail;
+use trace_reader::read_trace;
 
-// A source of these bytes, one a read, which fails at one read; none is read 0.
-fn source_of(alloc: Global, bytes: &[u8], failing: u64) -> Result<MemorySource, AllocError> {
-    let failing = [failing].to_vec(alloc)?;
-    Ok(MemorySource::of(bytes.to_vec(alloc)?, 1, failing))
+/// Adds lines that stand one behind another.
+fn put_lines(text: &mut String, lines: &str) -> Result<(), AllocError> {
+    for line in lines.split_terminator("; ") {
+        text.push_str(line)?;
+        text.push_str("\n")?;
+    }
+    Ok(())
 }
 
-// So many stores in memory, of which the first fails at these reads and writes.
-fn stores_of(
-    alloc: Global,
-    count: usize,
-    reads: &[u64],
-    writes: &[u64],
-) -> Result<Vec<MemoryStore>, AllocError> {
-    let mut stores = Vec::with_capacity(alloc, count)?;
-    let failing = MemoryStore::of(alloc, reads.to_vec(alloc)?, writes.to_vec(alloc)?);
-    stores.push(failing)?;
-    for _ in 1..count {
-        stores.push(MemoryStore::of(alloc, Vec::new(alloc), Vec::new(alloc)))?;
-    }
-    Ok(stores)
+/// The trace of a text.
+fn read_text(alloc: Global, text: &str) -> Result<Trace, Fail> {
+    let bytes = text.as_bytes().to_vec(alloc)?;
+    let mut source = MemorySource::of(bytes, 4096, Vec::new(alloc));
+    Ok(read_trace(alloc, &mut source)?)
+}
+
+/// The trace of these lines.
+fn trace_of(alloc: Global, lines: &str) -> Result<Trace, Fail> {
+    let mut text = String::new(alloc);
+    put_lines(&mut text, lines)?;
+    read_text(alloc, text.as_str())
 }

@@ -1,99 +1,78 @@
-//! The lines of a history, as the recorded histories have them.
-use pager_model::{Entry, Numbered, Reply, Want, What};
+//! The lines of a history, as the recorded histories have them: without its number, which is proved to be its place.
+use itoa::Buffer;
+use pager_model::{Entry, Need, Numbered, Reply, Want, What};
 use std::alloc::{AllocError, Global};
+use std::process::Abort;
 
-/// The parts that an entry names.
-fn part_of(alloc: Global, entry: &Entry) -> Result<String, AllocError> {
-    match entry.space {
-        None => format!(in alloc; "f"),
-        Some(space) if entry.frames => format!(in alloc; "s{space}+f"),
-        Some(space) => format!(in alloc; "s{space}"),
+/// Adds a word, behind a space.
+fn put_word(line: &mut String, word: &str) -> Result<(), AllocError> {
+    line.push_str(" ")?;
+    line.push_str(word)
+}
+
+/// Adds a number, behind a space.
+fn put_number(line: &mut String, number: u64) -> Result<(), AllocError> {
+    let mut buffer = Buffer::new();
+    put_word(line, buffer.format(number))
+}
+
+/// Adds a word and the numbers that it has.
+fn put(line: &mut String, word: &str, numbers: &[u32]) -> Result<(), AllocError> {
+    put_word(line, word)?;
+    for number in numbers {
+        put_number(line, u64::from(*number))?;
+    }
+    Ok(())
+}
+
+/// Adds the parts that an entry names.
+fn put_parts(line: &mut String, entry: &Entry) -> Result<(), AllocError> {
+    let Some(space) = entry.space else {
+        return put_word(line, "f");
+    };
+    let mut buffer = Buffer::new();
+    put_word(line, "s")?;
+    line.push_str(buffer.format(space))?;
+    line.push_str(if entry.frames { "+f" } else { "" })
+}
+
+/// The word of a reply, before its numbers.
+fn word_of(reply: &Reply) -> &'static str {
+    match reply {
+        Reply::Done => "done",
+        Reply::Value(_) => "value",
+        Reply::Clean => "clean",
+        Reply::Written => "written",
+        Reply::Unmapped => "unmapped",
+        Reply::Denied => "denied",
+        Reply::Overlap => "overlap",
+        Reply::OutOfSpace => "outofspace",
+        Reply::NotGrowing => "notgrowing",
+        Reply::RegionsFull => "regionsfull",
+        Reply::NoFrames { .. } => "noframes",
+        Reply::StoreFault { .. } => "storefault",
+        Reply::NoMemory => "nomemory",
     }
 }
 
-/// The words of a reply.
-fn reply_of(alloc: Global, reply: &Reply) -> Result<String, AllocError> {
+/// Adds a reply.
+fn put_reply(line: &mut String, reply: &Reply) -> Result<(), AllocError> {
+    let word = word_of(reply);
     match *reply {
-        Reply::Done => format!(in alloc; "done"),
-        Reply::Value(word) => format!(in alloc; "value {word}"),
-        Reply::Clean => format!(in alloc; "clean"),
-        Reply::Written => format!(in alloc; "written"),
-        Reply::Unmapped => format!(in alloc; "unmapped"),
-        Reply::Denied => format!(in alloc; "denied"),
-        Reply::Overlap => format!(in alloc; "overlap"),
-        Reply::OutOfSpace => format!(in alloc; "outofspace"),
-        Reply::NotGrowing => format!(in alloc; "notgrowing"),
-        Reply::RegionsFull => format!(in alloc; "regionsfull"),
+        Reply::Value(value) => {
+            put_word(line, word)?;
+            put_number(line, value)
+        }
         Reply::NoFrames {
             wired,
             claimed,
             held,
-        } => format!(in alloc; "noframes {wired} {claimed} {held}"),
-        Reply::StoreFault { space, count } => format!(in alloc; "storefault {space} {count}"),
-        Reply::NoMemory => format!(in alloc; "nomemory"),
-    }
-}
-
-/// The numbers of a wanted place.
-fn want_of(alloc: Global, want: &Want) -> Result<String, AllocError> {
-    let (low, high, cap, wired) = (want.low, want.high, want.cap, u32::from(want.wired));
-    format!(in alloc; "{low} {high} {cap} {wired}")
-}
-
-/// What happened to a page, a region or a claimed frame.
-fn what_of(alloc: Global, what: &What) -> Result<String, AllocError> {
-    match *what {
-        What::Answer {
-            number,
-            answered,
-            ..
-        } => {
-            let reply = reply_of(alloc, &answered.reply)?;
-            format!(in alloc; "answer {number} {reply}")
+        } => put(line, word, &[wired, claimed, held]),
+        Reply::StoreFault { space, count } => {
+            put(line, word, &[space])?;
+            put_number(line, count)
         }
-        What::Out { page, written } => {
-            format!(in alloc; "out {page} {}", if written { "written" } else { "clean" })
-        }
-        What::Failed {
-            page,
-            writing,
-            count,
-        } => format!(in alloc; "failed {page} {} {count}", side_of(writing)),
-        What::Take { page, frame, want } => {
-            let want = want_of(alloc, &want)?;
-            format!(in alloc; "take {page} {frame} {want}")
-        }
-        What::Give { page, frame } => format!(in alloc; "give {page} {frame}"),
-        What::Clear { first, length } => format!(in alloc; "clear {first} {length}"),
-        What::Claim {
-            space,
-            page,
-            frame,
-            need: Some(need),
-        } => format!(in alloc;
-            "claim {space} {page} {frame} for {} {}",
-            need.page,
-            side_of(need.writing)
-        ),
-        What::Claim {
-            space,
-            page,
-            frame,
-            need: None,
-        } => format!(in alloc; "claim {space} {page} {frame}"),
-        What::UseHeld { page, frame, want } => {
-            let want = want_of(alloc, &want)?;
-            format!(in alloc; "use {page} {frame} {want}")
-        }
-        What::DropHeld { frame } => format!(in alloc; "drop {frame}"),
-        What::Got { frame } => format!(in alloc; "got {frame}"),
-        What::Unclaim { frame } => format!(in alloc; "unclaim {frame}"),
-        What::Refused {
-            wired,
-            claimed,
-            held,
-        } => format!(in alloc; "refused {wired} {claimed} {held}"),
-        What::Rest { short } => format!(in alloc; "rest {}", u32::from(short)),
+        _ => put_word(line, word),
     }
 }
 
@@ -102,11 +81,130 @@ fn side_of(writing: bool) -> &'static str {
     if writing { "write" } else { "read" }
 }
 
-/// The line of an entry, as the recorded history has it.
-pub(super) fn line_of(alloc: Global, numbered: &Numbered) -> Result<String, AllocError> {
-    let entry = &numbered.entry;
-    let part = part_of(alloc, entry)?;
-    let what = what_of(alloc, &entry.what)?;
-    let (number, processor) = (numbered.number, entry.processor);
-    format!(in alloc; "{number} {processor} {part} {what}")
+/// Adds that a frame was taken for a page, and for what place.
+fn put_taken(
+    line: &mut String,
+    word: &str,
+    page: u32,
+    frame: u32,
+    want: &Want,
+) -> Result<(), AllocError> {
+    put(
+        line,
+        word,
+        &[
+            page,
+            frame,
+            want.low,
+            want.high,
+            want.cap,
+            u32::from(want.wired),
+        ],
+    )
+}
+
+/// Adds that a frame was claimed, and for which access.
+fn put_claim(line: &mut String, numbers: &[u32], need: Option<Need>) -> Result<(), AllocError> {
+    put(line, "claim", numbers)?;
+    let Some(need) = need else {
+        return Ok(());
+    };
+    put(line, "for", &[need.page])?;
+    put_word(line, side_of(need.writing))
+}
+
+/// Adds what happened to a page, a region or a claimed frame.
+fn put_what(line: &mut String, what: &What) -> Result<(), AllocError> {
+    match *what {
+        What::Answer {
+            number,
+            answered,
+            ..
+        } => {
+            put(line, "answer", &[number])?;
+            put_reply(line, &answered.reply)
+        }
+        What::Out { page, written } => {
+            put(line, "out", &[page])?;
+            put_word(line, if written { "written" } else { "clean" })
+        }
+        What::Failed {
+            page,
+            writing,
+            count,
+        } => {
+            put(line, "failed", &[page])?;
+            put_word(line, side_of(writing))?;
+            put_number(line, count)
+        }
+        What::Take { page, frame, want } => put_taken(line, "take", page, frame, &want),
+        What::UseHeld { page, frame, want } => put_taken(line, "use", page, frame, &want),
+        What::Give { page, frame } => put(line, "give", &[page, frame]),
+        What::Clear { first, length } => put(line, "clear", &[first, length]),
+        What::Claim {
+            space,
+            page,
+            frame,
+            need,
+        } => put_claim(line, &[space, page, frame], need),
+        What::DropHeld { frame } => put(line, "drop", &[frame]),
+        What::Got { frame } => put(line, "got", &[frame]),
+        What::Unclaim { frame } => put(line, "unclaim", &[frame]),
+        What::Refused {
+            wired,
+            claimed,
+            held,
+        } => put(line, "refused", &[wired, claimed, held]),
+        What::Rest { short } => put(line, "rest", &[u32::from(short)]),
+    }
+}
+
+/// The line of an entry, as the recorded histories have it.
+fn line_of(alloc: Global, entry: &Entry) -> Result<String, AllocError> {
+    let mut line = String::new(alloc);
+    let mut buffer = Buffer::new();
+    line.push_str(buffer.format(entry.processor))?;
+    put_parts(&mut line, entry)?;
+    put_what(&mut line, &entry.what)?;
+    Ok(line)
+}
+
+/// Asserts that the entries are the recorded lines.
+pub(super) fn assert_recorded(
+    rt: &impl Abort,
+    alloc: Global,
+    entries: &[Numbered],
+    recorded: &str,
+) -> Result<(), AllocError> {
+    let mut recorded = recorded.split_terminator("; ");
+    for numbered in entries {
+        let line = line_of(alloc, &numbered.entry)?;
+        assert_eq!(rt;
+            Some(line.as_str()),
+            recorded.next(),
+            "entry {}",
+            numbered.number
+        );
+    }
+    assert_eq!(rt; recorded.next(), None);
+    Ok(())
+}
+
+/// The FNV-1a hash of bytes, on from that of the bytes before.
+fn hash_on(hash: u64, bytes: &[u8]) -> u64 {
+    let mut hash = hash;
+    for byte in bytes {
+        hash = (hash ^ u64::from(*byte)).wrapping_mul(1099511628211);
+    }
+    hash
+}
+
+/// The FNV-1a hash of the entries' lines.
+pub(super) fn hash_of(alloc: Global, entries: &[Numbered]) -> Result<u64, AllocError> {
+    let mut hash = 14695981039346656037;
+    for numbered in entries {
+        let line = line_of(alloc, &numbered.entry)?;
+        hash = hash_on(hash, line.as_bytes());
+    }
+    Ok(hash)
 }

@@ -1,69 +1,81 @@
-//! Machines with few frames left and stores that fail: every kind of entry, as it was recorded.
-ghost use Rattle.std.specs.Prelude.{◌≡◌, ◌<◌, length};
+//! Machines with few frames left, over stores that may fail: their histories, entry by entry, are the recorded ones.
+ghost use Rattle.std.specs.Prelude.{◌<◌, IfOk};
+ghost use Rattle.std.specs.List.{All};
 
+use super::drawn::{FIRST, FOURTH, SECOND, THIRD};
 use super::full::Full;
-use super::machines::{assert_recorded, machine_of};
-use super::source_of;
-use super::stored_runs::{DRAWN, Run, WORKED};
-use pager_core::{Machine, Turn};
-use pager_model::{Numbered, What};
+use super::lines::{assert_recorded, hash_of};
+use super::named::NAMED;
+use super::{put_lines, read_text};
+use pager_model::{Numbered, Trace};
+use replay_core::replay_schedule;
 use std::alloc::{AllocError, Global};
 use std::process::Abort;
 use std::test::Fail;
 use store_core::{MemoryStore, Store};
-use trace_reader::read_trace;
 
-/// More turns than the calls of any run have steps.
-const ENOUGH: u32 = 1_000;
-
-/// The kinds of entries, and how many of each the compared parts of the worked runs, of the first drawn ones and of the others have.
-const KINDS: [(&str, [u32; 3]); 13] = [
-    ("answer", [14, 87, 86]),
-    ("out", [4, 7, 3]),
-    ("failed read", [0, 5, 2]),
-    ("failed write", [1, 0, 3]),
-    ("take", [0, 14, 16]),
-    ("give", [4, 12, 5]),
-    ("clear", [1, 4, 2]),
-    ("claim", [6, 11, 8]),
-    ("use", [4, 4, 3]),
-    ("drop", [1, 5, 1]),
-    ("got", [1, 2, 1]),
-    ("unclaim", [1, 2, 4]),
-    ("refused", [1, 3, 0]),
-];
-
-/// The place of an entry's kind in the list of kinds. No run has a rest.
-fn kind_of(what: &What) -> usize {
-    match *what {
-        What::Answer { .. } => 0,
-        What::Out { .. } => 1,
-        What::Failed { writing: false, .. } => 2,
-        What::Failed { writing: true, .. } => 3,
-        What::Take { .. } => 4,
-        What::Give { .. } => 5,
-        What::Clear { .. } => 6,
-        What::Claim { .. } => 7,
-        What::UseHeld { .. } => 8,
-        What::DropHeld { .. } => 9,
-        What::Got { .. } => 10,
-        What::Unclaim { .. } => 11,
-        What::Refused { .. } => 12,
-        What::Rest { .. } => 13,
-    }
+/// Calls of processor 0 that use frames.
+pub struct Fill {
+    /// The first calls, the last of which is an access to page 0 of space 0.
+    pub calls: &'static str,
+    /// How many pages of space 0 are accessed, those behind the first one by a load of each.
+    pub pages: u32,
+    /// How many entries all these calls make, and the hash of their lines, as the checker made them.
+    pub entries: usize,
+    pub hash: u64,
 }
 
-/// The text of a run's trace: its first lines, the loads that fill the frames, and its other lines.
-fn trace_of(alloc: Global, run: &Run) -> Result<String, AllocError> {
-    let (processors, spaces, first) = (run.processors, run.spaces, run.first);
-    let mut text = format!(in alloc; "trace 1 512 {processors} {spaces}\n{first}")?;
-    for page in run.loads.0..run.loads.1 {
+/// A run: its trace, its turns, where its stores fail, and its history.
+pub struct Run {
+    pub name: &'static str,
+    /// The first line of the trace.
+    pub head: &'static str,
+    pub fill: &'static Fill,
+    /// The calls behind those that use frames.
+    pub calls: &'static str,
+    /// Whose turns come behind those that use frames, a digit a turn. After them it is always that of the lowest processor that can
+    /// step.
+    pub turns: &'static str,
+    /// The reads and the writes at which each store fails. Those of the first are counted behind the reads that use frames.
+    pub reads: &'static [u64],
+    pub writes: &'static [u64],
+    /// Whether no store finds memory for a write.
+    pub full: bool,
+    /// The history's lines behind those of the calls that use frames.
+    pub history: &'static str,
+}
+
+/// Adds a load of each page behind the first one.
+fn put_loads(alloc: Global, text: &mut String, pages: u32) -> Result<(), AllocError> {
+    for page in 1..pages {
         let address = u64::from(page) * 8192;
         text.push_str(format!(in alloc; "0 load 0 {address}\n")?.as_str())?;
     }
-    text.push_str(run.lines)?;
-    text.push_str("end\n")?;
+    Ok(())
+}
+
+/// The text of a run's trace.
+fn text_of(alloc: Global, run: &Run) -> Result<String, AllocError> {
+    let mut text = String::new(alloc);
+    put_lines(&mut text, run.head)?;
+    put_lines(&mut text, run.fill.calls)?;
+    put_loads(alloc, &mut text, run.fill.pages)?;
+    put_lines(&mut text, run.calls)?;
+    put_lines(&mut text, "end")?;
     Ok(text)
+}
+
+/// The run's turns: those of processor 0 that use frames, and those that the digits name.
+fn turns_of(alloc: Global, run: &Run, processors: u32) -> Result<Vec<u32>, AllocError>
+    requires some { 0 < processors }
+    ensures known { IfOk result (λ turns. All (λ c. c < processors) turns.items) }
+{
+    let mut turns = vec![in alloc; 0; run.fill.entries]?;
+    for digit in run.turns.bytes() {
+        // The digit 0 is byte 48, a multiple of 16.
+        turns.push(u32::from(digit) % 16 % processors)?;
+    }
+    Ok(turns)
 }
 
 /// The numbers, each so much greater.
@@ -75,132 +87,91 @@ fn moved(alloc: Global, numbers: &[u64], by: u64) -> Result<Vec<u64>, AllocError
     Ok(all)
 }
 
-/// A store for each space. The first space's reads are counted behind those that fill the frames.
-fn stores_of(alloc: Global, run: &Run) -> Result<Vec<MemoryStore>, AllocError> {
+/// A store for each space.
+fn stores_of(alloc: Global, run: &Run, spaces: u32) -> Result<Vec<MemoryStore>, AllocError> {
     let mut stores = Vec::new(alloc);
-    for space in 0..run.spaces {
-        let before = if space == 0 { run.reads_before } else { 0 };
-        let reads = moved(alloc, run.reads, before)?;
+    for space in 0..spaces {
+        let before = if space == 0 { run.fill.pages } else { 0 };
+        let reads = moved(alloc, run.reads, u64::from(before))?;
         stores.push(MemoryStore::of(alloc, reads, run.writes.to_vec(alloc)?))?;
     }
     Ok(stores)
 }
 
 /// A store for each space, none of which finds memory for a copy.
-fn full_stores_of(alloc: Global, run: &Run) -> Result<Vec<Full>, AllocError> {
+fn full_stores(alloc: Global, spaces: u32) -> Result<Vec<Full>, AllocError> {
     let mut stores = Vec::new(alloc);
-    for _ in 0..run.spaces {
+    for _ in 0..spaces {
         stores.push(Full)?;
     }
     Ok(stores)
 }
 
-/// Takes the first processor's turns that fill the frames.
-fn fill<S: Store + Send + Drop>(machine: &mut Machine<S>, turns: usize)
-    requires some { 0 < length machine.old.calls }
-    ensures same { length machine.new.calls ≡ length machine.old.calls }
+/// The history of a run over these stores.
+fn history_over<S: Store + Send + Drop>(
+    alloc: Global,
+    trace: &Trace,
+    stores: Vec<S>,
+    turns: &[u32],
+) -> Result<Vec<Numbered>, Fail>
+    requires known { All (λ c. c < trace.now.processors) turns.now }
 {
-    for _ in 0..turns {
-        machine.turn(0);
+    if stores.len() < trace.spaces() as usize {
+        return Err(Fail::from("too few stores"));
     }
-}
-
-/// Takes the turns of the processors that the digits name.
-fn take_turns<S: Store + Send + Drop>(machine: &mut Machine<S>, processors: u32, digits: &str)
-    requires known { length machine.old.calls ≡ processors }
-    ensures same { length machine.new.calls ≡ processors }
-{
-    for digit in digits.bytes() {
-        // The digit 0 is byte 48, a multiple of 16.
-        let actor = u32::from(digit) % 16;
-        if actor < processors {
-            machine.turn(actor);
-        }
-    }
-}
-
-/// Takes a step of the lowest processor that can step. Answers whether one could.
-fn step_lowest<S: Store + Send + Drop>(machine: &mut Machine<S>, processors: u32) -> bool
-    requires known { length machine.old.calls ≡ processors }
-    ensures same { length machine.new.calls ≡ processors }
-{
-    for actor in 0..processors {
-        if machine.turn(actor) == Turn::Stepped {
-            return true;
-        }
-    }
-    false
-}
-
-/// Takes steps of the lowest processors that can step until none can.
-fn go_on<S: Store + Send + Drop>(machine: &mut Machine<S>, processors: u32)
-    requires known { length machine.old.calls ≡ processors }
-{
-    for _ in 0..ENOUGH {
-        if !step_lowest(machine, processors) {
-            return;
-        }
+    match replay_schedule(alloc, trace, stores, turns) {
+        Ok(gathered) => Ok(gathered.history),
+        Err(_) => Err(Fail::from("no memory for the machine")),
     }
 }
 
 /// The history of a run.
-fn history_of<S: Store + Send + Drop>(
-    rt: &impl Abort,
-    alloc: Global,
-    run: &Run,
-    stores: Vec<S>,
-) -> Result<Vec<Numbered>, Fail> {
-    let text = trace_of(alloc, run)?;
-    let trace = read_trace(alloc, &mut source_of(alloc, text.as_bytes(), 0)?)?;
-    let processors = trace.processors();
-    assert!(rt; processors > 0);
-    let mut machine = machine_of(alloc, &trace, stores)?;
-    fill(&mut machine, run.before);
-    take_turns(&mut machine, processors, run.turns);
-    go_on(&mut machine, processors);
-    assert!(rt; machine.ended());
-    Ok(machine.finish().history)
-}
-
-/// Counts the entries of each kind.
-fn count_kinds(counts: &mut [u32; 13], entries: &[Numbered]) {
-    for numbered in entries {
-        if let Some(count) = counts.get_mut(kind_of(&numbered.entry.what)) {
-            *count = count.saturating_add(1);
-        }
+fn history_of(alloc: Global, run: &Run) -> Result<Vec<Numbered>, Fail> {
+    let text = text_of(alloc, run)?;
+    let trace = read_text(alloc, text.as_str())?;
+    let spaces = trace.spaces();
+    let turns = turns_of(alloc, run, trace.processors())?;
+    if run.full {
+        history_over(alloc, &trace, full_stores(alloc, spaces)?, &turns)
+    } else {
+        history_over(alloc, &trace, stores_of(alloc, run, spaces)?, &turns)
     }
 }
 
-/// Runs each, and asserts that its history is the recorded one and that all have as many entries of each kind as this column says.
-fn assert_runs(rt: &impl Abort, alloc: Global, runs: &[Run], column: usize) -> Result<(), Fail> {
-    let mut counts = [0; 13];
+/// Asserts that the runs' histories are the recorded ones.
+fn assert_runs(rt: &impl Abort, alloc: Global, runs: &[Run]) -> Result<(), Fail> {
     for run in runs {
-        let history = if run.full {
-            history_of(rt, alloc, run, full_stores_of(alloc, run)?)?
-        } else {
-            history_of(rt, alloc, run, stores_of(alloc, run)?)?
+        let history = history_of(alloc, run)?;
+        let Some((first, rest)) = history.split_at_checked(run.fill.entries) else {
+            return Err(Fail::from("too few entries"));
         };
-        let entries = history.get(run.before..).ok_or("too few entries")?;
-        assert_recorded(rt, alloc, entries, run.history)?;
-        count_kinds(&mut counts, entries);
-    }
-    for ((kind, wanted), count) in KINDS.iter().zip(counts.iter()) {
-        assert_eq!(rt; Some(count), wanted.get(column), "{kind}");
+        assert_eq!(rt; hash_of(alloc, first)?, run.fill.hash, "{}", run.name);
+        assert_recorded(rt, alloc, rest, run.history)?;
     }
     Ok(())
 }
 
 #[test]
-fn worked_runs_make_the_recorded_histories(rt: HostRuntime) -> Result<(), Fail> {
-    assert_runs(&rt, rt.alloc(), &WORKED, 0)
+fn runs_show_what_their_names_say(rt: HostRuntime) -> Result<(), Fail> {
+    assert_runs(&rt, rt.alloc(), &NAMED)
 }
 
 #[test]
-fn drawn_runs_make_the_recorded_histories(rt: HostRuntime) -> Result<(), Fail> {
-    assert_runs(&rt, rt.alloc(), &DRAWN[..6], 1)
+fn the_first_drawn_runs_make_the_recorded_histories(rt: HostRuntime) -> Result<(), Fail> {
+    assert_runs(&rt, rt.alloc(), &FIRST)
 }
 
 #[test]
-fn other_drawn_runs_make_the_recorded_histories(rt: HostRuntime) -> Result<(), Fail> {
-    assert_runs(&rt, rt.alloc(), &DRAWN[6..], 2)
+fn the_second_drawn_runs_make_the_recorded_histories(rt: HostRuntime) -> Result<(), Fail> {
+    assert_runs(&rt, rt.alloc(), &SECOND)
+}
+
+#[test]
+fn the_third_drawn_runs_make_the_recorded_histories(rt: HostRuntime) -> Result<(), Fail> {
+    assert_runs(&rt, rt.alloc(), &THIRD)
+}
+
+#[test]
+fn the_fourth_drawn_runs_make_the_recorded_histories(rt: HostRuntime) -> Result<(), Fail> {
+    assert_runs(&rt, rt.alloc(), &FOURTH)
 }

@@ -1,14 +1,15 @@
 //! A machine by a list of turns: which turns made an entry, waited or found nothing left, and the history, entry by entry as it was
 //! recorded.
-ghost use Rattle.std.specs.Prelude.{◌≡◌, ◌<◌, length};
+ghost use Rattle.std.specs.Prelude.{◌≡◌, ◌<◌, IfOk, length};
 
-use super::machines::{assert_recorded, machine_of};
+use super::lines::assert_recorded;
 use super::recorded::{HISTORY, TRACE};
-use super::{source_of, stores_of};
+use super::trace_of;
 use pager_core::{Machine, Turn};
+use pager_model::Trace;
+use std::alloc::Global;
 use std::test::Fail;
 use store_core::MemoryStore;
-use trace_reader::read_trace;
 
 /// How many turns are taken, and from where they are drawn.
 const TURNS: u32 = 2_000;
@@ -21,6 +22,24 @@ struct Counts {
     stepped: u32,
     waits: u32,
     ended: u32,
+}
+
+/// A machine at the start of the trace, over empty stores.
+fn machine_of(alloc: Global, trace: &Trace) -> Result<Machine<MemoryStore>, Fail>
+    ensures { IfOk result (λ m. length m.calls ≡ trace.now.processors) }
+{
+    let spaces = trace.spaces();
+    let mut stores = Vec::new(alloc);
+    for _ in 0..spaces {
+        stores.push(MemoryStore::of(alloc, Vec::new(alloc), Vec::new(alloc)))?;
+    }
+    if stores.len() < spaces as usize {
+        return Err(Fail::from("too few stores"));
+    }
+    match Machine::create(alloc, trace, stores) {
+        Ok(machine) => Ok(machine),
+        Err(_) => Err(Fail::from("no memory for the machine")),
+    }
 }
 
 /// The next number of a generator, below the limit.
@@ -58,11 +77,10 @@ fn take_turns(machine: &mut Machine<MemoryStore>, processors: u32, turns: u32) -
 #[test]
 fn turns_in_any_order_make_the_recorded_history(rt: HostRuntime) -> Result<(), Fail> {
     let alloc = rt.alloc();
-    let trace = read_trace(alloc, &mut source_of(alloc, TRACE.as_bytes(), 0)?)?;
+    let trace = trace_of(alloc, TRACE)?;
     let processors = trace.processors();
     assert_eq!(rt; processors, 4);
-    let stores = stores_of(alloc, trace.spaces() as usize, &[], &[])?;
-    let mut machine = machine_of(alloc, &trace, stores)?;
+    let mut machine = machine_of(alloc, &trace)?;
     let counts = take_turns(&mut machine, processors, TURNS);
     let wanted = Counts {
         stepped: 1_461,
@@ -71,6 +89,6 @@ fn turns_in_any_order_make_the_recorded_history(rt: HostRuntime) -> Result<(), F
     };
     assert_eq!(rt; counts, wanted);
     assert!(rt; machine.ended());
-    let gathered = machine.finish();
-    assert_recorded(&rt, alloc, &gathered.history, HISTORY)
+    assert_recorded(&rt, alloc, &machine.finish().history, HISTORY)?;
+    Ok(())
 }

@@ -1,0 +1,10 @@
+use Rattle.std.proofs.Common.{◌<◌}
+use Rattle.std.specs.List.{All}
+use Rattle.machine_tests.proofs.tests.runs.turns_of.Given as goal
+
+abbrev pub invariant-loop-digit : goal.invariant-loop-digit
+invariant-loop-digit l =
+    record {
+      some : 0 < l.processors;
+      known : All (λ c. c < l.processors) l.turns.items;
+    }

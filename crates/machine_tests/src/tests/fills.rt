@@ -1,0 +1,130 @@
+//! Calls that use most frames or all of them.
+use super::runs::Fill;
+
+/// Wired pages, and behind them as many pages of a fixed region as the name says: 512 pages in all.
+pub const FIXED_1: Fill = Fill {
+    calls: "0 map 0 0 511 wired write; 0 map 0 511 1 fixed write; 0 load 0 0",
+    pages: 512,
+    entries: 1026,
+    hash: 10482134952120856727,
+};
+
+/// Wired pages, and behind them as many pages of a fixed region as the name says: 512 pages in all.
+pub const FIXED_2: Fill = Fill {
+    calls: "0 map 0 0 510 wired write; 0 map 0 510 2 fixed write; 0 load 0 0",
+    pages: 512,
+    entries: 1026,
+    hash: 9465032835869391216,
+};
+
+/// Wired pages, and behind them as many pages of a fixed region as the name says: 512 pages in all.
+pub const FIXED_3: Fill = Fill {
+    calls: "0 map 0 0 509 wired write; 0 map 0 509 3 fixed write; 0 load 0 0",
+    pages: 512,
+    entries: 1026,
+    hash: 15805138244098693662,
+};
+
+/// Wired pages, and behind them as many pages of a growing region as the name says: 512 pages in all.
+pub const GROWING_1: Fill = Fill {
+    calls: "0 map 0 0 511 wired write; 0 map 0 511 1 growing write; 0 load 0 0",
+    pages: 512,
+    entries: 1026,
+    hash: 6547734460679658576,
+};
+
+/// Wired pages, and behind them as many pages of a growing region as the name says: 512 pages in all.
+pub const GROWING_2: Fill = Fill {
+    calls: "0 map 0 0 510 wired write; 0 map 0 510 2 growing write; 0 load 0 0",
+    pages: 512,
+    entries: 1026,
+    hash: 1503815838456472216,
+};
+
+/// Wired pages, and behind them as many pages of a growing region as the name says: 512 pages in all.
+pub const GROWING_3: Fill = Fill {
+    calls: "0 map 0 0 509 wired write; 0 map 0 509 3 growing write; 0 load 0 0",
+    pages: 512,
+    entries: 1026,
+    hash: 10502026910111618185,
+};
+
+/// 512 pages of a fixed region.
+pub const LOADED: Fill = Fill {
+    calls: "0 map 0 0 512 fixed write; 0 load 0 0",
+    pages: 512,
+    entries: 1025,
+    hash: 15606330370707086390,
+};
+
+/// No call.
+pub const NONE: Fill = Fill {
+    calls: "",
+    pages: 0,
+    entries: 0,
+    hash: 14695981039346656037,
+};
+
+/// As many regions as a space may have, each of eight pages; all but the last are wired.
+pub const REGIONS_FULL: Fill = Fill {
+    calls: "\
+        0 map 0 0 8 wired write; 0 map 0 8 8 wired write; 0 map 0 16 8 wired write; 0 map 0 24 8 wired write; 0 map 0 32 8 \
+        wired write; 0 map 0 40 8 wired write; 0 map 0 48 8 wired write; 0 map 0 56 8 wired write; 0 map 0 64 8 wired \
+        write; 0 map 0 72 8 wired write; 0 map 0 80 8 wired write; 0 map 0 88 8 wired write; 0 map 0 96 8 wired write; 0 \
+        map 0 104 8 wired write; 0 map 0 112 8 wired write; 0 map 0 120 8 wired write; 0 map 0 128 8 wired write; 0 map 0 \
+        136 8 wired write; 0 map 0 144 8 wired write; 0 map 0 152 8 wired write; 0 map 0 160 8 wired write; 0 map 0 168 8 \
+        wired write; 0 map 0 176 8 wired write; 0 map 0 184 8 wired write; 0 map 0 192 8 wired write; 0 map 0 200 8 wired \
+        write; 0 map 0 208 8 wired write; 0 map 0 216 8 wired write; 0 map 0 224 8 wired write; 0 map 0 232 8 wired write; \
+        0 map 0 240 8 wired write; 0 map 0 248 8 wired write; 0 map 0 256 8 wired write; 0 map 0 264 8 wired write; 0 map \
+        0 272 8 wired write; 0 map 0 280 8 wired write; 0 map 0 288 8 wired write; 0 map 0 296 8 wired write; 0 map 0 304 \
+        8 wired write; 0 map 0 312 8 wired write; 0 map 0 320 8 wired write; 0 map 0 328 8 wired write; 0 map 0 336 8 \
+        wired write; 0 map 0 344 8 wired write; 0 map 0 352 8 wired write; 0 map 0 360 8 wired write; 0 map 0 368 8 wired \
+        write; 0 map 0 376 8 wired write; 0 map 0 384 8 wired write; 0 map 0 392 8 wired write; 0 map 0 400 8 wired write; \
+        0 map 0 408 8 wired write; 0 map 0 416 8 wired write; 0 map 0 424 8 wired write; 0 map 0 432 8 wired write; 0 map \
+        0 440 8 wired write; 0 map 0 448 8 wired write; 0 map 0 456 8 wired write; 0 map 0 464 8 wired write; 0 map 0 472 \
+        8 wired write; 0 map 0 480 8 wired write; 0 map 0 488 8 wired write; 0 map 0 496 8 wired write; 0 map 0 504 8 \
+        fixed write; 0 load 0 0",
+    pages: 512,
+    entries: 1088,
+    hash: 5373534231666902215,
+};
+
+/// 512 pages of a fixed region, the first of which is dirty.
+pub const STORED: Fill = Fill {
+    calls: "0 map 0 0 512 fixed write; 0 store 0 0 5",
+    pages: 512,
+    entries: 1025,
+    hash: 5168766416094997685,
+};
+
+/// 509 wired pages.
+pub const WIRED_509: Fill = Fill {
+    calls: "0 map 0 0 509 wired write; 0 load 0 0",
+    pages: 509,
+    entries: 1019,
+    hash: 2551852793490324671,
+};
+
+/// 510 wired pages.
+pub const WIRED_510: Fill = Fill {
+    calls: "0 map 0 0 510 wired write; 0 load 0 0",
+    pages: 510,
+    entries: 1021,
+    hash: 11468429761165739457,
+};
+
+/// 511 wired pages.
+pub const WIRED_511: Fill = Fill {
+    calls: "0 map 0 0 511 wired write; 0 load 0 0",
+    pages: 511,
+    entries: 1023,
+    hash: 12549168294461907748,
+};
+
+/// 512 wired pages.
+pub const WIRED_512: Fill = Fill {
+    calls: "0 map 0 0 512 wired write; 0 load 0 0",
+    pages: 512,
+    entries: 1025,
+    hash: 10796764056648448464,
+};

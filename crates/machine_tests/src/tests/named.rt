@@ -1,0 +1,135 @@
+//! Runs that show one thing each, and their histories, as an independent checker made them.
+use super::fills::{LOADED, NONE, STORED, WIRED_512};
+use super::runs::Run;
+
+/// Runs that show what their names say.
+pub static NAMED: [Run; 10] = [
+    Run {
+        name: "an empty history",
+        head: "trace 1 512 1 1",
+        fill: &NONE,
+        calls: "",
+        turns: "",
+        reads: &[],
+        writes: &[],
+        full: false,
+        history: "",
+    },
+    Run {
+        name: "the oldest page is paged out",
+        head: "trace 1 512 1 2",
+        fill: &STORED,
+        calls: "0 map 1 0 8 fixed write; 0 load 1 0",
+        turns: "",
+        reads: &[],
+        writes: &[],
+        full: false,
+        history: "\
+            0 s1 answer 513 done; 0 s1+f claim 0 0 0 for 0 read; 0 s0 out 0 written; 0 s0+f give 0 0; 0 s1+f use 0 0 0 8 8 \
+            0; 0 s1 answer 514 value 0",
+    },
+    Run {
+        name: "the write of the oldest page fails",
+        head: "trace 1 512 1 2",
+        fill: &STORED,
+        calls: "0 map 1 0 8 fixed write; 0 load 1 0; 0 load 1 0",
+        turns: "",
+        reads: &[],
+        writes: &[1],
+        full: false,
+        history: "\
+            0 s1 answer 513 done; 0 s1+f claim 0 0 0 for 0 read; 0 s0 failed 0 write 1; 0 s0+f unclaim 0; 0 s1 answer 514 \
+            storefault 0 1; 0 s1+f claim 0 0 0 for 0 read; 0 s0 out 0 written; 0 s0+f give 0 0; 0 s1+f use 0 0 0 8 8 0; 0 \
+            s1 answer 515 value 0",
+    },
+    Run {
+        name: "there is no memory to write the oldest page",
+        head: "trace 1 512 1 2",
+        fill: &STORED,
+        calls: "0 map 1 0 8 fixed write; 0 load 1 0; 0 load 0 0",
+        turns: "",
+        reads: &[],
+        writes: &[],
+        full: true,
+        history: "\
+            0 s1 answer 513 done; 0 s1+f claim 0 0 0 for 0 read; 0 s0+f unclaim 0; 0 s1 answer 514 nomemory; 0 s0 answer \
+            515 value 5",
+    },
+    Run {
+        name: "a claimed page is unmapped",
+        head: "trace 1 512 2 2",
+        fill: &LOADED,
+        calls: "0 unmap 0 0; 1 map 1 0 8 fixed write; 1 load 1 0",
+        turns: "1100111",
+        reads: &[],
+        writes: &[],
+        full: false,
+        history: "\
+            1 s1 answer 0 done; 1 s1+f claim 0 0 0 for 0 read; 0 s0+f clear 0 512; 0 s0 answer 513 done; 1 f got 0; 1 s1+f \
+            use 0 0 0 8 8 0; 1 s1 answer 1 value 0",
+    },
+    Run {
+        name: "a claimed page is evicted",
+        head: "trace 1 512 2 2",
+        fill: &LOADED,
+        calls: "0 evict 0 0; 1 map 1 0 8 fixed write; 1 load 1 0",
+        turns: "110111",
+        reads: &[],
+        writes: &[],
+        full: false,
+        history: "\
+            1 s1 answer 0 done; 1 s1+f claim 0 0 0 for 0 read; 0 s0+f answer 513 clean; 1 f got 0; 1 s1+f use 0 0 0 8 8 0; \
+            1 s1 answer 1 value 0",
+    },
+    Run {
+        name: "the page is resident when its claimer comes back",
+        head: "trace 1 512 3 2",
+        fill: &LOADED,
+        calls: "1 map 1 0 8 fixed write; 1 load 1 0; 2 load 1 0",
+        turns: "11222221111",
+        reads: &[],
+        writes: &[],
+        full: false,
+        history: "\
+            1 s1 answer 0 done; 1 s1+f claim 0 0 0 for 0 read; 2 s1+f claim 0 1 1 for 0 read; 2 s0 out 1 clean; 2 s0+f \
+            give 1 1; 2 s1+f use 0 1 0 8 8 0; 2 s1 answer 0 value 0; 1 s0 out 0 clean; 1 s0+f give 0 0; 1 f drop 0; 1 s1 \
+            answer 1 value 0",
+    },
+    Run {
+        name: "the region is gone when the claimer comes back",
+        head: "trace 1 512 2 2",
+        fill: &LOADED,
+        calls: "1 map 1 0 8 fixed write; 1 load 1 0; 0 unmap 1 0",
+        turns: "110011111",
+        reads: &[],
+        writes: &[],
+        full: false,
+        history: "\
+            1 s1 answer 0 done; 1 s1+f claim 0 0 0 for 0 read; 0 s1+f clear 0 8; 0 s1 answer 513 done; 1 s0 out 0 clean; 1 \
+            s0+f give 0 0; 1 f drop 0; 1 s1 answer 1 unmapped",
+    },
+    Run {
+        name: "the right to write is gone when the claimer comes back",
+        head: "trace 1 512 2 2",
+        fill: &LOADED,
+        calls: "1 map 1 0 8 fixed write; 1 store 1 0 7; 0 protect 1 0 1 read",
+        turns: "1101111",
+        reads: &[],
+        writes: &[],
+        full: false,
+        history: "\
+            1 s1 answer 0 done; 1 s1+f claim 0 0 0 for 0 write; 0 s1 answer 513 done; 1 s0 out 0 clean; 1 s0+f give 0 0; 1 \
+            f drop 0; 1 s1 answer 1 denied",
+    },
+    Run {
+        name: "every frame is wired",
+        head: "trace 1 512 1 1",
+        fill: &WIRED_512,
+        calls: "0 map 0 512 8 fixed write; 0 load 0 4194304; 0 evict 0 3",
+        turns: "",
+        reads: &[],
+        writes: &[],
+        full: false,
+        history: "0 s0 answer 513 done; 0 f refused 512 0 0; 0 s0 answer 514 noframes 512 0 0; 0 s0 answer 515 denied",
+    },
+];
