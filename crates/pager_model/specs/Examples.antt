@@ -62,20 +62,27 @@ both_taken = after_taking (after_taking two_frames 0 3) 0 5
 abbrev pub small_setting : Given
 small_setting = record { frames = 2; marks = 0 ∷ []; told = true ∷ []; faults = 0 ∷ [] }
 
+abbrev pub answer_with : Option ℕ → ℕ → Call → Reply → Entry
+answer_with size number call reply =
+    record { processor = 0; space = Some 0; frames = false; what = Answer number call (record { reply = reply; hit = false; size = size }) }
+
 abbrev pub answer : ℕ → Call → Reply → Entry
-answer number call reply =
-    record { processor = 0; space = Some 0; frames = false; what = Answer number call (record { reply = reply; hit = false; size = None }) }
+answer number call reply = answer_with None number call reply
+
+-- that of an access, whose translation is of one page and was not there
+abbrev pub missed : ℕ → Call → Reply → Entry
+missed number call reply = answer_with (Some 0) number call reply
 
 abbrev pub take_page_one : Entry
 take_page_one = record { processor = 0; space = Some 0; frames = true; what = Take 1 0 want_eight }
 
 -- a map, a store for which a frame is taken, and a load past the region
 abbrev pub legal_history : List Entry
-legal_history = answer 0 map_eight Done ∷ take_page_one ∷ answer 1 (Store 0 8192 5) Done ∷ answer 2 (Load 0 65536) Unmapped ∷ []
+legal_history = answer 0 map_eight Done ∷ take_page_one ∷ missed 1 (Store 0 8192 5) Done ∷ answer 2 (Load 0 65536) Unmapped ∷ []
 
 -- the same, with the store answered before its frame is taken
 abbrev pub exchanged_history : List Entry
-exchanged_history = answer 0 map_eight Done ∷ answer 1 (Store 0 8192 5) Done ∷ take_page_one ∷ answer 2 (Load 0 65536) Unmapped ∷ []
+exchanged_history = answer 0 map_eight Done ∷ missed 1 (Store 0 8192 5) Done ∷ take_page_one ∷ answer 2 (Load 0 65536) Unmapped ∷ []
 
 -- a trace of two calls
 abbrev pub small_plan : Plan
@@ -137,7 +144,7 @@ made_up_fault =
 
 -- a space whose store tells nothing, with a page that was stored to after it was filled
 abbrev pub untold_space : SpaceState
-untold_space = fold space_after (empty_state false 0) (answer 0 map_eight Done ∷ take_page_one ∷ answer 1 (Store 0 8192 5) Done ∷ [])
+untold_space = fold space_after (empty_state false 0) (answer 0 map_eight Done ∷ take_page_one ∷ missed 1 (Store 0 8192 5) Done ∷ [])
 
 -- a page of one region that may be written, in this frame
 abbrev pub writable : ℕ → Bool → Mapping

@@ -17,6 +17,7 @@ pub mod Agreement
 pub mod Laws
 pub mod Headline
 pub mod Showing
+pub mod Counts
 pub mod PrintedText
 pub mod FreeBlocks
 pub mod PreferredSize

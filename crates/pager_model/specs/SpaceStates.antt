@@ -1,5 +1,5 @@
 -- What a space's list of entries leads to, and which entries a space in that state allows.
-use Rattle.std.specs.Prelude.{ℕ, ◌≡◌, ◌-◌, ◌^◌, ◌<◌, ◌⊎◌, Bool, true, false, ◌&&◌, ◌==◌, if◌then◌else◌, Option, Some, None, is_some, nat_lt, fold, List}
+use Rattle.std.specs.Prelude.{ℕ, ◌≡◌, ◌+◌, ◌-◌, ◌^◌, ◌<◌, ◌⊎◌, Bool, true, false, ◌&&◌, ◌==◌, if◌then◌else◌, Option, Some, None, is_some, nat_lt, fold, List, [], option_map}
 use Rattle.pager_model.specs.declared.call.Call.{Call}
 use Rattle.pager_model.specs.declared.call.Call.TheVariants.{Unmap, Load, Store, Sync, Evict}
 use Rattle.pager_model.specs.declared.entry.Entry.{Entry}
@@ -12,8 +12,12 @@ use Rattle.pager_model.specs.declared.region.Rights.{Rights}
 use Rattle.pager_model.specs.declared.reply.Answered.{Answered}
 use Rattle.pager_model.specs.declared.reply.Reply.{Reply}
 use Rattle.pager_model.specs.declared.reply.Reply.TheVariants.{Done, Value, Written, NoFrames, StoreFault, NoMemory}
+use Rattle.pager_model.specs.declared.tile.Mapping.{Mapping}
+use Rattle.pager_model.specs.declared.tile.Tile.{Tile}
 use Rattle.pager_model.specs.Flat.{Flat, empty_space, after_call, reply_of, is_lawful, out, lost, page_of, word_of, can_read, can_write}
+use Rattle.pager_model.specs.Images.{is_in_image, images_with}
 use Rattle.pager_model.specs.Regions.{in_range, region_at, wanted}
+use Rattle.pager_model.specs.Tiles.{mappings, tile_of, promotions_between, demotions_between}
 
 -- Who makes the next entry of a space: anyone; where an entry left the space in the middle of a sequence, its processor; and after
 -- the pages of a range gave their frames up, the unmap of that range, which is done.
@@ -33,11 +37,20 @@ pub record SpaceState : Type 0 where
   pub tied : ℕ → ℕ → Option ℕ
   -- the highest count of faults so far, from that at entry on
   pub highest : ℕ
+  -- of each processor its image: the tiles that it used last
+  pub images : ℕ → List Tile
+  -- how many extents became tiles that lay in none, and how many tiles were broken
+  pub promotions : ℕ
+  pub demotions : ℕ
 
 -- a space begins empty, with a store that tells its copies or doesn't, and that failed so often
 abbrev pub empty_state : Bool → ℕ → SpaceState
 empty_state told faults =
-    record { flat = empty_space; base = λ p. None; next = Anyone; told = told; tied = λ p i. None; highest = faults }
+    record { flat = empty_space; base = λ p. None; next = Anyone; told = told; tied = λ p i. None; highest = faults; images = λ c. []; promotions = 0; demotions = 0 }
+
+-- its resident pages
+abbrev pub pages_of : SpaceState → ℕ → Option Mapping
+pages_of st = mappings st.flat st.base
 
 -- What entries do.
 
@@ -92,6 +105,26 @@ abbrev pub highest_after : ℕ → What → ℕ
 highest_after highest (Failed page writing count) = if nat_lt highest count then count else highest
 highest_after highest what = highest
 
+-- the resident pages after an entry
+abbrev pub pages_after : SpaceState → Bool → What → ℕ → Option Mapping
+pages_after st frames what = mappings (flat_after st.flat what) (base_after st.base frames what)
+
+-- the page of an answer that has a size: of a load that is told its word, and of a store that is done
+abbrev pub served_page : Call → Reply → Option ℕ
+served_page (Load space address) (Value word) = Some (page_of address)
+served_page (Store space address word) Done = Some (page_of address)
+served_page call reply = None
+
+-- the tile of that page
+abbrev pub tile_at : (ℕ → Option Mapping) → Option ℕ → Option Tile
+tile_at pages None = None
+tile_at pages (Some page) = tile_of pages page
+
+-- the tile that an entry's processor used: of an answer that has a size, the page's as it is then
+abbrev pub used_tile : (ℕ → Option Mapping) → What → Option Tile
+used_tile pages (Answer number call answered) = tile_at pages (served_page call answered.reply)
+used_tile pages what = None
+
 abbrev pub space_after : SpaceState → Entry → SpaceState
 space_after st e =
     record {
@@ -101,6 +134,9 @@ space_after st e =
       told = st.told;
       tied = tied_after st.tied e.what;
       highest = highest_after st.highest e.what;
+      images = images_with (pages_after st e.frames e.what) e.processor (used_tile (pages_after st e.frames e.what) e.what) st.images;
+      promotions = st.promotions + promotions_between (pages_of st) (pages_after st e.frames e.what);
+      demotions = st.demotions + demotions_between (pages_of st) (pages_after st e.frames e.what);
     }
 
 -- what a space's list leads to, from a store that tells its copies or doesn't, and that failed so often at entry
@@ -203,12 +239,21 @@ abbrev pub frees_its_page : SpaceState → Call → Reply → Bool
 frees_its_page st (Evict space page) reply = is_lawful reply && is_some (st.base page)
 frees_its_page st call reply = false
 
--- no superpages and no translations are kept yet, so no answer has a size or is a hit
-pub record AnswerAllowed (st : SpaceState) (frames : Bool) (c : ℕ) (call : Call) (answered : Answered) : Type 0 where
+-- whether the tile of an answer's page, as it was before, stands in its processor's image
+abbrev pub is_hit : SpaceState → ℕ → Call → Reply → Bool
+is_hit st c call reply = is_in_image (st.images c) (tile_at (pages_of st) (served_page call reply))
+
+-- the size of the tile of an answer's page, as it is after it
+abbrev pub size_after : SpaceState → Bool → What → Option ℕ
+size_after st frames what = option_map (λ (t : Tile). t.extent.size) (used_tile (pages_after st frames what) what)
+
+-- The reply is allowed, the frames are named where a page gives its frame up, and a hit and a size are told of a load that is told its word
+-- and of a store that is done.
+pub record AnswerAllowed (st : SpaceState) (frames : Bool) (c number : ℕ) (call : Call) (answered : Answered) : Type 0 where
   pub reply : ReplyAllowed st c call answered.reply
   pub parts : frames ≡ frees_its_page st call answered.reply
-  pub hit : answered.hit ≡ false
-  pub size : answered.size ≡ None
+  pub hit : answered.hit ≡ is_hit st c call answered.reply
+  pub size : answered.size ≡ size_after st frames (Answer number call answered)
 
 -- Other entries.
 
@@ -241,7 +286,7 @@ IsNeeded st (Some need) =
 
 -- Which entries of a processor a space allows, where it may go on. Where the frames are named the entry's frame is theirs to allow.
 abbrev pub WhatAllowed : SpaceState → Bool → ℕ → What → Type 0
-WhatAllowed st frames c (Answer number call answered) = AnswerAllowed st frames c call answered
+WhatAllowed st frames c (Answer number call answered) = AnswerAllowed st frames c number call answered
 WhatAllowed st frames c (Out page written) = IsResident st.base page × (st.flat.dirty page ≡ written)
 WhatAllowed st frames c (Failed page writing count) = IsResident st.base page × (st.flat.dirty page ≡ writing) × Rises st.highest count
 WhatAllowed st frames c (Take page frame want) = IsWantedFor st page want

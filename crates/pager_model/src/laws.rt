@@ -2,18 +2,19 @@
 
 ghost use Rattle.std.specs.Prelude.{◌≡◌, ℕ, ◌∷◌, ◌++◌, ◌==◌, ◌<◌, [], Some, None, true, false, List, codes, nat_lt, option_map};
 ghost use Rattle.pager_model.specs.declared.entry.Entry.{Entry};
+ghost use Rattle.pager_model.specs.declared.entry.What.TheVariants.{Claim, Rest};
 ghost use Rattle.pager_model.specs.declared.call.Call.TheVariants.{Grow, Unmap, Protect, Load, Store, Sync, Evict};
 ghost use Rattle.pager_model.specs.declared.region.Rights.TheVariants.{NoAccess, Read};
 ghost use Rattle.pager_model.specs.declared.reply.Reply.TheVariants.{Done, Value, Denied, Unmapped};
 ghost use Rattle.pager_model.specs.Ages.{with_member, oldest_in};
-ghost use Rattle.pager_model.specs.Examples.{eight_pages, two_frames, one_taken, one_broken, one_given, one_carved, both_taken, want_eight, small_setting, legal_history, exchanged_history, small_plan, eight_places, eight_parts_used, one_turn, failing_load, made_up_fault, untold_space, run_of_pages, with_dirty, writable, small_tile};
+ghost use Rattle.pager_model.specs.Examples.{eight_pages, two_frames, one_taken, one_broken, one_given, one_carved, both_taken, want_eight, small_setting, legal_history, exchanged_history, small_plan, take_page_one, on_both, on_frames, eight_places, eight_parts_used, one_turn, failing_load, made_up_fault, untold_space, run_of_pages, with_dirty, writable, small_tile};
 ghost use Rattle.pager_model.specs.Order.{progress_of, at_rest};
 ghost use Rattle.pager_model.specs.SpaceStates.{IsAsked};
 ghost use Rattle.pager_model.specs.Flat.{after_call, reply_of};
 ghost use Rattle.pager_model.specs.FrameStates.{take_frame, frame_of, held_by, dropped, free_count, reserved_count};
 ghost use Rattle.pager_model.specs.FreeBlocks.{choice};
 ghost use Rattle.pager_model.specs.PreferredSize.{preferred_size};
-ghost use Rattle.pager_model.specs.PrintedText.{answers_text};
+ghost use Rattle.pager_model.specs.PrintedText.{answers_text, history_line};
 ghost use Rattle.pager_model.specs.Records.{yield_of, kept_part};
 ghost use Rattle.pager_model.specs.TraceText.{call_line, line_words, text_of};
 ghost use Rattle.pager_model.specs.Legal.{IsLegal, MayFollow};
@@ -123,7 +124,10 @@ pub fn small_texts()
     ensures load { call_line (record { processor = 0; call = Load 0 8589934584 }) ≡ codes "0 load 0 8589934584\n" }
     ensures copies { line_words (record { processor = 0; call = Sync 1 3 }) ≡ codes "0" ∷ codes "sync" ∷ codes "1" ∷ codes "3" ∷ [] }
     ensures evict { call_line (record { processor = 0; call = Evict 1 3 }) ≡ codes "0 evict 1 3\n" }
-    ensures answers { answers_text 1 legal_history ≡ codes "0 0 done\n0 1 done\n0 2 unmapped\n" }
+    ensures answers { answers_text 1 legal_history ≡ codes "0 0 done\n0 1 done miss 0\n0 2 unmapped\n" }
+    ensures taking { history_line (record { number = 1; entry = take_page_one }) ≡ codes "1 0 s0+f take 1 0 0 8 8 0\n" }
+    ensures claim { history_line (record { number = 0; entry = on_both 0 (Claim 1 6 2 (Some (record { page = 1; writing = true }))) }) ≡ codes "0 0 s0+f claim 1 6 2 for 1 write\n" }
+    ensures rest { history_line (record { number = 12; entry = on_frames (Rest false) }) ≡ codes "12 0 f rest 0\n" }
 {}
 
 /// Page 5 of a region of pages 0 to 15 has a reservation of eight pages, and one of a single page where a reservation has

@@ -4,11 +4,11 @@ use Rattle.std.specs.List.{AllByRecursion}
 use Rattle.pager_model.specs.declared.entry.Entry.{Entry}
 use Rattle.pager_model.specs.declared.entry.Numbered.{Numbered}
 use Rattle.pager_model.specs.Agreement.{IsPartition, NothingHeld, Agrees}
+use Rattle.pager_model.specs.Counts.{counts}
 use Rattle.pager_model.specs.Headline.{AllServed, PreemptsOldest, RefusesRightly}
 use Rattle.pager_model.specs.Laws.{KeepsLawsAllAlong}
 use Rattle.pager_model.specs.Legal.{IsLegal, frames_at, entries_in}
 use Rattle.pager_model.specs.Plans.{Plan}
-use Rattle.pager_model.specs.FrameStates.{free_count, reserved_count, used_count}
 use Rattle.pager_model.specs.declared.summary.Summary.{Summary}
 use Rattle.pager_model.specs.Showing.{Shows}
 use Rattle.pager_model.specs.SpaceStates.{Rises}
@@ -41,12 +41,9 @@ pub record IsReplay (plan : Plan) (before : List Stored) (history : List Numbere
   pub stores : StoresEnd (setting_over plan before) history after
   pub unused : drop plan.spaces after ≡ drop plan.spaces before
 
--- its counts of frames, and of the takings that broke a reservation
-pub record AreItsCounts (plan : Plan) (before : List Stored) (history : List Numbered) (summary : Summary) : Type 0 where
-  pub preemptions : summary.preemptions ≡ (frames_at (setting_over plan before) (entries_in history)).preemptions
-  pub free : summary.free ≡ free_count (frames_at (setting_over plan before) (entries_in history))
-  pub reserved : summary.reserved ≡ reserved_count (frames_at (setting_over plan before) (entries_in history))
-  pub used : summary.used ≡ used_count (frames_at (setting_over plan before) (entries_in history))
+-- its counts
+abbrev pub AreItsCounts : Plan → List Stored → List Numbered → Summary → Type 0
+AreItsCounts plan before history summary = summary ≡ counts (setting_over plan before) (entries_in history)
 
 -- no flight keeps a space
 abbrev pub NoneKeeps : List (Option Flight) → Type 0

@@ -1,50 +1,63 @@
 -- What becomes of a space when the pages of a region give their frames up, and when the region then goes.
-use Rattle.std.proofs.Common.{◌≡◌, ◌≢◌, ℕ, Bool, ◌+◌, ◌<◌, ◌≤◌, true, false, ◌&&◌, not, if◌then◌else◌, List, Option, Some, None, is_some, refl, sym, ap, inl, inr, ◌∙◌, arith, subst}
-use Rattle.std.proofs.lemmas.Bool.{cases_Bool, cases_lt, cond-true, cond-false, true≢false}
+use Rattle.std.proofs.Common.{◌≡◌, ◌≢◌, ℕ, Bool, ◌+◌, ◌<◌, ◌≤◌, true, false, ◌&&◌, ◌==◌, not, if◌then◌else◌, List, [], map, length, Option, Some, None, is_some, refl, sym, ap, inl, inr, ◌∙◌, arith, subst}
+use Rattle.std.proofs.lemmas.Bool.{cases_Bool, cases_eq, cases_lt, eq-eqb, ne_eqb, cond-true, cond-false, true≢false}
 use Rattle.std.proofs.lemmas.Bool.Decides.{nat_tests}
-use Rattle.std.proofs.lemmas.Option.{same_Some}
+use Rattle.std.proofs.lemmas.Option.{none-some, same_Some}
+use Rattle.std.proofs.lemmas.List.{get_or-map, length-map}
 use Rattle.pager_model.specs.declared.call.Call.TheVariants.{Map, Unmap}
 use Rattle.pager_model.specs.declared.region.Kind.{Kind}
 use Rattle.pager_model.specs.declared.region.Region.{Region}
 use Rattle.pager_model.specs.declared.region.Rights.{Rights}
 use Rattle.pager_model.specs.declared.reply.Reply.TheVariants.{Done}
+use Rattle.pager_model.specs.declared.tile.Mapping.{Mapping}
+use Rattle.pager_model.specs.declared.tile.Tile.{Tile}
 use Rattle.pager_model.specs.Flat.{goes, is_lawful}
+use Rattle.pager_model.specs.Images.{still_tiles}
 use Rattle.pager_model.specs.Regions.{has_page, in_range, region_at, without_region, unmap_reply_at}
-use Rattle.pager_model.specs.SpaceStates.{SpaceState, SpaceAllows, IsClearedAt, space_after}
+use Rattle.pager_model.specs.SpaceStates.{SpaceState, SpaceAllows, IsClearedAt, pages_of, space_after}
 use Rattle.region_table.specs.Table.{IsTable}
-use Rattle.space_core.specs.Beginning.{SameRegions, IsRange, ClearsOne, Unmapped as IsUnmapped}
+use Rattle.space_core.specs.Beginning.{SameRegions, IsRange, ClearsOne, ClearsNone, Unmapped as IsUnmapped}
 use Rattle.space_core.specs.NewPages.{IsNew, done}
-use Rattle.space_core.specs.Pages.{Moves, Protects, IsFirstResident}
-use Rattle.space_core.specs.Standing.{Kept, IsCopy, IsCopied, answer_entry, rights_by, is_page, is_settled, word_at}
-use Rattle.space_core.specs.Tables.{Table, frame_in, own_in, dirty_in}
+use Rattle.space_core.specs.Pages.{Maps, Forgets, IsFirstResident}
+use Rattle.space_core.specs.Standing.{Kept, StandsBut, IsCopy, IsCopied, answer_entry, clear_entry, is_clearing, rights_by, is_page, is_settled, word_at}
+use Rattle.space_core.specs.Tables.{Table, mapping_in, frame_in, own_in, dirty_in}
+use Rattle.space_core.specs.Translating.{counted_up}
 use Rattle.store_core.specs.Stored.{Stored, copy_at, zero_words, DropsCopies}
-use Rattle.space_core.proofs.Finding.{in_bounds, found_from, found_without}
-use Rattle.space_core.proofs.Serving.{kept, dirty_in-absent, zero_at}
+use Rattle.space_core.proofs.Finding.{in_bounds, bounds_in, found_has, found_from, found_same, found_page, found_without}
+use Rattle.space_core.proofs.Serving.{kept, AreMapped, zero_at}
+use Rattle.space_core.proofs.TableLemmas.{dirty_in-absent, frame-same, dirty-same, frame-mapped, mapping-absent, maps_frame}
+use Rattle.space_core.proofs.Translating.{same_translates, stays, translates_cleared, pages_from, said_gone, said_region}
+use Rattle.tiles.specs.Cleared.{Clears}
+use Rattle.tiles.specs.Resident.{large_tiles_in}
+use Rattle.tiles.proofs.Cleared.{promotions_cleared, demotions_cleared}
 
 pub range_in_space : (old : Kept) (first len : ℕ) → IsTable old.regions → IsRange old first len → first + len ≤ 1048576
 range_in_space old first len ordered range =
     omega (arith, (found_from 0 old.regions ordered.in_order first range.region range.at).in_space, range.first_is, range.length_is)
 
 -- A page of the range that is cleared gives its frame up.
-module _ (number : ℕ) (regions : List Region) (t u : Table) (pending : Option ℕ) (was is : Option Region) (paged : Option ℕ) (store : Stored)
-    (first len page : ℕ) (within : in_range first len page ≡ true) (moves : Moves page None t u) where
+module _ (number : ℕ) (regions : List Region) (t u : Table) (pending : Option ℕ) (was is : Option Region) (paged : Option ℕ) (store : Stored) (images : List (List Tile)) (promotions demotions had_broken broken : ℕ)
+    (first len page : ℕ) (within : in_range first len page ≡ true) (moves : Maps page None t u) where
   abbrev having : Kept
-  having = kept number regions t pending was paged store
+  having = kept number regions t pending was paged store images promotions demotions had_broken
 
   abbrev lacking : Kept
-  lacking = kept number regions u pending is paged store
+  lacking = kept number regions u pending is paged store images promotions demotions broken
 
   frame_gone : frame_in u page ≡ None
-  frame_gone = moves.frame page ∙ grind (arith, nat_tests)
+  frame_gone = maps_frame page None t u moves page ∙ grind (arith, nat_tests)
+
+  mapping_others : (p : ℕ) → p ≢ page → mapping_in u p ≡ mapping_in t p
+  mapping_others p n = moves.mapping p ∙ grind (arith, nat_tests)
 
   frame_others : (p : ℕ) → p ≢ page → frame_in u p ≡ frame_in t p
-  frame_others p n = moves.frame p ∙ grind (arith, nat_tests)
+  frame_others p n = frame-same t u p (mapping_others p n)
 
   dirty_others : (p : ℕ) → p ≢ page → dirty_in t p ≡ dirty_in u p
-  dirty_others p n = sym (moves.dirty p ∙ grind (arith, nat_tests))
+  dirty_others p n = sym (dirty-same t u p (mapping_others p n))
 
   same_taken : SameRegions having lacking
-  same_taken = record { number = refl; frames = moves.same.count; regions = refl; rights = λ p. ap (λ o. rights_by o (region_at regions p)) (moves.same.own p) }
+  same_taken = record { number = refl; frames = moves.same.count; processors = refl; regions = refl; rights = λ p. ap (λ o. rights_by o (region_at regions p)) (moves.same.own p) }
 
   outside : (p : ℕ) → in_range first len p ≡ false → p ≢ page
   outside p out e = true≢false (sym within ∙ ap (in_range first len) (sym e) ∙ out)
@@ -62,8 +75,9 @@ module _ (number : ℕ) (regions : List Region) (t u : Table) (pending : Option 
         | inr unsettled ↦ cond-false _ _ _ unsettled ∙ sym (cond-false _ _ _ (settled_others p n ∙ unsettled))
       ]
 
-  pub clears_one : (frame : ℕ) → frame_in t page ≡ Some frame → ((p : ℕ) → in_range first len p ≡ true → p < page → frame_in t p ≡ None) → ClearsOne having lacking first len page frame
-  clears_one frame had lowest =
+  pub clears_one : (frame : ℕ) → is_clearing is first ≡ true → (is_clearing was first ≡ true → broken ≡ had_broken) → (is_clearing was first ≡ false → broken ≡ large_tiles_in first len (mapping_in t))
+      → frame_in t page ≡ Some frame → ((p : ℕ) → in_range first len p ≡ true → p < page → frame_in t p ≡ None) → ClearsOne having lacking first len page frame
+  clears_one frame begun went_on counted had lowest =
       record {
         within = within;
         lowest = lowest;
@@ -90,8 +104,97 @@ module _ (number : ℕ) (regions : List Region) (t u : Table) (pending : Option 
             highest = s.beside.highest;
           };
           base = λ p out. s.base p out ∙ sym (frame_others p (outside p out));
+          pages = λ p out. s.pages p out ∙ sym (mapping_others p (outside p out));
+          translates = same_translates having lacking st (record { images = refl; promotions = refl; demotions = refl }) s.translates;
+          not_begun = λ none. absurd (true≢false (sym begun ∙ none));
+          counted = λ _. elim (cases_Bool (is_clearing was first)) [
+            | inl on ↦ went_on on ∙ s.counted on
+            | inr off ↦ counted off ∙ ap (large_tiles_in first len) (sym (let whole : pages_of st ≡ mapping_in t = λ i p. s.not_begun off p i in whole))
+          ];
         };
       }
+
+-- The region's pages are all cleared.
+module _ (number : ℕ) (regions : List Region) (t : Table) (was : Option Region) (paged : Option ℕ) (store : Stored) (images : List (List Tile)) (promotions demotions had_broken broken : ℕ)
+    (r : Region) (ordered : IsTable regions) (at : region_at regions r.first ≡ Some r) (none : (p : ℕ) → in_range r.first r.length p ≡ true → frame_in t p ≡ None) where
+  abbrev clearing : Kept
+  clearing = kept number regions t None was paged store images promotions demotions had_broken
+
+  abbrev all_cleared : Kept
+  all_cleared = kept number regions t None (Some r) paged store (map (still_tiles (mapping_in t)) images) promotions (counted_up demotions broken) broken
+
+  frame_cleared : (b : Bool) (o : Option ℕ) (p : ℕ) → (b ≡ true → frame_in t p ≡ None) → (b ≡ false → o ≡ frame_in t p) → (if b then None else o) ≡ frame_in t p
+  frame_cleared true o p gone left = sym (gone refl)
+  frame_cleared false o p gone left = left refl
+
+  said_cleared : (b : Bool) (o : Option Mapping) (p : ℕ) → (b ≡ true → mapping_in t p ≡ None) → (b ≡ false → o ≡ mapping_in t p) → (if b then None else o) ≡ mapping_in t p
+  said_cleared true o p gone left = sym (gone refl)
+  said_cleared false o p gone left = left refl
+
+  -- a page is in the range just where its region is the region
+  of_region : (p : ℕ) (q : Region) → region_at regions p ≡ Some q → in_range r.first r.length p ≡ (q.first == r.first)
+  of_region p q found =
+      elim (cases_Bool (in_range r.first r.length p)) [
+        | inl inside ↦
+            let same : q ≡ r = same_Some _ _ (sym found ∙ found_same 0 regions ordered.in_order r.first r at p inside) in
+            inside ∙ sym (eq-eqb q.first r.first (ap (λ (x : Region). x.first) same))
+        | inr outside ↦ elim (cases_eq q.first r.first) [
+          | inl e ↦
+              let here = found_page regions ordered.in_order p q found in
+              let at_q : region_at regions q.first ≡ Some q = found_same 0 regions ordered.in_order p q found q.first (bounds_in q.first q.length q.first (omega arith) (omega (arith, here.from_on, here.before_end))) in
+              let same : q ≡ r = same_Some _ _ (sym at_q ∙ ap (region_at regions) e ∙ at) in
+              absurd (true≢false (sym (found_has regions p q found) ∙ ap (λ (x : Region). has_page p x) same ∙ outside))
+          | inr n ↦ outside ∙ sym (ne_eqb q.first r.first n)
+        ]
+      ]
+
+  clears_counted : ((st : SpaceState) → StandsBut r.first r.length clearing st → broken ≡ large_tiles_in r.first r.length (pages_of st)) → ClearsNone clearing all_cleared r.first r.length
+  clears_counted counted =
+      record {
+        none = none;
+        clearing = λ q found. ap Some (same_Some _ _ (sym at ∙ found));
+        same_pending = refl;
+        same_paged = refl;
+        same = record { same = record { number = refl; frames = refl; processors = length-map images (still_tiles (mapping_in t)); regions = refl; rights = λ p. refl }; frame = λ p. refl };
+        stands = λ st c s.
+            let after = space_after st (clear_entry c number r.first r.length) in
+            let clears : Clears r.first r.length r.first (pages_of st) (pages_of after) = record {
+              cleared = λ p. said_gone (in_range r.first r.length p) (st.flat.dirty p) (st.base p) (region_at st.flat.regions p) (st.flat.rights p);
+              region = λ p m said.
+                  let q = said_region (st.base p) (region_at st.flat.regions p) (st.flat.rights p) (st.flat.dirty p) m said in
+                  of_region p q.0 (ap (λ rs. region_at rs p) (sym s.beside.regions) ∙ q.1) ∙ ap (λ (n : ℕ). n == r.first) (sym q.2);
+            } in
+            let pages : (p : ℕ) → pages_of after p ≡ mapping_in t p = λ p.
+            clears.cleared p ∙ said_cleared (in_range r.first r.length p) (pages_of st p) p (λ inside. mapping-absent t p (none p inside)) (s.pages p) in
+            record {
+              beside = record {
+                regions = s.beside.regions;
+                rights = s.beside.rights;
+                dirty = s.beside.dirty;
+                told = λ told. let w = s.beside.told told in record {
+                  tells = w.tells;
+                  words = w.words;
+                  copies = w.copies;
+                  copied = λ p out level. let is = w.copied p out level in record { words = is.words; known = is.known; equal = is.equal };
+                };
+                tied = s.beside.tied;
+                untied = s.beside.untied;
+                highest = s.beside.highest;
+              };
+              base = λ p. frame_cleared (in_range r.first r.length p) (st.base p) p (none p) (s.base p);
+              pages = pages;
+              translates = translates_cleared clearing all_cleared st after c broken (record { images = refl; promotions = refl; demotions = refl }) s.translates pages (length-map images (still_tiles (mapping_in t)))
+                  (λ i within. get_or-map (still_tiles (mapping_in t)) images i [] [] within)
+                  (promotions_cleared r.first r.length r.first (pages_of st) (pages_of after) clears)
+                  (demotions_cleared r.first r.length r.first (pages_of st) (pages_of after) clears ∙ sym (counted st s)) refl refl;
+            };
+      }
+
+  pub clears_none : is_clearing was r.first ≡ true → broken ≡ had_broken → ClearsNone clearing all_cleared r.first r.length
+  clears_none on went_on = clears_counted (λ st s. went_on ∙ s.counted on)
+
+  pub clears_at_once : is_clearing was r.first ≡ false → broken ≡ large_tiles_in r.first r.length (mapping_in t) → ClearsNone clearing all_cleared r.first r.length
+  clears_at_once off counted = clears_counted (λ st s. counted ∙ ap (large_tiles_in r.first r.length) (sym (let whole : pages_of st ≡ mapping_in t = λ i p. s.not_begun off p i in whole)))
 
 -- the lowest page from a page on is the lowest of the range, where none before it is resident
 pub none_below : (t : Table) (first len from end page : ℕ) → ((p : ℕ) → first ≤ p → p < from → frame_in t p ≡ None) → IsFirstResident t from end page → (p : ℕ) → in_range first len p ≡ true → p < page → frame_in t p ≡ None
@@ -104,7 +207,7 @@ none_below t first len from end page before found p inside below =
 -- A region goes after none of its pages is resident.
 module _ (number : ℕ) (regions : List Region) (t u : Table) (page : ℕ) (r : Region) (ordered : IsTable regions)
     (at : region_at regions page ≡ Some r) (own : (p : ℕ) → region_at regions p ≡ None → own_in t p ≡ None)
-    (none : (p : ℕ) → in_range r.first r.length p ≡ true → frame_in t p ≡ None) (protects : Protects r.first r.length None t u) where
+    (none : (p : ℕ) → in_range r.first r.length p ≡ true → frame_in t p ≡ None) (forgets : Forgets r.first r.length t u) where
   abbrev rest : List Region
   rest = without_region page regions
 
@@ -114,8 +217,29 @@ module _ (number : ℕ) (regions : List Region) (t u : Table) (page : ℕ) (r : 
   pub unmap_own : (p : ℕ) → region_at rest p ≡ None → own_in u p ≡ None
   unmap_own p h =
       elim (cases_Bool (has_page p r)) [
-        | inl has ↦ protects.own p ∙ cond-true _ _ _ has
-        | inr hasnt ↦ protects.own p ∙ cond-false _ _ _ hasnt ∙ own p (sym (at_rest p ∙ cond-false _ _ _ hasnt) ∙ h)
+        | inl has ↦ forgets.own p ∙ cond-true _ _ _ has
+        | inr hasnt ↦ forgets.own p ∙ cond-false _ _ _ hasnt ∙ own p (sym (at_rest p ∙ cond-false _ _ _ hasnt) ∙ h)
+      ]
+
+  frame_left : (p : ℕ) → frame_in u p ≡ frame_in t p
+  frame_left p = frame-same t u p (forgets.mapping p)
+
+  dirty_left : (p : ℕ) → dirty_in u p ≡ dirty_in t p
+  dirty_left p = dirty-same t u p (forgets.mapping p)
+
+  -- a resident page is none of the region's
+  pub unmap_mapped : AreMapped regions t → AreMapped rest u
+  unmap_mapped said p m here =
+      let was = sym (forgets.mapping p) ∙ here in
+      let is = said p m was in
+      elim (cases_Bool (has_page p r)) [
+        | inl has ↦ absurd (none-some m.frame (sym (none p has) ∙ frame-mapped t p m was))
+        | inr hasnt ↦ record {
+          region = is.region;
+          at = at_rest p ∙ cond-false _ _ _ hasnt ∙ is.at;
+          first = is.first;
+          rights = is.rights ∙ ap (λ o. rights_by o (Some is.region)) (sym (forgets.own p ∙ cond-false _ _ _ hasnt));
+        }
       ]
 
   rights_rest : (p : ℕ) → is_some (region_at rest p) ≡ true → (is_some (region_at regions p) ≡ true) × (rights_by (own_in t p) (region_at regions p) ≡ rights_by (own_in u p) (region_at rest p))
@@ -124,27 +248,27 @@ module _ (number : ℕ) (regions : List Region) (t u : Table) (page : ℕ) (r : 
         | inl has ↦ absurd (true≢false (sym is ∙ ap is_some (at_rest p ∙ cond-true _ _ _ has)))
         | inr hasnt ↦
             let same = at_rest p ∙ cond-false _ _ _ hasnt in
-            let mine = protects.own p ∙ cond-false _ _ _ hasnt in
+            let mine = forgets.own p ∙ cond-false _ _ _ hasnt in
             (sym (ap is_some same) ∙ is, rw (same, mine) refl)
       ]
 
   -- and with it the copies of its pages
-  module _ (old new : Stored) (drops : DropsCopies r.first r.length old new) where
+  module _ (old new : Stored) (drops : DropsCopies r.first r.length old new) (images : List (List Tile)) (promotions demotions broken : ℕ) where
     abbrev cleared : Kept
-    cleared = kept number regions t None (Some r) None old
+    cleared = kept number regions t None (Some r) None old images promotions demotions broken
 
     abbrev left : Kept
-    left = kept number rest u None None None new
+    left = kept number rest u None None None new images promotions demotions broken
 
     dirty_rest : (dirty : Bool) (p : ℕ) → (has_page p r ≡ false → dirty ≡ dirty_in t p) → (if has_page p r then false else dirty) ≡ dirty_in u p
     dirty_rest dirty p was =
         elim (cases_Bool (has_page p r)) [
-          | inl has ↦ cond-true _ _ _ has ∙ sym (protects.dirty p ∙ dirty_in-absent t p (none p has))
-          | inr hasnt ↦ cond-false _ _ _ hasnt ∙ was hasnt ∙ sym (protects.dirty p)
+          | inl has ↦ cond-true _ _ _ has ∙ sym (dirty_left p ∙ dirty_in-absent t p (none p has))
+          | inr hasnt ↦ cond-false _ _ _ hasnt ∙ was hasnt ∙ sym (dirty_left p)
         ]
 
     settled_rest : (p : ℕ) → is_settled left p ≡ is_settled cleared p
-    settled_rest p = ap (λ o. is_some o && true) (protects.frame p)
+    settled_rest p = ap (λ o. is_some o && true) (frame_left p)
 
     -- where the store tells its copies
     module _ (tells : old.tells ≡ true) where
@@ -163,7 +287,7 @@ module _ (number : ℕ) (regions : List Region) (t u : Table) (page : ℕ) (r : 
       word_left : (p i : ℕ) → has_page p r ≡ false → word_at left p i ≡ word_at cleared p i
       word_left p i hasnt =
           elim (cases_Bool (is_settled cleared p)) [
-            | inl settled ↦ cond-true _ _ _ (settled_rest p ∙ settled) ∙ protects.word p i ∙ sym (cond-true _ _ _ settled)
+            | inl settled ↦ cond-true _ _ _ (settled_rest p ∙ settled) ∙ forgets.word p i ∙ sym (cond-true _ _ _ settled)
             | inr unsettled ↦ cond-false _ _ _ (settled_rest p ∙ unsettled) ∙ rw (copy_left p hasnt) refl ∙ sym (cond-false _ _ _ unsettled)
           ]
 
@@ -188,12 +312,13 @@ module _ (number : ℕ) (regions : List Region) (t u : Table) (page : ℕ) (r : 
             | inr hasnt ↦ let is = was hasnt in record { words = is.words; known = copy_left p hasnt ∙ is.known; equal = λ i. word_left p i hasnt ∙ is.equal i }
           ]
 
-    pub unmaps : IsUnmapped cleared left page (record { reply = Done; hit = false; size = None })
-    unmaps =
+    pub unmaps : AreMapped regions t → IsUnmapped cleared left page (record { reply = Done; hit = false; size = None })
+    unmaps said =
         record {
           done = refl;
           same_number = refl;
-          same_frames = protects.count;
+          same_frames = forgets.count;
+          same_processors = refl;
           resting = record { none_pending = refl; none_clearing = refl; none_paged = refl };
           allowed = λ st s c n q found next.
               let e : region_at st.flat.regions page ≡ Some q = ap (λ rs. region_at rs page) s.beside.regions ∙ found in
@@ -202,22 +327,31 @@ module _ (number : ℕ) (regions : List Region) (t u : Table) (page : ℕ) (r : 
               record { reply = (ap unmap_reply_at e, λ l. subst (λ (o : Option Region). IsClearedAt st c o) (sym e) (record { next = next; none = empty })); parts = refl; hit = refl; size = refl };
           stands = λ st s c n.
               let e : region_at st.flat.regions page ≡ Some r = ap (λ rs. region_at rs page) s.beside.regions ∙ at in
+              let after = space_after st (answer_entry c n (Unmap number page) (record { reply = Done; hit = false; size = None })) in
+              let regions_then : after.flat.regions ≡ rest = ap (without_region page) s.beside.regions in
+              let rights_then : (p : ℕ) → is_some (region_at rest p) ≡ true → after.flat.rights p ≡ rights_by (own_in u p) (region_at rest p) = λ p has.
+              let kept_right = rights_rest p has in s.beside.rights p kept_right.0 ∙ kept_right.1 in
+              let dirty_then : (p : ℕ) → after.flat.dirty p ≡ dirty_in u p = λ p. ap (λ o. if goes o p then false else st.flat.dirty p) e ∙ dirty_rest (st.flat.dirty p) p (s.beside.dirty p) in
+              let base : (p : ℕ) → after.base p ≡ frame_in u p = λ p. s.base p ∙ sym (frame_left p) in
+              let pages : (p : ℕ) → pages_of after p ≡ mapping_in u p = λ p. pages_from left after p regions_then (rights_then p) (base p) (λ m is. dirty_then p) (unmap_mapped said p) in
               record {
                 beside = record {
-                  regions = ap (without_region page) s.beside.regions;
-                  rights = λ p has. let kept_right = rights_rest p has in s.beside.rights p kept_right.0 ∙ kept_right.1;
-                  dirty = λ p out. ap (λ o. if goes o p then false else st.flat.dirty p) e ∙ dirty_rest (st.flat.dirty p) p (s.beside.dirty p);
+                  regions = regions_then;
+                  rights = rights_then;
+                  dirty = λ p out. dirty_then p;
                   told = λ told. let w = s.beside.told told in record {
                     tells = drops.tells ∙ w.tells;
                     words = λ p i out. ap (λ o. if goes o p then 0 else st.flat.words p i) e ∙ word_rest w.tells (st.flat.words p i) p i (w.words p i);
                     copies = λ p out staying. rw e (copies_rest w.tells (st.flat.copies p) p (λ hasnt. w.copies p hasnt refl));
-                    copied = λ p out level. copied_rest w.tells p (λ hasnt. w.copied p hasnt (ap (λ b. b && true) (sym (protects.dirty p)) ∙ level));
+                    copied = λ p out level. copied_rest w.tells p (λ hasnt. w.copied p hasnt (ap (λ b. b && true) (sym (dirty_left p)) ∙ level));
                   };
-                  tied = λ p i word said settled. protects.word p i ∙ s.beside.tied p i word said (sym (settled_rest p) ∙ settled);
+                  tied = λ p i word said settled. forgets.word p i ∙ s.beside.tied p i word said (sym (settled_rest p) ∙ settled);
                   untied = s.beside.untied;
                   highest = omega (arith, s.beside.highest, drops.faults);
                 };
-                base = λ p. s.base p ∙ sym (protects.frame p);
+                base = base;
+                pages = pages;
+                translates = stays cleared left st after c (record { images = refl; promotions = refl; demotions = refl }) s.translates s.pages pages (record { images = refl; promotions = refl; demotions = refl }) forgets.mapping;
               };
         }
 

@@ -1,26 +1,53 @@
 -- What becomes of a space when the copy of a page is written, or isn't, while the page keeps its frame.
-use Rattle.std.proofs.Common.{◌≡◌, ◌≢◌, ℕ, ◌≤◌, Bool, true, false, ◌&&◌, ◌==◌, not, List, Option, Some, None, slice_index_or, refl, sym, ap, inl, inr, ◌∙◌, arith, subst}
+use Rattle.std.proofs.Common.{◌≡◌, ◌≢◌, ℕ, ◌≤◌, ◌+◌, ◌⊎◌, Bool, true, false, if◌then◌else◌, option_map, length, ◌&&◌, ◌==◌, not, List, Option, Some, None, slice_index_or, refl, sym, ap, inl, inr, ◌∙◌, arith, subst}
 use Rattle.std.proofs.lemmas.Bool.{cases_Bool, ne_eqb, eq-eqb, true≢false, cond-true, cond-false}
 use Rattle.pager_model.specs.declared.region.Region.{Region}
-use Rattle.pager_model.specs.Flat.{out}
-use Rattle.pager_model.specs.SpaceStates.{SpaceState, Next, space_after}
+use Rattle.pager_model.specs.declared.tile.Mapping.{Mapping}
+use Rattle.pager_model.specs.Flat.{Flat, out}
+use Rattle.pager_model.specs.Images.{images_with}
+use Rattle.pager_model.specs.Regions.{region_at}
+use Rattle.pager_model.specs.SpaceStates.{SpaceState, Next, pages_of, space_after}
 use Rattle.pager_model.specs.SpaceStates.Next.{Only}
+use Rattle.pager_model.specs.Tiles.{mappings, promotions_between, demotions_between}
 use Rattle.space_core.specs.Beginning.{SameRegions, SameFrames, FailsToWrite, LeavesUnwritten, WritesOut}
 use Rattle.space_core.specs.Pages.{Cleans}
 use Rattle.space_core.specs.Saving.{Saves, FailsToSave, LacksRoom, with_store}
 use Rattle.space_core.specs.Standing.{Kept, StandsFor, IsResting, IsCopied, frame_at, rights_at, dirty_at, is_page, is_in, is_settled, is_behind, word_at, word_in_copy, failed_entry}
-use Rattle.space_core.specs.Tables.{Table, frame_in, word_in, dirty_in}
+use Rattle.space_core.specs.Tables.{Table, mapping_in, frame_in, word_in, dirty_in}
+use Rattle.space_core.specs.Translating.{Retouches, CleansPage}
 use Rattle.store_core.specs.Stored.{Stored, copy_at}
-use Rattle.space_core.proofs.SameView.{BesideAt, SameWhole, SameAt, settled_from, one_stands, same_stands, rises_told, within_faults}
-use Rattle.space_core.proofs.Serving.{resident_from, dirty_in-absent}
+use Rattle.space_core.proofs.SameView.{BesideAt, SameWhole, SameAt, settled_from, same_regions, one_stands, same_stands, rises_told, within_faults}
+use Rattle.space_core.proofs.Serving.{resident_from}
+use Rattle.space_core.proofs.TableLemmas.{dirty_in-absent, dirty-same, cleans_frame, cleans_dirty}
+use Rattle.space_core.proofs.Translating.{Still, same_translates, stays, retouches, said_flag}
+use Rattle.tiles.specs.Resident.{with_flag}
 
 -- a dirty page is resident
 pub dirty_resident : (t : Table) (page : ℕ) → dirty_in t page ≡ true → frame_in t page ≢ None
 dirty_resident t page dirty none = true≢false (sym dirty ∙ dirty_in-absent t page none)
 
+-- the state after an entry of a processor that leaves this flat memory, and each page its frame
+abbrev pub with_flat : SpaceState → ℕ → Next → Flat → SpaceState
+with_flat st c next f =
+    record {
+      flat = f;
+      base = st.base;
+      next = next;
+      told = st.told;
+      tied = st.tied;
+      highest = st.highest;
+      images = images_with (mappings f st.base) c None st.images;
+      promotions = st.promotions + promotions_between (pages_of st) (mappings f st.base);
+      demotions = st.demotions + demotions_between (pages_of st) (mappings f st.base);
+    }
+
 -- the state in which the page was paged out, with the next maker
-abbrev pub outed : SpaceState → ℕ → Next → SpaceState
-outed st page next = record { flat = out st.flat page; base = st.base; next = next; told = st.told; tied = st.tied; highest = st.highest }
+abbrev pub outed : SpaceState → ℕ → ℕ → Next → SpaceState
+outed st c page next = with_flat st c next (out st.flat page)
+
+-- pages changed and the moves were counted, or nothing is said of any page that wasn't before
+abbrev pub IsTurned : Kept → Kept → Type 0
+IsTurned old new = Retouches old new ⊎ (Still old new × ((p : ℕ) → mapping_in new.table p ≡ mapping_in old.table p))
 
 -- a state has the same of the page, but that its copy is unknown
 record SameLost (old new : SpaceState) (p : ℕ) : Type 0 where
@@ -49,11 +76,18 @@ module _ (old new : Kept) (only : new ≡ with_store old new.store) where
         same = record {
           number = ap (λ (k : Kept). k.number) only;
           frames = ap (λ (k : Kept). k.frames) only;
+          processors = ap (λ (k : Kept). length k.images) only;
           regions = ap (λ (k : Kept). k.regions) only;
           rights = λ p. ap (λ (k : Kept). rights_at k p) only;
         };
         frame = λ p. ap (λ (k : Kept). frame_at k p) only;
       }
+
+  pub store_still : Still old new
+  store_still = record { images = ap (λ (k : Kept). k.images) only; promotions = ap (λ (k : Kept). k.promotions) only; demotions = ap (λ (k : Kept). k.demotions) only }
+
+  pub store_mapping : (p : ℕ) → mapping_in new.table p ≡ mapping_in old.table p
+  store_mapping p = ap (λ (k : Kept). mapping_in k.table p) only
 
   store_whole : new.store.tells ≡ old.store.tells → old.store.faults ≤ new.store.faults → SameWhole old new
   store_whole tells faults =
@@ -147,17 +181,21 @@ module _ (old : Kept) (resting : IsResting old) where
         }
 
     -- the page is clean then, as one that was paged out
-    pub copied_out : Cleans page old.table new.table → new.paged ≡ None → (st : SpaceState) (next : Next) → StandsFor old st → StandsFor new (outed st page next)
-    copied_out cleans unpaged st next s =
+    pub copied_out : Cleans page old.table new.table → new.paged ≡ None → IsTurned old new → (st : SpaceState) (c : ℕ) (next : Next) → StandsFor old st → StandsFor new (outed st c page next)
+    copied_out cleans unpaged turned st c next s =
         let b = s.beside in
+        let after = outed st c page next in
+        let is : (p : ℕ) → pages_of after p ≡ mapping_in new.table p = λ p.
+        said_flag (p == page) false (st.flat.dirty p) (st.base p) (region_at st.flat.regions p) (st.flat.rights p)
+            ∙ ap (λ (o : Option Mapping). if p == page then option_map (with_flag false) o else o) (s.pages p) ∙ sym (cleans.mapping p) in
         let this : (page == page) ≡ true = eq-eqb page page refl in
-        one_stands old new st (outed st page next) page whole (clearing ∙ sym resting.none_clearing) (record { regions = refl; rights = λ p. refl; told = refl })
+        one_stands old new st after page whole (clearing ∙ sym resting.none_clearing) (record { regions = refl; rights = λ p. refl; told = refl })
         (omega (arith, b.highest, is_saved.faults))
-        (at_other (λ p n. cleans.dirty p ∙ cond-false _ _ _ (ne_eqb p page n)) (λ p n. ap (is_page p) unpaged))
+        (at_other (λ p n. cleans_dirty page old.table new.table cleans p ∙ cond-false _ _ _ (ne_eqb p page n)) (λ p n. ap (is_page p) unpaged))
         (λ p n. record { dirty = cond-false _ _ _ (ne_eqb p page n); words = λ i. refl; copies = cond-false _ _ _ (ne_eqb p page n); tied = λ i. refl })
         (λ p n. refl) s
         (record {
-          dirty = λ out. cond-true _ _ _ this ∙ sym (cleans.dirty page ∙ cond-true _ _ _ this);
+          dirty = λ out. cond-true _ _ _ this ∙ sym (cleans_dirty page old.table new.table cleans page ∙ cond-true _ _ _ this);
           words = λ told out i. (b.told told).words page i out ∙ sym (word_kept (is_saved.copied st s told) i);
           copies = λ told out _. let copy = is_saved.copied st s told in
               rw (this, copy.1) (λ i. (b.told told).words page i out ∙ copy.2 i);
@@ -165,11 +203,16 @@ module _ (old : Kept) (resting : IsResting old) where
           tied = λ i w tied is. word page i ∙ b.tied page i w tied (sym (settled page) ∙ is);
           untied = λ i is. absurd (true≢false (sym is ∙ ap (is_page page) pending));
         })
-        (s.base page ∙ sym (frame page))
+        (s.base page ∙ sym (frame page)) is
+        (elim turned [
+          | inl retouched ↦ retouches old new st after c (record { images = refl; promotions = refl; demotions = refl }) s.translates s.pages is retouched
+          | inr still ↦ stays old new st after c (record { images = refl; promotions = refl; demotions = refl }) s.translates s.pages is still.0 still.1
+        ])
 
     -- the page is being evicted then
-    pub copied_aside : ((p : ℕ) → dirty_at new p ≡ dirty_at old p) → new.paged ≡ Some page → (st : SpaceState) → StandsFor old st → StandsFor new st
-    copied_aside dirty paged st s =
+    pub copied_aside : ((p : ℕ) → mapping_in new.table p ≡ mapping_in old.table p) → Still old new → new.paged ≡ Some page → (st : SpaceState) → StandsFor old st → StandsFor new st
+    copied_aside mapping still paged st s =
+        let dirty : (p : ℕ) → dirty_at new p ≡ dirty_at old p = λ p. dirty-same old.table new.table p (mapping p) in
         let b = s.beside in
         let this : is_page page new.paged ≡ true = ap (is_page page) paged ∙ eq-eqb page page refl in
         one_stands old new st st page whole (clearing ∙ sym resting.none_clearing) (record { regions = refl; rights = λ p. refl; told = refl })
@@ -185,7 +228,7 @@ module _ (old : Kept) (resting : IsResting old) where
           tied = λ i w tied is. word page i ∙ b.tied page i w tied (sym (settled page) ∙ is);
           untied = λ i is. absurd (true≢false (sym is ∙ ap (is_page page) pending));
         })
-        (s.base page ∙ sym (frame page))
+        (s.base page ∙ sym (frame page)) (λ p. s.pages p ∙ sym (mapping p)) (same_translates old new st still s.translates)
 
   -- The write failed, and the page's copy is unknown.
   module _ (new : Kept) (page count : ℕ) (fails : FailsToSave old new page count) where
@@ -235,7 +278,9 @@ module _ (old : Kept) (resting : IsResting old) where
               (λ p n. refl) s
               (lost_here st (space_after st (failed_entry c old.number page true count)) refl
               (record { dirty = refl; words = λ i. refl; copies = cond-true _ _ _ (eq-eqb page page refl); tied = λ i. refl }) s)
-              (s.base page ∙ sym ((store_frames old new fails.same).frame page));
+              (s.base page ∙ sym ((store_frames old new fails.same).frame page)) (λ p. s.pages p ∙ sym (store_mapping old new fails.same p))
+              (stays old new st (space_after st (failed_entry c old.number page true count)) c (record { images = refl; promotions = refl; demotions = refl }) s.translates s.pages
+              (λ p. s.pages p ∙ sym (store_mapping old new fails.same p)) (store_still old new fails.same) (store_mapping old new fails.same));
         }
 
   -- there was no memory for the copy
@@ -247,17 +292,15 @@ module _ (old : Kept) (resting : IsResting old) where
         resting = store_resting old new lacks.same resting;
         same = store_frames old new lacks.same;
         stands = λ st s. same_stands old new st (store_whole old new lacks.same lacks.copies.tells lacks.never_falls)
-            (ap (λ (k : Kept). k.clearing) lacks.same) (λ p. store_at old new lacks.same p (λ tells. lacks.copies.copies tells p)) s;
+            (ap (λ (k : Kept). k.clearing) lacks.same) (λ p. store_at old new lacks.same p (λ tells. lacks.copies.copies tells p))
+            (store_mapping old new lacks.same) (store_still old new lacks.same) s;
       }
 
--- the page is clean, and all else of the space is as before
-pub record CleansPage (old new : Kept) (page : ℕ) : Type 0 where
-  pub same : SameRegions old new
-  pub pending : new.pending ≡ old.pending
-  pub clearing : new.clearing ≡ old.clearing
-  pub paged : new.paged ≡ old.paged
-  pub store : new.store ≡ old.store
-  pub table : Cleans page old.table new.table
+-- the moves and the images are those of what became of the pages from the space before its store changed
+retouches_from : (old mid new : Kept) → mid ≡ with_store old mid.store → Retouches mid new → Retouches old new
+retouches_from old mid new only r =
+    let is = subst (λ (k : Kept). Retouches k new) only r in
+    record { processors = is.processors; images = is.images; promotions = is.promotions; demotions = is.demotions }
 
 -- A page's copy is saved, and then the page is clean.
 module _ (old mid new : Kept) (page : ℕ) (written : Bool) (resting : IsResting old) (saves : Saves old mid page written) (cleans : CleansPage mid new page) where
@@ -267,35 +310,58 @@ module _ (old mid new : Kept) (page : ℕ) (written : Bool) (resting : IsResting
   cleaned_table : Cleans page old.table new.table
   cleaned_table = subst (λ (t : Table). Cleans page t new.table) (ap (λ (k : Kept). k.table) saves.same) cleans.table
 
+  cleaned_frame : (p : ℕ) → frame_at new p ≡ frame_at old p
+  cleaned_frame = cleans_frame page old.table new.table cleaned_table
+
   pub cleaned_resting : IsResting new
-  cleaned_resting = record { none_pending = cleans.pending ∙ rested.none_pending; none_clearing = cleans.clearing ∙ rested.none_clearing; none_paged = cleans.paged ∙ rested.none_paged }
+  cleaned_resting =
+      record {
+        none_pending = ap (λ (k : Kept). k.pending) cleans.same ∙ rested.none_pending;
+        none_clearing = ap (λ (k : Kept). k.clearing) cleans.same ∙ rested.none_clearing;
+        none_paged = ap (λ (k : Kept). k.paged) cleans.same ∙ rested.none_paged;
+      }
+
+  cleaned_turned : IsTurned old new
+  cleaned_turned = elim (cases_Bool (dirty_at mid page)) [
+    | inl dirty ↦ inl (retouches_from old mid new saves.same (cleans.retouched dirty))
+    | inr clean ↦
+        let same = cleans.as_it_was clean in
+        let stored = store_still old mid saves.same in
+        inr (
+          record {
+            images = ap (λ (k : Kept). k.images) same ∙ stored.images;
+            promotions = ap (λ (k : Kept). k.promotions) same ∙ stored.promotions;
+            demotions = ap (λ (k : Kept). k.demotions) same ∙ stored.demotions;
+          },
+          λ p. ap (λ (k : Kept). mapping_in k.table p) same ∙ store_mapping old mid saves.same p,
+        )
+  ]
+
+  turned_processors : length new.images ≡ length old.images
+  turned_processors = elim cleaned_turned [ inl r ↦ r.processors | inr still ↦ ap length still.0.images ]
 
   pub cleaned_same : SameFrames old new
   cleaned_same =
       let stored = store_frames old mid saves.same in
       record {
-        same = record {
-          number = cleans.same.number ∙ stored.same.number;
-          frames = cleans.same.frames ∙ stored.same.frames;
-          regions = cleans.same.regions ∙ stored.same.regions;
-          rights = λ p. cleans.same.rights p ∙ stored.same.rights p;
-        };
-        frame = cleaned_table.frame;
+        same = same_regions old new (ap (λ (k : Kept). k.number) cleans.same ∙ stored.same.number) (ap (λ (k : Kept). k.frames) cleans.same ∙ stored.same.frames) turned_processors
+            (ap (λ (k : Kept). k.regions) cleans.same ∙ stored.same.regions) cleaned_table.same.own;
+        frame = cleaned_frame;
       }
 
-  pub cleaned_out : (st : SpaceState) (next : Next) → StandsFor old st → StandsFor new (outed st page next)
-  cleaned_out st next s =
-      copied_out old resting new page cleaned_same.same cleaned_resting.none_clearing cleaned_resting.none_pending cleaned_table.frame cleaned_table.word
-      (subst (λ (store : Stored). IsSaved old store page) (sym cleans.store) (saved old resting mid page written saves))
-      cleaned_table cleaned_resting.none_paged st next s
+  pub cleaned_out : (st : SpaceState) (c : ℕ) (next : Next) → StandsFor old st → StandsFor new (outed st c page next)
+  cleaned_out st c next s =
+      copied_out old resting new page cleaned_same.same cleaned_resting.none_clearing cleaned_resting.none_pending cleaned_frame cleaned_table.word
+      (subst (λ (store : Stored). IsSaved old store page) (sym (ap (λ (k : Kept). k.store) cleans.same)) (saved old resting mid page written saves))
+      cleaned_table cleaned_resting.none_paged cleaned_turned st c next s
 
   pub writes_out : frame_at old page ≢ None → WritesOut old new page written
   writes_out resident =
       record {
         was = saves.was;
-        clean = cleaned_table.dirty page ∙ cond-true _ _ _ (eq-eqb page page refl);
+        clean = cleans_dirty page old.table new.table cleaned_table page ∙ cond-true _ _ _ (eq-eqb page page refl);
         resting = cleaned_resting;
         same = cleaned_same;
         allowed = λ st s c. (resident_from st.base page _ (s.base page) resident, s.beside.dirty page (none_in old resting page) ∙ saves.was);
-        stands = λ st s c. cleaned_out st (Only c) s;
+        stands = λ st s c. cleaned_out st c (Only c) s;
       }

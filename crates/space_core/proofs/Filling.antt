@@ -2,24 +2,32 @@
 use Rattle.std.proofs.Common.{◌≡◌, ◌≢◌, ℕ, ◌≤◌, true, false, ◌&&◌, not, List, Some, None, slice_index_or, refl, sym, ap, inl, inr, ◌∙◌, arith}
 use Rattle.std.proofs.lemmas.Bool.{cases_eq, ne_eqb, eq-eqb, true≢false, and_right, cond-true}
 use Rattle.std.proofs.lemmas.Option.{none-some}
-use Rattle.pager_model.specs.SpaceStates.{SpaceState, Rises}
-use Rattle.pager_model.specs.SpaceStates.Next.{Only}
+use Rattle.pager_model.specs.SpaceStates.{SpaceState, Rises, pages_of, space_after}
 use Rattle.space_core.specs.Beginning.{SameRegions, ReadsIn, FailsToRead}
 use Rattle.space_core.specs.Pages.{Refills, HasWords}
-use Rattle.space_core.specs.Standing.{Kept, StandsFor, IsCopied, frame_at, dirty_at, is_page, is_in, is_settled, is_behind, word_at}
+use Rattle.space_core.specs.Standing.{Kept, StandsFor, IsCopied, frame_at, dirty_at, is_page, is_in, is_settled, is_behind, word_at, failed_entry}
+use Rattle.space_core.specs.Tables.{mapping_in}
 use Rattle.store_core.specs.Stored.{copy_at, SameCopies}
 use Rattle.space_core.proofs.SameView.{BesideAt, SameWhole, SameAt, settled_from, one_stands, raised_stands, rises_told, within_faults}
 use Rattle.space_core.proofs.Serving.{resident_from}
+use Rattle.space_core.proofs.TableLemmas.{frame-same, dirty-same}
+use Rattle.space_core.proofs.Translating.{Still, same_translates, stays}
 
 -- The pending page may have any words after a read, and all else is seen the same.
 module _ (old new : Kept) (page : ℕ) (same : SameRegions old new) (clearing : new.clearing ≡ old.clearing) (paged : new.paged ≡ old.paged)
-    (pending : old.pending ≡ Some page) (resident : frame_at old page ≢ None) (clean : dirty_at old page ≡ false)
+    (still : Still old new) (pending : old.pending ≡ Some page) (resident : frame_at old page ≢ None) (clean : dirty_at old page ≡ false)
     (refills : Refills page old.table new.table) (copies : SameCopies old.store new.store) (faults : old.store.faults ≤ new.store.faults) where
   whole : SameWhole old new
   whole = record { regions = same.regions; rights = same.rights; tells = copies.tells; faults = faults }
 
+  frame_filled : (p : ℕ) → frame_at new p ≡ frame_at old p
+  frame_filled p = frame-same old.table new.table p (refills.mapping p)
+
+  dirty_filled : (p : ℕ) → dirty_at new p ≡ dirty_at old p
+  dirty_filled p = dirty-same old.table new.table p (refills.mapping p)
+
   clean_after : dirty_at new page ≡ false
-  clean_after = refills.dirty page ∙ clean
+  clean_after = dirty_filled page ∙ clean
 
   is_pending : is_page page old.pending ≡ true
   is_pending = ap (is_page page) pending ∙ eq-eqb page page refl
@@ -39,8 +47,8 @@ module _ (old new : Kept) (page : ℕ) (same : SameRegions old new) (clearing : 
     at_other : (p : ℕ) → p ≢ page → SameAt old new p
     at_other p n =
         record {
-          frame = refills.frame p;
-          dirty = refills.dirty p;
+          frame = frame_filled p;
+          dirty = dirty_filled p;
           pending = ap (is_page p) done ∙ sym (other_pending p n);
           paged = ap (is_page p) paged;
           word = λ i _. refills.word p i n;
@@ -48,7 +56,7 @@ module _ (old new : Kept) (page : ℕ) (same : SameRegions old new) (clearing : 
         }
 
     settled : is_settled new page ≡ true
-    settled = settled_from new page (λ none. resident (sym (refills.frame page) ∙ none)) done
+    settled = settled_from new page (λ none. resident (sym (frame_filled page) ∙ none)) done
 
     here : (st : SpaceState) → StandsFor old st → BesideAt (is_in old.clearing page) new st page
     here st s =
@@ -57,7 +65,7 @@ module _ (old new : Kept) (page : ℕ) (same : SameRegions old new) (clearing : 
         let same_word : (told : st.told ≡ true) → (out : is_in old.clearing page ≡ false) → (i : ℕ) → word_at new page i ≡ slice_index_or ((is told out).words) i 0 = λ told out i.
         cond-true _ _ _ settled ∙ read (is told out).words (b.told told).tells (is told out).known i in
         record {
-          dirty = λ out. b.dirty page out ∙ sym (refills.dirty page);
+          dirty = λ out. b.dirty page out ∙ sym (dirty_filled page);
           words = λ told out i. (b.told told).words page i out ∙ (is told out).equal i ∙ sym (same_word told out i);
           copies = λ told out staying. rw (copies.copies (b.told told).tells page) ((b.told told).copies page out (ap (is_page page) (sym paged) ∙ staying));
           copied = λ told out _. record {
@@ -75,10 +83,10 @@ module _ (old new : Kept) (page : ℕ) (same : SameRegions old new) (clearing : 
           done = done;
           same_clearing = clearing;
           same_paged = paged;
-          same = record { same = same; frame = refills.frame };
+          same = record { same = same; frame = frame_filled };
           stands = λ st s. one_stands old new st st page whole clearing (record { regions = refl; rights = λ p. refl; told = refl })
               (omega (arith, s.beside.highest, faults)) at_other (λ p n. record { dirty = refl; words = λ i. refl; copies = refl; tied = λ i. refl }) (λ p n. refl)
-              s (here st s) (s.base page ∙ sym (refills.frame page));
+              s (here st s) (s.base page ∙ sym (frame_filled page)) (λ p. s.pages p ∙ sym (refills.mapping p)) (same_translates old new st still s.translates);
         }
 
   -- the read failed
@@ -86,8 +94,8 @@ module _ (old new : Kept) (page : ℕ) (same : SameRegions old new) (clearing : 
     at : (p : ℕ) → SameAt old new p
     at p =
         record {
-          frame = refills.frame p;
-          dirty = refills.dirty p;
+          frame = frame_filled p;
+          dirty = dirty_filled p;
           pending = ap (is_page p) waiting;
           paged = ap (is_page p) paged;
           word = λ i is. elim (cases_eq p page) [ inl e ↦ absurd (true≢false (sym is ∙ rw e unsettled)) | inr n ↦ refills.word p i n ];
@@ -106,9 +114,13 @@ module _ (old new : Kept) (page : ℕ) (same : SameRegions old new) (clearing : 
           same_pending = waiting;
           same_clearing = clearing;
           same_paged = paged;
-          same = record { same = same; frame = refills.frame };
+          same = record { same = same; frame = frame_filled };
           allowed = λ st s c.
               (resident_from st.base page _ (s.base page) resident, s.beside.dirty page (ap (λ r. is_in r page) alone) ∙ clean, rises_told _ _ _ s.beside.highest rose_to);
           stands = λ st s c.
-              raised_stands old new st (Only c) _ whole clearing (within_faults st.highest count _ (omega (arith, s.beside.highest, faults)) count_is) at s;
+              let after = space_after st (failed_entry c old.number page false count) in
+              let is : (p : ℕ) → pages_of after p ≡ mapping_in new.table p = λ p. s.pages p ∙ sym (refills.mapping p) in
+              raised_stands old new st after whole clearing (record { regions = refl; rights = λ p. refl; told = refl }) (within_faults st.highest count _ (omega (arith, s.beside.highest, faults)) count_is) at
+              (λ p. record { dirty = refl; words = λ i. refl; copies = refl; tied = λ i. refl }) (λ p. refl) s is
+              (stays old new st after c (record { images = refl; promotions = refl; demotions = refl }) s.translates s.pages is still refills.mapping);
         }

@@ -1,17 +1,24 @@
 -- What becomes of a space when a clean page, or one that is being evicted, gives its frame up.
-use Rattle.std.proofs.Common.{◌≡◌, ◌≢◌, ℕ, Bool, true, false, ◌&&◌, ◌==◌, if◌then◌else◌, not, Option, Some, None, is_some, refl, sym, ap, ◌∙◌, arith, subst}
+use Rattle.std.proofs.Common.{◌≡◌, ◌≢◌, ℕ, ◌+◌, Bool, true, false, ◌&&◌, ◌==◌, if◌then◌else◌, not, Option, Some, None, is_some, refl, sym, ap, ◌∙◌, arith, subst}
 use Rattle.std.proofs.lemmas.Bool.{ne_eqb, eq-eqb, true≢false, and_right, cond-true, cond-false}
 use Rattle.pager_model.specs.declared.call.Call.TheVariants.{Evict}
 use Rattle.pager_model.specs.declared.region.Region.{Region}
 use Rattle.pager_model.specs.Flat.{Flat, reply_of, out}
+use Rattle.pager_model.specs.declared.tile.Mapping.{Mapping}
+use Rattle.pager_model.specs.Images.{images_with}
 use Rattle.pager_model.specs.Regions.{region_at}
-use Rattle.pager_model.specs.SpaceStates.{SpaceState, space_after}
+use Rattle.pager_model.specs.Tiles.{mappings, promotions_between, demotions_between}
+use Rattle.pager_model.specs.SpaceStates.{SpaceState, pages_of, space_after}
 use Rattle.pager_model.specs.SpaceStates.Next.{Anyone}
 use Rattle.space_core.specs.Beginning.{SameRegions, GaveUp, Removes, Evicts, IsEvicting, copied_reply}
-use Rattle.space_core.specs.Pages.{Moves}
+use Rattle.space_core.specs.Pages.{Maps}
 use Rattle.space_core.specs.Standing.{Kept, StandsFor, IsResting, IsCopied, IsCopy, frame_at, dirty_at, is_page, is_in, is_settled, is_behind, is_unwired, word_at, word_in_copy, give_entry}
+use Rattle.space_core.specs.Tables.{mapping_in}
+use Rattle.space_core.specs.Translating.{Retouches}
 use Rattle.store_core.specs.Stored.{Stored, copy_at}
 use Rattle.space_core.proofs.SameView.{SameWhole, SameRest, SameAt, SameStateAt, one_stands}
+use Rattle.space_core.proofs.TableLemmas.{maps_frame, maps_dirty}
+use Rattle.space_core.proofs.Translating.{Follows, retouches, said_gone, said_out}
 use Rattle.space_core.proofs.Syncing.{evict_asked, evict_outs, allowed_copied, copied_lawful}
 
 -- Which page may be pending or on its way out: this one alone.
@@ -44,11 +51,22 @@ pub evicting_unbehind : (kept : Kept) (page : ℕ) → IsEvicting kept page → 
 evicting_unbehind kept page is = and_right _ _ (ap not (ap (is_page page) is.paged ∙ eq-eqb page page refl))
 
 -- an evict's page gives its frame up
-abbrev evicted : ℕ → SpaceState → Flat → SpaceState
-evicted page st f = record { flat = f; base = λ p. if p == page then None else st.base p; next = Anyone; told = st.told; tied = st.tied; highest = st.highest }
+abbrev evicted : ℕ → ℕ → SpaceState → Flat → SpaceState
+evicted c page st f =
+    record {
+      flat = f;
+      base = λ p. if p == page then None else st.base p;
+      next = Anyone;
+      told = st.told;
+      tied = st.tied;
+      highest = st.highest;
+      images = images_with (mappings f (λ p. if p == page then None else st.base p)) c None st.images;
+      promotions = st.promotions + promotions_between (pages_of st) (mappings f (λ p. if p == page then None else st.base p));
+      demotions = st.demotions + demotions_between (pages_of st) (mappings f (λ p. if p == page then None else st.base p));
+    }
 
 module _ (old new : Kept) (page frame : ℕ) (same : SameRegions old new) (only : IsOnly old page) (resting : IsResting new)
-    (store : new.store ≡ old.store) (had : frame_at old page ≡ Some frame) (moves : Moves page None old.table new.table) (unbehind : is_behind old page ≡ false) where
+    (store : new.store ≡ old.store) (had : frame_at old page ≡ Some frame) (moves : Maps page None old.table new.table) (retouched : Retouches old new) (unbehind : is_behind old page ≡ false) where
   whole : SameWhole old new
   whole = record { regions = same.regions; rights = same.rights; tells = ap (λ (s : Stored). s.tells) store; faults = omega (arith, ap (λ (s : Stored). s.faults) store) }
 
@@ -56,13 +74,13 @@ module _ (old new : Kept) (page frame : ℕ) (same : SameRegions old new) (only 
   this = eq-eqb page page refl
 
   gone : frame_at new page ≡ None
-  gone = moves.frame page ∙ cond-true _ _ _ this
+  gone = maps_frame page None old.table new.table moves page ∙ cond-true _ _ _ this
 
   frame_other : (p : ℕ) → p ≢ page → frame_at new p ≡ frame_at old p
-  frame_other p n = moves.frame p ∙ cond-false _ _ _ (ne_eqb p page n)
+  frame_other p n = maps_frame page None old.table new.table moves p ∙ cond-false _ _ _ (ne_eqb p page n)
 
   clean_after : dirty_at new page ≡ false
-  clean_after = moves.dirty page ∙ cond-true _ _ _ this
+  clean_after = maps_dirty page None old.table new.table moves page ∙ cond-true _ _ _ this
 
   pub gave_up : GaveUp old new page frame
   gave_up = record { had = had; same = same; gone = gone; same_others = frame_other }
@@ -71,7 +89,7 @@ module _ (old new : Kept) (page frame : ℕ) (same : SameRegions old new) (only 
   at_other p n =
       record {
         frame = frame_other p n;
-        dirty = moves.dirty p ∙ cond-false _ _ _ (ne_eqb p page n);
+        dirty = maps_dirty page None old.table new.table moves p ∙ cond-false _ _ _ (ne_eqb p page n);
         pending = ap (is_page p) resting.none_pending ∙ sym (only.pending p n);
         paged = ap (is_page p) resting.none_paged ∙ sym (only.paged p n);
         word = λ i _. moves.word p i n;
@@ -90,13 +108,18 @@ module _ (old new : Kept) (page frame : ℕ) (same : SameRegions old new) (only 
       let known = ap (λ s. copy_at s page) store ∙ is.known in
       record { words = is.words; known = known; equal = λ i. cond-false _ _ _ unsettled ∙ ap (λ copy. word_in_copy copy i) known }
 
+  -- what is said of the other pages is as before
+  is_said : (st after : SpaceState) → ((p : ℕ) → pages_of after p ≡ (if p == page then None else pages_of st p)) → StandsFor old st → (p : ℕ) → pages_of after p ≡ mapping_in new.table p
+  is_said st after said s p = said p ∙ ap (λ (o : Option Mapping). if p == page then None else o) (s.pages p) ∙ sym (moves.mapping p)
+
   -- in each state in which the page lost its frame and is clean
   pub gives_up : (st after : SpaceState) → SameRest st after → after.highest ≡ st.highest → ((p : ℕ) → p ≢ page → SameStateAt st after p) → ((p : ℕ) → p ≢ page → after.base p ≡ st.base p)
       → after.base page ≡ None → after.flat.dirty page ≡ false → ((i : ℕ) → after.flat.words page i ≡ st.flat.words page i)
       → (st.told ≡ true → IsCopied old page → ((i : ℕ) → st.flat.words page i ≡ word_at old page i) → IsCopy (after.flat.copies page) (copy_at old.store page))
+      → (c : ℕ) → Follows st after c None → ((p : ℕ) → pages_of after p ≡ (if p == page then None else pages_of st p))
       → StandsFor old st → StandsFor new after
   unfolding copied_after
-  gives_up st after rest highest others base none clean words copies s =
+  gives_up st after rest highest others base none clean words copies c follows said s =
       let b = s.beside in
       one_stands old new st after page whole (resting.none_clearing ∙ sym only.none_clearing) rest (omega (arith, highest, b.highest, whole.faults)) at_other others base s
       (record {
@@ -113,7 +136,7 @@ module _ (old new : Kept) (page frame : ℕ) (same : SameRegions old new) (only 
         tied = λ i w tied is. absurd (true≢false (sym is ∙ unsettled));
         untied = λ i is. absurd (true≢false (sym is ∙ ap (is_page page) resting.none_pending));
       })
-      (none ∙ sym gone)
+      (none ∙ sym gone) (is_said st after said s) (retouches old new st after c follows s.translates s.pages (is_said st after said s) retouched)
 
   pub removes : dirty_at old page ≡ false → old.paged ≡ None → Removes old new page frame
   removes clean unpaged =
@@ -124,7 +147,8 @@ module _ (old new : Kept) (page frame : ℕ) (same : SameRegions old new) (only 
         stands = λ st s c. gives_up st (space_after st (give_entry c old.number page frame)) (record { regions = refl; rights = λ p. refl; told = refl }) refl
             (λ p n. record { dirty = refl; words = λ i. refl; copies = refl; tied = λ i. refl })
             (λ p n. cond-false _ _ _ (ne_eqb p page n)) (cond-true _ _ _ this) (s.beside.dirty page out_of ∙ clean) (λ i. refl)
-            (λ told is words. (s.beside.told told).copies page out_of (ap (is_page page) unpaged)) s;
+            (λ told is words. (s.beside.told told).copies page out_of (ap (is_page page) unpaged))
+            c (record { images = refl; promotions = refl; demotions = refl }) (λ p. said_gone (p == page) (st.flat.dirty p) (st.base p) (region_at st.flat.regions p) (st.flat.rights p)) s;
       }
 
   -- the page's copy was written before, and the answer tells whether
@@ -142,9 +166,10 @@ module _ (old new : Kept) (page frame : ℕ) (same : SameRegions old new) (only 
           hit = refl;
           size = refl;
         };
-        stands = λ st s c n. subst (λ (f : Flat). StandsFor new (evicted page st f)) (sym (evict_outs st.flat old.number page written (asked st s)))
-            (gives_up st (evicted page st (out st.flat page)) (record { regions = refl; rights = λ p. refl; told = refl }) refl
+        stands = λ st s c n. subst (λ (f : Flat). StandsFor new (evicted c page st f)) (sym (evict_outs st.flat old.number page written (asked st s)))
+            (gives_up st (evicted c page st (out st.flat page)) (record { regions = refl; rights = λ p. refl; told = refl }) refl
             (λ p n. record { dirty = cond-false _ _ _ (ne_eqb p page n); words = λ i. refl; copies = cond-false _ _ _ (ne_eqb p page n); tied = λ i. refl })
             (λ p n. cond-false _ _ _ (ne_eqb p page n)) (cond-true _ _ _ this) (cond-true _ _ _ this) (λ i. refl)
-            (λ told is words. rw (this, is.known) (λ i. words i ∙ is.equal i)) s);
+            (λ told is words. rw (this, is.known) (λ i. words i ∙ is.equal i))
+            c (record { images = refl; promotions = refl; demotions = refl }) (λ p. said_out (p == page) (st.flat.dirty p) (st.base p) (region_at st.flat.regions p) (st.flat.rights p)) s);
       }

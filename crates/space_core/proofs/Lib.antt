@@ -11,3 +11,4 @@ pub mod Changing
 pub mod Clearing
 pub mod Sparing
 pub mod CopyLaws
+pub mod Translating

@@ -1,20 +1,24 @@
 -- A refusal changes nothing that a space shows.
-use Rattle.std.proofs.Common.{◌≡◌, ◌≢◌, ℕ, Bool, true, false, if◌then◌else◌, List, [], ◌∷◌, Option, Some, None, is_some, refl, sym, ap, inl, inr, ◌∙◌, ◌||◌, not, subst}
+use Rattle.std.proofs.Common.{◌≡◌, ◌≢◌, ℕ, Bool, true, false, if◌then◌else◌, List, [], ◌∷◌, Option, Some, None, is_some, option_map, refl, sym, ap, inl, inr, ◌∙◌, ◌||◌, not, subst}
 use Rattle.std.proofs.lemmas.Bool.{cases_Bool, cond-true, cond-false, true≢false}
 use Rattle.std.proofs.lemmas.Option.{none-some, same_Some}
 use Rattle.pager_model.specs.declared.call.Call.{Call}
 use Rattle.pager_model.specs.declared.call.Call.TheVariants.{Map, Grow, Unmap, Protect, Load, Store, Sync, Evict}
+use Rattle.pager_model.specs.declared.entry.What.TheVariants.{Answer}
 use Rattle.pager_model.specs.declared.region.Region.{Region}
 use Rattle.pager_model.specs.declared.reply.Reply.{Reply}
 use Rattle.pager_model.specs.declared.reply.Reply.TheVariants.{Done, Value, Unmapped, Denied, Overlap, OutOfSpace, NotGrowing, RegionsFull, NoMemory}
+use Rattle.pager_model.specs.declared.tile.Tile.{Tile}
+use Rattle.pager_model.specs.Images.{is_in_image, images_with}
 use Rattle.pager_model.specs.Flat.{Flat, reply_of, is_lawful, after_call, access_reply, page_of, can_read, can_write}
 use Rattle.pager_model.specs.Order.{is_plain, is_no_memory, is_unmapped, is_answered_alone}
 use Rattle.pager_model.specs.Regions.{has_page, region_at, range_in, without_region, unmap_reply_at, map_reply, grow_reply, grow_reply_at}
-use Rattle.pager_model.specs.SpaceStates.{SpaceState, answered_flat, ReplyAllowed, access_page, said_at, base_after_answer, frees_its_page}
+use Rattle.pager_model.specs.SpaceStates.{SpaceState, answered_flat, ReplyAllowed, access_page, said_at, base_after_answer, frees_its_page, pages_of, pages_after, served_page, tile_at, space_after}
 use Rattle.space_core.specs.Beginning.{BeginsAnswered}
-use Rattle.space_core.specs.Standing.{Kept, StandsFor, IsResting, IsCopy, CanBegin, rights_at, rights_by}
+use Rattle.space_core.specs.Standing.{Kept, answer_entry, StandsFor, IsResting, IsCopy, CanBegin, rights_at, rights_by}
 use Rattle.space_core.specs.Pages.{permits}
-use Rattle.space_core.specs.Tables.{own_in}
+use Rattle.space_core.specs.Tables.{mapping_in, own_in}
+use Rattle.space_core.proofs.Translating.{stays, said_same}
 use Rattle.store_core.specs.Stored.{copy_at}
 
 -- what a space shows of flat memory is the same
@@ -139,18 +143,35 @@ pub same_base : (base : ℕ → Option ℕ) (call : Call) (p : ℕ) → base_aft
 same_base base (Evict space page) p = refl
 same_base base call p = refl
 
-pub begins_refused : (old : Kept) (call : Call) (r : Reply) → CanBegin call → IsResting old → is_refusal r ≡ true → IsAlone call r → ((st : SpaceState) → StandsFor old st → reply_of st.flat call ≡ r) → BeginsAnswered old old call (record { reply = r; hit = false; size = None })
-begins_refused old call r can resting refused alone asked =
+-- and has no size
+unserved : (call : Call) (r : Reply) → is_refusal r ≡ true → served_page call r ≡ None
+unserved (Load space address) (Value word) h = cc
+unserved (Load space address) r h = refl
+unserved (Store space address word) Done h = cc
+unserved (Store space address word) r h = refl
+unserved call r h = refl
+
+pub begins_refused : (old : Kept) (c : ℕ) (call : Call) (r : Reply) → CanBegin call → IsResting old → is_refusal r ≡ true → IsAlone call r → ((st : SpaceState) → StandsFor old st → reply_of st.flat call ≡ r) → BeginsAnswered old old c call (record { reply = r; hit = false; size = None })
+begins_refused old c call r can resting refused alone asked =
     record {
       alone = alone_from call r can refused alone;
       same_number = refl;
       same_frames = refl;
+      same_processors = refl;
       resting = resting;
       answers = record {
-        allowed = λ st s c number. record { reply = allowed_refused st c call r refused (asked st s); parts = frees_nothing st call r (refusal-lawful r refused); hit = refl; size = refl };
-        stands = λ st s c number.
+        allowed = λ st s number. record {
+          reply = allowed_refused st c call r refused (asked st s);
+          parts = frees_nothing st call r (refusal-lawful r refused);
+          hit = ap (λ o. is_in_image (st.images c) (tile_at (pages_of st) o)) (sym (unserved call r refused));
+          size = ap (λ o. option_map (λ (t : Tile). t.extent.size) (tile_at (pages_after st false (Answer number call (record { reply = r; hit = false; size = None }))) o)) (sym (unserved call r refused));
+        };
+        stands = λ st s number.
+            let after = space_after st (answer_entry c number call (record { reply = r; hit = false; size = None })) in
             let e = answered_refused st.flat call r refused (asked st s) in
             let u = after_refusal st.flat call (ap is_lawful (asked st s) ∙ refusal-lawful r refused) in
+            let is : (p : ℕ) → pages_of after p ≡ mapping_in old.table p = λ p.
+            said_same st after p (ap (λ f. f.regions) e ∙ u.regions) (ap (λ f. f.rights p) e ∙ u.rights p) (ap (λ f. f.dirty p) e ∙ u.dirty p) (same_base st.base call p) ∙ s.pages p in
             record {
               beside = record {
                 regions = ap (λ f. f.regions) e ∙ u.regions ∙ s.beside.regions;
@@ -167,6 +188,10 @@ begins_refused old call r can resting refused alone asked =
                 highest = s.beside.highest;
               };
               base = λ p. same_base st.base call p ∙ s.base p;
+              pages = is;
+              translates = stays old old st after c
+                  (record { images = ap (λ o. images_with (pages_of after) c (tile_at (pages_of after) o) st.images) (unserved call r refused); promotions = refl; demotions = refl })
+                  s.translates s.pages is (record { images = refl; promotions = refl; demotions = refl }) (λ p. refl);
             };
       };
       memory = λ lacking. absurd (no_memory_refused r refused lacking);
@@ -180,16 +205,16 @@ rights_here : (old : Kept) (q page : ℕ) (r : Region) → q ≡ page → region
 rights_here old q page r same at = rw same (ap is_some at, ap (rights_by (own_in old.table page)) at)
 
 -- an access without the right is denied
-pub begins_denied : (old : Kept) (call : Call) (page : ℕ) (r : Region) → CanBegin call → IsResting old → access_page call ≡ Some page → region_at old.regions page ≡ Some r → permits (rights_by (own_in old.table page) (Some r)) call ≡ false → BeginsAnswered old old call (record { reply = Denied; hit = false; size = None })
-begins_denied old (Load space address) page r can resting is at refused =
+pub begins_denied : (old : Kept) (c : ℕ) (call : Call) (page : ℕ) (r : Region) → CanBegin call → IsResting old → access_page call ≡ Some page → region_at old.regions page ≡ Some r → permits (rights_by (own_in old.table page) (Some r)) call ≡ false → BeginsAnswered old old c call (record { reply = Denied; hit = false; size = None })
+begins_denied old c (Load space address) page r can resting is at refused =
     let here = rights_here old (page_of address) page r (same_Some _ _ is) at in
-    begins_refused old (Load space address) Denied can resting refl tt (λ st s.
+    begins_refused old c (Load space address) Denied can resting refl tt (λ st s.
     access_denied _ _ _ (ap (λ rs. is_some (region_at rs (page_of address))) s.beside.regions ∙ here.0) (ap can_read (s.beside.rights (page_of address) here.0 ∙ here.1) ∙ refused))
-begins_denied old (Store space address word) page r can resting is at refused =
+begins_denied old c (Store space address word) page r can resting is at refused =
     let here = rights_here old (page_of address) page r (same_Some _ _ is) at in
-    begins_refused old (Store space address word) Denied can resting refl tt (λ st s.
+    begins_refused old c (Store space address word) Denied can resting refl tt (λ st s.
     access_denied _ _ _ (ap (λ rs. is_some (region_at rs (page_of address))) s.beside.regions ∙ here.0) (ap can_write (s.beside.rights (page_of address) here.0 ∙ here.1) ∙ refused))
-begins_denied old call page r can resting is at refused = absurd (none-some page is)
+begins_denied old c call page r can resting is at refused = absurd (none-some page is)
 
 refused_if : (b : Bool) (x y : Reply) → is_refusal x ≡ true → (y ≢ Done → is_refusal y ≡ true) → (if b then x else y) ≢ Done → is_refusal (if b then x else y) ≡ true
 refused_if true x y hx hy n = hx

@@ -1,12 +1,13 @@
 -- What a space stands for page by page: what is seen the same of a page stands as before.
-use Rattle.std.proofs.Common.{nat_lt, ◌≡◌, ◌≢◌, ℕ, ◌≤◌, Bool, true, false, ◌&&◌, if◌then◌else◌, Option, Some, None, is_some, refl, sym, ap, inl, inr, ◌∙◌, arith, subst}
+use Rattle.std.proofs.Common.{nat_lt, ◌≡◌, ◌≢◌, ℕ, ◌≤◌, Bool, true, false, ◌&&◌, if◌then◌else◌, Option, Some, None, is_some, length, refl, sym, ap, inl, inr, ◌∙◌, arith, subst}
 use Rattle.std.proofs.lemmas.Bool.{cases_Bool, cases_eq, cond-true, cond-false, cond_both}
 use Rattle.pager_model.specs.declared.region.Region.{Region}
 use Rattle.pager_model.specs.Regions.{region_at}
-use Rattle.pager_model.specs.SpaceStates.{SpaceState, Next, Rises}
+use Rattle.pager_model.specs.SpaceStates.{SpaceState, Rises, pages_of}
 use Rattle.space_core.specs.Beginning.{SameRegions}
-use Rattle.space_core.specs.Standing.{Kept, StandsBeside, StandsFor, IsCopy, IsCopied, frame_at, rights_at, dirty_at, is_page, is_in, is_settled, is_behind, word_at, word_in_copy}
-use Rattle.space_core.specs.Tables.{word_in, own_in}
+use Rattle.space_core.specs.Standing.{Kept, StandsBeside, StandsFor, Translates, IsCopy, IsCopied, frame_at, rights_at, dirty_at, is_page, is_in, is_settled, is_behind, word_at, word_in_copy}
+use Rattle.space_core.specs.Tables.{mapping_in, word_in, own_in}
+use Rattle.space_core.proofs.Translating.{Follows, Still, same_translates, stays}
 use Rattle.store_core.specs.Stored.{copy_at}
 
 -- what a space and a state have in common of one page, but for its frame
@@ -113,35 +114,39 @@ same_at aside old new st after s same_told p same state =
       untied = λ i pending. state.tied i ∙ was.untied i (sym same.pending ∙ pending);
     }
 
--- the state with another next maker and another highest count of faults
-abbrev pub raised : SpaceState → Next → ℕ → SpaceState
-raised st next highest = record { flat = st.flat; base = st.base; next = next; told = st.told; tied = st.tied; highest = highest }
-
--- A space that is seen the same on every page stands for the same state, whose highest count may have risen.
-pub raised_stands : (old new : Kept) (st : SpaceState) (next : Next) (highest : ℕ) → SameWhole old new → new.clearing ≡ old.clearing → highest ≤ new.store.faults → ((p : ℕ) → SameAt old new p) → StandsFor old st → StandsFor new (raised st next highest)
-raised_stands old new st next highest same clearing within at s =
-    let unmoved : (p : ℕ) → SameStateAt st (raised st next highest) p = λ p. record { dirty = refl; words = λ i. refl; copies = refl; tied = λ i. refl } in
+-- A space that is seen the same on every page stands for a state with the same of every page, whose highest count may have risen.
+pub raised_stands : (old new : Kept) (st after : SpaceState) → SameWhole old new → new.clearing ≡ old.clearing → SameRest st after → after.highest ≤ new.store.faults
+    → ((p : ℕ) → SameAt old new p) → ((p : ℕ) → SameStateAt st after p) → ((p : ℕ) → after.base p ≡ st.base p)
+    → StandsFor old st → ((p : ℕ) → pages_of after p ≡ mapping_in new.table p) → Translates new after → StandsFor new after
+raised_stands old new st after same clearing rest within at unmoved base s pages translates =
     record {
-      beside = subst (λ (r : Option Region). StandsBeside (is_in r) new (raised st next highest)) (sym clearing) (beside_from (is_in old.clearing) old new st (raised st next highest) same
-          (record { regions = refl; rights = λ p. refl; told = refl }) within s.beside
-          (λ p. same_at (is_in old.clearing) old new st (raised st next highest) s.beside refl p (at p) (unmoved p)));
-      base = λ p. s.base p ∙ sym ((at p).frame);
+      beside = subst (λ (r : Option Region). StandsBeside (is_in r) new after) (sym clearing) (beside_from (is_in old.clearing) old new st after same rest within s.beside
+          (λ p. same_at (is_in old.clearing) old new st after s.beside rest.told p (at p) (unmoved p)));
+      base = λ p. base p ∙ s.base p ∙ sym ((at p).frame);
+      pages = pages;
+      translates = translates;
     }
 
-pub same_stands : (old new : Kept) (st : SpaceState) → SameWhole old new → new.clearing ≡ old.clearing → ((p : ℕ) → SameAt old new p) → StandsFor old st → StandsFor new st
-same_stands old new st same clearing at s = raised_stands old new st st.next st.highest same clearing (omega (arith, s.beside.highest, same.faults)) at s
+pub same_stands : (old new : Kept) (st : SpaceState) → SameWhole old new → new.clearing ≡ old.clearing → ((p : ℕ) → SameAt old new p) → ((p : ℕ) → mapping_in new.table p ≡ mapping_in old.table p) → Still old new → StandsFor old st → StandsFor new st
+same_stands old new st same clearing at mapping still s =
+    raised_stands old new st st same clearing (record { regions = refl; rights = λ p. refl; told = refl }) (omega (arith, s.beside.highest, same.faults)) at
+    (λ p. record { dirty = refl; words = λ i. refl; copies = refl; tied = λ i. refl }) (λ p. refl) s (λ p. s.pages p ∙ sym (mapping p)) (same_translates old new st still s.translates)
 
--- whoever makes the next entry, a space stands for the state
-pub next_stands : (k : Kept) (st : SpaceState) (next : Next) → StandsFor k st → StandsFor k (raised st next st.highest)
-next_stands k st next s =
-    raised_stands k k st next st.highest (record { regions = refl; rights = λ p. refl; tells = refl; faults = omega arith }) refl s.beside.highest
-    (λ p. record { frame = refl; dirty = refl; pending = refl; paged = refl; word = λ i _. refl; copy = λ _. refl }) s
+-- an entry that changes nothing but who makes the next one
+pub next_stands : (k : Kept) (st after : SpaceState) (c : ℕ) → SameRest st after → ((p : ℕ) → SameStateAt st after p) → ((p : ℕ) → after.base p ≡ st.base p) → after.highest ≡ st.highest
+    → ((p : ℕ) → pages_of after p ≡ pages_of st p) → Follows st after c None → StandsFor k st → StandsFor k after
+next_stands k st after c rest at base highest pages follows s =
+    let is : (p : ℕ) → pages_of after p ≡ mapping_in k.table p = λ p. pages p ∙ s.pages p in
+    raised_stands k k st after (record { regions = refl; rights = λ p. refl; tells = refl; faults = omega arith }) refl rest (omega (arith, highest, s.beside.highest))
+    (λ p. record { frame = refl; dirty = refl; pending = refl; paged = refl; word = λ i _. refl; copy = λ _. refl }) at base s is
+    (stays k k st after c follows s.translates s.pages is (record { images = refl; promotions = refl; demotions = refl }) (λ p. refl))
 
 -- A space where one page changed stands for a state where nothing but that page did.
 pub one_stands : (old new : Kept) (st after : SpaceState) (page : ℕ) → SameWhole old new → new.clearing ≡ old.clearing → SameRest st after → after.highest ≤ new.store.faults
     → ((p : ℕ) → p ≢ page → SameAt old new p) → ((p : ℕ) → p ≢ page → SameStateAt st after p) → ((p : ℕ) → p ≢ page → after.base p ≡ st.base p)
-    → StandsFor old st → BesideAt (is_in old.clearing page) new after page → after.base page ≡ frame_at new page → StandsFor new after
-one_stands old new st after page same clearing rest highest at state base s here resident =
+    → StandsFor old st → BesideAt (is_in old.clearing page) new after page → after.base page ≡ frame_at new page
+    → ((p : ℕ) → pages_of after p ≡ mapping_in new.table p) → Translates new after → StandsFor new after
+one_stands old new st after page same clearing rest highest at state base s here resident pages translates =
     record {
       beside = subst (λ (r : Option Region). StandsBeside (is_in r) new after) (sym clearing) (beside_from (is_in old.clearing) old new st after same rest highest s.beside (λ p. elim (cases_eq p page) [
         | inl e ↦ rw e here
@@ -151,6 +156,8 @@ one_stands old new st after page same clearing rest highest at state base s here
         | inl e ↦ rw e resident
         | inr n ↦ base p n ∙ s.base p ∙ sym ((at p n).frame)
       ];
+      pages = pages;
+      translates = translates;
     }
 
 -- a count that rises over the store's is above each fault that was told
@@ -162,6 +169,6 @@ pub within_faults : (highest count faults : ℕ) → highest ≤ faults → coun
 within_faults highest count faults within is = cond_both (nat_lt highest count) count highest (λ n. n ≤ faults) (λ _. omega arith) (λ _. within)
 
 -- the space's number, its regions and their rights are the same where the table's own rights are
-pub same_regions : (old new : Kept) → new.number ≡ old.number → new.frames ≡ old.frames → new.regions ≡ old.regions → ((p : ℕ) → own_in new.table p ≡ own_in old.table p) → SameRegions old new
-same_regions old new number frames regions own =
-    record { number = number; frames = frames; regions = regions; rights = λ p. rw (own p, regions) refl }
+pub same_regions : (old new : Kept) → new.number ≡ old.number → new.frames ≡ old.frames → length new.images ≡ length old.images → new.regions ≡ old.regions → ((p : ℕ) → own_in new.table p ≡ own_in old.table p) → SameRegions old new
+same_regions old new number frames processors regions own =
+    record { number = number; frames = frames; processors = processors; regions = regions; rights = λ p. rw (own p, regions) refl }

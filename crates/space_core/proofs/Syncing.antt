@@ -1,28 +1,33 @@
 -- What a sync and an evict are answered, and what they do, where a region has their page.
-use Rattle.std.proofs.Common.{◌≡◌, ◌≢◌, ℕ, Bool, true, false, ◌&&◌, ◌==◌, if◌then◌else◌, not, List, Option, Some, None, is_some, ◌<◌, refl, sym, ap, inl, inr, ◌∙◌, arith, subst}
+use Rattle.std.proofs.Common.{◌≡◌, ◌≢◌, ℕ, Bool, true, false, ◌&&◌, ◌==◌, if◌then◌else◌, not, List, Option, Some, None, is_some, option_map, ◌<◌, refl, sym, ap, inl, inr, ◌∙◌, arith, subst}
 use Rattle.std.proofs.lemmas.Bool.{cases_eq, not-true, false≢true, eq-eqb, ne_eqb, cond-true, cond-false}
 use Rattle.std.proofs.lemmas.Option.{same_Some}
 use Rattle.pager_model.specs.declared.call.Call.{Call}
-use Rattle.pager_model.specs.declared.call.Call.TheVariants.{Sync, Evict}
+use Rattle.pager_model.specs.declared.call.Call.TheVariants.{Load, Store, Sync, Evict}
+use Rattle.pager_model.specs.declared.entry.What.TheVariants.{Answer}
 use Rattle.pager_model.specs.declared.region.Kind.{Kind}
 use Rattle.pager_model.specs.declared.region.Kind.TheVariants.{Fixed, Growing, Wired}
 use Rattle.pager_model.specs.declared.region.Region.{Region}
 use Rattle.pager_model.specs.declared.reply.Reply.TheVariants.{Clean, NoMemory}
+use Rattle.pager_model.specs.declared.tile.Tile.{Tile}
+use Rattle.pager_model.specs.Images.{is_in_image}
 use Rattle.pager_model.specs.Flat.{Flat, after_call, reply_of, is_lawful, out, sync_reply, evict_reply}
 use Rattle.pager_model.specs.Order.{is_answered_alone}
 use Rattle.pager_model.specs.Regions.{region_at, is_wired}
-use Rattle.pager_model.specs.SpaceStates.{SpaceState, MayFail, ReplyAllowed, HasItsPages, answered_flat, space_after, frees_its_page}
+use Rattle.pager_model.specs.SpaceStates.{SpaceState, MayFail, ReplyAllowed, HasItsPages, answered_flat, space_after, frees_its_page, pages_of, pages_after, served_page, tile_at}
 use Rattle.pager_model.specs.SpaceStates.Next.{Anyone}
 use Rattle.space_core.specs.declared.space.OutFault.{OutFault}
 use Rattle.space_core.specs.declared.space.OutFault.TheVariants.{Failed as OutFailed, NoMemory as OutNoMemory}
 use Rattle.space_core.specs.Beginning.{Begins, BeginsAnswered, BeginsEvicting, SameRegions, copied_reply}
 use Rattle.space_core.specs.Saving.{Saves, FailsToSave, LacksRoom, unwritten_by}
 use Rattle.space_core.specs.Standing.{Kept, answer_entry, StandsFor, IsResting, frame_at, dirty_at, copied_page, may_copy, is_unwired}
-use Rattle.space_core.specs.Tables.{frame_in, word_in, dirty_in}
+use Rattle.space_core.specs.Tables.{mapping_in, frame_in, word_in, dirty_in}
+use Rattle.space_core.specs.Translating.{CleansPage}
 use Rattle.store_core.specs.Stored.{Stored}
-use Rattle.space_core.proofs.Serving.{dirty_in-absent}
+use Rattle.space_core.proofs.TableLemmas.{dirty_in-absent, cleans_none}
+use Rattle.space_core.proofs.Translating.{Still}
 use Rattle.space_core.proofs.SameView.{next_stands}
-use Rattle.space_core.proofs.Copying.{CleansPage, cleaned_resting, cleaned_same, cleaned_out, fails_to_write, leaves_unwritten, none_in, IsSaved, saved, copied_aside, store_frames, store_resting}
+use Rattle.space_core.proofs.Copying.{with_flat, cleaned_resting, cleaned_same, cleaned_out, fails_to_write, leaves_unwritten, none_in, IsSaved, saved, copied_aside, store_frames, store_resting, store_still}
 
 -- a page with a region is written where it is dirty
 sync_asked : (o : Option Region) (dirty : Bool) → is_some o ≡ true → sync_reply o dirty ≡ copied_reply dirty
@@ -78,8 +83,8 @@ evict_outs f space page written asked =
     copied_after f (Evict space page) written ∙ ap (out_if f page) (ap is_lawful asked ∙ copied_lawful written)
 
 -- the page's copy is saved, the page is clean then, and the sync is answered
-pub syncs : (old mid new : Kept) (page : ℕ) (written : Bool) → IsResting old → is_some (region_at old.regions page) ≡ true → Saves old mid page written → CleansPage mid new page → BeginsAnswered old new (Sync old.number page) (record { reply = copied_reply written; hit = false; size = None })
-syncs old mid new page written resting has saves cleans =
+pub syncs : (old mid new : Kept) (c page : ℕ) (written : Bool) → IsResting old → is_some (region_at old.regions page) ≡ true → Saves old mid page written → CleansPage mid new page → BeginsAnswered old new c (Sync old.number page) (record { reply = copied_reply written; hit = false; size = None })
+syncs old mid new c page written resting has saves cleans =
     let same = cleaned_same old mid new page written resting saves cleans in
     let asked : (st : SpaceState) → StandsFor old st → reply_of st.flat (Sync old.number page) ≡ copied_reply written = λ st s.
     sync_asked _ _ (ap (λ rs. is_some (region_at rs page)) s.beside.regions ∙ has) ∙ ap copied_reply (s.beside.dirty page (none_in old resting page) ∙ saves.was) in
@@ -87,11 +92,12 @@ syncs old mid new page written resting has saves cleans =
       alone = alone_sync old.number page written;
       same_number = same.same.number;
       same_frames = same.same.frames;
+      same_processors = same.same.processors;
       resting = cleaned_resting old mid new page written resting saves cleans;
       answers = record {
-        allowed = λ st s c n. record { reply = allowed_copied st c (Sync old.number page) written (asked st s) tt; parts = refl; hit = refl; size = refl };
-        stands = λ st s c n. subst (λ (f : Flat). StandsFor new (record { flat = f; base = st.base; next = Anyone; told = st.told; tied = st.tied; highest = st.highest }))
-            (sym (sync_outs st.flat old.number page written (asked st s))) (cleaned_out old mid new page written resting saves cleans st Anyone s);
+        allowed = λ st s n. record { reply = allowed_copied st c (Sync old.number page) written (asked st s) tt; parts = refl; hit = refl; size = refl };
+        stands = λ st s n. subst (λ (f : Flat). StandsFor new (with_flat st c Anyone f))
+            (sym (sync_outs st.flat old.number page written (asked st s))) (cleaned_out old mid new page written resting saves cleans st c Anyone s);
       };
       memory = λ lacking. absurd (no_memory written lacking);
     }
@@ -113,12 +119,22 @@ frees_none st call = refl
 
 -- want of memory changes nothing
 lacking_stands : (k : Kept) (st : SpaceState) (call : Call) (page : ℕ) → copied_page call ≡ Some page → StandsFor k st → (c n : ℕ) → StandsFor k (space_after st (answer_entry c n call (record { reply = NoMemory; hit = false; size = None })))
-lacking_stands k st (Sync space p) page is s c n = next_stands k st Anyone s
-lacking_stands k st (Evict space p) page is s c n = next_stands k st Anyone s
+lacking_stands k st (Sync space p) page is s c n =
+    next_stands k st (space_after st (answer_entry c n (Sync space p) (record { reply = NoMemory; hit = false; size = None }))) c (record { regions = refl; rights = λ q. refl; told = refl })
+    (λ q. record { dirty = refl; words = λ i. refl; copies = refl; tied = λ i. refl }) (λ q. refl) refl (λ q. refl) (record { images = refl; promotions = refl; demotions = refl }) s
+lacking_stands k st (Evict space p) page is s c n =
+    next_stands k st (space_after st (answer_entry c n (Evict space p) (record { reply = NoMemory; hit = false; size = None }))) c (record { regions = refl; rights = λ q. refl; told = refl })
+    (λ q. record { dirty = refl; words = λ i. refl; copies = refl; tied = λ i. refl }) (λ q. refl) refl (λ q. refl) (record { images = refl; promotions = refl; demotions = refl }) s
 lacking_stands k st call page is s c n = cc
 
-module _ (old new : Kept) (page : ℕ) (resting : IsResting old) where
-  lacking : (call : Call) → copied_page call ≡ Some page → may_copy call (region_at old.regions page) ≡ true → LacksRoom old new page → BeginsAnswered old new call (record { reply = NoMemory; hit = false; size = None })
+-- and it has no size
+lacking_unserved : (call : Call) → served_page call NoMemory ≡ None
+lacking_unserved (Load space address) = refl
+lacking_unserved (Store space address word) = refl
+lacking_unserved call = refl
+
+module _ (old new : Kept) (c page : ℕ) (resting : IsResting old) where
+  lacking : (call : Call) → copied_page call ≡ Some page → may_copy call (region_at old.regions page) ≡ true → LacksRoom old new page → BeginsAnswered old new c call (record { reply = NoMemory; hit = false; size = None })
   lacking call is may lacks =
       let leaves = leaves_unwritten old resting new page lacks in
       let may_at : (st : SpaceState) → StandsFor old st → MayFail st call = λ st s.
@@ -127,16 +143,22 @@ module _ (old new : Kept) (page : ℕ) (resting : IsResting old) where
         alone = lacking_alone call page is;
         same_number = leaves.same.same.number;
         same_frames = leaves.same.same.frames;
+        same_processors = leaves.same.same.processors;
         resting = leaves.resting;
         answers = record {
-          allowed = λ st s c n. record { reply = may_at st s; parts = frees_none st call; hit = refl; size = refl };
-          stands = λ st s c n. lacking_stands new st call page is (leaves.stands st s) c n;
+          allowed = λ st s n. record {
+            reply = may_at st s;
+            parts = frees_none st call;
+            hit = ap (λ o. is_in_image (st.images c) (tile_at (pages_of st) o)) (sym (lacking_unserved call));
+            size = ap (λ o. option_map (λ (t : Tile). t.extent.size) (tile_at (pages_after st false (Answer n call (record { reply = NoMemory; hit = false; size = None }))) o)) (sym (lacking_unserved call));
+          };
+          stands = λ st s n. lacking_stands new st call page is (leaves.stands st s) c n;
         };
         memory = λ _. (page, is, leaves.lacks);
       }
 
   -- a sync or an evict whose copy was not written
-  pub begins_unwritten : (call : Call) (fault : OutFault) → copied_page call ≡ Some page → may_copy call (region_at old.regions page) ≡ true → ((count : ℕ) → fault ≡ OutFailed count → FailsToSave old new page count) → (fault ≡ OutNoMemory → LacksRoom old new page) → Begins old new call (unwritten_by page fault)
+  pub begins_unwritten : (call : Call) (fault : OutFault) → copied_page call ≡ Some page → may_copy call (region_at old.regions page) ≡ true → ((count : ℕ) → fault ≡ OutFailed count → FailsToSave old new page count) → (fault ≡ OutNoMemory → LacksRoom old new page) → Begins old new c call (unwritten_by page fault)
   begins_unwritten call (OutFailed count) is may failed lacks =
       let fails = fails_to_write old resting new page count (failed count refl) in
       record { must = record { is = is; may = ap (λ rs. may_copy call (region_at rs page)) fails.same.same.regions ∙ may; dirty = fails.dirty }; fails = fails }
@@ -156,27 +178,11 @@ saves_clean : (old : Kept) (page : ℕ) → dirty_at old page ≡ false → Save
 saves_clean old page clean = record { was = clean; same = refl; wrote = λ e. absurd (false≢true e); left = λ _. refl; never_falls = omega arith }
 
 cleans_clean : (old : Kept) (page : ℕ) → dirty_at old page ≡ false → CleansPage old old page
-cleans_clean old page clean =
-    record {
-      same = record { number = refl; frames = refl; regions = refl; rights = λ p. refl };
-      pending = refl;
-      clearing = refl;
-      paged = refl;
-      store = refl;
-      table = record {
-        same = record { count = refl; own = λ p. refl };
-        frame = λ p. refl;
-        word = λ p i. refl;
-        dirty = λ p. elim (cases_eq p page) [
-          | inl e ↦ rw e (clean ∙ sym (cond-true _ _ _ (eq-eqb page page refl)))
-          | inr n ↦ sym (cond-false _ _ _ (ne_eqb p page n))
-        ];
-      };
-    }
+cleans_clean old page clean = record { same = refl; table = cleans_none old.table page clean; retouched = λ dirty. absurd (false≢true (sym clean ∙ dirty)); as_it_was = λ _. refl }
 
 -- a page without a frame is clean, and its evict gives nothing up
-pub evicts_absent : (old : Kept) (page : ℕ) → IsResting old → is_unwired (region_at old.regions page) ≡ true → frame_at old page ≡ None → BeginsAnswered old old (Evict old.number page) (record { reply = Clean; hit = false; size = None })
-evicts_absent old page resting unwired absent =
+pub evicts_absent : (old : Kept) (c page : ℕ) → IsResting old → is_unwired (region_at old.regions page) ≡ true → frame_at old page ≡ None → BeginsAnswered old old c (Evict old.number page) (record { reply = Clean; hit = false; size = None })
+evicts_absent old c page resting unwired absent =
     let clean : dirty_at old page ≡ false = dirty_in-absent old.table page absent in
     let asked : (st : SpaceState) → StandsFor old st → reply_of st.flat (Evict old.number page) ≡ Clean = λ st s.
     evict_asked _ _ (ap (λ rs. is_unwired (region_at rs page)) s.beside.regions ∙ unwired) ∙ ap copied_reply (s.beside.dirty page (none_in old resting page) ∙ clean) in
@@ -184,11 +190,12 @@ evicts_absent old page resting unwired absent =
       alone = refl;
       same_number = refl;
       same_frames = refl;
+      same_processors = refl;
       resting = resting;
       answers = record {
-        allowed = λ st s c n. record { reply = (asked st s, λ l. tt); parts = sym (ap is_some (s.base page ∙ absent)); hit = refl; size = refl };
-        stands = λ st s c n. subst (λ (f : Flat). StandsFor old (record { flat = f; base = st.base; next = Anyone; told = st.told; tied = st.tied; highest = st.highest }))
-            (sym (evict_outs st.flat old.number page false (asked st s))) (cleaned_out old old old page false resting (saves_clean old page clean) (cleans_clean old page clean) st Anyone s);
+        allowed = λ st s n. record { reply = (asked st s, λ l. tt); parts = sym (ap is_some (s.base page ∙ absent)); hit = refl; size = refl };
+        stands = λ st s n. subst (λ (f : Flat). StandsFor old (with_flat st c Anyone f))
+            (sym (evict_outs st.flat old.number page false (asked st s))) (cleaned_out old old old page false resting (saves_clean old page clean) (cleans_clean old page clean) st c Anyone s);
       };
       memory = λ lacking. absurd (no_memory false lacking);
     }
@@ -201,6 +208,7 @@ pub record PagesOut (old new : Kept) (page : ℕ) : Type 0 where
   pub clearing : new.clearing ≡ old.clearing
   pub paged : new.paged ≡ Some page
   pub store : new.store ≡ old.store
+  pub still : Still old new
 
 -- the page's copy is saved, and the page gives its frame up next
 pub begins_evicting : (old mid new : Kept) (page : ℕ) (written : Bool) → IsResting old → page < 1048576 → is_unwired (region_at old.regions page) ≡ true → frame_at old page ≢ None → Saves old mid page written → PagesOut mid new page → BeginsEvicting old new (Evict old.number page) page written
@@ -213,6 +221,7 @@ begins_evicting old mid new page written resting in_space unwired resident saves
     let same : SameRegions old new = record {
       number = outs.same.number ∙ stored.same.number;
       frames = outs.same.frames ∙ stored.same.frames;
+      processors = outs.same.processors ∙ stored.same.processors;
       regions = outs.same.regions ∙ stored.same.regions;
       rights = λ p. outs.same.rights p ∙ stored.same.rights p;
     } in
@@ -230,5 +239,6 @@ begins_evicting old mid new page written resting in_space unwired resident saves
       };
       same = record { same = same; frame = frame };
       stands = copied_aside old resting new page same clearing pending frame (λ p i. ap (λ t. word_in t p i) table)
-          (subst (λ (store : Stored). IsSaved old store page) (sym outs.store) (saved old resting mid page written saves)) (λ p. ap (λ t. dirty_in t p) table) outs.paged;
+          (subst (λ (store : Stored). IsSaved old store page) (sym outs.store) (saved old resting mid page written saves)) (λ p. ap (λ t. mapping_in t p) table)
+          (let still = store_still old mid saves.same in record { images = outs.still.images ∙ still.images; promotions = outs.still.promotions ∙ still.promotions; demotions = outs.still.demotions ∙ still.demotions }) outs.paged;
     }

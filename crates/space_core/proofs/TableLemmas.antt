@@ -1,8 +1,8 @@
 -- What becomes of a table of pages when a page gets a frame, loses it, has its words written, or is marked dirty or clean, and when a
 -- range gets rights.
-use Rattle.std.proofs.Common.{◌≡◌, ◌≢◌, ℕ, ◌+◌, ◌-◌, ◌<◌, ◌≤◌, true, false, ◌==◌, if◌then◌else◌, List, ◌++◌, Bool, Option, Some, None, is_some, length, replicate, take, drop, slice_index_or, slice_set, refl, sym, ap, inl, inr, ◌∙◌, arith, subst}
+use Rattle.std.proofs.Common.{◌≡◌, ◌≢◌, ℕ, ◌+◌, ◌-◌, ◌<◌, ◌≤◌, true, false, ◌==◌, ◌&&◌, if◌then◌else◌, List, ◌++◌, Bool, Option, Some, None, is_some, length, replicate, take, drop, slice_index_or, slice_set, option_map, refl, sym, ap, inl, inr, ◌∙◌, arith, subst}
 use Rattle.std.specs.Option.{option_and_then}
-use Rattle.std.proofs.lemmas.Bool.{cases_eq, cases_lt}
+use Rattle.std.proofs.lemmas.Bool.{cases_eq, cases_lt, cond-true, cond-false, eq-eqb, ne_eqb}
 use Rattle.std.proofs.lemmas.Bool.Decides.{nat_tests}
 use Rattle.std.proofs.lemmas.Grind.{common_steps}
 use borrow.Rule.Slice.PartMut.{put_mid}
@@ -10,11 +10,17 @@ use Rattle.pager_model.specs.Regions.{in_range}
 use Rattle.std.proofs.lemmas.List.{get_or-set_other, get_or-set_same, length-set, get_or_past, get_or_read, get_or-replicate, length-replicate, length-take, get_or_append_left, get_or-append_right, get_or-take, take_at, get_or-drop, length-append, length-drop}
 use Rattle.std.proofs.lemmas.Option.{none-some, same_Some}
 use Rattle.pager_model.specs.declared.region.Rights.{Rights}
+use Rattle.pager_model.specs.declared.tile.Mapping.{Mapping}
 use Rattle.pager_model.specs.Frame.{Framed}
-use Rattle.space_core.specs.Pages.{IsFrameAt, IsPaged, SameOwn, IsFresh, Moves, Refills, HasWords, Writes, Cleans, Protects}
-use Rattle.space_core.specs.Tables.{Table, frame_in, word_in, word_in_frame, own_in, flag_in, dirty_in}
+use Rattle.space_core.specs.Pages.{IsFrameAt, IsPaged, SameOwn, IsFresh, Maps, Refills, HasWords, Writes, Cleans, OwnsRights, Protects, Forgets}
+use Rattle.space_core.specs.Tables.{Table, mapping_in, frame_in, word_in, word_in_frame, own_in, flag_in, dirty_in}
+use Rattle.tiles.specs.Resident.{Resident, mapping_at, frames_in, with_flag, with_rights, Maps as MapsTo, Protects as ProtectsIn}
 
-pub frame_in-is : (t : Table) (p : ℕ) → frame_in t p ≡ slice_index_or t.numbers p None
+-- the number of what is said of a page
+abbrev pub number_of : Option Mapping → Option ℕ
+number_of o = option_map (λ (m : Mapping). m.frame) o
+
+pub frame_in-is : (t : Table) (p : ℕ) → frame_in t p ≡ number_of (mapping_in t p)
 unfolding frame_in
 frame_in-is t p = refl
 
@@ -22,15 +28,107 @@ pub own_in-is : (t : Table) (p : ℕ) → own_in t p ≡ slice_index_or t.own p 
 unfolding own_in
 own_in-is t p = refl
 
-pub dirty_in-is : (t : Table) (p : ℕ) → dirty_in t p ≡ flag_in t.dirty (frame_in t p)
+pub dirty_in-is : (t : Table) (p : ℕ) → dirty_in t p ≡ flag_in (mapping_in t p)
 unfolding dirty_in
 dirty_in-is t p = refl
 
-pub dirty_in-absent : (t : Table) (p : ℕ) → frame_in t p ≡ None → dirty_in t p ≡ false
-dirty_in-absent t p h = dirty_in-is t p ∙ ap (flag_in t.dirty) h
+unnumbered : (o : Option Mapping) → number_of o ≡ None → o ≡ None
+unnumbered None h = refl
+unnumbered (Some m) h = absurd (none-some m.frame (sym h))
 
-pub dirty_in-found : (t : Table) (p number : ℕ) → frame_in t p ≡ Some number → dirty_in t p ≡ slice_index_or t.dirty number false
-dirty_in-found t p number h = dirty_in-is t p ∙ ap (flag_in t.dirty) h
+-- nothing is said of a page without a frame
+pub mapping-absent : (t : Table) (p : ℕ) → frame_in t p ≡ None → mapping_in t p ≡ None
+mapping-absent t p h = unnumbered (mapping_in t p) (sym (frame_in-is t p) ∙ h)
+
+pub frame-absent : (t : Table) (p : ℕ) → mapping_in t p ≡ None → frame_in t p ≡ None
+frame-absent t p h = frame_in-is t p ∙ ap number_of h
+
+pub frame-mapped : (t : Table) (p : ℕ) (m : Mapping) → mapping_in t p ≡ Some m → frame_in t p ≡ Some m.frame
+frame-mapped t p m h = frame_in-is t p ∙ ap number_of h
+
+pub dirty-mapped : (t : Table) (p : ℕ) (m : Mapping) → mapping_in t p ≡ Some m → dirty_in t p ≡ m.dirty
+dirty-mapped t p m h = dirty_in-is t p ∙ ap flag_in h
+
+pub dirty_in-absent : (t : Table) (p : ℕ) → frame_in t p ≡ None → dirty_in t p ≡ false
+dirty_in-absent t p h = dirty_in-is t p ∙ ap flag_in (mapping-absent t p h)
+
+-- a page of which the same is said
+pub frame-same : (t u : Table) (p : ℕ) → mapping_in u p ≡ mapping_in t p → frame_in u p ≡ frame_in t p
+frame-same t u p h = frame_in-is u p ∙ ap number_of h ∙ sym (frame_in-is t p)
+
+pub dirty-same : (t u : Table) (p : ℕ) → mapping_in u p ≡ mapping_in t p → dirty_in u p ≡ dirty_in t p
+dirty-same t u p h = dirty_in-is u p ∙ ap flag_in h ∙ sym (dirty_in-is t p)
+
+picked : {A B : Type 0} (f : A → B) (b : Bool) (x y : A) → f (if b then x else y) ≡ (if b then f x else f y)
+picked f true x y = refl
+picked f false x y = refl
+
+same_both : {A : Type 0} (b : Bool) (x : A) → (if b then x else x) ≡ x
+same_both true x = refl
+same_both false x = refl
+
+-- What is seen of frames and flags where what is said of pages changed.
+
+frame-picked : (t u : Table) (p : ℕ) (b : Bool) (x : Option Mapping) → mapping_in u p ≡ (if b then x else mapping_in t p) → frame_in u p ≡ (if b then number_of x else frame_in t p)
+frame-picked t u p b x h = frame_in-is u p ∙ ap number_of h ∙ picked number_of b x (mapping_in t p) ∙ ap (λ o. if b then number_of x else o) (sym (frame_in-is t p))
+
+dirty-picked : (t u : Table) (p : ℕ) (b : Bool) (x : Option Mapping) → mapping_in u p ≡ (if b then x else mapping_in t p) → dirty_in u p ≡ (if b then flag_in x else dirty_in t p)
+dirty-picked t u p b x h = dirty_in-is u p ∙ ap flag_in h ∙ picked flag_in b x (mapping_in t p) ∙ ap (λ d. if b then flag_in x else d) (sym (dirty_in-is t p))
+
+pub maps_frame : (page : ℕ) (given : Option Mapping) (t u : Table) → Maps page given t u → (p : ℕ) → frame_in u p ≡ (if p == page then number_of given else frame_in t p)
+maps_frame page given t u maps p = frame-picked t u p (p == page) given (maps.mapping p)
+
+pub maps_dirty : (page : ℕ) (given : Option Mapping) (t u : Table) → Maps page given t u → (p : ℕ) → dirty_in u p ≡ (if p == page then flag_in given else dirty_in t p)
+maps_dirty page given t u maps p = dirty-picked t u p (p == page) given (maps.mapping p)
+
+number_flagged : (d : Bool) (o : Option Mapping) → number_of (option_map (with_flag d) o) ≡ number_of o
+number_flagged d None = refl
+number_flagged d (Some m) = refl
+
+-- a flag leaves the frames
+pub flagged_frame : (d b : Bool) (t u : Table) (p : ℕ) → mapping_in u p ≡ (if b then option_map (with_flag d) (mapping_in t p) else mapping_in t p) → frame_in u p ≡ frame_in t p
+flagged_frame d b t u p h =
+    frame-picked t u p b _ h ∙ ap (λ o. if b then o else frame_in t p) (number_flagged d (mapping_in t p) ∙ sym (frame_in-is t p)) ∙ same_both b (frame_in t p)
+
+flag_cleaned : (o : Option Mapping) → flag_in (option_map (with_flag false) o) ≡ false
+flag_cleaned None = refl
+flag_cleaned (Some m) = refl
+
+flag_set : (o : Option Mapping) → number_of o ≢ None → flag_in (option_map (with_flag true) o) ≡ true
+flag_set None n = absurd (n refl)
+flag_set (Some m) n = refl
+
+pub cleans_frame : (page : ℕ) (t u : Table) → Cleans page t u → (p : ℕ) → frame_in u p ≡ frame_in t p
+cleans_frame page t u cleans p = flagged_frame false (p == page) t u p (cleans.mapping p)
+
+pub cleans_dirty : (page : ℕ) (t u : Table) → Cleans page t u → (p : ℕ) → dirty_in u p ≡ (if p == page then false else dirty_in t p)
+cleans_dirty page t u cleans p = dirty-picked t u p (p == page) _ (cleans.mapping p) ∙ ap (λ d. if p == page then d else dirty_in t p) (flag_cleaned (mapping_in t p))
+
+pub writes_frame : (page index word : ℕ) (t u : Table) → Writes page index word t u → (p : ℕ) → frame_in u p ≡ frame_in t p
+writes_frame page index word t u writes p = flagged_frame true (p == page) t u p (writes.mapping p)
+
+pub writes_dirty : (page index word : ℕ) (t u : Table) → Writes page index word t u → frame_in t page ≢ None → (p : ℕ) → dirty_in u p ≡ (if p == page then true else dirty_in t p)
+writes_dirty page index word t u writes resident p =
+    dirty-picked t u p (p == page) _ (writes.mapping p) ∙ elim (cases_eq p page) [
+      | inl e ↦ rw e (ap (λ d. if page == page then d else dirty_in t page) (flag_set (mapping_in t page) (λ none. resident (frame_in-is t page ∙ none))))
+      | inr n ↦ cond-false _ _ _ (ne_eqb p page n) ∙ sym (cond-false _ _ _ (ne_eqb p page n))
+    ]
+
+number_with : (r : Rights) (o : Option Mapping) → number_of (option_map (with_rights r) o) ≡ number_of o
+number_with r None = refl
+number_with r (Some m) = refl
+
+flag_with : (r : Rights) (o : Option Mapping) → flag_in (option_map (with_rights r) o) ≡ flag_in o
+flag_with r None = refl
+flag_with r (Some m) = refl
+
+pub protects_frame : (first len : ℕ) (rights : Rights) (t u : Table) → Protects first len rights t u → (p : ℕ) → frame_in u p ≡ frame_in t p
+protects_frame first len rights t u protects p =
+    frame-picked t u p (in_range first len p) _ (protects.mapping p) ∙ ap (λ o. if in_range first len p then o else frame_in t p) (number_with rights (mapping_in t p) ∙ sym (frame_in-is t p)) ∙ same_both _ (frame_in t p)
+
+pub protects_dirty : (first len : ℕ) (rights : Rights) (t u : Table) → Protects first len rights t u → (p : ℕ) → dirty_in u p ≡ dirty_in t p
+protects_dirty first len rights t u protects p =
+    dirty-picked t u p (in_range first len p) _ (protects.mapping p) ∙ ap (λ d. if in_range first len p then d else dirty_in t p) (flag_with rights (mapping_in t p) ∙ sym (dirty_in-is t p)) ∙ same_both _ (dirty_in t p)
 
 -- the frame of a number, where the page has one
 abbrev pub frame_of : List (Option Framed) → Option ℕ → Option Framed
@@ -55,19 +153,11 @@ word-other : (frames : List (Option Framed)) (k : ℕ) (f : Option Framed) (o : 
 word-other frames k f None i h = refl
 word-other frames k f (Some n) i h = ap (λ x. word_in_frame x i) (get_or-set_other frames k n f None (λ e. h (ap Some e)))
 
--- flags that differ at a number alone are the same for the pages with another
-flag-other : (dirty flags : List Bool) (k : ℕ) → ((n : ℕ) → n ≢ k → slice_index_or flags n false ≡ slice_index_or dirty n false) → (o : Option ℕ) → o ≢ Some k → flag_in flags o ≡ flag_in dirty o
-flag-other dirty flags k same None h = refl
-flag-other dirty flags k same (Some n) h = same n (λ e. h (ap Some e))
-
 pub within : {X : Type 0} (xs : List (Option X)) (i : ℕ) (x : X) → slice_index_or xs i None ≡ Some x → i < length xs
 within xs i x h =
     elim (cases_lt i (length xs)) [ inl l ↦ l | inr past ↦ absurd (none-some x (sym (get_or_past xs i None past) ∙ h)) ]
 
 -- what is read at a page
-pub frame_in-read : (t : Table) (p : ℕ) (x : Option ℕ) → IsPaged t → p < 1048576 → x ≡ slice_index_or t.numbers p x → frame_in t p ≡ x
-frame_in-read t p x paged in_space read = frame_in-is t p ∙ sym (get_or_read t.numbers p x (omega (arith, paged.numbers)) read None)
-
 pub own_in-read : (t : Table) (p : ℕ) (x : Option Rights) → IsPaged t → p < 1048576 → x ≡ slice_index_or t.own p x → own_in t p ≡ x
 own_in-read t p x paged in_space read = own_in-is t p ∙ sym (get_or_read t.own p x (omega (arith, paged.own)) read None)
 
@@ -90,53 +180,60 @@ frame_at-other : (t u : Table) (k n : ℕ) (f : Option Framed) → u.frames ≡ 
 frame_at-other t u k n f e other at =
     record { frame = at.frame; is = ap (λ fs. slice_index_or fs n None) e ∙ get_or-set_other t.frames k n f None other ∙ at.is; number_is = at.number_is }
 
--- A page is given a number, or none, and what stands at a number that no other page has is written, with its flag.
-module _ (t : Table) (paged : IsPaged t) (page k : ℕ) (given : Option ℕ) (f : Option Framed) (flags : List Bool)
-    (in_space : page < 1048576) (others : (p : ℕ) → p ≢ page → frame_in t p ≢ Some k) where
-  abbrev pub moved : Table
-  moved = record { numbers = slice_set t.numbers page given; own = t.own; frames = slice_set t.frames k f; dirty = flags }
+-- What is kept of a table stays where each page keeps its frame, and each frame its number.
+pub kept_paged : (t u : Table) → IsPaged t → length u.own ≡ length t.own → frames_in u.pages ≡ frames_in t.pages → length u.frames ≡ length t.frames → ((p : ℕ) → frame_in u p ≡ frame_in t p) → ((n : ℕ) → IsFrameAt t n → IsFrameAt u n) → IsPaged u
+kept_paged t u paged own pages frames frame at =
+    record {
+      own = own ∙ paged.own;
+      count = pages ∙ paged.count ∙ sym frames;
+      few = omega (arith, frames, paged.few);
+      found = λ p n h. at n (paged.found p n (sym (frame p) ∙ h));
+      apart = λ p q n hp hq. paged.apart p q n (sym (frame p) ∙ hp) (sym (frame q) ∙ hq);
+    }
 
-  pub frame_moved : (p : ℕ) → frame_in moved p ≡ (if p == page then given else frame_in t p)
-  frame_moved p =
-      rw (frame_in-is moved p, frame_in-is t p) (elim (cases_eq p page) [
-        | inl e ↦ rw e (get_or-set_same t.numbers page given None (omega (arith, paged.numbers)) ∙ grind (arith, nat_tests))
-        | inr n ↦ get_or-set_other t.numbers page p given None n ∙ grind (arith, nat_tests)
-      ])
+frame_at-same : (t u : Table) (n : ℕ) → u.frames ≡ t.frames → IsFrameAt t n → IsFrameAt u n
+frame_at-same t u n e at = record { frame = at.frame; is = ap (λ fs. slice_index_or fs n None) e ∙ at.is; number_is = at.number_is }
+
+-- the words are the same where the frames are
+pub word-same : (t u : Table) (p i : ℕ) → u.frames ≡ t.frames → frame_in u p ≡ frame_in t p → word_in u p i ≡ word_in t p i
+word-same t u p i e same =
+    word_in-is u p i ∙ ap (λ fs. word_in_frame (frame_of fs (frame_in u p)) i) e ∙ ap (λ o. word_in_frame (frame_of t.frames o) i) same ∙ sym (word_in-is t p i)
+
+-- Something else is said of a page, or nothing, and what stands at a number that no other page has is written.
+module _ (t : Table) (paged : IsPaged t) (page k : ℕ) (given : Option Mapping) (f : Option Framed) (pages : Resident)
+    (maps : MapsTo page given t.pages pages) (others : (p : ℕ) → p ≢ page → frame_in t p ≢ Some k) where
+  abbrev pub moved : Table
+  moved = record { pages = pages; own = t.own; frames = slice_set t.frames k f }
 
   frame_moved-other : (p : ℕ) → p ≢ page → frame_in moved p ≡ frame_in t p
-  frame_moved-other p n = frame_in-is moved p ∙ get_or-set_other t.numbers page p given None n ∙ sym (frame_in-is t p)
+  frame_moved-other p n = frame-same t moved p (maps.at p ∙ cond-false _ _ _ (ne_eqb p page n))
 
-  frame_moved-same : frame_in moved page ≡ given
-  frame_moved-same = frame_in-is moved page ∙ get_or-set_same t.numbers page given None (omega (arith, paged.numbers))
+  frame_moved-same : frame_in moved page ≡ number_of given
+  frame_moved-same = frame_in-is moved page ∙ ap number_of (maps.at page ∙ cond-true _ _ _ (eq-eqb page page refl))
 
   word_moved : (p i : ℕ) → p ≢ page → word_in moved p i ≡ word_in t p i
   word_moved p i n =
       word_in-is moved p i ∙ ap (λ o. word_in_frame (frame_of (slice_set t.frames k f) o) i) (frame_moved-other p n) ∙ word-other t.frames k f (frame_in t p) i (others p n) ∙ sym (word_in-is t p i)
 
-  pub moves : ((n : ℕ) → n ≢ k → slice_index_or flags n false ≡ slice_index_or t.dirty n false) → flag_in flags given ≡ false → Moves page given t moved
-  moves same clean =
+  pub moved_maps : Maps page given t moved
+  moved_maps =
       record {
         same = record { count = length-set t.frames k f; own = λ p. own_in-is moved p ∙ sym (own_in-is t p) };
-        frame = frame_moved;
+        mapping = maps.at;
         word = word_moved;
-        dirty = λ p. elim (cases_eq p page) [
-          | inl e ↦ rw e (dirty_in-is moved page ∙ ap (flag_in flags) frame_moved-same ∙ clean ∙ grind (arith, nat_tests))
-          | inr n ↦ dirty_in-is moved p ∙ ap (flag_in flags) (frame_moved-other p n) ∙ flag-other t.dirty flags k same (frame_in t p) (others p n) ∙ sym (dirty_in-is t p) ∙ grind (arith, nat_tests)
-        ];
       }
 
   -- the page's new number, if it has one, is that which was written, and its frame is there
-  pub moved_paged : length flags ≡ length t.dirty → ((n : ℕ) → given ≡ Some n → n ≡ k) → (given ≡ Some k → IsFrameAt moved k) → IsPaged moved
-  moved_paged count only there =
+  pub moved_paged : ((n : ℕ) → number_of given ≡ Some n → n ≡ k) → (number_of given ≡ Some k → IsFrameAt moved k) → IsPaged moved
+  moved_paged only there =
       record {
-        numbers = length-set t.numbers page given ∙ paged.numbers;
         own = paged.own;
+        count = maps.frames ∙ paged.count ∙ sym (length-set t.frames k f);
         few = omega (arith, length-set t.frames k f, paged.few);
-        flags = count ∙ paged.flags ∙ sym (length-set t.frames k f);
         found = λ p n h.
             elim (cases_eq p page) [
               | inl e ↦
-                  let g : given ≡ Some n = sym frame_moved-same ∙ ap (λ q. frame_in moved q) (sym e) ∙ h in
+                  let g : number_of given ≡ Some n = sym frame_moved-same ∙ ap (λ q. frame_in moved q) (sym e) ∙ h in
                   let same = only n g in
                   subst (λ (m : ℕ). IsFrameAt moved m) (sym same) (there (g ∙ ap Some same))
               | inr other ↦
@@ -148,77 +245,81 @@ module _ (t : Table) (paged : IsPaged t) (page k : ℕ) (given : Option ℕ) (f 
               | inl e ↦ elim (cases_eq q page) [
                 | inl d ↦ e ∙ sym d
                 | inr other ↦
-                    let g : given ≡ Some n = sym frame_moved-same ∙ ap (λ r. frame_in moved r) (sym e) ∙ hp in
+                    let g : number_of given ≡ Some n = sym frame_moved-same ∙ ap (λ r. frame_in moved r) (sym e) ∙ hp in
                     absurd (others q other (sym (frame_moved-other q other) ∙ hq ∙ ap Some (only n g)))
               ]
               | inr other ↦ elim (cases_eq q page) [
                 | inl d ↦
-                    let g : given ≡ Some n = sym frame_moved-same ∙ ap (λ r. frame_in moved r) (sym d) ∙ hq in
+                    let g : number_of given ≡ Some n = sym frame_moved-same ∙ ap (λ r. frame_in moved r) (sym d) ∙ hq in
                     absurd (others p other (sym (frame_moved-other p other) ∙ hp ∙ ap Some (only n g)))
                 | inr other' ↦ paged.apart p q n (sym (frame_moved-other p other) ∙ hp) (sym (frame_moved-other q other') ∙ hq)
               ]
             ];
       }
 
--- a page that has no frame gets one, and is clean
-module _ (t : Table) (paged : IsPaged t) (page : ℕ) (f : Framed)
-    (in_space : page < 1048576) (known : f.number < length t.frames) (other : (p : ℕ) → frame_in t p ≢ Some f.number) where
+-- a page that has no frame gets one
+module _ (t : Table) (paged : IsPaged t) (page : ℕ) (m : Mapping) (f : Framed) (pages : Resident) (maps : MapsTo page (Some m) t.pages pages)
+    (number : m.frame ≡ f.number) (known : f.number < length t.frames) (other : (p : ℕ) → frame_in t p ≢ Some f.number) where
   abbrev pub put_table : Table
-  put_table = record { numbers = slice_set t.numbers page (Some f.number); own = t.own; frames = slice_set t.frames f.number (Some f); dirty = slice_set t.dirty f.number false }
+  put_table = record { pages = pages; own = t.own; frames = slice_set t.frames f.number (Some f) }
 
   pub put_paged : IsPaged put_table
   put_paged =
-      moved_paged t paged page f.number (Some f.number) (Some f) (slice_set t.dirty f.number false) in_space (λ p _. other p) (length-set t.dirty f.number false) (λ n h. sym (same_Some _ _ h))
+      moved_paged t paged page f.number (Some m) (Some f) pages maps (λ p _. other p) (λ n h. sym (same_Some _ _ h) ∙ number)
       (λ _. record { frame = f; is = get_or-set_same t.frames f.number (Some f) None known; number_is = refl })
 
-  pub put_moves : Moves page (Some f.number) t put_table
-  put_moves =
-      moves t paged page f.number (Some f.number) (Some f) (slice_set t.dirty f.number false) in_space (λ p _. other p)
-      (λ n h. get_or-set_other t.dirty f.number n false false h) (get_or-set_same t.dirty f.number false false (omega (arith, paged.flags)))
+  pub put_maps : Maps page (Some m) t put_table
+  put_maps = moved_maps t paged page f.number (Some m) (Some f) pages maps (λ p _. other p)
 
 pub others_apart : (t : Table) → IsPaged t → (page k : ℕ) → frame_in t page ≡ Some k → (p : ℕ) → p ≢ page → frame_in t p ≢ Some k
-others_apart t paged page k h p n e = n (paged.apart p page k e h)
+others_apart t paged page k has p n e = n (paged.apart p page k e has)
 
 -- a resident page loses its frame
-module _ (t : Table) (paged : IsPaged t) (page k : ℕ) (in_space : page < 1048576) (has : frame_in t page ≡ Some k) where
+module _ (t : Table) (paged : IsPaged t) (page k : ℕ) (pages : Resident) (maps : MapsTo page None t.pages pages) (has : frame_in t page ≡ Some k) where
   abbrev pub taken : Table
-  taken = record { numbers = slice_set t.numbers page None; own = t.own; frames = slice_set t.frames k None; dirty = t.dirty }
+  taken = record { pages = pages; own = t.own; frames = slice_set t.frames k None }
 
   pub take_paged : IsPaged taken
-  take_paged =
-      moved_paged t paged page k None None t.dirty in_space (others_apart t paged page k has) refl (λ n e. absurd (none-some n e)) (λ e. absurd (none-some k e))
+  take_paged = moved_paged t paged page k None None pages maps (others_apart t paged page k has) (λ n e. absurd (none-some n e)) (λ e. absurd (none-some k e))
 
-  pub take_moves : Moves page None t taken
-  take_moves = moves t paged page k None None t.dirty in_space (others_apart t paged page k has) (λ n _. refl) refl
+  pub take_maps : Maps page None t taken
+  take_maps = moved_maps t paged page k None None pages maps (others_apart t paged page k has)
+
+-- a page without a frame is given none as it is
+pub maps_none : (t : Table) (page : ℕ) → frame_in t page ≡ None → Maps page None t t
+maps_none t page none =
+    record {
+      same = record { count = refl; own = λ p. refl };
+      mapping = λ p. elim (cases_eq p page) [
+        | inl e ↦ rw e (mapping-absent t page none ∙ sym (cond-true _ _ _ (eq-eqb page page refl)))
+        | inr n ↦ sym (cond-false _ _ _ (ne_eqb p page n))
+      ];
+      word = λ p i n. refl;
+    }
 
 -- The words of a resident page's frame are written.
 module _ (t : Table) (paged : IsPaged t) (page k : ℕ) (f : Framed) (has : frame_in t page ≡ Some k) (number : f.number ≡ k) where
   abbrev pub rewritten : Table
-  rewritten = record { numbers = t.numbers; own = t.own; frames = slice_set t.frames k (Some f); dirty = t.dirty }
+  rewritten = record { pages = t.pages; own = t.own; frames = slice_set t.frames k (Some f) }
 
   known : k < length t.frames
   known = found_within t paged page k has
 
   frame_rewritten : (p : ℕ) → frame_in rewritten p ≡ frame_in t p
-  frame_rewritten p = frame_in-is rewritten p ∙ sym (frame_in-is t p)
+  frame_rewritten p = frame-same t rewritten p refl
 
   there : IsFrameAt rewritten k
   there = record { frame = f; is = get_or-set_same t.frames k (Some f) None known; number_is = number }
 
+  frame_at_rewritten : (n : ℕ) → IsFrameAt t n → IsFrameAt rewritten n
+  frame_at_rewritten n at =
+      elim (cases_eq n k) [
+        | inl e ↦ subst (λ (m : ℕ). IsFrameAt rewritten m) (sym e) there
+        | inr other ↦ frame_at-other t rewritten k n (Some f) refl other at
+      ]
+
   pub rewritten_paged : IsPaged rewritten
-  rewritten_paged =
-      record {
-        numbers = paged.numbers;
-        own = paged.own;
-        few = omega (arith, length-set t.frames k (Some f), paged.few);
-        flags = paged.flags ∙ sym (length-set t.frames k (Some f));
-        found = λ p n h.
-            elim (cases_eq n k) [
-              | inl e ↦ subst (λ (m : ℕ). IsFrameAt rewritten m) (sym e) there
-              | inr other ↦ frame_at-other t rewritten k n (Some f) refl other (paged.found p n (sym (frame_rewritten p) ∙ h))
-            ];
-        apart = λ p q n hp hq. paged.apart p q n (sym (frame_rewritten p) ∙ hp) (sym (frame_rewritten q) ∙ hq);
-      }
+  rewritten_paged = kept_paged t rewritten paged refl refl (length-set t.frames k (Some f)) frame_rewritten frame_at_rewritten
 
   pub rewritten_has : HasWords rewritten page f.words
   unfolding there
@@ -228,95 +329,87 @@ module _ (t : Table) (paged : IsPaged t) (page k : ℕ) (f : Framed) (has : fram
   refills =
       record {
         same = record { count = length-set t.frames k (Some f); own = λ p. own_in-is rewritten p ∙ sym (own_in-is t p) };
-        frame = frame_rewritten;
+        mapping = λ p. refl;
         word = λ p i n.
             word_in-is rewritten p i ∙ ap (λ o. word_in_frame (frame_of (slice_set t.frames k (Some f)) o) i) (frame_rewritten p) ∙ word-other t.frames k (Some f) (frame_in t p) i (others_apart t paged page k has p n) ∙ sym (word_in-is t p i);
-        dirty = λ p. dirty_in-is rewritten p ∙ ap (flag_in t.dirty) (frame_rewritten p) ∙ sym (dirty_in-is t p);
       }
 
--- The flag of a resident page is written.
-module _ (t : Table) (paged : IsPaged t) (page k : ℕ) (flag : Bool) (has : frame_in t page ≡ Some k) where
-  abbrev pub flagged : Table
-  flagged = record { numbers = t.numbers; own = t.own; frames = t.frames; dirty = slice_set t.dirty k flag }
+-- What is said of pages changed, and each keeps its frame.
+module _ (t : Table) (paged : IsPaged t) (pages : Resident) (count : frames_in pages ≡ frames_in t.pages) where
+  abbrev pub said : Table
+  said = record { pages = pages; own = t.own; frames = t.frames }
+
+  pub said_paged : ((p : ℕ) → frame_in said p ≡ frame_in t p) → IsPaged said
+  said_paged frame = kept_paged t said paged refl count refl frame (λ n at. frame_at-same t said n refl at)
+
+-- the flag of a page is written, where it is resident
+module _ (t : Table) (page : ℕ) (flag : Bool) (pages : Resident) (maps : MapsTo page (option_map (with_flag flag) (mapping_at t.pages page)) t.pages pages) where
+  abbrev flagged : Table
+  flagged = record { pages = pages; own = t.own; frames = t.frames }
+
+  pub mapping_flagged : (p : ℕ) → mapping_in flagged p ≡ (if p == page then option_map (with_flag flag) (mapping_in t p) else mapping_in t p)
+  mapping_flagged p = maps.at p ∙ elim (cases_eq p page) [
+    | inl e ↦ rw e refl
+    | inr n ↦ cond-false _ _ _ (ne_eqb p page n) ∙ sym (cond-false _ _ _ (ne_eqb p page n))
+  ]
 
   pub frame_flagged : (p : ℕ) → frame_in flagged p ≡ frame_in t p
-  frame_flagged p = frame_in-is flagged p ∙ sym (frame_in-is t p)
+  frame_flagged p = flagged_frame flag (p == page) t flagged p (mapping_flagged p)
 
   pub word_flagged : (p i : ℕ) → word_in flagged p i ≡ word_in t p i
-  word_flagged p i = word_in-is flagged p i ∙ ap (λ o. word_in_frame (frame_of t.frames o) i) (frame_flagged p) ∙ sym (word_in-is t p i)
+  word_flagged p i = word-same t flagged p i refl (frame_flagged p)
 
-  pub own_flagged : SameOwn t flagged
-  own_flagged = record { count = refl; own = λ p. own_in-is flagged p ∙ sym (own_in-is t p) }
+pub cleans_paged : (t : Table) → IsPaged t → (page : ℕ) (pages : Resident) (maps : MapsTo page (option_map (with_flag false) (mapping_at t.pages page)) t.pages pages) → IsPaged (record { pages = pages; own = t.own; frames = t.frames })
+cleans_paged t paged page pages maps = said_paged t paged pages maps.frames (frame_flagged t page false pages maps)
 
-  pub dirty_flagged : (p : ℕ) → dirty_in flagged p ≡ (if p == page then flag else dirty_in t p)
-  dirty_flagged p =
-      elim (cases_eq p page) [
-        | inl e ↦ rw e (dirty_in-found flagged page k (frame_flagged page ∙ has) ∙ get_or-set_same t.dirty k flag false (omega (arith, paged.flags, found_within t paged page k has)) ∙ grind (arith, nat_tests))
-        | inr n ↦ dirty_in-is flagged p ∙ ap (flag_in (slice_set t.dirty k flag)) (frame_flagged p) ∙ flag-other t.dirty (slice_set t.dirty k flag) k (λ m h. get_or-set_other t.dirty k m flag false h) (frame_in t p) (others_apart t paged page k has p n) ∙ sym (dirty_in-is t p) ∙ grind (arith, nat_tests)
-      ]
+pub cleans : (t : Table) (page : ℕ) (pages : Resident) (maps : MapsTo page (option_map (with_flag false) (mapping_at t.pages page)) t.pages pages) → Cleans page t (record { pages = pages; own = t.own; frames = t.frames })
+cleans t page pages maps =
+    record { same = record { count = refl; own = λ p. own_in-is _ p ∙ sym (own_in-is t p) }; mapping = mapping_flagged t page false pages maps; word = word_flagged t page false pages maps }
 
-  pub flagged_paged : IsPaged flagged
-  flagged_paged =
-      record {
-        numbers = paged.numbers;
-        own = paged.own;
-        few = paged.few;
-        flags = length-set t.dirty k flag ∙ paged.flags;
-        found = λ p n h. let at = paged.found p n (sym (frame_flagged p) ∙ h) in record { frame = at.frame; is = at.is; number_is = at.number_is };
-        apart = λ p q n hp hq. paged.apart p q n (sym (frame_flagged p) ∙ hp) (sym (frame_flagged q) ∙ hq);
-      }
-
-pub cleans : (t : Table) (paged : IsPaged t) (page k : ℕ) (has : frame_in t page ≡ Some k) → Cleans page t (flagged t paged page k false has)
-cleans t paged page k has =
-    record { same = own_flagged t paged page k false has; frame = frame_flagged t paged page k false has; word = word_flagged t paged page k false has; dirty = dirty_flagged t paged page k false has }
-
--- a page without a frame is clean as it is
-pub cleans_none : (t : Table) (page : ℕ) → frame_in t page ≡ None → Cleans page t t
-cleans_none t page none =
+-- a clean page is clean as it is
+pub cleans_none : (t : Table) (page : ℕ) → dirty_in t page ≡ false → Cleans page t t
+cleans_none t page clean =
     record {
       same = record { count = refl; own = λ p. refl };
-      frame = λ p. refl;
+      mapping = λ p. elim (cases_eq p page) [
+        | inl e ↦ rw e (sym (cond-true _ _ _ (eq-eqb page page refl) ∙ unflagged (mapping_in t page) (sym (dirty_in-is t page) ∙ clean)))
+        | inr n ↦ sym (cond-false _ _ _ (ne_eqb p page n))
+      ];
       word = λ p i. refl;
-      dirty = λ p. elim (cases_eq p page) [ inl e ↦ rw e (dirty_in-absent t page none ∙ grind (arith, nat_tests)) | inr n ↦ grind (arith, nat_tests) ];
     }
+  where
+    unflagged : (o : Option Mapping) → flag_in o ≡ false → option_map (with_flag false) o ≡ o
+    unflagged None h = refl
+    unflagged (Some m) h = ap (λ d. Some (with_flag d m)) (sym h)
 
 -- A word of a resident page's frame is written, and the page is dirty then.
-module _ (t : Table) (paged : IsPaged t) (page k : ℕ) (f : Framed) (has : frame_in t page ≡ Some k) (number : f.number ≡ k) where
-  has_still : frame_in (rewritten t paged page k f has number) page ≡ Some k
-  has_still = (refills t paged page k f has number).frame page ∙ has
-
+module _ (t : Table) (paged : IsPaged t) (page k : ℕ) (f : Framed) (has : frame_in t page ≡ Some k) (number : f.number ≡ k)
+    (pages : Resident) (maps : MapsTo page (option_map (with_flag true) (mapping_at t.pages page)) t.pages pages) where
   abbrev pub stored : Table
-  stored = record { numbers = t.numbers; own = t.own; frames = slice_set t.frames k (Some f); dirty = slice_set t.dirty k true }
+  stored = record { pages = pages; own = t.own; frames = slice_set t.frames k (Some f) }
+
+  abbrev was_stored : Table
+  was_stored = rewritten t paged page k f has number
+
+  frame_stored : (p : ℕ) → frame_in stored p ≡ frame_in was_stored p
+  frame_stored p = frame_flagged was_stored page true pages maps p
 
   pub stored_paged : IsPaged stored
-  stored_paged = flagged_paged (rewritten t paged page k f has number) (rewritten_paged t paged page k f has number) page k true has_still
+  stored_paged = said_paged was_stored (rewritten_paged t paged page k f has number) pages maps.frames frame_stored
 
   pub writes : (index w : ℕ) (g : Framed) → slice_index_or t.frames k None ≡ Some g → f.words ≡ slice_set g.words index w → index < length g.words → Writes page index w t stored
   writes index w g was set in_page =
-      let u = rewritten t paged page k f has number in
-      let u_paged = rewritten_paged t paged page k f has number in
       let refilled = refills t paged page k f has number in
       record {
-        same = record { count = refilled.same.count; own = λ p. (own_flagged u u_paged page k true has_still).own p ∙ refilled.same.own p };
-        frame = λ p. frame_flagged u u_paged page k true has_still p ∙ refilled.frame p;
-        word = λ p i. word_flagged u u_paged page k true has_still p i ∙ elim (cases_eq p page) [
+        same = record { count = refilled.same.count; own = λ p. own_in-is stored p ∙ sym (own_in-is t p) };
+        mapping = mapping_flagged was_stored page true pages maps;
+        word = λ p i. word_flagged was_stored page true pages maps p i ∙ elim (cases_eq p page) [
           | inl e ↦
               let old : word_in t page i ≡ slice_index_or g.words i 0 = word_in-found t page i k has ∙ ap (λ x. word_in_frame x i) was in
               rw e (rewritten_has t paged page k f has number i ∙ ap (λ (ws : List ℕ). slice_index_or ws i 0) set ∙ grind (arith, common_steps, nat_tests, cases_eq i index))
           | inr n ↦ refilled.word p i n ∙ grind (arith, nat_tests)
         ];
-        dirty = λ p. dirty_flagged u u_paged page k true has_still p ∙ ap (λ (b : Bool). if p == page then true else b) (refilled.dirty p);
       }
-
--- a page without a frame is given none as it is
-pub moves_none : (t : Table) (page : ℕ) → frame_in t page ≡ None → Moves page None t t
-moves_none t page none =
-    record {
-      same = record { count = refl; own = λ p. refl };
-      frame = λ p. elim (cases_eq p page) [ inl e ↦ rw e (none ∙ grind (arith, nat_tests)) | inr n ↦ grind (arith, nat_tests) ];
-      word = λ p i n. refl;
-      dirty = (cleans_none t page none).dirty;
-    }
 
 -- a part of a list is filled: within it each place has the value, and elsewhere it is as before
 pub filled-at : {X : Type 0} (xs : List X) (a k : ℕ) (v d : X) (p : ℕ) → a + k ≤ length xs → slice_index_or (put_mid a k xs (replicate k v)) p d ≡ (if in_range a k p then v else slice_index_or xs p d)
@@ -340,25 +433,27 @@ empty_place : {X : Type 0} (n p : ℕ) → ◌≡◌ {A = Option X} (slice_index
 empty_place {X} n p =
     elim (cases_lt p n) [ inl l ↦ get_or-replicate n p None None l | inr past ↦ get_or_past (replicate n None) p None (omega (arith, length-replicate {A = Option X} n None)) ]
 
-module _ (t : Table) (pages frames : ℕ) (numbers : t.numbers ≡ replicate pages None) (own : t.own ≡ replicate pages None) (places : t.frames ≡ replicate frames None) (flags : t.dirty ≡ replicate frames false) where
+module _ (t : Table) (frames : ℕ) (count : frames_in t.pages ≡ frames) (none : (p : ℕ) → mapping_at t.pages p ≡ None) (own : t.own ≡ replicate 1048576 None) (places : t.frames ≡ replicate frames None) where
   none_resident : (p : ℕ) → frame_in t p ≡ None
-  none_resident p = frame_in-is t p ∙ ap (λ (ns : List (Option ℕ)). slice_index_or ns p None) numbers ∙ empty_place pages p
+  none_resident p = frame-absent t p (none p)
+
+  place_count : length t.frames ≡ frames
+  place_count = ap length places ∙ length-replicate {A = Option Framed} frames None
 
   pub fresh : IsFresh frames t
   fresh =
       record {
-        count = ap length places ∙ length-replicate {A = Option Framed} frames None;
-        none_resident = none_resident;
-        none_own = λ p. own_in-is t p ∙ ap (λ (rs : List (Option Rights)). slice_index_or rs p None) own ∙ empty_place pages p;
+        count = place_count;
+        none_resident = none;
+        none_own = λ p. own_in-is t p ∙ ap (λ (rs : List (Option Rights)). slice_index_or rs p None) own ∙ empty_place 1048576 p;
       }
 
-  pub fresh_paged : pages ≡ 1048576 → frames ≤ 32768 → IsPaged t
-  fresh_paged whole few =
+  pub fresh_paged : frames ≤ 32768 → IsPaged t
+  fresh_paged few =
       record {
-        numbers = ap length numbers ∙ length-replicate {A = Option ℕ} pages None ∙ whole;
-        own = ap length own ∙ length-replicate {A = Option Rights} pages None ∙ whole;
-        few = omega (arith, ap length places, length-replicate {A = Option Framed} frames None);
-        flags = ap length flags ∙ length-replicate {A = Bool} frames false ∙ sym (ap length places ∙ length-replicate {A = Option Framed} frames None);
+        own = ap length own ∙ length-replicate {A = Option Rights} 1048576 None;
+        count = count ∙ sym place_count;
+        few = omega (arith, place_count);
         found = λ p n h. absurd (none-some n (sym (none_resident p) ∙ h));
         apart = λ p q n h _. absurd (none-some n (sym (none_resident p) ∙ h));
       }
@@ -371,39 +466,60 @@ part_filled {X} own row part len first n v rows parts lens h =
     let filled : part ≡ replicate n v = parts ∙ ap (λ (m : ℕ). replicate m v) count in
     rw (rows, filled, k) (take_at _ _ len (length-put_mid first n own (replicate n v) (length-replicate {A = X} n v) h ∙ sym lens))
 
--- the pages of a range get these rights
+-- the pages of a range get these rights of their own
 module _ (t : Table) (paged : IsPaged t) (first len : ℕ) (rights : Option Rights) (in_space : first + len ≤ 1048576) where
-  abbrev pub protected : Table
-  protected = record { numbers = t.numbers; own = put_mid first len t.own (replicate len rights); frames = t.frames; dirty = t.dirty }
+  abbrev pub owning : Table
+  owning = record { pages = t.pages; own = put_mid first len t.own (replicate len rights); frames = t.frames }
 
-  frame_protected : (p : ℕ) → frame_in protected p ≡ frame_in t p
-  frame_protected p = frame_in-is protected p ∙ sym (frame_in-is t p)
+  frame_owning : (p : ℕ) → frame_in owning p ≡ frame_in t p
+  frame_owning p = frame-same t owning p refl
 
-  pub protects : Protects first len rights t protected
-  protects =
+  pub owns_rights : OwnsRights first len rights t owning
+  owns_rights =
       record {
         count = refl;
-        frame = frame_protected;
-        word = λ p i. word_in-is protected p i ∙ ap (λ o. word_in_frame (frame_of t.frames o) i) (frame_protected p) ∙ sym (word_in-is t p i);
-        own = λ p. own_in-is protected p ∙ filled-at t.own first len rights None p (omega (arith, paged.own)) ∙ ap (λ o. if in_range first len p then rights else o) (sym (own_in-is t p));
-        dirty = λ p. dirty_in-is protected p ∙ ap (flag_in t.dirty) (frame_protected p) ∙ sym (dirty_in-is t p);
+        pages = refl;
+        word = λ p i. word-same t owning p i refl (frame_owning p);
+        own = λ p. own_in-is owning p ∙ filled-at t.own first len rights None p (omega (arith, paged.own)) ∙ ap (λ o. if in_range first len p then rights else o) (sym (own_in-is t p));
       }
 
-  pub protected_paged : IsPaged protected
-  protected_paged =
+  pub owning_paged : IsPaged owning
+  owning_paged =
+      kept_paged t owning paged (length-put_mid first len t.own (replicate len rights) (length-replicate {A = Option Rights} len rights) (omega (arith, paged.own))) refl refl frame_owning (λ n at. frame_at-same t owning n refl at)
+
+-- no page of the range keeps rights of its own
+pub forgets : (first len : ℕ) (t u : Table) → OwnsRights first len None t u → Forgets first len t u
+forgets first len t u owns =
+    record { count = owns.count; mapping = λ p. ap (λ pages. mapping_at pages p) owns.pages; word = owns.word; own = owns.own }
+
+-- the pages of the range have rights of their own, and it is said of the resident ones
+module _ (t mid : Table) (first len : ℕ) (rights : Rights) (owns : OwnsRights first len (Some rights) t mid) (pages : Resident) (protects : ProtectsIn first len rights mid.pages pages) where
+  abbrev pub protected : Table
+  protected = record { pages = pages; own = mid.own; frames = mid.frames }
+
+  mapping_protected : (p : ℕ) → mapping_in protected p ≡ (if in_range first len p then option_map (with_rights rights) (mapping_in mid p) else mapping_in mid p)
+  mapping_protected p = protects.at p
+
+  frame_protected : (p : ℕ) → frame_in protected p ≡ frame_in mid p
+  frame_protected p =
+      frame-picked mid protected p (in_range first len p) _ (mapping_protected p) ∙ ap (λ o. if in_range first len p then o else frame_in mid p) (number_with rights (mapping_in mid p) ∙ sym (frame_in-is mid p)) ∙ same_both _ (frame_in mid p)
+
+  pub protects_range : Protects first len rights t protected
+  protects_range =
       record {
-        numbers = paged.numbers;
-        own = length-put_mid first len t.own (replicate len rights) (length-replicate {A = Option Rights} len rights) (omega (arith, paged.own)) ∙ paged.own;
-        few = paged.few;
-        flags = paged.flags;
-        found = λ p n h. let at = paged.found p n (sym (frame_protected p) ∙ h) in record { frame = at.frame; is = at.is; number_is = at.number_is };
-        apart = λ p q n hp hq. paged.apart p q n (sym (frame_protected p) ∙ hp) (sym (frame_protected q) ∙ hq);
+        count = owns.count;
+        mapping = λ p. mapping_protected p ∙ ap (λ (ps : Resident). if in_range first len p then option_map (with_rights rights) (mapping_at ps p) else mapping_at ps p) owns.pages;
+        word = λ p i. word-same mid protected p i refl (frame_protected p) ∙ owns.word p i;
+        own = λ p. own_in-is protected p ∙ sym (own_in-is mid p) ∙ owns.own p;
       }
 
-pub none-is : (o : Option ℕ) → false ≡ is_some o → o ≡ None
+  pub protected_paged : IsPaged mid → IsPaged protected
+  protected_paged paged = said_paged mid paged pages protects.frames frame_protected
+
+pub none-is : {X : Type 0} (o : Option X) → false ≡ is_some o → o ≡ None
 none-is None h = refl
 none-is (Some x) h = cc
 
-pub some-isnt : (o : Option ℕ) → true ≡ is_some o → o ≢ None
+pub some-isnt : {X : Type 0} (o : Option X) → true ≡ is_some o → o ≢ None
 some-isnt None h e = cc
 some-isnt (Some x) h e = none-some x (sym e)

@@ -1,5 +1,5 @@
 -- What the calls of a space promise, for every state that the space stands for.
-use Rattle.std.specs.Prelude.{ℕ, ◌≡◌, ◌≢◌, ◌+◌, ◌<◌, ◌≤◌, Bool, true, false, if◌then◌else◌, Some, None, IfSome}
+use Rattle.std.specs.Prelude.{ℕ, ◌≡◌, ◌≢◌, ◌+◌, ◌<◌, ◌≤◌, Bool, true, false, if◌then◌else◌, length, Some, None, IfSome}
 use Rattle.pager_model.specs.declared.call.Call.{Call}
 use Rattle.pager_model.specs.declared.call.Call.TheVariants.{Unmap, Evict}
 use Rattle.pager_model.specs.declared.entry.Want.{Want}
@@ -18,15 +18,16 @@ use Rattle.space_core.specs.declared.space.Begun.TheVariants.{Answered as HasAns
 use Rattle.space_core.specs.Standing.{Kept, StandsFor, StandsBut, IsResting, MustWrite, frame_at, rights_at, dirty_at, answer_entry, evict_entry, take_entry, give_entry, clear_entry, out_entry, failed_entry, is_allowed, is_unwired, copied_page}
 use Rattle.store_core.specs.Stored.{keeps_at}
 
--- The space allows the answer to a processor's call, whatever its number, and then stands for one entry more.
-pub record Answers (old new : Kept) (call : Call) (a : Answered) : Type 0 where
-  pub allowed : (st : SpaceState) → StandsFor old st → (c number : ℕ) → WhatAllowed st false c (Answer number call a)
-  pub stands : (st : SpaceState) → StandsFor old st → (c number : ℕ) → StandsFor new (space_after st (answer_entry c number call a))
+-- The space allows the answer to this processor's call, whatever its number, and then stands for one entry more.
+pub record Answers (old new : Kept) (c : ℕ) (call : Call) (a : Answered) : Type 0 where
+  pub allowed : (st : SpaceState) → StandsFor old st → (number : ℕ) → WhatAllowed st false c (Answer number call a)
+  pub stands : (st : SpaceState) → StandsFor old st → (number : ℕ) → StandsFor new (space_after st (answer_entry c number call a))
 
 -- it is the same space, with the same regions and rights
 pub record SameRegions (old new : Kept) : Type 0 where
   pub number : new.number ≡ old.number
   pub frames : new.frames ≡ old.frames
+  pub processors : length new.images ≡ length old.images
   pub regions : new.regions ≡ old.regions
   pub rights : (page : ℕ) → rights_at new page ≡ rights_at old page
 
@@ -41,12 +42,13 @@ pub record LacksMemory (kept : Kept) (page : ℕ) : Type 0 where
   pub unkept : keeps_at kept.store page ≡ false
 
 -- The call is answered at once, with its effect, by an answer that needs no other entry before it.
-pub record BeginsAnswered (old new : Kept) (call : Call) (a : Answered) : Type 0 where
+pub record BeginsAnswered (old new : Kept) (c : ℕ) (call : Call) (a : Answered) : Type 0 where
   pub alone : is_answered_alone call a.reply ≡ true
   pub same_number : new.number ≡ old.number
   pub same_frames : new.frames ≡ old.frames
+  pub same_processors : length new.images ≡ length old.images
   pub resting : IsResting new
-  pub answers : Answers old new call a
+  pub answers : Answers old new c call a
   pub memory : a.reply ≡ NoMemory → (page : ℕ) × (copied_page call ≡ Some page) × LacksMemory old page
 
 -- The call is a lawful load or store at a page that isn't resident, with its region's want.
@@ -118,12 +120,13 @@ pub record BeginsFailing (old new : Kept) (call : Call) (page count : ℕ) : Typ
   pub must : MustWrite new call page
   pub fails : FailsToWrite old new page count
 
-abbrev pub Begins : Kept → Kept → Call → Begun → Type 0
-Begins old new call (HasAnswered a) = BeginsAnswered old new call a
-Begins old new call (NeedsFrame page want) = BeginsNeedingFrame old new call page want
-Begins old new call (NeedsClear first len) = BeginsClearing old new call first len
-Begins old new call (NeedsEvict page written) = BeginsEvicting old new call page written
-Begins old new call (HasFailed page count) = BeginsFailing old new call page count
+-- what a call of this processor begins with
+abbrev pub Begins : Kept → Kept → ℕ → Call → Begun → Type 0
+Begins old new c call (HasAnswered a) = BeginsAnswered old new c call a
+Begins old new c call (NeedsFrame page want) = BeginsNeedingFrame old new call page want
+Begins old new c call (NeedsClear first len) = BeginsClearing old new call first len
+Begins old new c call (NeedsEvict page written) = BeginsEvicting old new call page written
+Begins old new c call (HasFailed page count) = BeginsFailing old new call page count
 
 -- The page has this frame, is pending, and the space stands for one taking more, or for the use of a held frame.
 pub record Places (old new : Kept) (page frame : ℕ) : Type 0 where
@@ -156,12 +159,12 @@ pub record FailsToRead (old new : Kept) (page count : ℕ) : Type 0 where
   pub allowed : (st : SpaceState) → StandsFor old st → (c : ℕ) → WhatAllowed st false c (Failed page false count)
   pub stands : (st : SpaceState) → StandsFor old st → (c : ℕ) → StandsFor new (space_after st (failed_entry c old.number page false count))
 
--- The access is served.
-pub record Finishes (old new : Kept) (call : Call) (a : Answered) : Type 0 where
+-- The access of this processor is served.
+pub record Finishes (old new : Kept) (c : ℕ) (call : Call) (a : Answered) : Type 0 where
   pub served : is_served a.reply ≡ true
   pub resting : IsResting new
   pub same : SameFrames old new
-  pub answers : Answers old new call a
+  pub answers : Answers old new c call a
 
 -- The page is equal to its copy, which was written where the page was dirty, and is clean, and the space stands for one paging out more.
 pub record WritesOut (old new : Kept) (page : ℕ) (written : Bool) : Type 0 where
@@ -240,6 +243,7 @@ pub record Unmapped (old new : Kept) (page : ℕ) (a : Answered) : Type 0 where
   pub done : a.reply ≡ Done
   pub same_number : new.number ≡ old.number
   pub same_frames : new.frames ≡ old.frames
+  pub same_processors : length new.images ≡ length old.images
   pub resting : IsResting new
   pub allowed : (st : SpaceState) → StandsFor old st → (c number : ℕ) (r : Region) → region_at old.regions page ≡ Some r → st.next ≡ Unmaps c r.first r.length → WhatAllowed st false c (Answer number (Unmap old.number page) a)
   pub stands : (st : SpaceState) → StandsFor old st → (c number : ℕ) → StandsFor new (space_after st (answer_entry c number (Unmap old.number page) a))

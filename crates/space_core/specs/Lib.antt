@@ -7,3 +7,4 @@ pub mod Keeping
 pub mod NewPages
 pub mod Spares
 pub mod Copies
+pub mod Translating

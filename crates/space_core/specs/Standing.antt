@@ -1,5 +1,5 @@
 -- A space as contracts see it, and what it is for it to stand for its list of entries.
-use Rattle.std.specs.Prelude.{ℕ, ◌≡◌, ◌≤◌, Bool, true, false, ◌&&◌, ◌==◌, not, if◌then◌else◌, List, slice_index_or, Option, Some, None, is_some}
+use Rattle.std.specs.Prelude.{ℕ, ◌≡◌, ◌<◌, ◌≤◌, Bool, true, false, ◌&&◌, ◌==◌, not, if◌then◌else◌, List, [], length, slice_index_or, Option, Some, None, is_some}
 use Rattle.pager_model.specs.declared.call.Call.{Call}
 use Rattle.pager_model.specs.declared.call.Call.TheVariants.{Load, Store, Sync, Evict}
 use Rattle.pager_model.specs.declared.entry.Entry.{Entry}
@@ -9,12 +9,15 @@ use Rattle.pager_model.specs.declared.region.Region.{Region}
 use Rattle.pager_model.specs.declared.region.Rights.{Rights}
 use Rattle.pager_model.specs.declared.region.Rights.TheVariants.{NoAccess}
 use Rattle.pager_model.specs.declared.reply.Answered.{Answered}
+use Rattle.pager_model.specs.declared.tile.Tile.{Tile}
 use Rattle.pager_model.specs.Flat.{page_of, can_read, can_write, space_of_call}
 use Rattle.pager_model.specs.Regions.{in_range, region_at, is_wired}
-use Rattle.pager_model.specs.SpaceStates.{SpaceState}
+use Rattle.pager_model.specs.Images.{still_tiles}
+use Rattle.pager_model.specs.SpaceStates.{SpaceState, pages_of, last_count}
 use Rattle.pager_model.specs.TraceText.{IsCall}
-use Rattle.space_core.specs.Tables.{Table, frame_in, word_in, own_in, dirty_in}
+use Rattle.space_core.specs.Tables.{Table, mapping_in, frame_in, word_in, own_in, dirty_in}
 use Rattle.store_core.specs.Stored.{Stored, copy_at}
+use Rattle.tiles.specs.Resident.{large_tiles_in}
 
 pub record Kept : Type 0 where
   -- the space's number
@@ -32,6 +35,16 @@ pub record Kept : Type 0 where
   pub paged : Option ℕ
   -- the store of its pages' copies
   pub store : Stored
+  -- of each processor its image: the tiles that it used last
+  pub images : List (List Tile)
+  -- how many extents became tiles that lay in none, and how many tiles were broken; each stands still at its type's end
+  pub promotions : ℕ
+  pub demotions : ℕ
+  -- how many tiles of size 1 or more the region that is being unmapped had
+  pub broken : ℕ
+
+abbrev pub image_at : Kept → ℕ → List Tile
+image_at kept processor = slice_index_or kept.images processor []
 
 -- What is seen of a page.
 
@@ -117,16 +130,36 @@ pub record StandsBeside (aside : ℕ → Bool) (kept : Kept) (state : SpaceState
   -- no fault that was told is above those that the store had
   pub highest : state.highest ≤ kept.store.faults
 
+-- What a space and a state have in common of translations: each processor's image, which has tiles of the resident pages alone; and the
+-- counts of promotions and demotions, up to their type's end.
+pub record Translates (kept : Kept) (state : SpaceState) : Type 0 where
+  pub images : (c : ℕ) → c < length kept.images → state.images c ≡ image_at kept c
+  pub tiles : (c : ℕ) → c < length kept.images → still_tiles (pages_of state) (state.images c) ≡ state.images c
+  pub promotions : state.promotions ≤ last_count → kept.promotions ≡ state.promotions
+  pub demotions : state.demotions ≤ last_count → kept.demotions ≡ state.demotions
+
 -- A space stands for its list of entries, which leads to the state. Of the pages of a region that is being unmapped the words, the copies
 -- and the dirty flags are open.
 pub record StandsFor (kept : Kept) (state : SpaceState) : Type 0 where
   pub beside : StandsBeside (is_in kept.clearing) kept state
   pub base : (page : ℕ) → state.base page ≡ frame_at kept page
+  pub pages : (page : ℕ) → pages_of state page ≡ mapping_in kept.table page
+  pub translates : Translates kept state
 
--- The same but for a range, of which any frames may be missing: some of its pages gave theirs up, and no entry says so yet.
+-- a region that begins at the page is being unmapped
+abbrev pub is_clearing : Option Region → ℕ → Bool
+is_clearing None first = false
+is_clearing (Some r) first = r.first == first
+
+-- The same but for a range, of which any frames may be missing: some of its pages gave theirs up, and no entry says so yet. Its tiles
+-- were counted before the first page did.
 pub record StandsBut (first len : ℕ) (kept : Kept) (state : SpaceState) : Type 0 where
   pub beside : StandsBeside (in_range first len) kept state
   pub base : (page : ℕ) → in_range first len page ≡ false → state.base page ≡ frame_at kept page
+  pub pages : (page : ℕ) → in_range first len page ≡ false → pages_of state page ≡ mapping_in kept.table page
+  pub translates : Translates kept state
+  pub not_begun : is_clearing kept.clearing first ≡ false → (page : ℕ) → pages_of state page ≡ mapping_in kept.table page
+  pub counted : is_clearing kept.clearing first ≡ true → kept.broken ≡ large_tiles_in first len (pages_of state)
 
 -- The entries of a space's calls.
 

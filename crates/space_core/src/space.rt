@@ -1,23 +1,29 @@
-ghost use Rattle.std.specs.Prelude.{◌≡◌, ◌≢◌, ℕ, ◌+◌, ◌<◌, ◌≤◌, ◌⊎◌, Bool, true, false, Some, None, IfOk, IfErr, IfSome, IfNone, IsSome};
+ghost use Rattle.std.specs.Prelude.{◌≡◌, ◌≢◌, ◌∷◌, [], length, map, replicate, slice_set, slice_index_or, option_map, ℕ, ◌+◌, ◌<◌, ◌≤◌, ◌⊎◌, Bool, true, false, Some, None, IfOk, IfErr, IfSome, IfNone, IsSome};
 ghost use Rattle.pager_model.specs.declared.region.Region.{Region as Item};
 ghost use Rattle.pager_model.specs.Flat.{page_of, space_of_call};
 ghost use Rattle.pager_model.specs.Order.{is_access};
+ghost use Rattle.pager_model.specs.Images.{is_in_image, still_tiles, touched};
 ghost use Rattle.pager_model.specs.Regions.{region_at};
+ghost use Rattle.pager_model.specs.Tiles.{tile_of, tiles_of_size};
 ghost use Rattle.pager_model.specs.SpaceStates.{empty_state, access_page};
 ghost use Rattle.space_core.specs.Beginning.{Begins, NeedsItsFrame, NeedsNoFrame, Places, ReadsIn, FailsToRead, Finishes, WritesOut, FailsToWrite, LeavesUnwritten, Removes, IsEvicting, Evicts, copied_reply};
 ghost use Rattle.space_core.specs.Beginning.{IsRange, NoneResident, ClearsOne, ClearsNone, Unmapped};
+ghost use Rattle.space_core.specs.Pages.{IsFresh, Maps};
 ghost use Rattle.space_core.specs.Saving.{Saves, FailsToSave, LacksRoom, unwritten_by};
-ghost use Rattle.space_core.specs.Standing.{StandsFor, IsResting, frame_at, dirty_at, rights_by, is_allowed, CanBegin};
-ghost use Rattle.space_core.specs.Tables.{own_in};
+ghost use Rattle.space_core.specs.Standing.{StandsFor, IsResting, frame_at, dirty_at, image_at, rights_by, is_allowed, CanBegin};
+ghost use Rattle.space_core.specs.Tables.{mapping_in, own_in};
+ghost use Rattle.space_core.specs.Translating.{counted_up, Retouches, ChangesPages, CleansPage, Touches, BeginsClear};
 ghost use Rattle.store_core.specs.Stored.{TellsZero};
 
 use crate::access::{accessed_page, answered, page_of, permits, want_in, word_of};
 use crate::table::PageTable;
-use pager_model::{Answered, Call, Frame, Kind, NoMemory, Region, Reply, Rights, Want};
+use pager_model::{Answered, Call, Frame, Kind, NoMemory, Region, Reply, Rights, Tile, Want};
 use region_table::Regions;
 use std::alloc::Global;
 use std::marker::Model;
 use store_core::{Store, StoreFailed, WriteRefused};
+use tiles::Moves;
+use tlb_images::Image;
 
 /// What a call needs first.
 #[derive(Clone, Copy, Debug, PartialEq, Eq)]
@@ -58,6 +64,12 @@ pub struct Space<S: Store + Send + Drop> {
     /// The page that is being evicted: it is equal to its copy, and gives its frame up next.
     paged: Option<u32>,
     store: S,
+    /// For each processor the tiles that it used last.
+    images: Vec<Image>,
+    promotions: u64,
+    demotions: u64,
+    /// How many tiles of size 1 or more the clearing region had.
+    broken: u32,
 }
 
 impl<S: Store + Send + Drop> Model for Space<S> {
@@ -76,6 +88,10 @@ impl<S: Store + Send + Drop> Model for Space<S> {
       clearing = s.clearing;
       paged = s.paged;
       store = S.seen s.store;
+      images = s.images.items;
+      promotions = s.promotions;
+      demotions = s.demotions;
+      broken = s.broken;
     } };
 
     ghost invariant = { λ s. IsKept s.regions s.table s.pending s.clearing s.scan };
@@ -83,21 +99,21 @@ impl<S: Store + Send + Drop> Model for Space<S> {
 
 impl<S: Store + Send + Drop> Space<S> {
     /// A space without regions, over this store, which comes back for want of memory. All the memory that it ever takes is taken here, but
-    /// for that of the store's writes. No translations are kept yet, so the number of processors doesn't matter.
+    /// for that of the store's writes. Each processor has an image of the tiles that it used last.
     pub fn create(
         alloc: Global,
         space: u32,
         frames: u32,
-        _processors: u32,
+        processors: u32,
         store: S,
     ) -> Result<Space<S>, S>
         requires { frames ≤ 32768 }
-        ensures made { IfOk result (λ s. (s.number ≡ space) × (s.frames ≡ frames) × (s.store ≡ S.seen store) × IsResting s) }
+        ensures made { IfOk result (λ s. (s.number ≡ space) × (s.frames ≡ frames) × (length s.images ≡ processors) × (s.store ≡ S.seen store) × IsResting s) }
         ensures stands { IfOk result (λ s. (told : Bool) → (told ≡ true → TellsZero s.store) → StandsFor s (empty_state told s.store.faults)) }
         ensures back { IfErr result (λ back. S.seen back ≡ S.seen store) }
     {
-        match PageTable::create(alloc, frames) {
-            Ok(table) => Ok(Space {
+        match parts_of(alloc, frames, processors) {
+            Ok((table, images)) => Ok(Space {
                 number: space,
                 regions: Regions::create(),
                 table,
@@ -106,17 +122,22 @@ impl<S: Store + Send + Drop> Space<S> {
                 scan: 0,
                 paged: None,
                 store,
+                images,
+                promotions: 0,
+                demotions: 0,
+                broken: 0,
             }),
             Err(NoMemory) => Err(store),
         }
     }
 
-    /// Begins a call on this space: the whole answer, or what it needs first.
+    /// Begins a processor's call on this space: the whole answer, or what it needs first.
     pub fn begin(&mut self, processor: u32, call: &Call) -> Begun
+        requires processor { processor < length self.old.images }
         requires space { space_of_call call.now ≡ self.old.number }
         requires resting { IsResting self.old }
         requires can { CanBegin call.now }
-        ensures { Begins self.old self.new call.now result }
+        ensures { Begins self.old self.new processor call.now result }
     {
         match *call {
             Call::Map {
@@ -167,8 +188,13 @@ impl<S: Store + Send + Drop> Space<S> {
         requires other { (p : ℕ) → frame_at self.old p ≢ Some frame.number }
         ensures { Places self.old self.new page frame.number }
     {
-        self.table.put(page, frame);
+        let Some(region) = self.regions.find(page) else {
+            unreachable!()
+        };
+        let rights = self.rights(page, region);
+        let moves = self.table.put(page, frame, region.first, rights);
         self.pending = Some(page);
+        self.retouch(moves);
     }
 
     /// Reads the copy of the pending page in. Where the store's read fails, the error is its count of faults, and the page stays pending.
@@ -188,17 +214,18 @@ impl<S: Store + Send + Drop> Space<S> {
     }
 
     /// Ends a load or a store that is allowed and whose page is resident: its word, or done.
-    pub fn finish(&mut self, _processor: u32, call: &Call) -> Answered
+    pub fn finish(&mut self, processor: u32, call: &Call) -> Answered
+        requires processor { processor < length self.old.images }
         requires space { space_of_call call.now ≡ self.old.number }
         requires resting { IsResting self.old }
         requires can { CanBegin call.now }
         requires allowed { is_allowed self.old call.now ≡ true }
         requires resident { IfSome (access_page call.now) (λ page. frame_at self.old page ≢ None) }
-        ensures { Finishes self.old self.new call.now result }
+        ensures { Finishes self.old self.new processor call.now result }
     {
         match *call {
-            Call::Load { address, .. } => self.load(address),
-            Call::Store { address, word, .. } => self.store(address, word),
+            Call::Load { address, .. } => self.load(processor, address),
+            Call::Store { address, word, .. } => self.store(processor, address, word),
             _ => unreachable!(),
         }
     }
@@ -212,7 +239,7 @@ impl<S: Store + Send + Drop> Space<S> {
         ensures no_memory { result ≡ Err OutFault.NoMemory → LeavesUnwritten self.old self.new page }
     {
         let written = self.save(page)?;
-        self.table.set_clean(page);
+        self.clean(page);
         Ok(written)
     }
 
@@ -226,7 +253,7 @@ impl<S: Store + Send + Drop> Space<S> {
         ensures { Removes self.old self.new page result.number }
     {
         self.pending = None;
-        self.table.take(page).unwrap()
+        self.take(page)
     }
 
     /// Takes the frame of the page away that is being evicted, and answers the evict.
@@ -236,7 +263,7 @@ impl<S: Store + Send + Drop> Space<S> {
     {
         let reply = copied(self.table.is_dirty(page));
         self.paged = None;
-        (self.table.take(page).unwrap(), answered(reply))
+        (self.take(page), answered(reply))
     }
 
     /// The lowest resident page of a region's range, with its frame, which it gives up. `None` exactly where no page of the range is
@@ -248,15 +275,16 @@ impl<S: Store + Send + Drop> Space<S> {
         ensures none { IfNone result (ClearsNone self.old self.new first length) }
         ensures none_left { NoneResident self.old first length → result ≡ None }
     {
-        let from = self.scan_start(first);
+        let from = self.begin_clearing(first, length);
         let end = first + length;
-        self.clearing = self.regions.find(first);
         let Some(page) = self.table.first_resident(from, end) else {
             self.scan = end;
+            self.demotions = self.demotions.saturating_add(u64::from(self.broken));
+            self.keep_tiles();
             return None;
         };
         self.scan = page + 1;
-        let frame = self.table.take(page)?;
+        let (frame, _) = self.table.take(page)?;
         Some((page, frame))
     }
 
@@ -270,28 +298,35 @@ impl<S: Store + Send + Drop> Space<S> {
         let Ok(region) = self.regions.unmap(page) else {
             unreachable!();
         };
-        self.table.set_own(region.first, region.length, None);
+        self.table.forget_rights(region.first, region.length);
         self.store.drop_pages(region.first, region.length);
         self.clearing = None;
         answered(Reply::Done)
     }
 
-    /// The page at which the scan of a region's range begins or goes on: none of the range's pages before it is resident.
-    fn scan_start(&self, first: u32) -> u32
+    /// Goes on with the clearing of a region, or begins it, where its tiles are counted first. None of its pages before the result is
+    /// resident.
+    fn begin_clearing(&mut self, first: u32, length: u32) -> u32
+        requires range { IsRange self.old first length }
+        requires none_pending { self.old.pending ≡ None }
         ensures begun { first ≤ result }
-        ensures done { (p : ℕ) → first ≤ p → p < result → frame_at self.now p ≡ None }
+        ensures done { (p : ℕ) → first ≤ p → p < result → frame_at self.old p ≡ None }
+        ensures counts { BeginsClear self.old self.new first length }
     {
-        match self.clearing {
-            Some(region) if region.first == first => self.scan,
-            _ => first,
+        if let Some(region) = self.clearing && region.first == first {
+            return self.scan;
         }
+        self.broken = self.table.tiles_in(first, length);
+        self.clearing = self.regions.find(first);
+        self.scan = first;
+        first
     }
 
     /// Maps a region, or refuses to.
     fn begin_map(&mut self, page: u32, length: u32, kind: Kind, rights: Rights) -> Begun
         requires resting { IsResting self.old }
         requires can { CanBegin (Call.Map self.old.number page length kind rights) }
-        ensures { Begins self.old self.new (Call.Map self.old.number page length kind rights) result }
+        ensures { (c : ℕ) → Begins self.old self.new c (Call.Map self.old.number page length kind rights) result }
     {
         match self.regions.map(page, length, kind, rights) {
             Ok(()) => Begun::Answered(answered(Reply::Done)),
@@ -303,7 +338,7 @@ impl<S: Store + Send + Drop> Space<S> {
     fn begin_grow(&mut self, page: u32, by: u32) -> Begun
         requires resting { IsResting self.old }
         requires can { CanBegin (Call.Grow self.old.number page by) }
-        ensures { Begins self.old self.new (Call.Grow self.old.number page by) result }
+        ensures { (c : ℕ) → Begins self.old self.new c (Call.Grow self.old.number page by) result }
     {
         match self.regions.grow(page, by) {
             Ok(()) => Begun::Answered(answered(Reply::Done)),
@@ -315,7 +350,7 @@ impl<S: Store + Send + Drop> Space<S> {
     fn begin_unmap(&mut self, page: u32) -> Begun
         requires resting { IsResting self.old }
         requires can { CanBegin (Call.Unmap self.old.number page) }
-        ensures { Begins self.old self.new (Call.Unmap self.old.number page) result }
+        ensures { (c : ℕ) → Begins self.old self.new c (Call.Unmap self.old.number page) result }
     {
         match self.regions.find(page) {
             Some(region) => Begun::NeedsClear {
@@ -330,7 +365,7 @@ impl<S: Store + Send + Drop> Space<S> {
     fn begin_protect(&mut self, page: u32, length: u32, rights: Rights) -> Begun
         requires resting { IsResting self.old }
         requires can { CanBegin (Call.Protect self.old.number page length rights) }
-        ensures { Begins self.old self.new (Call.Protect self.old.number page length rights) result }
+        ensures { (c : ℕ) → Begins self.old self.new c (Call.Protect self.old.number page length rights) result }
     {
         let Some(region) = self.regions.find(page) else {
             return Begun::Answered(answered(Reply::Unmapped));
@@ -338,17 +373,19 @@ impl<S: Store + Send + Drop> Space<S> {
         if page + length > region.first + region.length {
             return Begun::Answered(answered(Reply::Unmapped));
         }
-        self.table.set_own(page, length, Some(rights));
+        let moves = self.table.protect(page, length, rights);
+        self.retouch(moves);
         Begun::Answered(answered(Reply::Done))
     }
 
     /// Begins a load or a store.
     fn begin_access(&mut self, processor: u32, call: &Call) -> Begun
+        requires processor { processor < length self.old.images }
         requires space { space_of_call call.now ≡ self.old.number }
         requires resting { IsResting self.old }
         requires can { CanBegin call.now }
         requires access { is_access call.now ≡ true }
-        ensures { Begins self.old self.new call.now result }
+        ensures { Begins self.old self.new processor call.now result }
     {
         if let Some((page, want)) = self.wants(call) {
             return Begun::NeedsFrame { page, want };
@@ -365,7 +402,7 @@ impl<S: Store + Send + Drop> Space<S> {
         requires resting { IsResting self.now }
         requires can { CanBegin call.now }
         requires access { is_access call.now ≡ true }
-        ensures some { IfSome result (λ reply. Begins self.now self.now call.now (Begun.Answered (record { reply = reply; hit = false; size = None }))) }
+        ensures some { IfSome result (λ reply. (c : ℕ) → Begins self.now self.now c call.now (Begun.Answered (record { reply = reply; hit = false; size = None }))) }
         ensures none { IfNone result (is_allowed self.now call.now ≡ true) }
     {
         let page = accessed_page(call)?;
@@ -382,14 +419,14 @@ impl<S: Store + Send + Drop> Space<S> {
     fn begin_sync(&mut self, page: u32) -> Begun
         requires resting { IsResting self.old }
         requires can { CanBegin (Call.Sync self.old.number page) }
-        ensures { Begins self.old self.new (Call.Sync self.old.number page) result }
+        ensures { (c : ℕ) → Begins self.old self.new c (Call.Sync self.old.number page) result }
     {
         if self.regions.find(page).is_none() {
             return Begun::Answered(answered(Reply::Unmapped));
         }
         match self.save(page) {
             Ok(written) => {
-                self.table.set_clean(page);
+                self.clean(page);
                 Begun::Answered(answered(copied(written)))
             }
             Err(fault) => unwritten(page, fault),
@@ -400,7 +437,7 @@ impl<S: Store + Send + Drop> Space<S> {
     fn begin_evict(&mut self, page: u32) -> Begun
         requires resting { IsResting self.old }
         requires can { CanBegin (Call.Evict self.old.number page) }
-        ensures { Begins self.old self.new (Call.Evict self.old.number page) result }
+        ensures { (c : ℕ) → Begins self.old self.new c (Call.Evict self.old.number page) result }
     {
         let Some(region) = self.regions.find(page) else {
             return Begun::Answered(answered(Reply::Unmapped));
@@ -447,28 +484,122 @@ impl<S: Store + Send + Drop> Space<S> {
     }
 
     /// The word of a resident page.
-    fn load(&self, address: u64) -> Answered
-        requires resting { IsResting self.now }
+    fn load(&mut self, processor: u32, address: u64) -> Answered
+        requires processor { processor < length self.old.images }
+        requires resting { IsResting self.old }
         requires in_space { address < 8589934592 }
-        requires allowed { is_allowed self.now (Call.Load self.now.number address) ≡ true }
-        requires resident { frame_at self.now (page_of address) ≢ None }
-        ensures { Finishes self.now self.now (Call.Load self.now.number address) result }
+        requires allowed { is_allowed self.old (Call.Load self.old.number address) ≡ true }
+        requires resident { frame_at self.old (page_of address) ≢ None }
+        ensures { Finishes self.old self.new processor (Call.Load self.old.number address) result }
     {
-        let word = self.table.word(page_of(address), word_of(address));
-        answered(Reply::Value(word))
+        let page = page_of(address);
+        let word = self.table.word(page, word_of(address));
+        let hit = self.has_translation(processor, page);
+        self.touch(processor, page, hit, Reply::Value(word))
     }
 
     /// Writes the word of a resident page.
-    fn store(&mut self, address: u64, word: u64) -> Answered
+    fn store(&mut self, processor: u32, address: u64, word: u64) -> Answered
+        requires processor { processor < length self.old.images }
         requires resting { IsResting self.old }
         requires in_space { address < 8589934592 }
         requires allowed { is_allowed self.old (Call.Store self.old.number address word) ≡ true }
         requires resident { frame_at self.old (page_of address) ≢ None }
-        ensures { Finishes self.old self.new (Call.Store self.old.number address word) result }
+        ensures { Finishes self.old self.new processor (Call.Store self.old.number address word) result }
     {
-        self.table
-            .set_word(page_of(address), word_of(address), word);
-        answered(Reply::Done)
+        let page = page_of(address);
+        let hit = self.has_translation(processor, page);
+        let was_dirty = self.table.is_dirty(page);
+        let moves = self.table.set_word(page, word_of(address), word);
+        if !was_dirty {
+            self.retouch(moves);
+        }
+        self.touch(processor, page, hit, Reply::Done)
+    }
+
+    /// Whether the processor's image has the tile of the page.
+    fn has_translation(&self, processor: u32, page: u32) -> bool
+        requires { processor < length self.now.images }
+        ensures { result ≡ is_in_image (image_at self.now processor) (tile_of (mapping_in self.now.table) page) }
+    {
+        self.images[processor as usize].has(self.table.tile_of(page))
+    }
+
+    /// The processor used the tile of the page, which comes to the front of its image; the whole answer.
+    fn touch(&mut self, processor: u32, page: u32, hit: bool, reply: Reply) -> Answered
+        requires processor { processor < length self.old.images }
+        requires resident { frame_at self.old page ≢ None }
+        ensures touched { Touches self.old self.new processor (tile_of (mapping_in self.old.table) page) }
+        ensures answered { result ≡ record { reply = reply; hit = hit; size = option_map (λ t. t.extent.size) (tile_of (mapping_in self.old.table) page) } }
+    {
+        let tile = self.table.tile_of(page);
+        if let Some(tile) = &tile {
+            use_tile(self.images.as_mut_slice(), processor, tile);
+        }
+        Answered {
+            reply,
+            hit,
+            size: tile.map(|tile| tile.extent.size),
+        }
+    }
+
+    /// The copy of a page is equal to it.
+    fn clean(&mut self, page: u32)
+        ensures { CleansPage self.old self.new page }
+    {
+        if self.table.is_dirty(page) {
+            let moves = self.table.set_clean(page);
+            self.retouch(moves);
+        }
+    }
+
+    /// Takes the frame of a resident page away.
+    fn take(&mut self, page: u32) -> Frame
+        requires { frame_at self.old page ≢ None }
+        ensures taken { frame_at self.old page ≡ Some result.number }
+        ensures maps { Maps page None self.old.table self.new.table }
+        ensures retouched { Retouches self.old self.new }
+        ensures same { ChangesPages self.old self.new }
+    {
+        let Some((frame, moves)) = self.table.take(page) else {
+            unreachable!()
+        };
+        self.retouch(moves);
+        frame
+    }
+
+    /// Counts the moves of a change of the pages, after which each image keeps what is a tile still.
+    fn retouch(&mut self, moves: Moves)
+        ensures { self.new ≡ record self.old {
+          images = map (still_tiles (mapping_in self.old.table)) self.old.images;
+          promotions = counted_up self.old.promotions moves.promotions;
+          demotions = counted_up self.old.demotions moves.demotions;
+        } }
+    {
+        self.promotions = self.promotions.saturating_add(u64::from(moves.promotions));
+        self.demotions = self.demotions.saturating_add(u64::from(moves.demotions));
+        self.keep_tiles();
+    }
+
+    /// Each image keeps what is a tile still.
+    fn keep_tiles(&mut self)
+        ensures { self.new ≡ record self.old { images = map (still_tiles (mapping_in self.old.table)) self.old.images } }
+    {
+        keep_tiles(self.images.as_mut_slice(), &self.table);
+    }
+
+    /// How many tiles there are of each size.
+    pub fn tile_counts(&self) -> [u32; 4]
+        ensures { result ≡ tiles_of_size (mapping_in self.now.table) 0 ∷ tiles_of_size (mapping_in self.now.table) 1 ∷ tiles_of_size (mapping_in self.now.table) 2 ∷ tiles_of_size (mapping_in self.now.table) 3 ∷ [] }
+    {
+        self.table.tile_counts()
+    }
+
+    /// How many promotions and demotions there were; each count stands still at its type's end.
+    pub fn moves(&self) -> (u64, u64)
+        ensures { result ≡ (self.now.promotions, self.now.demotions) }
+    {
+        (self.promotions, self.demotions)
     }
 
     /// The frame of a page, where it is resident.
@@ -484,6 +615,36 @@ impl<S: Store + Send + Drop> Space<S> {
     {
         self.store
     }
+}
+
+/// The tile comes to the front of the processor's image.
+fn use_tile(images: &mut [Image], processor: u32, tile: &Tile)
+    requires { processor < length images.old }
+    ensures { images.new ≡ slice_set images.old processor (touched tile.now (slice_index_or images.old processor [])) }
+{
+    images[processor as usize].touch(*tile);
+}
+
+/// Each image keeps what is a tile still.
+fn keep_tiles(images: &mut [Image], table: &PageTable)
+    ensures { images.new ≡ map (still_tiles (mapping_in table.now)) images.old }
+{
+    for image in images.iter_mut() {
+        image.retain(|tile| table.is_tile(tile));
+    }
+}
+
+/// Room for the pages of a space, and an image for each processor.
+fn parts_of(alloc: Global, frames: u32, processors: u32) -> Result<(PageTable, Vec<Image>), NoMemory>
+    requires { frames ≤ 32768 }
+    ensures { IfOk result (λ parts. IsFresh frames parts.0 × (parts.1.items ≡ replicate processors [])) }
+{
+    let table = PageTable::create(alloc, frames)?;
+    let mut images = Vec::with_capacity(alloc, processors as usize)?;
+    for _ in 0..processors {
+        images.push(Image::create())?;
+    }
+    Ok((table, images))
 }
 
 /// Written where the page was dirty, and else clean.

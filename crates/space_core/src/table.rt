@@ -1,29 +1,30 @@
-//! What a space keeps of its pages: which are resident, in which frames, which are dirty, and which rights a protect gave them.
+//! What a space keeps of its pages: which are resident, in which frames and tiles, which are dirty, and which rights a protect gave them.
 
-ghost use Rattle.std.specs.Prelude.{◌≡◌, ◌≢◌, ◌+◌, ◌-◌, ◌^◌, ◌<◌, ◌≤◌, ℕ, List, true, false, length, replicate, None, Some, IfOk, IfSome, IfNone, OnErr};
+ghost use Rattle.std.specs.Prelude.{◌≡◌, ◌≢◌, ◌∷◌, [], ◌+◌, ◌-◌, ◌^◌, ◌<◌, ◌≤◌, ℕ, List, true, false, length, replicate, None, Some, IfOk, IfSome, IfNone, OnErr};
 ghost use Rattle.pager_model.specs.SpaceStates.{Rises};
-ghost use Rattle.space_core.specs.Tables.{frame_in, word_in, own_in, dirty_in};
-ghost use Rattle.space_core.specs.Pages.{IsFresh, Moves, Refills, HasWords, Writes, Cleans, Protects, IsFirstResident, NoneFrom};
+ghost use Rattle.pager_model.specs.Tiles.{tile_of, is_tile, tiles_of_size};
+ghost use Rattle.tiles.specs.Resident.{AreMoves, large_tiles_in};
+ghost use Rattle.space_core.specs.Tables.{mapping_in, frame_in, word_in, own_in, dirty_in};
+ghost use Rattle.space_core.specs.Pages.{IsFresh, Maps, Refills, HasWords, Writes, Cleans, OwnsRights, Protects, Forgets, IsFirstResident, NoneFrom};
 ghost use Rattle.store_core.specs.Stored.{copy_at, keeps_at, SameCopies, SetsCopy};
 
 use crate::access::PAGES;
 use crate::frames::{set_word, word};
-use pager_model::{Frame, NoMemory, Rights};
+use pager_model::{Frame, Mapping, NoMemory, Rights, Tile};
 use std::alloc::Global;
 use std::marker::Model;
 use store_core::{Store, StoreFailed, WriteRefused};
+use tiles::{Base, Moves};
 
 /// The pages of a space. A resident page is found by its number, and its frame by the frame's.
 #[derive(Drop)]
 pub struct PageTable {
-    /// For each page the number of its frame, where it is resident.
-    numbers: Vec<Option<u16>>,
+    /// The resident pages, and the tiles that they make.
+    pages: Base,
     /// For each page its own rights, where a protect gave it any.
     own: Vec<Option<Rights>>,
     /// For each number the frame, where a page has it.
     frames: Vec<Option<Frame>>,
-    /// For each number whether its page was stored to since it was last equal to its copy.
-    dirty: Vec<bool>,
 }
 
 impl Model for PageTable {
@@ -33,17 +34,15 @@ impl Model for PageTable {
     ghost Value = { Table };
 
     ghost view = { λ t. record {
-      numbers = t.numbers.items;
+      pages = t.pages;
       own = t.own.items;
       frames = t.frames.items;
-      dirty = t.dirty.items;
     } };
 
     ghost invariant = { λ t. IsPaged (record {
-      numbers = t.numbers.items;
+      pages = t.pages;
       own = t.own.items;
       frames = t.frames.items;
-      dirty = t.dirty.items;
     }) };
 }
 
@@ -54,10 +53,9 @@ impl PageTable {
         ensures { IfOk result (IsFresh frames) }
     {
         Ok(PageTable {
-            numbers: empty_places(alloc, PAGES)?,
+            pages: Base::create(alloc, frames)?,
             own: empty_places(alloc, PAGES)?,
             frames: empty_places(alloc, frames)?,
-            dirty: vec![in alloc; false; frames as usize]?,
         })
     }
 
@@ -66,8 +64,36 @@ impl PageTable {
         ensures number { result ≡ frame_in self.now page }
         ensures in_space { IfSome result (λ _. page < 1048576) }
     {
-        let number = (*self.numbers.get(page as usize)?)?;
-        Some(u32::from(number))
+        Some(self.pages.mapping(page)?.frame)
+    }
+
+    /// The tile of a page, where it is resident.
+    pub fn tile_of(&self, page: u32) -> Option<Tile>
+        ensures { result ≡ tile_of (mapping_in self.now) page }
+    {
+        self.pages.tile_of(page)
+    }
+
+    /// Whether it is a tile of the pages as they are.
+    pub fn is_tile(&self, tile: &Tile) -> bool
+        ensures { result ≡ is_tile (mapping_in self.now) tile.now }
+    {
+        self.pages.is_tile(tile)
+    }
+
+    /// How many tiles of size 1 or more begin in the range.
+    pub fn tiles_in(&self, first: u32, length: u32) -> u32
+        requires { first + length ≤ 1048576 }
+        ensures { result ≡ large_tiles_in first length (mapping_in self.now) }
+    {
+        self.pages.tiles_in(first, length)
+    }
+
+    /// How many tiles there are of each size.
+    pub fn tile_counts(&self) -> [u32; 4]
+        ensures { result ≡ tiles_of_size (mapping_in self.now) 0 ∷ tiles_of_size (mapping_in self.now) 1 ∷ tiles_of_size (mapping_in self.now) 2 ∷ tiles_of_size (mapping_in self.now) 3 ∷ [] }
+    {
+        self.pages.counts()
     }
 
     /// The rights that a protect gave a page.
@@ -100,35 +126,45 @@ impl PageTable {
         ensures none { IfNone result (NoneFrom self.now from end) }
     {
         for page in from..end {
-            if self.numbers[page as usize].is_some() {
+            if self.pages.mapping(page).is_some() {
                 return Some(page);
             }
         }
         None
     }
 
-    /// Puts a frame under a page.
-    pub fn put(&mut self, page: u32, frame: Frame)
+    /// Puts a frame under a page that isn't resident, of the region that begins at this page and with these rights.
+    pub fn put(&mut self, page: u32, frame: Frame, region: u32, rights: Rights) -> Moves
         requires page { page < 1048576 }
+        requires absent { frame_in self.old page ≡ None }
         requires known { frame.number < length self.old.frames }
         requires other { (p : ℕ) → frame_in self.old p ≢ Some frame.number }
-        ensures { Moves page (Some frame.number) self.old self.new }
+        ensures maps { Maps page (Some (record { frame = frame.number; region = region; rights = rights; dirty = false })) self.old self.new }
+        ensures moves { AreMoves self.old.pages self.new.pages result }
     {
         let number = frame.number();
         self.frames[number as usize] = Some(frame);
-        self.dirty[number as usize] = false;
-        self.numbers[page as usize] = Some(number as u16);
+        self.pages.after_fill(
+            page,
+            Mapping {
+                frame: number,
+                region,
+                rights,
+                dirty: false,
+            },
+        )
     }
 
     /// Takes the frame of a page away, where it is resident.
-    pub fn take(&mut self, page: u32) -> Option<Frame>
-        ensures some { IfSome result (λ frame. frame_in self.old page ≡ Some frame.number) }
+    pub fn take(&mut self, page: u32) -> Option<(Frame, Moves)>
+        ensures some { IfSome result (λ taken. (frame_in self.old page ≡ Some taken.0.number) × AreMoves self.old.pages self.new.pages taken.1) }
         ensures none { IfNone result (frame_in self.old page ≡ None) }
-        ensures after { Moves page None self.old self.new }
+        ensures after { Maps page None self.old self.new }
     {
         let number = self.number(page)?;
-        self.numbers[page as usize] = None;
-        self.frames[number as usize].take()
+        let moves = self.pages.after_remove(page);
+        let frame = self.frames[number as usize].take()?;
+        Some((frame, moves))
     }
 
     /// Reads the copy of a resident page from the store.
@@ -175,27 +211,27 @@ impl PageTable {
         ensures dirty { result ≡ dirty_in self.now page }
         ensures resident { result ≡ true → frame_in self.now page ≢ None }
     {
-        match self.number(page) {
-            Some(number) => self.dirty[number as usize],
+        match self.pages.mapping(page) {
+            Some(mapping) => mapping.dirty,
             None => false,
         }
     }
 
     /// A page is equal to its copy.
-    pub fn set_clean(&mut self, page: u32)
-        ensures { Cleans page self.old self.new }
+    pub fn set_clean(&mut self, page: u32) -> Moves
+        ensures cleans { Cleans page self.old self.new }
+        ensures moves { AreMoves self.old.pages self.new.pages result }
     {
-        if let Some(number) = self.number(page) {
-            self.dirty[number as usize] = false;
-        }
+        self.pages.after_dirty(page, false)
     }
 
     /// Writes a word of a resident page, which is dirty then.
-    pub fn set_word(&mut self, page: u32, index: usize, word: u64)
+    pub fn set_word(&mut self, page: u32, index: usize, word: u64) -> Moves
         requires page { page < 1048576 }
         requires index { index < 1024 }
         requires resident { frame_in self.old page ≢ None }
-        ensures { Writes page index word self.old self.new }
+        ensures writes { Writes page index word self.old self.new }
+        ensures moves { AreMoves self.old.pages self.new.pages result }
     {
         let Some(number) = self.number(page) else {
             unreachable!()
@@ -203,13 +239,31 @@ impl PageTable {
         if let Some(frame) = &mut self.frames[number as usize] {
             set_word(frame, index, word);
         }
-        self.dirty[number as usize] = true;
+        self.pages.after_dirty(page, true)
+    }
+
+    /// Gives the pages of a range these rights of their own.
+    pub fn protect(&mut self, first: u32, length: u32, rights: Rights) -> Moves
+        requires { first + length ≤ 1048576 }
+        ensures protects { Protects first length rights self.old self.new }
+        ensures moves { AreMoves self.old.pages self.new.pages result }
+    {
+        self.set_own(first, length, Some(rights));
+        self.pages.after_rights(first, length, rights)
+    }
+
+    /// Takes the rights of their own from the pages of a range, none of which is resident.
+    pub fn forget_rights(&mut self, first: u32, length: u32)
+        requires { first + length ≤ 1048576 }
+        ensures { Forgets first length self.old self.new }
+    {
+        self.set_own(first, length, None);
     }
 
     /// Gives the pages of a range these rights of their own, or none.
-    pub fn set_own(&mut self, first: u32, length: u32, rights: Option<Rights>)
+    fn set_own(&mut self, first: u32, length: u32, rights: Option<Rights>)
         requires { first + length ≤ 1048576 }
-        ensures { Protects first length rights self.old self.new }
+        ensures { OwnsRights first length rights self.old self.new }
     {
         fill(
             &mut self.own[first as usize..(first + length) as usize],

@@ -1,5 +1,4 @@
-pub mod Sending
-pub mod Noting
 pub mod Words
 pub mod Completeness
 mod OneForm
+mod Printing

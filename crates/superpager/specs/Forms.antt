@@ -5,22 +5,38 @@ use Rattle.pager_model.specs.declared.entry.Entry.{Entry}
 use Rattle.pager_model.specs.Plans.{Plan}
 use Rattle.pager_model.specs.Showing.{IsFiled}
 use Rattle.replay_core.specs.Orders.{IsSeeded}
+use Rattle.report_text.specs.declared.report.Parts.{Parts}
+use Rattle.report_text.specs.declared.report.Parts.TheVariants.{Answers, AnswersAndHistory}
 use Rattle.superpager.specs.declared.form.Form.{Form}
 use Rattle.superpager.specs.declared.form.Form.TheVariants.{Order, Turns}
 
+-- the words that ask for the parts, behind those of an order
+abbrev pub parts_words : Parts → List (List ℕ)
+parts_words Answers = []
+parts_words AnswersAndHistory = codes "--history" ∷ []
+
 -- the words of a form
 abbrev pub words_of : Form → List (List ℕ)
-words_of Order = codes "order" ∷ []
-words_of (Turns seed) = codes "turns" ∷ decimal seed ∷ []
+words_of (Order parts) = codes "order" ∷ parts_words parts
+words_of (Turns seed parts) = codes "turns" ∷ decimal seed ∷ parts_words parts
+
+-- the parts that a form prints
+abbrev pub parts_of : Form → Parts
+parts_of (Order parts) = parts
+parts_of (Turns seed parts) = parts
 
 -- a seed is a number of 64 bits
 abbrev pub HasSeed : Form → Type 0
-HasSeed Order = Unit {0}
-HasSeed (Turns seed) = seed < 2 ^ 64
+HasSeed (Order parts) = Unit {0}
+HasSeed (Turns seed parts) = seed < 2 ^ 64
+
+-- what the words are
+abbrev pub are_of : List (Bor (List ℕ)) → List (List ℕ)
+are_of words = map (λ (w : Bor (List ℕ)). w.now) words
 
 -- the words are of this form
 pub record AreWords (words : List (Bor (List ℕ))) (form : Form) : Type 0 where
-  pub are : map (λ (w : Bor (List ℕ)). w.now) words ≡ words_of form
+  pub are : are_of words ≡ words_of form
   pub seed : HasSeed form
 
 -- the words are of some form
@@ -29,5 +45,5 @@ IsForm words = (form : Form) × AreWords words form
 
 -- the history comes in the order of the form: of the lines, or of turns that are drawn from the seed
 abbrev pub ComesBy : Form → Plan → List Entry → Type 0
-ComesBy Order plan history = IsFiled plan.calls history
-ComesBy (Turns seed) plan history = IsSeeded plan seed history
+ComesBy (Order parts) plan history = IsFiled plan.calls history
+ComesBy (Turns seed parts) plan history = IsSeeded plan seed history

@@ -1,4 +1,2 @@
-pub mod Writing
-pub mod Reports
-pub mod Runs
 pub mod Forms
+pub mod Runs

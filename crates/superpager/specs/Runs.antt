@@ -1,9 +1,17 @@
 -- What a run of the program promises, by its status.
-use Rattle.std.specs.Prelude.{ℕ, ◌≡◌, ◌<◌, ◌≤◌, ◌⊎◌, List, [], ◌∷◌, ◌++◌, length, map, take, codes, Option, Some, IsSome, IfSome}
-use Rattle.std.specs.Borrow.{Bor}
+use Rattle.std.specs.Prelude.{ℕ, ◌≡◌, ◌<◌, ◌≤◌, ◌⊎◌, List, [], Option, Some, IsSome, IfSome}
+use Rattle.pager_core.specs.Running.{setting_over}
+use Rattle.pager_model.specs.declared.entry.Numbered.{Numbered}
+use Rattle.pager_model.specs.Counts.{counts}
+use Rattle.pager_model.specs.Legal.{entries_in}
 use Rattle.pager_model.specs.Plans.{Plan}
+use Rattle.pager_model.specs.PrintedText.{out_text}
 use Rattle.pager_model.specs.TraceText.{IsTextOf}
+use Rattle.report_text.specs.Parts.{has_history}
+use Rattle.store_core.specs.Stored.{Stored}
+use Rattle.superpager.specs.declared.form.Form.{Form}
 use Rattle.superpager.specs.declared.run.TheConstants.{DONE, USAGE, REFUSED, READ_FAULT, MEMORY, WRITE_FAULT}
+use Rattle.superpager.specs.Forms.{parts_of}
 use Rattle.trace_reader.specs.declared.fault.TraceFault.{TraceFault}
 use Rattle.trace_reader.specs.declared.fault.TraceFault.TheVariants.{ReadFault, TooFewStores, NoMemory}
 use Rattle.trace_reader.specs.Refusals.{refusal_of}
@@ -47,10 +55,7 @@ pub record IsTold (status : ℕ) (refusal : Option TraceFault) : Type 0 where
 abbrev pub WasRead : Plan → Option (List ℕ) → Option (List ℕ) → Type 0
 WasRead plan before after = IfSome before (λ bytes. IsTextOf bytes plan × (after ≡ Some []))
 
--- where the sink tells its bytes, it has gained exactly the text
-abbrev pub WroteAll : List ℕ → Option (List ℕ) → Option (List ℕ) → Type 0
-WroteAll text before after = IfSome before (λ had. after ≡ Some (had ++ text))
-
--- or a beginning of it
-abbrev pub WrotePart : List ℕ → Option (List ℕ) → Option (List ℕ) → Type 0
-WrotePart text before after = IfSome before (λ had. (k : ℕ) × (k < length text) × (after ≡ Some (had ++ take k text)))
+-- what a run of a form prints of a trace over stores: each processor's answers, the history where the form asks for it, and the counts
+abbrev pub run_text : Form → Plan → List Stored → List Numbered → List ℕ
+run_text form plan stores history =
+    out_text (has_history (parts_of form)) plan.processors history (counts (setting_over plan stores) (entries_in history))

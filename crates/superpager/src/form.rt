@@ -1,17 +1,30 @@
 //! The forms of the program's words.
 
 ghost use Rattle.std.specs.Prelude.{◌≡◌, ◌≢◌, ℕ, ◌^◌, ◌<◌, IfSome, IfNone, decimal};
-ghost use Rattle.superpager.specs.Forms.{AreWords, IsForm};
+ghost use Rattle.report_text.specs.declared.report.Parts.{Parts as Printed};
+ghost use Rattle.superpager.specs.Forms.{AreWords, IsForm, are_of, parts_of, parts_words};
 
 use itoa::Buffer;
+use report_text::Parts;
 
-/// What the program is asked to do.
+/// What the program is asked to do, and which parts of the run it prints before the counts.
 #[derive(Clone, Copy, Debug, PartialEq, Eq)]
 pub enum Form {
     /// To run a trace in the order of its lines.
-    Order,
+    Order { parts: Parts },
     /// To run it in an order of turns that is drawn from this seed.
-    Turns { seed: u64 },
+    Turns { seed: u64, parts: Parts },
+}
+
+impl Form {
+    /// The parts that it prints.
+    pub fn parts(&self) -> Parts
+        ensures { result ≡ parts_of self.now }
+    {
+        match *self {
+            Form::Order { parts } | Form::Turns { parts, .. } => parts,
+        }
+    }
 }
 
 /// The form of the words, where they are of one.
@@ -20,10 +33,25 @@ pub fn form_of(words: &[&str]) -> Option<Form>
     ensures none { IfNone result (IsForm words.now → ⊥) }
 {
     match words {
-        [word] if *word == "order" => Some(Form::Order),
-        [word, seed] if *word == "turns" => Some(Form::Turns {
-            seed: number_of(seed)?,
+        [word, rest @ ..] if *word == "order" => Some(Form::Order {
+            parts: parts_asked(rest)?,
         }),
+        [word, seed, rest @ ..] if *word == "turns" => Some(Form::Turns {
+            seed: number_of(seed)?,
+            parts: parts_asked(rest)?,
+        }),
+        _ => None,
+    }
+}
+
+/// The parts that the words after a form's own ask for, where they ask for some.
+fn parts_asked(words: &[&str]) -> Option<Parts>
+    ensures some { IfSome result (λ parts. are_of words.now ≡ parts_words parts) }
+    ensures none { IfNone result ((parts : Printed) → are_of words.now ≢ parts_words parts) }
+{
+    match words {
+        [] => Some(Parts::Answers),
+        [word] if *word == "--history" => Some(Parts::AnswersAndHistory),
         _ => None,
     }
 }

@@ -1,10 +1,8 @@
-//! Replays a trace of memory calls and prints each answer.
+//! Replays a trace of memory calls and prints each answer, and the counts of the run.
 #![tactic(auto)]
 
 mod form;
-mod report;
 mod run;
-mod writing;
 
 use io_core::{RealSink, RealSource};
 pub use run::{Outcome, run};

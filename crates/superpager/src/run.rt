@@ -1,21 +1,23 @@
 //! A run of the program, from the bytes read to the bytes written.
 
-ghost use Rattle.std.specs.Prelude.{◌≡◌, ◌≢◌, ◌<◌, ◌≤◌, ◌↔◌, ◌⊎◌, [], ◌++◌, None, Some, IfOk, IfErr, IfSome, IsSomeAnd, IsTrue, length, map};
+ghost use Rattle.std.specs.Prelude.{◌≡◌, ◌≢◌, ◌<◌, ◌≤◌, ◌⊎◌, [], None, Some, IfOk, IfErr, IfSome, IsSomeAnd, length, map};
 ghost use Rattle.io_core.specs.Faults.{Rose};
-ghost use Rattle.pager_model.specs.Legal.{entries_in, frames_at};
+ghost use Rattle.pager_model.specs.Legal.{entries_in};
 ghost use Rattle.pager_model.specs.PrintedText.{out_text};
-ghost use Rattle.pager_model.specs.Showing.{Shows, setting_of};
+ghost use Rattle.pager_model.specs.Showing.{Shows};
 ghost use Rattle.replay_core.specs.Replays.{IsReplay, AreItsCounts};
+ghost use Rattle.report_text.specs.Parts.{has_history};
+ghost use Rattle.report_text.specs.Reports.{IsReadyFor};
+ghost use Rattle.report_text.specs.Written.{WroteAll, WrotePart};
 ghost use Rattle.superpager.specs.declared.form.Form.{Form as Asked};
 ghost use Rattle.superpager.specs.Forms.{AreWords, IsForm, ComesBy};
-ghost use Rattle.superpager.specs.Reports.{IsReady, CountsFrames};
-ghost use Rattle.superpager.specs.Runs.{IsRunnable, IsRefused, IsStatus, IsTold, WasText, WasRead, WroteAll, WrotePart, status_of};
+ghost use Rattle.superpager.specs.Runs.{IsRunnable, IsRefused, IsStatus, IsTold, WasText, WasRead, run_text, status_of};
 
 use crate::form::{Form, form_of};
-use crate::report::Report;
 use io_core::{Sink, Source, WriteFailed};
 use pager_model::{NoMemory, Numbered, Trace};
 use replay_core::{Gathered, replay_file_order, replay_turns};
+use report_text::{Parts, Report};
 use std::alloc::Global;
 use store_core::Store;
 use trace_reader::{TraceFault, read_trace};
@@ -49,7 +51,8 @@ pub struct Outcome<S: Store + Send + Drop> {
 }
 
 /// Runs the program with these words over these backing stores, of which each space uses the one of its number: it reads a trace to the end
-/// of the source, runs it in the order that the words' form says, and writes the answers and the counts of frames to the sink.
+/// of the source, runs it in the order that the words' form says, and writes the answers, where the form asks for it the history, and the counts to
+/// the sink.
 pub fn run<T: Source, K: Sink, S: Store + Send + Drop, R>(
     _rt: &R,
     alloc: Global,
@@ -89,10 +92,10 @@ pub fn run<T: Source, K: Sink, S: Store + Send + Drop, R>(
         × IsReplay trace (map S.seen stores.items) result.history.items (map S.seen result.stores.items)) }
     ensures ordered { (form : Asked) → AreWords words.now form → (result.status ≡ DONE) ⊎ (result.status ≡ WRITE_FAULT)
         → IfSome result.trace (λ trace. ComesBy form trace (entries_in result.history.items)) }
-    ensures wrote { result.status ≡ DONE
-        → IfSome result.trace (λ trace. WroteAll (out_text trace (entries_in result.history.items)) (K.taken sink.old) (K.taken sink.new)) }
-    ensures part { result.status ≡ WRITE_FAULT
-        → IfSome result.trace (λ trace. WrotePart (out_text trace (entries_in result.history.items)) (K.taken sink.old) (K.taken sink.new)) }
+    ensures wrote { (form : Asked) → AreWords words.now form → result.status ≡ DONE → IfSome result.trace (λ trace.
+        WroteAll (run_text form trace (map S.seen stores.items) result.history.items) (K.taken sink.old) (K.taken sink.new)) }
+    ensures part { (form : Asked) → AreWords words.now form → result.status ≡ WRITE_FAULT → IfSome result.trace (λ trace.
+        WrotePart (run_text form trace (map S.seen stores.items) result.history.items) (K.taken sink.old) (K.taken sink.new)) }
 {
     let Some(form) = form_of(words) else {
         return stopped(alloc, USAGE, None, stores);
@@ -159,8 +162,10 @@ fn run_trace<K: Sink, S: Store + Send + Drop>(
     ensures trace { (result.status ≡ DONE) ⊎ (result.status ≡ WRITE_FAULT)
         → (result.trace ≡ Some trace) × IsReplay trace (map S.seen stores.items) result.history.items (map S.seen result.stores.items)
         × ComesBy form trace (entries_in result.history.items) }
-    ensures wrote { result.status ≡ DONE → WroteAll (out_text trace (entries_in result.history.items)) (K.taken sink.old) (K.taken sink.new) }
-    ensures part { result.status ≡ WRITE_FAULT → WrotePart (out_text trace (entries_in result.history.items)) (K.taken sink.old) (K.taken sink.new) }
+    ensures wrote { result.status ≡ DONE
+        → WroteAll (run_text form trace (map S.seen stores.items) result.history.items) (K.taken sink.old) (K.taken sink.new) }
+    ensures part { result.status ≡ WRITE_FAULT
+        → WrotePart (run_text form trace (map S.seen stores.items) result.history.items) (K.taken sink.old) (K.taken sink.new) }
 {
     let (count, spaces) = (stores.len() as u64, trace.spaces());
     if count < u64::from(spaces) {
@@ -175,7 +180,7 @@ fn run_trace<K: Sink, S: Store + Send + Drop>(
         Err(NoMemory) => return stopped(alloc, MEMORY, None, stores),
     };
     match replay(alloc, form, &trace, stores) {
-        Ok(gathered) => write_run(report, trace, gathered, sink),
+        Ok(gathered) => write_run(report, form.parts(), trace, gathered, sink),
         Err(stores) => stopped(alloc, MEMORY, None, stores),
     }
 }
@@ -194,28 +199,30 @@ fn replay<S: Store + Send + Drop>(
     ensures back { IfErr result (λ back. map S.seen back.items ≡ map S.seen stores.items) }
 {
     match form {
-        Form::Order => replay_file_order(alloc, trace, stores),
-        Form::Turns { seed } => replay_turns(alloc, trace, stores, seed),
+        Form::Order { .. } => replay_file_order(alloc, trace, stores),
+        Form::Turns { seed, .. } => replay_turns(alloc, trace, stores, seed),
     }
 }
 
 /// Writes the report of a run, which no memory is taken for.
 fn write_run<K: Sink, S: Store + Send + Drop>(
     report: Report,
+    parts: Parts,
     trace: Trace,
     gathered: Gathered<S>,
     sink: &mut K,
 ) -> Outcome<S>
-    requires ready { IsReady trace report }
+    requires ready { IsReadyFor trace report }
     requires shows { Shows trace (entries_in gathered.history.items) }
-    requires counts { CountsFrames gathered.summary (frames_at (setting_of trace) (entries_in gathered.history.items)) }
     ensures statuses { (result.status ≡ DONE) ⊎ (result.status ≡ WRITE_FAULT) }
     ensures refusal { result.refusal ≡ None }
     ensures trace { result.trace ≡ Some trace }
     ensures history { result.history ≡ gathered.history }
     ensures stores { result.stores ≡ gathered.stores }
-    ensures wrote { result.status ≡ DONE → WroteAll (out_text trace (entries_in gathered.history.items)) (K.taken sink.old) (K.taken sink.new) }
-    ensures part { result.status ≡ WRITE_FAULT → WrotePart (out_text trace (entries_in gathered.history.items)) (K.taken sink.old) (K.taken sink.new) }
+    ensures wrote { result.status ≡ DONE
+        → WroteAll (out_text (has_history parts) trace.processors gathered.history.items gathered.summary) (K.taken sink.old) (K.taken sink.new) }
+    ensures part { result.status ≡ WRITE_FAULT
+        → WrotePart (out_text (has_history parts) trace.processors gathered.history.items gathered.summary) (K.taken sink.old) (K.taken sink.new) }
     ensures rose { result.status ≡ WRITE_FAULT → Rose (K.faults sink.old) (K.faults sink.new) }
 {
     let Gathered {
@@ -223,7 +230,7 @@ fn write_run<K: Sink, S: Store + Send + Drop>(
         stores,
         summary,
     } = gathered;
-    let status = match report.write(sink, &trace, history.as_slice(), &summary) {
+    let status = match report.write(sink, parts, history.as_slice(), &summary) {
         Ok(()) => DONE,
         Err(WriteFailed) => WRITE_FAULT,
     };

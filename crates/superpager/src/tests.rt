@@ -14,13 +14,17 @@ const ORDER: [&str; 1] = ["order"];
 
 const EMPTY: &[u8] = b"trace 1 512 1 1\nend\n";
 
-const EMPTY_TEXT: &[u8] = b"frames 512 0 0\nend\n";
+const EMPTY_TEXT: &[u8] =
+    b"tiles 0 0 0 0\npromotions 0\ndemotions 0\npreemptions 0\nimages 0 0\nframes 512 0 0\nend\n";
 
 const LAST_PAGE: &[u8] =
     b"trace 1 512 1 1\n0 map 0 1048575 1 fixed write\n0 store 0 8589934584 18446744073709551615\n0 load 0 8589934584\nend\n";
 
 const LAST_PAGE_TEXT: &[u8] =
-    b"0 0 done\n0 1 done\n0 2 value 18446744073709551615\nframes 511 0 1\nend\n";
+    b"0 0 done\n0 1 done miss 0\n0 2 value 18446744073709551615 hit 0\ntiles 1 0 0 0\npromotions 0\ndemotions 0\npreemptions 0\nimages 1 1\nframes 511 0 1\nend\n";
+
+const LAST_PAGE_HISTORY_TEXT: &[u8] =
+    b"0 0 done\n0 1 done miss 0\n0 2 value 18446744073709551615 hit 0\n0 0 s0 answer 0 done\n1 0 s0+f take 1048575 0 1048575 1048576 1 0\n2 0 s0 answer 1 done miss 0\n3 0 s0 answer 2 value 18446744073709551615 hit 0\ntiles 1 0 0 0\npromotions 0\ndemotions 0\npreemptions 0\nimages 1 1\nframes 511 0 1\nend\n";
 
 /// Why a run did not end as it should.
 const OTHER: &str = "another end";
@@ -73,14 +77,40 @@ fn frames_run_out(alloc: Global) -> Result<Vec<u8>, AllocError> {
     Ok(trace)
 }
 
+// The size of a page's translation once so many pages from the first on are filled: that of the largest extent that ends with it, but
+// for an extent that begins with a page that was stored to.
+fn size_at_end(pages: u64, stored: bool) -> u64 {
+    let size = if pages % 512 == 0 {
+        3
+    } else if pages % 64 == 0 {
+        2
+    } else {
+        u64::from(pages % 8 == 0)
+    };
+    if stored && (pages == 8 || pages == 64 || pages == 512) {
+        return size.saturating_sub(1);
+    }
+    size
+}
+
+// The line of a load that finds zero in a page that had no translation.
+fn push_load(text: &mut Vec<u8>, number: u64, size: u64) -> Result<(), AllocError> {
+    text.extend_from_slice(b"0 ")?;
+    push_number(text, number)?;
+    text.extend_from_slice(b" value 0 miss ")?;
+    push_number(text, size)?;
+    text.extend_from_slice(b"\n")
+}
+
 fn frames_run_out_text(alloc: Global) -> Result<Vec<u8>, AllocError> {
     let mut text = b"0 0 done\n0 1 denied\n0 2 unmapped\n".to_vec(alloc)?;
     for number in 3..515u64 {
-        text.extend_from_slice(b"0 ")?;
-        push_number(&mut text, number)?;
-        text.extend_from_slice(b" value 0\n")?;
+        push_load(&mut text, number, size_at_end(number - 2, false))?;
     }
-    text.extend_from_slice(b"0 515 value 0\nframes 0 0 512\nend\n")?;
+    push_load(&mut text, 515, 0)?;
+    text.extend_from_slice(
+        b"tiles 8 7 7 0\npromotions 64\ndemotions 1\npreemptions 0\nimages 0 513\nframes 0 0 512\nend\n",
+    )?;
     Ok(text)
 }
 
@@ -96,7 +126,7 @@ fn a_run_with_ample_memory_is_done_and_prints_its_text(rt: HostRuntime) -> Resul
     ];
     for (bytes, text, calls, entries) in table {
         let mut source = source_of(alloc, bytes, 0)?;
-        let mut sink = sink_of(alloc, 8192, 0)?;
+        let mut sink = sink_of(alloc, 16_384, 0)?;
         let stores = stores_of(alloc, 1, &[], &[])?;
         let outcome = run(&rt, alloc, &ORDER, &mut source, &mut sink, stores);
         assert_eq!(rt; outcome.status, DONE);
@@ -125,11 +155,31 @@ fn drawn_turns_of_one_processor_come_in_the_order_of_its_lines(
 }
 
 #[test]
+fn the_history_is_printed_where_the_words_ask_for_it(rt: HostRuntime) -> Result<(), Fail> {
+    let alloc = rt.alloc();
+    let table: [&[&str]; 2] = [&["order", "--history"], &["turns", "5", "--history"]];
+    for words in table {
+        let mut source = source_of(alloc, LAST_PAGE, 0)?;
+        let mut sink = sink_of(alloc, 8192, 0)?;
+        let stores = stores_of(alloc, 1, &[], &[])?;
+        let outcome = run(&rt, alloc, words, &mut source, &mut sink, stores);
+        assert_eq!(rt; outcome.status, DONE);
+        assert_eq!(rt; sink.bytes(), LAST_PAGE_HISTORY_TEXT);
+    }
+    Ok(())
+}
+
+#[test]
 fn other_words_read_and_write_nothing(rt: HostRuntime) -> Result<(), Fail> {
-    let table: [&[&str]; 9] = [
+    let table: [&[&str]; 14] = [
         &[],
         &[""],
+        &["--history"],
+        &["--history", "order"],
+        &["order", "--history", "--history"],
+        &["order", "history"],
         &["turns"],
+        &["turns", "--history"],
         &["turns", "05"],
         &["turns", "5", "x"],
         &["Order"],
@@ -220,7 +270,7 @@ fn each_read_that_fails_ends_the_run_with_nothing_written(rt: HostRuntime) -> Re
         assert_eq!(rt; sink.bytes(), b"".as_slice());
     }
     let mut source = source_of(rt.alloc(), LAST_PAGE, reads + 1)?;
-    let mut sink = sink_of(rt.alloc(), 100, 0)?;
+    let mut sink = sink_of(rt.alloc(), 300, 0)?;
     let stores = stores_of(rt.alloc(), 1, &[], &[])?;
     let outcome = run(&rt, rt.alloc(), &ORDER, &mut source, &mut sink, stores);
     assert_eq!(rt; outcome.status, DONE);
@@ -254,16 +304,17 @@ fn a_full_sink_has_the_first_bytes_of_the_text(rt: HostRuntime) -> Result<(), Fa
 fn each_write_that_fails_leaves_what_went_before(rt: HostRuntime) -> Result<(), Fail> {
     let alloc = rt.alloc();
     let (trace, text) = (frames_run_out(alloc)?, frames_run_out_text(alloc)?);
-    // The write that fails, the status, and how many bytes went out; the text is two writes long, of which the first is full but for a
-    // byte or two.
+    // The write that fails, the status, and how many bytes went out; the text is three writes long, of which the first two are full but
+    // for a few bytes.
     let table = [
         (1, WRITE_FAULT, 0),
         (2, WRITE_FAULT, 4093),
-        (3, DONE, text.len()),
+        (3, WRITE_FAULT, 8188),
+        (4, DONE, text.len()),
     ];
     for (failing, status, gone) in table {
         let mut source = source_of(alloc, &trace, 0)?;
-        let mut sink = sink_of(alloc, 8192, failing)?;
+        let mut sink = sink_of(alloc, 16_384, failing)?;
         let stores = stores_of(alloc, 1, &[], &[])?;
         let outcome = run(&rt, alloc, &ORDER, &mut source, &mut sink, stores);
         assert_eq!(rt; outcome.status, status, "at write {failing}");
@@ -309,66 +360,66 @@ fn a_store_that_fails_is_told_and_the_run_goes_on(rt: HostRuntime) -> Result<(),
             EVICTED,
             0,
             0,
-            b"0 0 done\n0 1 done\n0 2 written\n0 3 clean\n0 4 clean\n0 5 value 5\nframes 511 0 1\nend\n".as_slice(),
+            b"0 0 done\n0 1 done miss 0\n0 2 written\n0 3 clean\n0 4 clean\n0 5 value 5 miss 0\ntiles 1 0 0 0\npromotions 0\ndemotions 0\npreemptions 0\nimages 0 2\nframes 511 0 1\nend\n".as_slice(),
         ),
         (
             EVICTED,
             1,
             0,
-            b"0 0 done\n0 1 storefault 0 1\n0 2 clean\n0 3 clean\n0 4 clean\n0 5 value 0\nframes 511 0 1\nend\n",
+            b"0 0 done\n0 1 storefault 0 1\n0 2 clean\n0 3 clean\n0 4 clean\n0 5 value 0 miss 0\ntiles 1 0 0 0\npromotions 0\ndemotions 0\npreemptions 0\nimages 0 1\nframes 511 0 1\nend\n",
         ),
         (
             EVICTED,
             2,
             0,
-            b"0 0 done\n0 1 done\n0 2 written\n0 3 clean\n0 4 clean\n0 5 storefault 0 1\nframes 512 0 0\nend\n",
+            b"0 0 done\n0 1 done miss 0\n0 2 written\n0 3 clean\n0 4 clean\n0 5 storefault 0 1\ntiles 0 0 0 0\npromotions 0\ndemotions 0\npreemptions 0\nimages 0 1\nframes 512 0 0\nend\n",
         ),
         (
             EVICTED,
             0,
             1,
-            b"0 0 done\n0 1 done\n0 2 storefault 0 1\n0 3 written\n0 4 clean\n0 5 value 5\nframes 511 0 1\nend\n",
+            b"0 0 done\n0 1 done miss 0\n0 2 storefault 0 1\n0 3 written\n0 4 clean\n0 5 value 5 miss 0\ntiles 1 0 0 0\npromotions 0\ndemotions 0\npreemptions 0\nimages 0 2\nframes 511 0 1\nend\n",
         ),
         (
             LOADED_TWICE,
             1,
             0,
-            b"0 0 done\n0 1 storefault 0 1\n0 2 value 0\nframes 504 7 1\nend\n",
+            b"0 0 done\n0 1 storefault 0 1\n0 2 value 0 miss 0\ntiles 1 0 0 0\npromotions 0\ndemotions 0\npreemptions 0\nimages 0 1\nframes 504 7 1\nend\n",
         ),
         (
             WRITTEN_TWICE,
             1,
             0,
-            b"0 0 done\n0 1 storefault 0 1\n0 2 clean\n0 3 done\n0 4 written\n0 5 done\n0 6 written\n0 7 clean\nframes 512 0 0\nend\n",
+            b"0 0 done\n0 1 storefault 0 1\n0 2 clean\n0 3 done miss 0\n0 4 written\n0 5 done miss 0\n0 6 written\n0 7 clean\ntiles 0 0 0 0\npromotions 0\ndemotions 0\npreemptions 0\nimages 0 2\nframes 512 0 0\nend\n",
         ),
         (
             WRITTEN_TWICE,
             0,
             1,
-            b"0 0 done\n0 1 done\n0 2 storefault 0 1\n0 3 done\n0 4 written\n0 5 done\n0 6 written\n0 7 clean\nframes 512 0 0\nend\n",
+            b"0 0 done\n0 1 done miss 0\n0 2 storefault 0 1\n0 3 done hit 0\n0 4 written\n0 5 done miss 0\n0 6 written\n0 7 clean\ntiles 0 0 0 0\npromotions 0\ndemotions 0\npreemptions 0\nimages 1 2\nframes 512 0 0\nend\n",
         ),
         (
             WRITTEN_TWICE,
             0,
             2,
-            b"0 0 done\n0 1 done\n0 2 written\n0 3 done\n0 4 storefault 0 1\n0 5 done\n0 6 written\n0 7 clean\nframes 512 0 0\nend\n",
+            b"0 0 done\n0 1 done miss 0\n0 2 written\n0 3 done miss 0\n0 4 storefault 0 1\n0 5 done hit 0\n0 6 written\n0 7 clean\ntiles 0 0 0 0\npromotions 0\ndemotions 0\npreemptions 0\nimages 1 2\nframes 512 0 0\nend\n",
         ),
         (
             WRITTEN_TWICE,
             0,
             3,
-            b"0 0 done\n0 1 done\n0 2 written\n0 3 done\n0 4 written\n0 5 done\n0 6 storefault 0 1\n0 7 written\nframes 512 0 0\nend\n",
+            b"0 0 done\n0 1 done miss 0\n0 2 written\n0 3 done miss 0\n0 4 written\n0 5 done miss 0\n0 6 storefault 0 1\n0 7 written\ntiles 0 0 0 0\npromotions 0\ndemotions 0\npreemptions 0\nimages 0 3\nframes 512 0 0\nend\n",
         ),
         (
             WRITTEN_TWICE,
             0,
             4,
-            b"0 0 done\n0 1 done\n0 2 written\n0 3 done\n0 4 written\n0 5 done\n0 6 written\n0 7 clean\nframes 512 0 0\nend\n",
+            b"0 0 done\n0 1 done miss 0\n0 2 written\n0 3 done miss 0\n0 4 written\n0 5 done miss 0\n0 6 written\n0 7 clean\ntiles 0 0 0 0\npromotions 0\ndemotions 0\npreemptions 0\nimages 0 3\nframes 512 0 0\nend\n",
         ),
     ];
     for (trace, read, write, text) in table {
         let mut source = source_of(rt.alloc(), trace, 0)?;
-        let mut sink = sink_of(rt.alloc(), 200, 0)?;
+        let mut sink = sink_of(rt.alloc(), 300, 0)?;
         let stores = stores_of(rt.alloc(), 1, &[read], &[write])?;
         let outcome = run(&rt, rt.alloc(), &ORDER, &mut source, &mut sink, stores);
         assert_eq!(rt; outcome.status, DONE);
@@ -389,13 +440,16 @@ fn all_frames_used(alloc: Global, head: &[u8], rest: &[u8]) -> Result<Vec<u8>, A
     Ok(trace)
 }
 
-// What such a trace prints.
-fn all_frames_used_text(alloc: Global, head: &[u8], rest: &[u8]) -> Result<Vec<u8>, AllocError> {
+// What such a trace prints; the first page is dirty where it was stored to.
+fn all_frames_used_text(
+    alloc: Global,
+    head: &[u8],
+    stored: bool,
+    rest: &[u8],
+) -> Result<Vec<u8>, AllocError> {
     let mut text = head.to_vec(alloc)?;
     for number in 2..513u64 {
-        text.extend_from_slice(b"0 ")?;
-        push_number(&mut text, number)?;
-        text.extend_from_slice(b" value 0\n")?;
+        push_load(&mut text, number, size_at_end(number, stored))?;
     }
     text.extend_from_slice(rest)?;
     Ok(text)
@@ -414,29 +468,29 @@ fn where_frames_run_short_the_page_that_was_filled_first_is_paged_out(
             stored,
             b"0 map 1 0 8 fixed write\n0 load 1 0\nend\n".as_slice(),
             0,
-            b"0 0 done\n0 1 done\n".as_slice(),
-            b"0 513 done\n0 514 value 0\nframes 0 0 512\nend\n".as_slice(),
+            b"0 0 done\n0 1 done miss 0\n".as_slice(),
+            b"0 513 done\n0 514 value 0 miss 0\ntiles 8 7 7 0\npromotions 64\ndemotions 1\npreemptions 0\nimages 0 513\nframes 0 0 512\nend\n".as_slice(),
         ),
         (
             stored,
             b"0 map 1 0 8 fixed write\n0 load 1 0\n0 load 1 0\nend\n",
             1,
-            b"0 0 done\n0 1 done\n",
-            b"0 513 done\n0 514 storefault 0 1\n0 515 value 0\nframes 0 0 512\nend\n",
+            b"0 0 done\n0 1 done miss 0\n",
+            b"0 513 done\n0 514 storefault 0 1\n0 515 value 0 miss 0\ntiles 8 7 7 0\npromotions 64\ndemotions 1\npreemptions 0\nimages 0 513\nframes 0 0 512\nend\n",
         ),
         (
             wired,
             b"0 map 0 512 8 fixed write\n0 load 0 4194304\n0 evict 0 3\nend\n",
             0,
-            b"0 0 done\n0 1 value 0\n",
-            b"0 513 done\n0 514 noframes 512 0 0\n0 515 denied\nframes 0 0 512\nend\n",
+            b"0 0 done\n0 1 value 0 miss 0\n",
+            b"0 513 done\n0 514 noframes 512 0 0\n0 515 denied\ntiles 0 0 0 1\npromotions 64\ndemotions 0\npreemptions 0\nimages 0 512\nframes 0 0 512\nend\n",
         ),
     ];
     for (head, rest, write, printed, last) in table {
         let trace = all_frames_used(alloc, head, rest)?;
-        let text = all_frames_used_text(alloc, printed, last)?;
+        let text = all_frames_used_text(alloc, printed, head == stored, last)?;
         let mut source = source_of(alloc, &trace, 0)?;
-        let mut sink = sink_of(alloc, 8192, 0)?;
+        let mut sink = sink_of(alloc, 16_384, 0)?;
         let stores = stores_of(alloc, 2, &[], &[write])?;
         let outcome = run(&rt, alloc, &ORDER, &mut source, &mut sink, stores);
         assert_eq!(rt; outcome.status, DONE);

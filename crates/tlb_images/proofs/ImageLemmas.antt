@@ -16,7 +16,7 @@ use Rattle.pager_model.specs.declared.region.Rights.TheVariants.{NoAccess, Read,
 use Rattle.pager_model.specs.declared.tile.Tile.{Tile}
 use Rattle.pager_model.specs.Images.{image_room, touched}
 use Rattle.pager_model.specs.Tiles.{same_tile, same_rights, same_flag}
-use Rattle.tlb_images.specs.Image.{IsImage, without}
+use Rattle.tlb_images.specs.Image.{IsImage}
 
 same_rights-true : (a b : Rights) → same_rights a b ≡ true → a ≡ b
 same_rights-true NoAccess NoAccess h = refl
@@ -77,8 +77,12 @@ Once-head : (t : Tile) (ts : List Tile) → Once (t ∷ ts) → list_any (same_t
 Once-head t ts once =
     list_any_none (same_tile t) ts (λ k d below. same_tile-ne t (get_or ts k d) (once 0 (suc k) d (omega arith) (omega arith)))
 
+-- the image without the tile
+abbrev pub without : Tile → List Tile → List Tile
+without t image = filter (λ u. not (same_tile t u)) image
+
 -- what stands nowhere isn't missed
-pub without-absent : (t : Tile) (ts : List Tile) → list_any (same_tile t) ts ≡ false → without t ts ≡ ts
+without-absent : (t : Tile) (ts : List Tile) → list_any (same_tile t) ts ≡ false → without t ts ≡ ts
 without-absent t [] absent = refl
 without-absent t (u ∷ us) absent =
     let parts = or_parts (same_tile t u) (list_any (same_tile t) us) absent in
@@ -98,7 +102,7 @@ remove-is_without t (u ∷ us) (suc n) d once below here before =
 blank : Tile
 blank = record { extent = record { size = 0; first = 0 }; frame = 0; rights = NoAccess; dirty = false }
 
-pub remove-at_position : (t : Tile) (ts : List Tile) (n : ℕ) → Once ts → position (same_tile t) ts ≡ Some n → remove ts n ≡ without t ts
+remove-at_position : (t : Tile) (ts : List Tile) (n : ℕ) → Once ts → position (same_tile t) ts ≡ Some n → remove ts n ≡ without t ts
 remove-at_position t ts n once is =
     let found = position-Some (same_tile t) ts n blank is in
     remove-is_without t ts n blank once found.0 found.1 found.2
@@ -120,7 +124,7 @@ is_some-position p xs =
     elim (nat_lt (position_or_len p xs) (length xs)) as (λ b. is_some (cond b (Some (position_or_len p xs)) None) ≡ b) [ true ↦ refl | false ↦ refl ]
     ∙ found-list_any p xs
 
-pub IsImage-without : (t : Tile) (ts : List Tile) → IsImage ts → IsImage (without t ts)
+IsImage-without : (t : Tile) (ts : List Tile) → IsImage ts → IsImage (without t ts)
 IsImage-without t ts image = record {
   at_most = omega (arith, image.at_most, length-filter (λ u. not (same_tile t u)) ts, count_by-le-length (λ u. not (same_tile t u)) ts);
   once = AllPairs-filter (λ u v. u ≢ v) (λ u. not (same_tile t u)) ts image.once;
@@ -129,10 +133,6 @@ IsImage-without t ts image = record {
 -- no tile of what is left is the one that was taken out
 without-differs : (t : Tile) (ts : List Tile) → All (λ u. same_tile t u ≡ false) (without t ts)
 without-differs t ts k d below = not-true _ (filter_passes (λ u. not (same_tile t u)) ts k d below)
-
-pub touched-without : (t : Tile) (ts : List Tile) → touched t (without t ts) ≡ touched t ts
-touched-without t ts =
-    ap (λ us. take image_room (t ∷ us)) (without-absent t (without t ts) (list_any_none (same_tile t) (without t ts) (without-differs t ts)))
 
 pub touched-absent : (t : Tile) (ts : List Tile) → list_any (same_tile t) ts ≡ false → take image_room (t ∷ ts) ≡ touched t ts
 touched-absent t ts absent = ap (λ us. take image_room (t ∷ us)) (sym (without-absent t ts absent))

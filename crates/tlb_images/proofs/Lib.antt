@@ -1,2 +1,1 @@
 pub mod ImageLemmas
-pub mod AccessLemmas

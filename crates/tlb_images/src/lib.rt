@@ -9,7 +9,7 @@ ghost use Rattle.std.specs.List.{list_any, position};
 ghost use Rattle.pager_model.specs.declared.tile.Tile.{Tile};
 ghost use Rattle.pager_model.specs.Images.{image_room, is_in_image, touched};
 ghost use Rattle.pager_model.specs.Tiles.{same_tile};
-ghost use Rattle.tlb_images.specs.Image.{IsImage, without, left_without, AnswersTest};
+ghost use Rattle.tlb_images.specs.Image.{IsImage, AnswersTest};
 
 use arrayvec::ArrayVec;
 use pager_model::{Extent, Rights, Size, Tile};
@@ -94,28 +94,28 @@ impl Image {
         }
     }
 
-    /// An access to a page that had the tile `before` and has `after` now: whether it was a hit.
-    ///
-    /// It is a hit where `before` stands in the image. That tile goes, and `after` comes to the front, without its
-    /// earlier place; the one that was used least recently makes room where it has to.
-    pub fn touch(&mut self, before: Option<Tile>, after: Tile) -> bool
-        ensures hit { result ≡ is_in_image self.old before }
-        ensures after { self.new ≡ touched after (left_without before self.old) }
+    /// Whether a page's tile, where it has one, stands in the image: an access to the page is a hit then.
+    pub fn has(&self, tile: Option<Tile>) -> bool
+        ensures { result ≡ is_in_image self.now tile }
     {
-        let hit = match before {
-            Some(tile) if is_same(&tile, &after) => self.place_of(&after).is_some(),
-            Some(tile) => self.take_out(&tile),
+        match tile {
+            Some(tile) => self.place_of(&tile).is_some(),
             None => false,
-        };
-        self.put_in_front(after);
-        hit
+        }
     }
 
-    /// Takes the tile out, where it stands in the image.
-    pub fn shoot(&mut self, tile: &Tile)
-        ensures { self.new ≡ without tile.now self.old }
+    /// An access used the tile: it comes to the front, without its earlier place, and the one that was used least recently makes room
+    /// where it has to.
+    pub fn touch(&mut self, tile: Tile)
+        ensures { self.new ≡ touched tile self.old }
     {
-        self.take_out(tile);
+        match self.place_of(&tile) {
+            Some(place) => bring_to_front(&mut self.places, place),
+            None => {
+                self.places.truncate(ROOM - 1);
+                self.places.insert(0, Place { tile });
+            }
+        }
     }
 
     /// Keeps the tiles that pass the test, in their order. Where all of them pass, it asks once for each and writes nothing.
@@ -135,33 +135,6 @@ impl Image {
         ensures at_most { result ≤ image_room }
     {
         self.places.len()
-    }
-
-    /// Takes the tile out, and says whether it stood in the image.
-    fn take_out(&mut self, tile: &Tile) -> bool
-        ensures stood { result ≡ list_any (same_tile tile.now) self.old }
-        ensures after { self.new ≡ without tile.now self.old }
-    {
-        match self.place_of(tile) {
-            Some(place) => {
-                self.places.remove(place);
-                true
-            }
-            None => false,
-        }
-    }
-
-    /// Moves the tile to the front, or puts it there; in a full image the last tile makes room.
-    fn put_in_front(&mut self, tile: Tile)
-        ensures { self.new ≡ touched tile self.old }
-    {
-        match self.place_of(&tile) {
-            Some(place) => bring_to_front(&mut self.places, place),
-            None => {
-                self.places.truncate(ROOM - 1);
-                self.places.insert(0, Place { tile });
-            }
-        }
     }
 
     /// Where the tile stands, if it does.

@@ -1,7 +1,7 @@
 use Rattle.std.proofs.Common.{◌≡◌, true, false, [], ◌∷◌, None, refl, lit<}
 use Rattle.pager_model.specs.declared.call.Call.TheVariants.{Load, Store}
 use Rattle.pager_model.specs.declared.reply.Reply.TheVariants.{Done, Unmapped}
-use Rattle.pager_model.specs.Examples.{answer, map_eight, take_page_one, small_setting}
+use Rattle.pager_model.specs.Examples.{answer, missed, map_eight, take_page_one, small_setting}
 use Rattle.pager_model.specs.Legal.{MayFollow}
 use Rattle.pager_model.specs.Order.{Idle, Filling}
 use Rattle.pager_model.proofs.Starting.{HasNothing-start}
@@ -29,7 +29,7 @@ second =
       ordered = (record { made = 1; doing = Filling (record { space = 0; page = 1; writing = None }) 0 }, refl);
     }
 
-third : MayFollow small_setting (answer 0 map_eight Done ∷ take_page_one ∷ []) (answer 1 (Store 0 8192 5) Done)
+third : MayFollow small_setting (answer 0 map_eight Done ∷ take_page_one ∷ []) (missed 1 (Store 0 8192 5) Done)
 third =
     record {
       parts = refl;
@@ -40,7 +40,7 @@ third =
       ordered = (record { made = 2; doing = Idle }, refl);
     }
 
-fourth : MayFollow small_setting (answer 0 map_eight Done ∷ take_page_one ∷ answer 1 (Store 0 8192 5) Done ∷ []) (answer 2 (Load 0 65536) Unmapped)
+fourth : MayFollow small_setting (answer 0 map_eight Done ∷ take_page_one ∷ missed 1 (Store 0 8192 5) Done ∷ []) (answer 2 (Load 0 65536) Unmapped)
 fourth =
     record {
       parts = refl;

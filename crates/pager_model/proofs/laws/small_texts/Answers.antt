@@ -33,3 +33,15 @@ returns-clause-copies c = refl
 pub returns-clause-evict : goal.returns-clause-evict
 unfolding digits
 returns-clause-evict c = refl
+
+pub returns-clause-taking : goal.returns-clause-taking
+unfolding digits
+returns-clause-taking c = refl
+
+pub returns-clause-claim : goal.returns-clause-claim
+unfolding digits
+returns-clause-claim c = refl
+
+pub returns-clause-rest : goal.returns-clause-rest
+unfolding digits
+returns-clause-rest c = refl

@@ -5,4 +5,4 @@ use Rattle.space_core.proofs.tests.begun.Goals as goal
 pub returns-in-Ok-clause-spare : goal.returns-in-Ok-clause-spare
 returns-in-Ok-clause-spare c =
     let made = c.in-Ok.ensures.made in
-    all_spare c.in-Ok.space c.in_ok-spare.spare.items c.args.frames c.in_ok-spare.ensures made.1 made.3 (c.in-Ok.ensures.stands false (λ e. cc))
+    all_spare c.in-Ok.space c.in_ok-spare.spare.items c.args.frames c.in_ok-spare.ensures made.1 made.4 (c.in-Ok.ensures.stands false (λ e. cc))

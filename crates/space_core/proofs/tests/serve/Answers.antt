@@ -21,7 +21,7 @@ pub returns-in-Answered-clause-spare : goal.returns-in-Answered-clause-spare
 returns-in-Answered-clause-spare c =
     let spare = c.requires.spare in
     let answered = c.in-Answered.ensures in
-    let stands = answered.answers.stands spare.state spare.stands 0 0 in
+    let stands = answered.answers.stands spare.state spare.stands 0 in
     still_spare _ _ _ _ answered.resting stands answered.same_frames (λ p number has. sym (spare.stands.base p) ∙ sym (same_base spare.state.base c.args.call.now p) ∙ stands.base p ∙ has) spare
 
 pub returns-in-Ok-clause-spare : goal.returns-in-Ok-clause-spare
@@ -36,7 +36,7 @@ returns-in-Ok-clause-spare c =
     record {
       resting = c.finish.ensures.resting;
       state = _;
-      stands = c.finish.ensures.answers.stands _ (read.stands _ placed) 0 0;
+      stands = c.finish.ensures.answers.stands _ (read.stands _ placed) 0;
       lowest = last.lowest;
       few = omega (arith, last, spare.few, c.finish.ensures.same.same.frames, read.same.same.frames, c.place.ensures.same.frames, ap (λ (k : Kept). k.frames) begun);
       apart = λ p number has. elim (cases_eq p c.in-NeedsFrame.page) [

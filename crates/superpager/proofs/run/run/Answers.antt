@@ -1,6 +1,8 @@
-use Rattle.std.proofs.Common.{Err, length, ap, subst}
+use Rattle.std.proofs.Common.{Err, inl, inr, length, map, ap, subst}
 use Rattle.pager_model.specs.Legal.{entries_in}
+use Rattle.report_text.specs.Written.{WroteAll, WrotePart}
 use Rattle.superpager.specs.Forms.{ComesBy}
+use Rattle.superpager.specs.Runs.{run_text}
 use Rattle.superpager.proofs.OneForm.{one_form}
 use Rattle.superpager.proofs.Completeness.{refused_stores, enough_stores, not_refused_text, refused_text}
 use Rattle.superpager.proofs.run.run.Goals as goal
@@ -27,3 +29,15 @@ pub returns-in-Ok-clause-ordered : goal.returns-in-Ok-clause-ordered
 returns-in-Ok-clause-ordered g c form words done =
     let ran = c.run_trace.ensures.trace done in
     rw ran.0 (subst (λ f. ComesBy f c.in-Ok.trace (entries_in c.run_trace.result.history.items)) (one_form c.args.words.now c.in-Some.form form c.in-Some.ensures.some words) ran.2)
+
+pub returns-in-Ok-clause-wrote : goal.returns-in-Ok-clause-wrote
+returns-in-Ok-clause-wrote g c form words done =
+    rw (c.run_trace.ensures.trace (inl done)).0
+    (subst (λ f. WroteAll (run_text f c.in-Ok.trace (map g.S.Store.seen c.args.stores.items) c.run_trace.result.history.items) (g.K.Sink.taken c.args.sink.now) (g.K.Sink.taken c.run_trace.new.sink))
+    (one_form c.args.words.now c.in-Some.form form c.in-Some.ensures.some words) (c.run_trace.ensures.wrote done))
+
+pub returns-in-Ok-clause-part : goal.returns-in-Ok-clause-part
+returns-in-Ok-clause-part g c form words failed =
+    rw (c.run_trace.ensures.trace (inr failed)).0
+    (subst (λ f. WrotePart (run_text f c.in-Ok.trace (map g.S.Store.seen c.args.stores.items) c.run_trace.result.history.items) (g.K.Sink.taken c.args.sink.now) (g.K.Sink.taken c.run_trace.new.sink))
+    (one_form c.args.words.now c.in-Some.form form c.in-Some.ensures.some words) (c.run_trace.ensures.part failed))

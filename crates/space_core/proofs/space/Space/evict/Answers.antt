@@ -6,16 +6,17 @@ use Rattle.space_core.proofs.space.Space.evict.Goals as goal
 
 pub returns : goal.returns
 returns g c =
-    let moves = c.take.ensures.after in
-    let r = c.requires in
-    rw (c.answered.ensures, c.copied-reply.ensures)
-    (evicts c.args.self.now _ c.args.page c.unwrap.result.number
-    (rw (← c.self.view_is) (same_regions _ _ refl moves.same.count refl moves.same.own))
-    (evicting_only c.args.self.now c.args.page r)
+    let e = c.take.ensures in
+    let r = rw (← c.self.view_is) at c.requires in
+    rw (c.answered.ensures, c.copied-reply.ensures, ← c.self.view_is)
+    (evicts _ c.take.new.self c.args.page c.take.result.number
+    (same_regions _ _ (ap (λ (k : Kept). k.number) e.same) (ap (λ (k : Kept). k.frames) e.same) e.retouched.processors (ap (λ (k : Kept). k.regions) e.same) e.maps.same.own)
+    (evicting_only _ c.args.page r)
     (record {
-      none_pending = ap (λ (k : Kept). k.pending) c.self.view_is ∙ r.none_pending;
-      none_clearing = ap (λ (k : Kept). k.clearing) c.self.view_is ∙ r.none_clearing;
-      none_paged = refl;
+      none_pending = ap (λ (k : Kept). k.pending) e.same ∙ r.none_pending;
+      none_clearing = ap (λ (k : Kept). k.clearing) e.same ∙ r.none_clearing;
+      none_paged = ap (λ (k : Kept). k.paged) e.same;
     })
-    (rw (← c.self.view_is) refl) (rw (← c.self.view_is) (rw c.unwrap.ensures at c.take.ensures.some)) (rw (← c.self.view_is) moves)
-    (evicting_unbehind c.args.self.now c.args.page r) c.is_dirty.result (rw (← c.self.view_is) (sym c.is_dirty.ensures.dirty)) r.unwired)
+    (ap (λ (k : Kept). k.store) e.same) e.taken e.maps
+    (record { processors = e.retouched.processors; images = e.retouched.images; promotions = e.retouched.promotions; demotions = e.retouched.demotions })
+    (evicting_unbehind _ c.args.page r) c.is_dirty.result (rw (← c.self.view_is) at sym c.is_dirty.ensures.dirty) r.unwired)

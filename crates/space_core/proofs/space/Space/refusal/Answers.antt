@@ -8,4 +8,4 @@ pub returns-clause-some : goal.returns-clause-some
 returns-clause-some g c =
     let found : region_at c.args.self.now.regions c.in_ok-page.page ≡ Some c.in-Some.region = ap (λ (k : Kept). region_at k.regions c.in_ok-page.page) (sym c.self.view_is) ∙ sym c.in-Some.ensures.value in
     let refused = rw c.rights.ensures at (sym c.permits.ensures ∙ c.if-permits.false) in
-    begins_denied c.args.self.now c.args.call.now c.in_ok-page.page c.in-Some.region c.requires.can c.requires.resting (sym c.in_ok-page.ensures.page) found refused
+    λ processor. begins_denied c.args.self.now processor c.args.call.now c.in_ok-page.page c.in-Some.region c.requires.can c.requires.resting (sym c.in_ok-page.ensures.page) found refused

@@ -6,15 +6,19 @@ use Rattle.space_core.proofs.space.Space.remove.Goals as goal
 
 pub returns : goal.returns
 returns g c =
-    let moves = c.take.ensures.after in
-    let r = c.requires in
-    removes c.args.self.now _ c.args.page c.unwrap.result.number
-    (rw (← c.self.view_is) (same_regions _ _ refl moves.same.count refl moves.same.own))
-    (clean_only c.args.self.now c.args.page r.none_clearing r.none_paged r.no_other_pending)
+    let e = c.take.ensures in
+    let none_clearing = rw (← c.self.view_is) at c.requires.none_clearing in
+    let none_paged = rw (← c.self.view_is) at c.requires.none_paged in
+    let clean = rw (← c.self.view_is) at c.requires.clean in
+    rw (← c.self.view_is)
+    (removes _ c.take.new.self c.args.page c.take.result.number
+    (same_regions _ _ (ap (λ (k : Kept). k.number) e.same) (ap (λ (k : Kept). k.frames) e.same) e.retouched.processors (ap (λ (k : Kept). k.regions) e.same) e.maps.same.own)
+    (clean_only _ c.args.page none_clearing none_paged (rw (← c.self.view_is) at c.requires.no_other_pending))
     (record {
-      none_pending = refl;
-      none_clearing = ap (λ (k : Kept). k.clearing) c.self.view_is ∙ r.none_clearing;
-      none_paged = ap (λ (k : Kept). k.paged) c.self.view_is ∙ r.none_paged;
+      none_pending = ap (λ (k : Kept). k.pending) e.same;
+      none_clearing = ap (λ (k : Kept). k.clearing) e.same ∙ none_clearing;
+      none_paged = ap (λ (k : Kept). k.paged) e.same ∙ none_paged;
     })
-    (rw (← c.self.view_is) refl) (rw (← c.self.view_is) (rw c.unwrap.ensures at c.take.ensures.some)) (rw (← c.self.view_is) moves)
-    (clean_unbehind c.args.self.now c.args.page r.clean) r.clean r.none_paged
+    (ap (λ (k : Kept). k.store) e.same) e.taken e.maps
+    (record { processors = e.retouched.processors; images = e.retouched.images; promotions = e.retouched.promotions; demotions = e.retouched.demotions })
+    (clean_unbehind _ c.args.page clean) clean none_paged)

@@ -1,13 +1,13 @@
 use Rattle.std.proofs.Common.{◌≡◌, ◌∙◌, ap, sym, Some, None, arith, refl}
 use Rattle.std.proofs.lemmas.Option.{same_Some}
 use Rattle.space_core.specs.Standing.{Kept}
-use Rattle.space_core.proofs.Clearing.{unmaps, unmap_own}
+use Rattle.space_core.proofs.Clearing.{unmaps, unmap_own, unmap_mapped}
 use Rattle.space_core.proofs.Changing.{changed_kept}
 use Rattle.space_core.proofs.Finding.{found_page}
 use Rattle.space_core.proofs.space.Space.unmap.Goals as goal
 
-pub set_own-requires : goal.set_own-requires
-set_own-requires g c = omega (arith, found_page c.self.inside.regions c.self.invariant.ordered.in_order c.args.page c.in-Ok.region c.in-Ok.ensures.region)
+pub forget_rights-requires : goal.forget_rights-requires
+forget_rights-requires g c = omega (arith, found_page c.self.inside.regions c.self.invariant.ordered.in_order c.args.page c.in-Ok.region c.in-Ok.ensures.region)
 
 pub invariant_of-self : goal.invariant_of-self
 invariant_of-self g c =
@@ -17,7 +17,8 @@ invariant_of-self g c =
     let none = rw region at cleared.3 in
     rw c.in-Ok.ensures.after
     (changed_kept _ _ _ _ _ _ _ _ _ c.self.invariant (rw c.in-Ok.ensures.after at c.unmap.ensures.ordered)
-    (unmap_own c.self.inside.number c.self.inside.regions c.self.inside.table _ c.args.page c.in-Ok.region c.self.invariant.ordered c.in-Ok.ensures.region c.self.invariant.own none c.set_own.ensures) pending refl)
+    (unmap_own c.self.inside.number c.self.inside.regions c.self.inside.table _ c.args.page c.in-Ok.region c.self.invariant.ordered c.in-Ok.ensures.region c.self.invariant.own none c.forget_rights.ensures)
+    (unmap_mapped c.self.inside.number c.self.inside.regions c.self.inside.table _ c.args.page c.in-Ok.region c.self.invariant.ordered c.in-Ok.ensures.region c.self.invariant.own none c.forget_rights.ensures c.self.invariant.mapped) pending refl)
 
 pub returns : goal.returns
 returns g c =
@@ -28,4 +29,4 @@ returns g c =
     let none = rw region at cleared.3 in
     let clearing : c.self.inside.clearing ≡ Some c.in-Ok.region = cleared.2 ∙ ap Some region in
     rw (c.in-Ok.ensures.after, c.answered.ensures, ← c.self.view_is, pending, clearing, paged)
-    (unmaps c.self.inside.number c.self.inside.regions c.self.inside.table _ c.args.page c.in-Ok.region c.self.invariant.ordered c.in-Ok.ensures.region c.self.invariant.own none c.set_own.ensures _ _ c.drop_pages.ensures.dropped)
+    (unmaps c.self.inside.number c.self.inside.regions c.self.inside.table _ c.args.page c.in-Ok.region c.self.invariant.ordered c.in-Ok.ensures.region c.self.invariant.own none c.forget_rights.ensures _ _ c.drop_pages.ensures.dropped _ _ _ _ c.self.invariant.mapped)

@@ -1,20 +1,21 @@
-use Rattle.std.proofs.Common.{arith}
-use Rattle.space_core.proofs.TableLemmas.{put_paged, put_moves}
+use Rattle.std.proofs.Common.{◌∙◌, ap, refl, Some}
+use Rattle.space_core.specs.contracts.table.PageTable.{the_view}
+use Rattle.space_core.proofs.TableLemmas.{frame_in-is, mapping-absent, put_paged, put_maps}
 use Rattle.space_core.proofs.table.PageTable.put.Goals as goal
 
-pub overflow_cast-number-2 : goal.overflow_cast-number-2
-overflow_cast-number-2 c = omega (arith, rw (← c.self.view_is) at c.requires.known)
+pub after_fill-requires-clause-absent : goal.after_fill-requires-clause-absent
+after_fill-requires-clause-absent c = mapping-absent (the_view c.self.inside) _ (rw (← c.self.view_is) at c.requires.absent)
 
-pub index_mut-requires : goal.index_mut-requires
-index_mut-requires c = omega (arith, rw (← c.self.view_is) at c.requires.known)
-
-pub index_mut-requires-2 : goal.index_mut-requires-2
-index_mut-requires-2 c = omega (arith, c.self.invariant.flags, rw (← c.self.view_is) at c.requires.known)
+pub after_fill-requires-clause-other : goal.after_fill-requires-clause-other
+after_fill-requires-clause-other c p e =
+    (rw (← c.self.view_is) at c.requires.other) p (frame_in-is (the_view c.self.inside) p ∙ e ∙ ap Some c.number-number.ensures)
 
 pub invariant_of-self : goal.invariant_of-self
 invariant_of-self c =
-    rw c.number-number.ensures (put_paged _ c.self.invariant c.args.page c.args.frame c.requires.page (rw (← c.self.view_is) at c.requires.known) (rw (← c.self.view_is) at c.requires.other))
+    rw c.number-number.ensures
+    (put_paged (the_view c.self.inside) c.self.invariant c.args.page _ c.args.frame _ c.after_fill.ensures.maps c.number-number.ensures (rw (← c.self.view_is) at c.requires.known) (rw (← c.self.view_is) at c.requires.other))
 
-pub returns : goal.returns
-returns c =
-    rw (← c.self.view_is, c.number-number.ensures) (put_moves _ c.self.invariant c.args.page c.args.frame c.requires.page (rw (← c.self.view_is) at c.requires.known) (rw (← c.self.view_is) at c.requires.other))
+pub returns-clause-maps : goal.returns-clause-maps
+returns-clause-maps c =
+    rw (← c.self.view_is, c.number-number.ensures)
+    (put_maps (the_view c.self.inside) c.self.invariant c.args.page _ c.args.frame _ (rw c.number-number.ensures at c.after_fill.ensures.maps) refl (rw (← c.self.view_is) at c.requires.known) (rw (← c.self.view_is) at c.requires.other))

@@ -1,17 +1,9 @@
-use Rattle.std.proofs.Common.{◌∙◌, sym, arith, false}
-use Rattle.space_core.proofs.TableLemmas.{found_within, flagged_paged, cleans, cleans_none}
+use Rattle.space_core.specs.contracts.table.PageTable.{the_view}
+use Rattle.space_core.proofs.TableLemmas.{cleans_paged, cleans}
 use Rattle.space_core.proofs.table.PageTable.set_clean.Goals as goal
 
-pub index_mut-requires : goal.index_mut-requires
-index_mut-requires c =
-    let has = sym (rw (← c.self.view_is) at c.number.ensures.number) ∙ c.in-Some.is in
-    omega (arith, c.self.invariant.flags, found_within _ c.self.invariant _ _ has)
-
 pub invariant_of-self : goal.invariant_of-self
-invariant_of-self c = flagged_paged _ c.self.invariant _ _ false (sym (rw (← c.self.view_is) at c.number.ensures.number) ∙ c.in-Some.is)
+invariant_of-self c = cleans_paged (the_view c.self.inside) c.self.invariant c.args.page _ c.after_dirty.ensures.maps
 
-pub returns-in-Some : goal.returns-in-Some
-returns-in-Some c = rw (← c.self.view_is) (cleans _ c.self.invariant _ _ (sym (rw (← c.self.view_is) at c.number.ensures.number) ∙ c.in-Some.is))
-
-pub returns-in_default : goal.returns-in_default
-returns-in_default c = cleans_none _ _ (sym c.number.ensures.number ∙ c.in_default.is)
+pub returns-clause-cleans : goal.returns-clause-cleans
+returns-clause-cleans c = rw (← c.self.view_is) (cleans (the_view c.self.inside) c.args.page _ c.after_dirty.ensures.maps)

@@ -1,38 +1,50 @@
 use Rattle.std.proofs.Common.{◌∙◌, sym, ap, Some, arith}
+use Rattle.std.proofs.lemmas.Option.{none-some, same_Some}
+use Rattle.pager_model.specs.Frame.{Framed}
 use Rattle.space_core.specs.contracts.table.PageTable.{the_view}
-use Rattle.space_core.proofs.TableLemmas.{frame-read, found_within, moves_none, take_paged, take_moves}
+use Rattle.space_core.proofs.TableLemmas.{frame-read, found_within, maps_none, take_paged, take_maps}
 use Rattle.space_core.proofs.table.PageTable.take.Goals as goal
 
 pub returns-in_err-number-clause-after : goal.returns-in_err-number-clause-after
-returns-in_err-number-clause-after c = moves_none _ _ (sym c.number.ensures.number ∙ c.in_err-number.was)
+returns-in_err-number-clause-after c = maps_none _ _ (sym c.number.ensures.number ∙ c.in_err-number.was)
 
-pub index_mut-requires-2 : goal.index_mut-requires-2
-index_mut-requires-2 c =
+pub index_mut-requires : goal.index_mut-requires
+index_mut-requires c =
     let has = sym (rw (← c.self.view_is) at c.number.ensures.number) ∙ c.in_ok-number.was in
     omega (arith, found_within _ c.self.invariant _ _ has)
 
 pub invariant_of-self : goal.invariant_of-self
 invariant_of-self c =
     let has = sym (rw (← c.self.view_is) at c.number.ensures.number) ∙ c.in_ok-number.was in
-    rw c.take.ensures.after (take_paged _ c.self.invariant _ _ c.in_ok-number.ensures.in_space has)
+    rw c.take.ensures.after (take_paged (the_view c.self.inside) c.self.invariant c.args.page _ _ c.after_remove-moves.ensures.maps has)
+
+pub returns-in_err-frame-clause-none : goal.returns-in_err-frame-clause-none
+returns-in_err-frame-clause-none c =
+    let t = the_view c.self.inside in
+    let has = sym (rw (← c.self.view_is) at c.number.ensures.number) ∙ c.in_ok-number.was in
+    let at = c.self.invariant.found _ _ has in
+    let is = sym at.is ∙ frame-read t _ _ (found_within _ c.self.invariant _ _ has) c.index_mut.ensures.value ∙ sym c.take.ensures.value in
+    absurd (none-some _ (sym (is ∙ c.in_err-frame.was)))
+
+pub returns-in_err-frame-clause-after : goal.returns-in_err-frame-clause-after
+returns-in_err-frame-clause-after c =
+    let has = sym (rw (← c.self.view_is) at c.number.ensures.number) ∙ c.in_ok-number.was in
+    rw (← c.self.view_is, c.take.ensures.after) (take_maps (the_view c.self.inside) c.self.invariant c.args.page _ _ c.after_remove-moves.ensures.maps has)
+
+pub invariant_of-self-2 : goal.invariant_of-self-2
+invariant_of-self-2 c =
+    let has = sym (rw (← c.self.view_is) at c.number.ensures.number) ∙ c.in_ok-number.was in
+    rw c.take.ensures.after (take_paged (the_view c.self.inside) c.self.invariant c.args.page _ _ c.after_remove-moves.ensures.maps has)
 
 pub returns-clause-some : goal.returns-clause-some
 returns-clause-some c =
     let t = the_view c.self.inside in
     let has = sym (rw (← c.self.view_is) at c.number.ensures.number) ∙ c.in_ok-number.was in
     let at = c.self.invariant.found _ _ has in
-    let is = sym at.is ∙ frame-read t _ _ (found_within _ c.self.invariant _ _ has) c.index_mut-2.ensures.value ∙ sym c.take.ensures.value in
-    rw (← is, ← c.self.view_is) (has ∙ ap Some (sym at.number_is))
-
-pub returns-clause-none : goal.returns-clause-none
-returns-clause-none c =
-    let t = the_view c.self.inside in
-    let has = sym (rw (← c.self.view_is) at c.number.ensures.number) ∙ c.in_ok-number.was in
-    let at = c.self.invariant.found _ _ has in
-    let is = sym at.is ∙ frame-read t _ _ (found_within _ c.self.invariant _ _ has) c.index_mut-2.ensures.value ∙ sym c.take.ensures.value in
-    rw (← is) tt
+    let is = sym at.is ∙ frame-read t _ _ (found_within _ c.self.invariant _ _ has) c.index_mut.ensures.value ∙ sym c.take.ensures.value in
+    rw (← c.self.view_is) (has ∙ ap Some (sym at.number_is) ∙ ap (λ (f : Framed). Some f.number) (same_Some _ _ (is ∙ c.in_ok-frame.was)), c.after_remove-moves.ensures.moves)
 
 pub returns-clause-after : goal.returns-clause-after
 returns-clause-after c =
     let has = sym (rw (← c.self.view_is) at c.number.ensures.number) ∙ c.in_ok-number.was in
-    rw (← c.self.view_is, c.take.ensures.after) (take_moves _ c.self.invariant _ _ c.in_ok-number.ensures.in_space has)
+    rw (← c.self.view_is, c.take.ensures.after) (take_maps (the_view c.self.inside) c.self.invariant c.args.page _ _ c.after_remove-moves.ensures.maps has)

@@ -1,0 +1,5 @@
+pub mod Writing
+pub mod Written
+pub mod Lines
+pub mod Reports
+pub mod Parts

@@ -1,0 +1,328 @@
+-- What becomes of what a space and a state have in common of translations, as pages change and tiles are used.
+use Rattle.std.proofs.Common.{◌≡◌, ◌≢◌, ℕ, zero, suc, ◌+◌, ◌*◌, ◌^◌, ◌<◌, ◌≤◌, Bool, true, false, ◌&&◌, ◌==◌, not, nat_lt, if◌then◌else◌, List, [], ◌∷◌, filter, take, map, length, slice_index_or, slice_set, Option, Some, None, is_some, option_map, refl, sym, ap, inl, inr, ◌∙◌, ◌⊎◌, arith}
+use Rattle.std.specs.List.{list_all}
+use Rattle.std.proofs.lemmas.Bool.{cases_Bool, cases_eq, cases_lt, and_parts, cond-true, cond-false, eq-eqb, ne_eqb}
+use Rattle.std.proofs.lemmas.Bool.Decides.{nat_tests}
+use Rattle.std.proofs.lemmas.List.{get_or-map, length-map, get_or-set_same, get_or-set_other, length-set}
+use Rattle.std.proofs.lemmas.Option.{none-some, same_Some}
+use Rattle.pager_model.specs.declared.region.Region.{Region}
+use Rattle.pager_model.specs.declared.region.Rights.{Rights}
+use Rattle.pager_model.specs.declared.tile.Mapping.{Mapping}
+use Rattle.pager_model.specs.declared.tile.Tile.{Tile}
+use Rattle.pager_model.specs.Extents.{extent_start}
+use Rattle.pager_model.specs.Images.{image_room, is_in_image, still_tiles, touched, touched_by, images_with}
+use Rattle.pager_model.specs.Regions.{region_at}
+use Rattle.pager_model.specs.SpaceStates.{SpaceState, last_count, pages_of}
+use Rattle.pager_model.specs.Tiles.{mapping_with, same_tile, tile_of, is_tile, promotions_between, demotions_between}
+use Rattle.space_core.specs.Keeping.{IsMapped}
+use Rattle.space_core.specs.Standing.{Kept, Translates, image_at, frame_at, dirty_at, rights_at, rights_by}
+use Rattle.space_core.specs.Tables.{Table, mapping_in, frame_in, own_in, dirty_in}
+use Rattle.space_core.specs.Translating.{Retouches, Touches, counted_up}
+use Rattle.space_core.proofs.TableLemmas.{frame-absent, frame-mapped, dirty-mapped}
+use Rattle.tiles.specs.declared.moves.Moves.{Moves}
+use Rattle.tiles.specs.Resident.{AreMoves, with_flag, with_rights}
+use Rattle.tiles.proofs.Cleared.{no_promotions, no_demotions}
+use Rattle.tiles.proofs.Extents.{first_of_extent}
+use Rattle.tiles.proofs.TileLaws.{tile_largest, largest_tile}
+use Rattle.tlb_images.proofs.ImageLemmas.{filter-all, same_tile-refl}
+
+-- Lists of tiles.
+
+all_filtered : (test : Tile → Bool) (ts : List Tile) → list_all test (filter test ts) ≡ true
+all_filtered test [] = refl
+all_filtered test (t ∷ ts) =
+    elim (cases_Bool (test t)) [
+      | inl is ↦ ap (list_all test) (cond-true _ _ _ is) ∙ ap (λ b. b && list_all test (filter test ts)) is ∙ all_filtered test ts
+      | inr isnt ↦ ap (list_all test) (cond-false _ _ _ isnt) ∙ all_filtered test ts
+    ]
+
+all_still : (test other : Tile → Bool) (ts : List Tile) → list_all test ts ≡ true → list_all test (filter other ts) ≡ true
+all_still test other [] h = refl
+all_still test other (t ∷ ts) h =
+    let parts = and_parts _ _ h in
+    elim (cases_Bool (other t)) [
+      | inl is ↦ ap (list_all test) (cond-true _ _ _ is) ∙ ap (λ b. b && list_all test (filter other ts)) parts.0 ∙ all_still test other ts parts.1
+      | inr isnt ↦ ap (list_all test) (cond-false _ _ _ isnt) ∙ all_still test other ts parts.1
+    ]
+
+all_taken : (test : Tile → Bool) (n : ℕ) (ts : List Tile) → list_all test ts ≡ true → list_all test (take n ts) ≡ true
+all_taken test zero ts h = refl
+all_taken test (suc n) [] h = refl
+all_taken test (suc n) (t ∷ ts) h =
+    let parts = and_parts _ _ h in ap (λ b. b && list_all test (take n ts)) parts.0 ∙ all_taken test n ts parts.1
+
+-- what was a tile of these pages still is one
+still_again : (pages : ℕ → Option Mapping) (ts : List Tile) → still_tiles pages (still_tiles pages ts) ≡ still_tiles pages ts
+still_again pages ts = filter-all (is_tile pages) (still_tiles pages ts) (all_filtered (is_tile pages) ts)
+
+-- a tile of these pages, where there is one
+abbrev pub IsUsed : (ℕ → Option Mapping) → Option Tile → Type 0
+IsUsed pages None = Unit {0}
+IsUsed pages (Some t) = is_tile pages t ≡ true
+
+touched_kept : (pages : ℕ → Option Mapping) (o : Option Tile) (ts : List Tile) → IsUsed pages o → still_tiles pages ts ≡ ts → still_tiles pages (touched_by o ts) ≡ touched_by o ts
+touched_kept pages None ts is kept = kept
+touched_kept pages (Some t) ts is kept =
+    let others = all_still (is_tile pages) (λ u. not (same_tile t u)) ts (ap (list_all (is_tile pages)) (sym kept) ∙ all_filtered (is_tile pages) ts) in
+    filter-all (is_tile pages) (touched t ts) (all_taken (is_tile pages) image_room (t ∷ filter (λ u. not (same_tile t u)) ts) (ap (λ b. b && list_all (is_tile pages) (filter (λ u. not (same_tile t u)) ts)) is ∙ others))
+
+-- one processor used a tile, or none
+touched_if : (pages : ℕ → Option Mapping) (here : Bool) (o : Option Tile) (ts : List Tile) → IsUsed pages o → still_tiles pages ts ≡ ts → still_tiles pages (touched_by (if here then o else None) ts) ≡ touched_by (if here then o else None) ts
+touched_if pages true o ts is kept = touched_kept pages o ts is kept
+touched_if pages false o ts is kept = kept
+
+untouched : (here : Bool) (ts : List Tile) → touched_by (if here then None else None) ts ≡ ts
+untouched true ts = refl
+untouched false ts = refl
+
+-- the tile of a page is a tile
+tile_is : (pages : ℕ → Option Mapping) (page : ℕ) (t : Tile) → tile_of pages page ≡ Some t → is_tile pages t ≡ true
+tile_is pages page t at =
+    let largest = tile_largest pages page t at in
+    let size = t.extent.size in
+    let start : extent_start size t.extent.first ≡ t.extent.first = ap (extent_start size) (sym largest.1) ∙ ap (λ n. n * 8 ^ size) (first_of_extent size page largest.0.extent.0) ∙ largest.1 in
+    ap (is_that t) (largest_tile pages t.extent.first t largest.0 start) ∙ same_tile-refl t
+  where
+    is_that : Tile → Option Tile → Bool
+    is_that t None = false
+    is_that t (Some u) = same_tile t u
+
+used_at : (pages : ℕ → Option Mapping) (page : ℕ) (o : Option Tile) → tile_of pages page ≡ o → IsUsed pages o
+used_at pages page None at = tt
+used_at pages page (Some t) at = tile_is pages page t at
+
+-- a count that stands still at its type's end is the whole count, as long as that is in the type
+counted_to : (last kept count by : ℕ) → (count ≤ last → kept ≡ count) → count + by ≤ last → (if nat_lt (kept + by) last then kept + by else last) ≡ count + by
+counted_to last kept count by same within =
+    let is = same (omega arith) in
+    rw is (elim (cases_lt (count + by) last) [ inl l ↦ grind (arith, nat_tests) | inr past ↦ grind (arith, nat_tests) ])
+
+-- a count to which nothing is added
+same_count : (last kept count total by : ℕ) → by ≡ 0 → (count ≤ last → kept ≡ count) → total ≡ count + by → total ≤ last → kept ≡ total
+same_count last kept count total by none same is low = omega (arith, same (omega (arith, none, is, low)), none, is)
+
+-- What an entry of a processor makes of a state's translations: the images keep what is a tile still, the processor used this tile, or none,
+-- and the moves of the pages are counted.
+pub record Follows (st after : SpaceState) (c : ℕ) (tile : Option Tile) : Type 0 where
+  pub images : after.images ≡ images_with (pages_of after) c tile st.images
+  pub promotions : after.promotions ≡ st.promotions + promotions_between (pages_of st) (pages_of after)
+  pub demotions : after.demotions ≡ st.demotions + demotions_between (pages_of st) (pages_of after)
+
+-- the images and the counts are as before
+pub record Still (old new : Kept) : Type 0 where
+  pub images : new.images ≡ old.images
+  pub promotions : new.promotions ≡ old.promotions
+  pub demotions : new.demotions ≡ old.demotions
+
+-- a state's translations are the space's where nothing becomes of either
+pub same_translates : (old new : Kept) (st : SpaceState) → Still old new → Translates old st → Translates new st
+same_translates old new st still s =
+    record {
+      images = λ c within. s.images c (omega (arith, ap length still.images)) ∙ ap (λ (is : List (List Tile)). slice_index_or is c []) (sym still.images);
+      tiles = λ c within. s.tiles c (omega (arith, ap length still.images));
+      promotions = λ low. still.promotions ∙ s.promotions low;
+      demotions = λ low. still.demotions ∙ s.demotions low;
+    }
+
+-- The pages of a state become the space's.
+module _ (old new : Kept) (st after : SpaceState) (c : ℕ) (tile : Option Tile) (follows : Follows st after c tile) (used : IsUsed (pages_of after) tile)
+    (s : Translates old st) (was : (p : ℕ) → pages_of st p ≡ mapping_in old.table p) (is : (p : ℕ) → pages_of after p ≡ mapping_in new.table p) where
+  pages_before : pages_of st ≡ mapping_in old.table
+  pages_before i p = was p i
+
+  pages_then : pages_of after ≡ mapping_in new.table
+  pages_then i p = is p i
+
+  between : promotions_between (pages_of st) (pages_of after) ≡ promotions_between (mapping_in old.table) (mapping_in new.table)
+  between = ap (λ (ps : ℕ → Option Mapping). promotions_between ps (pages_of after)) pages_before ∙ ap (λ (ps : ℕ → Option Mapping). promotions_between (mapping_in old.table) ps) pages_then
+
+  broken : demotions_between (pages_of st) (pages_of after) ≡ demotions_between (mapping_in old.table) (mapping_in new.table)
+  broken = ap (λ (ps : ℕ → Option Mapping). demotions_between ps (pages_of after)) pages_before ∙ ap (λ (ps : ℕ → Option Mapping). demotions_between (mapping_in old.table) ps) pages_then
+
+  image_then : (i : ℕ) → i < length old.images → after.images i ≡ touched_by (if i == c then tile else None) (still_tiles (mapping_in new.table) (image_at old i))
+  image_then i within =
+      ap (λ (f : ℕ → List Tile). f i) follows.images
+      ∙ ap (λ (ps : ℕ → Option Mapping). touched_by (if i == c then tile else None) (still_tiles ps (st.images i))) pages_then
+      ∙ ap (λ (ts : List Tile). touched_by (if i == c then tile else None) (still_tiles (mapping_in new.table) ts)) (s.images i within)
+
+  tiles_then : (i : ℕ) → still_tiles (pages_of after) (after.images i) ≡ after.images i
+  tiles_then i =
+      let at : after.images i ≡ touched_by (if i == c then tile else None) (still_tiles (pages_of after) (st.images i)) = ap (λ (f : ℕ → List Tile). f i) follows.images in
+      rw at (touched_if (pages_of after) (i == c) tile (still_tiles (pages_of after) (st.images i)) used (still_again (pages_of after) (st.images i)))
+
+  -- the pages changed, and the moves were counted
+  pub translates_moved : length new.images ≡ length old.images
+      → ((i : ℕ) → i < length old.images → image_at new i ≡ touched_by (if i == c then tile else None) (still_tiles (mapping_in new.table) (image_at old i)))
+      → new.promotions ≡ counted_up old.promotions (promotions_between (mapping_in old.table) (mapping_in new.table))
+      → new.demotions ≡ counted_up old.demotions (demotions_between (mapping_in old.table) (mapping_in new.table))
+      → Translates new after
+  translates_moved processors images promotions demotions =
+      record {
+        images = λ i within. image_then i (omega (arith, processors)) ∙ sym (images i (omega (arith, processors)));
+        tiles = λ i within. tiles_then i;
+        promotions = λ low. promotions ∙ ap (counted_up old.promotions) (sym between) ∙ counted_to last_count old.promotions st.promotions _ s.promotions (omega (arith, follows.promotions, low)) ∙ sym follows.promotions;
+        demotions = λ low. demotions ∙ ap (counted_up old.demotions) (sym broken) ∙ counted_to last_count old.demotions st.demotions _ s.demotions (omega (arith, follows.demotions, low)) ∙ sym follows.demotions;
+      }
+
+  -- the pages are as they were
+  pub translates_still : length new.images ≡ length old.images → ((p : ℕ) → mapping_in new.table p ≡ mapping_in old.table p)
+      → ((i : ℕ) → i < length old.images → image_at new i ≡ touched_by (if i == c then tile else None) (image_at old i))
+      → new.promotions ≡ old.promotions → new.demotions ≡ old.demotions → Translates new after
+  translates_still processors same images promotions demotions =
+      let pages : (p : ℕ) → mapping_in new.table p ≡ pages_of st p = λ p. same p ∙ sym (was p) in
+      let whole : mapping_in new.table ≡ pages_of st = λ i p. pages p i in
+      let kept : (i : ℕ) → i < length old.images → still_tiles (mapping_in new.table) (image_at old i) ≡ image_at old i = λ i within.
+      ap (λ (ps : ℕ → Option Mapping). still_tiles ps (image_at old i)) whole ∙ ap (still_tiles (pages_of st)) (sym (s.images i within)) ∙ s.tiles i within ∙ s.images i within in
+      let none : promotions_between (pages_of st) (pages_of after) ≡ 0 = no_promotions (pages_of st) (pages_of after) (λ p. is p ∙ pages p) in
+      let none_broken : demotions_between (pages_of st) (pages_of after) ≡ 0 = no_demotions (pages_of st) (pages_of after) (λ p. is p ∙ pages p) in
+      record {
+        images = λ i within.
+            let w : i < length old.images = omega (arith, processors) in
+            image_then i w ∙ ap (touched_by (if i == c then tile else None)) (kept i w) ∙ sym (images i w);
+        tiles = λ i within. tiles_then i;
+        promotions = λ low. promotions ∙ same_count last_count old.promotions st.promotions after.promotions _ none s.promotions follows.promotions low;
+        demotions = λ low. demotions ∙ same_count last_count old.demotions st.demotions after.demotions _ none_broken s.demotions follows.demotions low;
+      }
+
+-- What becomes of spaces that changed as the code changes them, where no tile was used.
+module _ (old new : Kept) (st after : SpaceState) (c : ℕ) (follows : Follows st after c None) (s : Translates old st)
+    (was : (p : ℕ) → pages_of st p ≡ mapping_in old.table p) (is : (p : ℕ) → pages_of after p ≡ mapping_in new.table p) where
+  -- no page changed
+  pub stays : Still old new → ((p : ℕ) → mapping_in new.table p ≡ mapping_in old.table p) → Translates new after
+  stays still same =
+      translates_still old new st after c None follows tt s was is (ap length still.images) same
+      (λ i within. ap (λ (ts : List (List Tile)). slice_index_or ts i []) still.images ∙ sym (untouched (i == c) (image_at old i)))
+      still.promotions still.demotions
+
+  -- pages changed
+  pub retouches : Retouches old new → Translates new after
+  retouches retouched =
+      translates_moved old new st after c None follows tt s was is retouched.processors
+      (λ i within. retouched.images i within ∙ sym (untouched (i == c) (still_tiles (mapping_in new.table) (image_at old i))))
+      retouched.promotions retouched.demotions
+
+-- The pages of a region were cleared one after another: their tiles were counted before, and the images keep what is a tile still.
+pub translates_cleared : (old new : Kept) (st after : SpaceState) (c lost : ℕ) → Follows st after c None → Translates old st → ((p : ℕ) → pages_of after p ≡ mapping_in new.table p)
+    → length new.images ≡ length old.images → ((i : ℕ) → i < length old.images → image_at new i ≡ still_tiles (mapping_in new.table) (image_at old i))
+    → promotions_between (pages_of st) (pages_of after) ≡ 0 → demotions_between (pages_of st) (pages_of after) ≡ lost
+    → new.promotions ≡ old.promotions → new.demotions ≡ counted_up old.demotions lost → Translates new after
+translates_cleared old new st after c lost follows s is processors images none broken promotions demotions =
+    let whole : pages_of after ≡ mapping_in new.table = λ i p. is p i in
+    let at : (i : ℕ) → after.images i ≡ still_tiles (pages_of after) (st.images i) = λ i. ap (λ (f : ℕ → List Tile). f i) follows.images ∙ untouched (i == c) (still_tiles (pages_of after) (st.images i)) in
+    record {
+      images = λ i within.
+          let w : i < length old.images = omega (arith, processors) in
+          at i ∙ ap (λ (ps : ℕ → Option Mapping). still_tiles ps (st.images i)) whole ∙ ap (still_tiles (mapping_in new.table)) (s.images i w) ∙ sym (images i w);
+      tiles = λ i within. rw (at i) (still_again (pages_of after) (st.images i));
+      promotions = λ low. promotions ∙ same_count last_count old.promotions st.promotions after.promotions _ none s.promotions follows.promotions low;
+      demotions = λ low.
+          let total : after.demotions ≡ st.demotions + lost = follows.demotions ∙ ap (λ n. st.demotions + n) broken in
+          demotions ∙ counted_to last_count old.demotions st.demotions lost s.demotions (omega (arith, total, low)) ∙ sym total;
+    }
+
+-- And where the processor used a page's tile then.
+module _ (old mid new : Kept) (st after : SpaceState) (c page : ℕ) (follows : Follows st after c (tile_of (pages_of after) page)) (s : Translates old st)
+    (was : (p : ℕ) → pages_of st p ≡ mapping_in old.table p) (is : (p : ℕ) → pages_of after p ≡ mapping_in new.table p) (touches : Touches mid new c (tile_of (mapping_in mid.table) page)) where
+  same_table : new.table ≡ mid.table
+  same_table = ap (λ (k : Kept). k.table) touches.same
+
+  used_tile_is : tile_of (mapping_in mid.table) page ≡ tile_of (pages_of after) page
+  used_tile_is =
+      ap (λ (t : Table). tile_of (mapping_in t) page) (sym same_table) ∙ sym (ap (λ (ps : ℕ → Option Mapping). tile_of ps page) (let whole : pages_of after ≡ mapping_in new.table = λ i p. is p i in whole))
+
+  is_used : IsUsed (pages_of after) (tile_of (pages_of after) page)
+  is_used = used_at (pages_of after) page (tile_of (pages_of after) page) refl
+
+  image_used : (i : ℕ) → i < length mid.images → image_at new i ≡ touched_by (if i == c then tile_of (pages_of after) page else None) (image_at mid i)
+  image_used i within = touches.images i within ∙ ap (λ (o : Option Tile). touched_by (if i == c then o else None) (image_at mid i)) used_tile_is
+
+  pub stays_used : Still old mid → ((p : ℕ) → mapping_in mid.table p ≡ mapping_in old.table p) → Translates new after
+  stays_used still same =
+      translates_still old new st after c (tile_of (pages_of after) page) follows is_used s was is (touches.processors ∙ ap length still.images)
+      (λ p. ap (λ (t : Table). mapping_in t p) same_table ∙ same p)
+      (λ i within. image_used i (omega (arith, ap length still.images)) ∙ ap (λ (ts : List (List Tile)). touched_by (if i == c then tile_of (pages_of after) page else None) (slice_index_or ts i [])) still.images)
+      (ap (λ (k : Kept). k.promotions) touches.same ∙ still.promotions) (ap (λ (k : Kept). k.demotions) touches.same ∙ still.demotions)
+
+  pub retouches_used : Retouches old mid → Translates new after
+  retouches_used retouched =
+      translates_moved old new st after c (tile_of (pages_of after) page) follows is_used s was is (touches.processors ∙ retouched.processors)
+      (λ i within. image_used i (omega (arith, retouched.processors)) ∙ ap (touched_by (if i == c then tile_of (pages_of after) page else None)) (retouched.images i within ∙ ap (λ (t : Table). still_tiles (mapping_in t) (image_at old i)) (sym same_table)))
+      (ap (λ (k : Kept). k.promotions) touches.same ∙ retouched.promotions ∙ ap (λ (t : Table). counted_up old.promotions (promotions_between (mapping_in old.table) (mapping_in t))) (sym same_table))
+      (ap (λ (k : Kept). k.demotions) touches.same ∙ retouched.demotions ∙ ap (λ (t : Table). counted_up old.demotions (demotions_between (mapping_in old.table) (mapping_in t))) (sym same_table))
+
+-- the moves were counted, and the images keep what is a tile still
+pub retouched_by : (old new : Kept) (moves : Moves) → AreMoves old.table.pages new.table.pages moves → new.images ≡ map (still_tiles (mapping_in new.table)) old.images → new.promotions ≡ counted_up old.promotions moves.promotions → new.demotions ≡ counted_up old.demotions moves.demotions → Retouches old new
+retouched_by old new moves are images promotions demotions =
+    record {
+      processors = ap length images ∙ length-map old.images (still_tiles (mapping_in new.table));
+      images = λ c within. ap (λ (ts : List (List Tile)). slice_index_or ts c []) images ∙ get_or-map (still_tiles (mapping_in new.table)) old.images c [] [] within;
+      promotions = promotions ∙ ap (counted_up old.promotions) are.promotions;
+      demotions = demotions ∙ ap (counted_up old.demotions) are.demotions;
+    }
+
+-- What is said of a page after an entry.
+
+-- its dirty flag alone may have changed
+pub said_flag : (b d x : Bool) (o : Option ℕ) (r : Option Region) (rights : Rights) → mapping_with o r rights (if b then d else x) ≡ (if b then option_map (with_flag d) (mapping_with o r rights x) else mapping_with o r rights x)
+said_flag false d x o r rights = refl
+said_flag true d x None r rights = refl
+said_flag true d x (Some n) None rights = refl
+said_flag true d x (Some n) (Some r) rights = refl
+
+-- it may have given its frame up
+pub said_gone : (b d : Bool) (o : Option ℕ) (r : Option Region) (rights : Rights) → mapping_with (if b then None else o) r rights d ≡ (if b then None else mapping_with o r rights d)
+said_gone true d o r rights = refl
+said_gone false d o r rights = refl
+
+-- after its copy was written
+pub said_out : (b d : Bool) (o : Option ℕ) (r : Option Region) (rights : Rights) → mapping_with (if b then None else o) r rights (if b then false else d) ≡ (if b then None else mapping_with o r rights d)
+said_out true d o r rights = refl
+said_out false d o r rights = refl
+
+-- a page of which something is said has a region
+pub said_region : (o : Option ℕ) (r : Option Region) (rights : Rights) (d : Bool) (m : Mapping) → mapping_with o r rights d ≡ Some m → (q : Region) × (r ≡ Some q) × (m.region ≡ q.first)
+said_region None r rights d m h = absurd (none-some m h)
+said_region (Some n) None rights d m h = absurd (none-some m h)
+said_region (Some n) (Some q) rights d m h = (q, refl, ap (λ (x : Mapping). x.region) (sym (same_Some _ _ h)))
+
+-- it is what is kept of the page, where the page's frame, region, rights and flag are
+module _ (kept : Kept) (st : SpaceState) (p : ℕ) (regions : st.flat.regions ≡ kept.regions)
+    (rights : is_some (region_at kept.regions p) ≡ true → st.flat.rights p ≡ rights_at kept p)
+    (base : st.base p ≡ frame_at kept p) (dirty : (m : Mapping) → mapping_in kept.table p ≡ Some m → st.flat.dirty p ≡ dirty_at kept p) where
+  said_none : mapping_in kept.table p ≡ None → pages_of st p ≡ None
+  said_none none = ap (λ (o : Option ℕ). mapping_with o (region_at st.flat.regions p) (st.flat.rights p) (st.flat.dirty p)) (base ∙ frame-absent kept.table p none)
+
+  said_some : (m : Mapping) → mapping_in kept.table p ≡ Some m → IsMapped kept.regions kept.table p m → pages_of st p ≡ Some m
+  said_some m at is =
+      let region : region_at st.flat.regions p ≡ Some is.region = ap (λ rs. region_at rs p) regions ∙ is.at in
+      let right : st.flat.rights p ≡ m.rights = rights (ap is_some is.at) ∙ ap (rights_by (own_in kept.table p)) is.at ∙ sym is.rights in
+      let frame : st.base p ≡ Some m.frame = base ∙ frame-mapped kept.table p m at in
+      let flag : st.flat.dirty p ≡ m.dirty = dirty m at ∙ dirty-mapped kept.table p m at in
+      rw (frame, region, right, flag, ← is.first) refl
+
+  said_of : (o : Option Mapping) → mapping_in kept.table p ≡ o → ((m : Mapping) → mapping_in kept.table p ≡ Some m → IsMapped kept.regions kept.table p m) → pages_of st p ≡ o
+  said_of None at mapped = said_none at
+  said_of (Some m) at mapped = said_some m at (mapped m at)
+
+  pub pages_from : ((m : Mapping) → mapping_in kept.table p ≡ Some m → IsMapped kept.regions kept.table p m) → pages_of st p ≡ mapping_in kept.table p
+  pages_from mapped = said_of (mapping_in kept.table p) refl mapped
+
+-- the same is said of a page whose frame, region, rights and flag are the same
+pub said_same : (st after : SpaceState) (p : ℕ) → after.flat.regions ≡ st.flat.regions → after.flat.rights p ≡ st.flat.rights p → after.flat.dirty p ≡ st.flat.dirty p → after.base p ≡ st.base p → pages_of after p ≡ pages_of st p
+said_same st after p regions rights dirty base = rw (regions, rights, dirty, base) refl
+
+-- A tile comes to the front of its processor's image.
+pub touches_tile : (old : Kept) (c : ℕ) (t : Tile) → c < length old.images → Touches old (record old { images = slice_set old.images c (touched t (image_at old c)) }) c (Some t)
+touches_tile old c t within =
+    record {
+      same = refl;
+      processors = length-set old.images c (touched t (image_at old c));
+      images = λ i inside. elim (cases_eq i c) [
+        | inl e ↦ rw e (get_or-set_same old.images c (touched t (image_at old c)) [] within ∙ ap (λ (b : Bool). touched_by (if b then Some t else None) (image_at old c)) (sym (eq-eqb c c refl)))
+        | inr n ↦ get_or-set_other old.images c i (touched t (image_at old c)) [] n ∙ ap (λ (b : Bool). touched_by (if b then Some t else None) (image_at old i)) (sym (ne_eqb i c n))
+      ];
+    }
+
+-- and nothing becomes of the images where there is none
+pub touches_none : (old : Kept) (c : ℕ) → Touches old old c None
+touches_none old c = record { same = refl; processors = refl; images = λ i within. sym (untouched (i == c) (image_at old i)) }

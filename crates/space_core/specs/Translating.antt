@@ -1,0 +1,47 @@
+-- What becomes of a space's translations as its pages change and are used.
+use Rattle.std.specs.Prelude.{ℕ, ◌≡◌, ◌+◌, ◌<◌, ◌==◌, true, false, nat_lt, if◌then◌else◌, length, Option, Some, None}
+use Rattle.pager_model.specs.declared.region.Region.{Region}
+use Rattle.pager_model.specs.declared.tile.Tile.{Tile}
+use Rattle.pager_model.specs.Images.{still_tiles, touched_by}
+use Rattle.pager_model.specs.Regions.{region_at}
+use Rattle.pager_model.specs.SpaceStates.{last_count}
+use Rattle.pager_model.specs.Tiles.{promotions_between, demotions_between}
+use Rattle.space_core.specs.Pages.{Cleans}
+use Rattle.space_core.specs.Standing.{Kept, image_at, dirty_at, is_clearing}
+use Rattle.space_core.specs.Tables.{mapping_in}
+use Rattle.tiles.specs.Resident.{large_tiles_in}
+
+-- a count that stands still at its type's end
+abbrev pub counted_up : ℕ → ℕ → ℕ
+counted_up count by = if nat_lt (count + by) last_count then count + by else last_count
+
+-- The pages changed: each image keeps what is a tile still, and the moves are counted.
+pub record Retouches (old new : Kept) : Type 0 where
+  pub processors : length new.images ≡ length old.images
+  pub images : (c : ℕ) → c < length old.images → image_at new c ≡ still_tiles (mapping_in new.table) (image_at old c)
+  pub promotions : new.promotions ≡ counted_up old.promotions (promotions_between (mapping_in old.table) (mapping_in new.table))
+  pub demotions : new.demotions ≡ counted_up old.demotions (demotions_between (mapping_in old.table) (mapping_in new.table))
+
+-- nothing but the table of pages, the images and the counts of moves is changed
+abbrev pub ChangesPages : Kept → Kept → Type 0
+ChangesPages old new = new ≡ record old { table = new.table; images = new.images; promotions = new.promotions; demotions = new.demotions }
+
+-- The page is clean. Where it was dirty the moves of its tiles are counted, and else nothing changed.
+pub record CleansPage (old new : Kept) (page : ℕ) : Type 0 where
+  pub same : ChangesPages old new
+  pub table : Cleans page old.table new.table
+  pub retouched : dirty_at old page ≡ true → Retouches old new
+  pub as_it_was : dirty_at old page ≡ false → new ≡ old
+
+-- A processor used a tile, which comes to the front of its image, and nothing else changed.
+pub record Touches (old new : Kept) (processor : ℕ) (tile : Option Tile) : Type 0 where
+  pub same : new ≡ record old { images = new.images }
+  pub processors : length new.images ≡ length old.images
+  pub images : (c : ℕ) → c < length old.images → image_at new c ≡ touched_by (if c == processor then tile else None) (image_at old c)
+
+-- A region's clearing goes on, or begins: its tiles are counted then, and it is the region that is being unmapped.
+pub record BeginsClear (old new : Kept) (first len : ℕ) : Type 0 where
+  pub same : new ≡ record old { clearing = new.clearing; broken = new.broken }
+  pub begun : (r : Region) → region_at old.regions first ≡ Some r → new.clearing ≡ Some r
+  pub went_on : is_clearing old.clearing first ≡ true → new.broken ≡ old.broken
+  pub counted : is_clearing old.clearing first ≡ false → new.broken ≡ large_tiles_in first len (mapping_in old.table)
