@@ -20,10 +20,12 @@ pub record CanFly (spaces : ℕ) (call : Call) : Type 0 where
 abbrev pub all_left : Running → ℕ
 all_left run = sum_by (left_at run) (range_with_len 0 (length run.calls))
 
--- a space as a machine begins with it: without regions, over a store of which this was told and which has had so many faults
-pub record IsNew (frames number : ℕ) (told : Bool) (faults : ℕ) (kept : Kept) : Type 0 where
+-- a space as a machine begins with it: without regions, with an image for each of so many processors, over a store of which this was
+-- told and which has had so many faults
+pub record IsNew (frames processors number : ℕ) (told : Bool) (faults : ℕ) (kept : Kept) : Type 0 where
   pub number_is : kept.number ≡ number
   pub frames_are : kept.frames ≡ frames
+  pub processors_are : length kept.images ≡ processors
   pub resting : IsResting kept
   pub stands : StandsFor kept (empty_state told faults)
 
@@ -37,6 +39,12 @@ pub record IsFlying (run : Running) (spaces : List Kept) (c : ℕ) (f : Flight) 
   pub under : (s : ℕ) → space_under (row_of f).needs ≡ Some s → s < length spaces
   pub going : (row_of f).reply ≡ None
   pub keeps : (s : ℕ) (kept : Kept) → (row_of f).keeps ≡ Some s → slice_get spaces s ≡ Some kept → IsReady f kept (space_at run.given (entries_in run.history) s)
+
+-- a space has its number, the run's count of frames, and an image for each processor
+pub record IsSpaceOf (run : Running) (s : ℕ) (kept : Kept) : Type 0 where
+  pub number : kept.number ≡ s
+  pub frames : kept.frames ≡ run.given.frames
+  pub processors : length kept.images ≡ length run.calls
 
 -- Its parts are in the middle of a run.
 pub record IsMachine (run : Running) (spaces : List Kept) (pool : FrameState) (capacity : ℕ) : Type 0 where
@@ -52,8 +60,8 @@ pub record IsMachine (run : Running) (spaces : List Kept) (pool : FrameState) (c
   -- every call can be made
   pub calls : (c n : ℕ) (call : Call) → slice_get (calls_at run.calls c) n ≡ Some call → CanFly (length spaces) call
   pub flights : (c : ℕ) (f : Flight) → flight_at run.flights c ≡ Some f → IsFlying run spaces c f
-  -- a space has its number and its count of frames, and where no flight keeps it, it is at rest
-  pub numbers : (s : ℕ) (kept : Kept) → slice_get spaces s ≡ Some kept → (kept.number ≡ s) × (kept.frames ≡ run.given.frames)
+  pub spaces : (s : ℕ) (kept : Kept) → slice_get spaces s ≡ Some kept → IsSpaceOf run s kept
+  -- where no flight keeps a space, it is at rest
   pub rest : (s : ℕ) (kept : Kept) → slice_get spaces s ≡ Some kept → ((c : ℕ) (f : Flight) → flight_at run.flights c ≡ Some f → (row_of f).keeps ≢ Some s) → IsAtRest kept (space_at run.given (entries_in run.history) s)
   -- the history has room for what is left
   pub room : length run.history + all_left run ≤ capacity

@@ -62,6 +62,7 @@ pub record Makes (old new : Flight) (was now : Kept) (st : SpaceState) (before a
   pub same_call : SameCall old new
   pub same_space : now.number ≡ was.number
   pub same_count : now.frames ≡ was.frames
+  pub same_processors : length now.images ≡ length was.images
   pub processor : e.processor ≡ old.processor
   pub parts : NamesItsParts e
   pub own_space : IfSome e.space (λ s. s ≡ was.number)
@@ -81,6 +82,7 @@ pub record Passes (old new : Flight) (was now : Kept) (st : SpaceState) : Type 0
   pub same_call : SameCall old new
   pub same_space : now.number ≡ was.number
   pub same_count : now.frames ≡ was.frames
+  pub same_processors : length now.images ≡ length was.images
   pub same_frames : (page : ℕ) → frame_at now page ≡ frame_at was page
   pub keeps : (row_of new).keeps ≡ Some was.number
   pub ready : IsReady new now st

@@ -203,6 +203,7 @@ impl Flight {
     /// Does the next step under the lock of a space: makes one entry on it, or finds what the call needs next.
     pub fn step_space<S: Store + Send + Drop>(&mut self, space: &mut Space<S>) -> Option<Entry>
         requires needs { (row_of self.old).needs ≡ Needs.Space space.old.number }
+        requires image { self.old.processor < length space.old.images }
         requires ready { (st : SpaceState) × IsReady self.old space.old st }
         ensures entry { IfSome result (λ e. (st : SpaceState) (frames : FrameState) → IsReady self.old space.old st → Makes self.old self.new space.old space.new st frames frames e) }
         ensures none { IfNone result ((st : SpaceState) → IsReady self.old space.old st → Passes self.old self.new space.old space.new st) }
@@ -238,6 +239,7 @@ impl Flight {
         pool: &mut Pool,
     ) -> Option<Entry>
         requires needs { (row_of self.old).needs ≡ Needs.Both space.old.number }
+        requires image { self.old.processor < length space.old.images }
         requires ready { (st : SpaceState) × IsReady self.old space.old st }
         requires agree { AreAgreed space.old pool.old }
         requires owns { OwnsBy pool.old self.old.processor (row_of self.old).progress.doing }

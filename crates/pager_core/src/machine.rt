@@ -1,7 +1,8 @@
 ghost use Rattle.std.specs.Prelude.{◌≡◌, ◌≢◌, ℕ, ◌+◌, ◌*◌, ◌^◌, ◌<◌, ◌≤◌, ◌↔◌, Bool, [], ◌++◌, Some, None, IfOk, IfErr, IfSome, IfNone, IsTrue, length, map, drop, reverse, true, slice_get, vec_capacity, vec_len};
 ghost use Rattle.std.specs.List.{range_with_len};
 ghost use Rattle.pager_model.specs.Agreement.{OwnsBy};
-ghost use Rattle.pager_model.specs.FrameStates.{start_frames, free_count, reserved_count, used_count};
+ghost use Rattle.pager_model.specs.Counts.{counts, is_hit_in, is_miss_in};
+ghost use Rattle.pager_model.specs.FrameStates.{start_frames};
 ghost use Rattle.pager_model.specs.Laws.{KeepsLaws};
 ghost use Rattle.pager_model.specs.Legal.{entries_in, frames_at};
 ghost use Rattle.pager_model.specs.Settings.{is_told, faults_at_entry};
@@ -18,7 +19,7 @@ ghost use Rattle.store_core.specs.Stored.{Stored, TellsZero};
 
 use crate::flight::{Flight, Needs};
 use frame_pool::Pool;
-use pager_model::{Call, Entry, Line, NoMemory, Numbered, Setting, Summary, Trace};
+use pager_model::{Call, Entry, Line, NoMemory, Numbered, Setting, Summary, Trace, What};
 use space_core::Space;
 use std::alloc::Global;
 use std::marker::Model;
@@ -41,7 +42,6 @@ pub struct Gathered<S: Store + Send + Drop> {
     pub history: Vec<Numbered>,
     /// The stores that were handed in, in their order.
     pub stores: Vec<S>,
-    /// Of its counts those of frames and the preemptions are told for now, and the others are 0.
     pub summary: Summary,
 }
 
@@ -188,37 +188,36 @@ impl<S: Store + Send + Drop> Machine<S> {
         none_flies(self.flights.as_slice())
     }
 
-    /// The history of the whole run, the stores, and the counts of frames.
+    /// The history of the whole run, the stores, and the counts.
     pub fn finish(self) -> Gathered<S>
         requires { HasEnded self }
         ensures history { result.history.items ≡ self.history }
         ensures run { IsWholeRun self.given self.calls self.history }
         ensures stores { StoresEnd self.given self.history (map S.seen result.stores.items) }
         ensures unused { drop (length self.given.told) (map S.seen result.stores.items) ≡ self.unused }
-        ensures preemptions { result.summary.preemptions ≡ (frames_at self.given (entries_in self.history)).preemptions }
-        ensures free { result.summary.free ≡ free_count (frames_at self.given (entries_in self.history)) }
-        ensures reserved { result.summary.reserved ≡ reserved_count (frames_at self.given (entries_in self.history)) }
-        ensures used { result.summary.used ≡ used_count (frames_at self.given (entries_in self.history)) }
+        ensures summary { result.summary ≡ counts self.given (entries_in self.history) }
     {
-        let counts = self.pool.counts();
-        let preemptions = self.pool.preempted();
+        let frames = self.pool.counts();
+        let (promotions, demotions) = moves_of(self.spaces.as_slice());
+        let (hits, misses) = accesses_in(self.history.as_slice());
+        let summary = Summary {
+            tiles: tiles_of(self.spaces.as_slice()),
+            promotions,
+            demotions,
+            preemptions: self.pool.preempted(),
+            hits,
+            misses,
+            free: frames.free,
+            reserved: frames.reserved,
+            used: frames.used,
+        };
         let mut stores = self.stores;
         give_back(self.spaces, &mut stores);
         stores.reverse();
         Gathered {
             history: self.history,
             stores,
-            summary: Summary {
-                tiles: [0; 4],
-                promotions: 0,
-                demotions: 0,
-                preemptions,
-                hits: 0,
-                misses: 0,
-                free: counts.free,
-                reserved: counts.reserved,
-                used: counts.used,
-            },
+            summary,
         }
     }
 }
@@ -254,7 +253,7 @@ fn parts_of<S: Store + Send + Drop>(
     ensures history { IfOk result (λ p. (p.history.items ≡ []) × (8 * length trace.now.calls ≤ vec_capacity p.history)) }
     ensures count { IfOk result (λ p. length p.spaces.items ≡ trace.now.spaces) }
     ensures new { IfOk result (λ p. (s : ℕ) (kept : Kept) → slice_get p.spaces.items s ≡ Some kept
-        → IsNew trace.now.frames s (is_told p.setting s) (faults_at_entry p.setting s) kept) }
+        → IsNew trace.now.frames trace.now.processors s (is_told p.setting s) (faults_at_entry p.setting s) kept) }
     ensures capped { IfOk result (λ _. AreCapped trace.now.spaces (map S.seen (reverse stores.old.items))) }
 
     // The stores that no space uses are left, and for want of memory all are.
@@ -312,7 +311,7 @@ fn spaces_over<S: Store + Send + Drop>(
     requires enough { trace.now.spaces ≤ length stores.old.items }
     ensures count { IfOk result (λ spaces. length spaces.items ≡ trace.now.spaces) }
     ensures new { IfOk result (λ spaces. (s : ℕ) (kept : Kept) (told : Bool) → slice_get spaces.items s ≡ Some kept
-        → (told ≡ true → TellsZero kept.store) → IsNew trace.now.frames s told kept.store.faults kept) }
+        → (told ≡ true → TellsZero kept.store) → IsNew trace.now.frames trace.now.processors s told kept.store.faults kept) }
 
     // In their order, the stores are those of the spaces and those that are left.
     ensures stores { IfOk result (λ spaces. map S.seen (reverse stores.old.items) ≡ map (λ (k : Kept). k.store) spaces.items ++ map S.seen (reverse stores.new.items)) }
@@ -335,6 +334,52 @@ fn spaces_over<S: Store + Send + Drop>(
         }
     }
     Ok(spaces)
+}
+
+/// How many tiles of each size the spaces have.
+fn tiles_of<S: Store + Send + Drop>(spaces: &[Space<S>]) -> [u32; 4] {
+    let mut tiles = [0; 4];
+    for space in spaces {
+        let own = space.tile_counts();
+        tiles = [
+            tiles[0] + own[0],
+            tiles[1] + own[1],
+            tiles[2] + own[2],
+            tiles[3] + own[3],
+        ];
+    }
+    tiles
+}
+
+/// How many promotions and demotions the spaces had.
+fn moves_of<S: Store + Send + Drop>(spaces: &[Space<S>]) -> (u64, u64) {
+    let mut promotions = 0;
+    let mut demotions = 0;
+    for space in spaces {
+        let moves = space.moves();
+        promotions += moves.0;
+        demotions += moves.1;
+    }
+    (promotions, demotions)
+}
+
+/// How many accesses a history answers that hit, and that missed.
+fn accesses_in(history: &[Numbered]) -> (u64, u64) {
+    let mut hits = 0;
+    let mut misses = 0;
+    for numbered in history {
+        let What::Answer { answered, .. } = &numbered.entry.what else {
+            continue;
+        };
+        if answered.size.is_some() {
+            if answered.hit {
+                hits += 1;
+            } else {
+                misses += 1;
+            }
+        }
+    }
+    (hits, misses)
 }
 
 /// Puts the stores of the spaces behind these, the first space's last.
@@ -446,6 +491,7 @@ fn next_entry<S: Store + Send + Drop>(
 ) -> Entry
     requires going { (row_of flight.old).reply ≡ None }
     requires ready { (st : SpaceState) × IsReady flight.old space.old st }
+    requires image { flight.old.processor < length space.old.images }
     requires agree { AreAgreed space.old pool.old }
     requires owns { OwnsBy pool.old flight.old.processor (row_of flight.old).progress.doing }
     requires known { flight.old.processor < length pool.old.held }
@@ -467,6 +513,7 @@ fn step<S: Store + Send + Drop>(
 ) -> Option<Entry>
     requires going { (row_of flight.old).reply ≡ None }
     requires ready { (st : SpaceState) × IsReady flight.old space.old st }
+    requires image { flight.old.processor < length space.old.images }
     requires agree { AreAgreed space.old pool.old }
     requires owns { OwnsBy pool.old flight.old.processor (row_of flight.old).progress.doing }
     requires known { flight.old.processor < length pool.old.held }

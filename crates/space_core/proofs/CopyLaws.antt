@@ -184,7 +184,7 @@ module _ (st : SpaceState) (keeps : KeepsCopies st) (frames : Bool) (c number : 
       ]
 
   -- and after any
-  dirty_answered : (call : Call) (answered : Answered) → MayGoOn st.next c (Answer number call answered) → AnswerAllowed st frames c call answered → (p : ℕ) → (answered_flat st.flat call answered.reply).dirty p ≡ true → IsResident (base_after_answer st.base frames call) p
+  dirty_answered : (call : Call) (answered : Answered) → MayGoOn st.next c (Answer number call answered) → AnswerAllowed st frames c number call answered → (p : ℕ) → (answered_flat st.flat call answered.reply).dirty p ≡ true → IsResident (base_after_answer st.base frames call) p
   dirty_answered call answered may allowed p is =
       elim (answer_is st c call answered.reply allowed.reply) [
         | inl without ↦
