@@ -173,6 +173,10 @@ unwired_at regions page r at other = ap is_unwired at ∙ not_wired r.kind other
     not_wired Growing other = refl
     not_wired Wired other = absurd (other refl)
 
+-- a page of a wired region is not evicted
+pub evict_denied : (regions : List Region) (page : ℕ) (r : Region) → region_at regions page ≡ Some r → r.kind ≡ Wired → (dirty : Bool) → evict_reply (region_at regions page) dirty ≡ Denied
+evict_denied regions page r at wired dirty = ap (λ o. evict_reply o dirty) at ∙ ap (λ k. if is_wired k then Denied else (if dirty then Written else Clean)) wired
+
 -- nothing is done for a clean page
 saves_clean : (old : Kept) (page : ℕ) → dirty_at old page ≡ false → Saves old old page false
 saves_clean old page clean = record { was = clean; same = refl; wrote = λ e. absurd (false≢true e); left = λ _. refl; never_falls = omega arith }
