@@ -9,6 +9,7 @@ use Rattle.space_core.proofs.Refusing.{begins_refused}
 use Rattle.space_core.proofs.SameView.{same_regions}
 use Rattle.space_core.proofs.Syncing.{evicts_absent, begins_unwritten, begins_evicting, evict_denied, unwired_at}
 use Rattle.space_core.proofs.space.Space.begin_evict.Goals as goal
+use Rattle.space_core.proofs.space.Space.begin_evict.Goals.{in-Wired, in_default-matches}
 
 pub returns-in_default : goal.returns-in_default
 returns-in_default g c =
@@ -21,7 +22,7 @@ returns-then-matches g c =
     let found : region_at c.args.self.now.regions c.args.page ≡ Some c.in-Some.region = ap (λ (k : Kept). region_at k.regions c.args.page) (sym c.self.view_is) ∙ sym c.in-Some.ensures.value in
     elim c.match-matches.branch [
       | in-Wired w ↦ rw c.answered-then-matches.ensures (λ processor. begins_refused c.args.self.now processor (Evict c.args.self.now.number c.args.page) Denied c.requires.can c.requires.resting refl tt
-        (λ st s. ap (λ rs. evict_reply (region_at rs c.args.page) (st.flat.dirty c.args.page)) s.beside.regions ∙ evict_denied _ c.args.page c.in-Some.region found w.in-Wired (st.flat.dirty c.args.page)))
+        (λ st s. ap (λ rs. evict_reply (region_at rs c.args.page) (st.flat.dirty c.args.page)) s.beside.regions ∙ evict_denied _ c.args.page c.in-Some.region found w.in-Wired.is (st.flat.dirty c.args.page)))
       | in_default-matches w ↦ absurd (true≢false (sym c.if-matches.true ∙ w.matches-is))
     ]
 
