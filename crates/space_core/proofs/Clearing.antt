@@ -18,10 +18,10 @@ use Rattle.pager_model.specs.SpaceStates.{SpaceState, SpaceAllows, IsClearedAt, 
 use Rattle.region_table.specs.Table.{IsTable}
 use Rattle.space_core.specs.Beginning.{SameRegions, IsRange, ClearsOne, ClearsNone, Unmapped as IsUnmapped}
 use Rattle.space_core.specs.NewPages.{IsNew, done}
-use Rattle.space_core.specs.Pages.{Maps, Forgets, IsFirstResident}
-use Rattle.space_core.specs.Standing.{Kept, StandsBut, IsCopy, IsCopied, answer_entry, clear_entry, is_clearing, rights_by, is_page, is_settled, word_at}
+use Rattle.space_core.specs.Pages.{Maps, Forgets, IsFirstResident, NoneFrom}
+use Rattle.space_core.specs.Standing.{Kept, StandsBut, IsCopy, IsCopied, answer_entry, clear_entry, frame_at, is_clearing, rights_by, is_page, is_settled, word_at}
 use Rattle.space_core.specs.Tables.{Table, mapping_in, frame_in, own_in, dirty_in}
-use Rattle.space_core.specs.Translating.{counted_up}
+use Rattle.space_core.specs.Translating.{BeginsClear, counted_up}
 use Rattle.store_core.specs.Stored.{Stored, copy_at, zero_words, DropsCopies}
 use Rattle.space_core.proofs.Finding.{in_bounds, bounds_in, found_has, found_from, found_same, found_page, found_without}
 use Rattle.space_core.proofs.Serving.{kept, AreMapped, zero_at}
@@ -203,6 +203,77 @@ none_below t first len from end page before found p inside below =
       | inl l ↦ before p (in_bounds first len p inside).0 l
       | inr past ↦ found.lowest p past below
     ]
+
+-- A region's clearing goes on, or begins.
+module _ (old : Kept) (number : ℕ) (regions : List Region) (t : Table) (pending : Option ℕ) (is : Option Region) (paged : Option ℕ) (store : Stored) (images : List (List Tile)) (promotions demotions broken : ℕ)
+    (first len : ℕ) (begins : BeginsClear old (kept number regions t pending is paged store images promotions demotions broken) first len) (range : IsRange old first len) where
+  as_begun : old ≡ kept number regions t pending old.clearing paged store images promotions demotions old.broken
+  as_begun = ap (λ (k : Kept). record k { clearing = old.clearing; broken = old.broken }) (sym begins.same)
+
+  table_was : old.table ≡ t
+  table_was = ap (λ (k : Kept). k.table) as_begun
+
+  here : is ≡ Some range.region
+  here = begins.begun range.region range.at
+
+  counted_first : is_clearing old.clearing first ≡ false → broken ≡ large_tiles_in first len (mapping_in t)
+  counted_first off = begins.counted off ∙ ap (λ (u : Table). large_tiles_in first len (mapping_in u)) table_was
+
+  none_before : (from : ℕ) → ((p : ℕ) → first ≤ p → p < from → frame_at old p ≡ None) → (p : ℕ) → first ≤ p → p < from → frame_in t p ≡ None
+  none_before from before p low below = ap (λ (u : Table). frame_in u p) (sym table_was) ∙ before p low below
+
+  -- the lowest resident page gives its frame up
+  pub clears_page : (u : Table) (from page frame : ℕ) → first ≤ from → ((p : ℕ) → first ≤ p → p < from → frame_at old p ≡ None) → IsFirstResident t from (first + len) page
+      → Maps page None t u → frame_in t page ≡ Some frame
+      → ClearsOne old (kept number regions u pending is paged store images promotions demotions broken) first len page frame
+  clears_page u from page frame begun before found moves had =
+      let within = bounds_in first len page (omega (arith, begun, found.from_on)) found.before_end in
+      subst (λ (k : Kept). ClearsOne k (kept number regions u pending is paged store images promotions demotions broken) first len page frame) (sym as_begun)
+      (clears_one number regions t u pending old.clearing is paged store images promotions demotions old.broken broken first len page within moves frame
+      (ap (λ (o : Option Region). is_clearing o first) here ∙ eq-eqb range.region.first first range.first_is) begins.went_on counted_first had
+      (none_below t first len from (first + len) page (none_before from before) found))
+
+  -- and the clearing goes on behind it
+  pub scanned_from : (from end page : ℕ) → first ≤ from → ((p : ℕ) → first ≤ p → p < from → frame_at old p ≡ None) → IsFirstResident t from end page
+      → (r : Region) → is ≡ Some r → (r.first ≤ page) × ((q : ℕ) → r.first ≤ q → q < page → frame_in t q ≡ None)
+  scanned_from from end page begun before found r at =
+      let same : r.first ≡ first = ap (λ (x : Region). x.first) (same_Some _ _ (sym at ∙ here)) ∙ range.first_is in
+      (omega (arith, same, begun, found.from_on), λ q low below. elim (cases_lt q from) [
+        | inl l ↦ none_before from before q (omega (arith, same, low)) l
+        | inr past ↦ found.lowest q past below
+      ])
+
+  abbrev all_gone : Option ℕ → Option Region → Kept
+  all_gone o region = kept number regions t o region paged store (map (still_tiles (mapping_in t)) images) promotions (counted_up demotions broken) broken
+
+  -- no page is resident
+  pub clears_range : (from : ℕ) → old.pending ≡ None → IsTable regions → ((p : ℕ) → first ≤ p → p < from → frame_at old p ≡ None) → NoneFrom t from (first + len)
+      → ClearsNone old (all_gone pending is) first len
+  clears_range from none_pending ordered before none =
+      let r = range.region in
+      let at : region_at regions r.first ≡ Some r = ap (region_at regions) range.first_is ∙ ap (λ (k : Kept). region_at k.regions first) (sym as_begun) ∙ range.at in
+      let inside : (p : ℕ) → in_range r.first r.length p ≡ true → frame_in t p ≡ None = λ p h.
+      let b = in_bounds r.first r.length p h in
+      elim (cases_lt p from) [
+        | inl l ↦ none_before from before p (omega (arith, b.0, range.first_is)) l
+        | inr past ↦ none p past (omega (arith, b.1, range.first_is, range.length_is))
+      ] in
+      let empty : pending ≡ None = ap (λ (k : Kept). k.pending) (sym as_begun) ∙ none_pending in
+      let was : old ≡ kept number regions t None old.clearing paged store images promotions demotions old.broken =
+      as_begun ∙ ap (λ (o : Option ℕ). kept number regions t o old.clearing paged store images promotions demotions old.broken) empty in
+      let cleared : ClearsNone (kept number regions t None old.clearing paged store images promotions demotions old.broken) (all_gone None (Some r)) r.first r.length =
+      elim (cases_Bool (is_clearing old.clearing r.first)) [
+        | inl on ↦ clears_none number regions t old.clearing paged store images promotions demotions old.broken broken r ordered at inside on
+            (begins.went_on (ap (is_clearing old.clearing) (sym range.first_is) ∙ on))
+        | inr off ↦ clears_at_once number regions t old.clearing paged store images promotions demotions old.broken broken r ordered at inside off
+            (counted_first (ap (is_clearing old.clearing) (sym range.first_is) ∙ off)
+            ∙ ap (λ (n : ℕ). large_tiles_in n len (mapping_in t)) (sym range.first_is) ∙ ap (λ (n : ℕ). large_tiles_in r.first n (mapping_in t)) (sym range.length_is))
+      ] in
+      subst (λ (n : ℕ). ClearsNone old (all_gone pending is) first n) range.length_is
+      (subst (λ (n : ℕ). ClearsNone old (all_gone pending is) n r.length) range.first_is
+      (subst (λ (o : Option ℕ). ClearsNone old (all_gone o is) r.first r.length) (sym empty)
+      (subst (λ (o : Option Region). ClearsNone old (all_gone None o) r.first r.length) (sym here)
+      (subst (λ (k : Kept). ClearsNone k (all_gone None (Some r)) r.first r.length) (sym was) cleared))))
 
 -- A region goes after none of its pages is resident.
 module _ (number : ℕ) (regions : List Region) (t u : Table) (page : ℕ) (r : Region) (ordered : IsTable regions)

@@ -36,9 +36,6 @@ clean_only kept page none_clearing none_paged only =
     none_other None only p n = refl
     none_other (Some q) only p n = ne_eqb q p (λ e. n (sym e ∙ only q refl))
 
-pub clean_unbehind : (kept : Kept) (page : ℕ) → dirty_at kept page ≡ false → is_behind kept page ≡ false
-clean_unbehind kept page clean = ap (λ d. d && not (is_page page kept.paged)) clean
-
 pub evicting_only : (kept : Kept) (page : ℕ) → IsEvicting kept page → IsOnly kept page
 evicting_only kept page is =
     record {

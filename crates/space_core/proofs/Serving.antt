@@ -242,6 +242,12 @@ cleaned_kept regions t u p clearing scan page k cleans =
     kept_again regions t u p clearing scan k cleans.same (λ q none. cleans_frame page t u cleans q ∙ none) (λ q clean. cleans_dirty page t u cleans q ∙ left_or (q == page) false (dirty_in t q) (λ _. clean))
     (mapped_flagged regions t u cleans.same (λ q. q == page) false cleans.mapping k.mapped)
 
+-- or is stored to
+pub stored_kept : (regions : List Region) (t u : Table) (p : Option ℕ) (clearing : Option Region) (scan page index word : ℕ) → IsKept regions t p clearing scan → Writes page index word t u → p ≡ None → IsKept regions u p clearing scan
+stored_kept regions t u p clearing scan page index word k writes none =
+    subst (λ (o : Option ℕ). IsKept regions u o clearing scan) (sym none)
+    (same_kept regions t u p clearing scan k writes.same (writes_frame page index word t u writes) (mapped_flagged regions t u writes.same (λ q. q == page) true writes.mapping k.mapped))
+
 -- and one may give its frame up
 gone_mapped : (regions : List Region) (t u : Table) (page : ℕ) → Maps page None t u → AreMapped regions t → AreMapped regions u
 gone_mapped regions t u page maps mapped = mapped_but regions t u page None maps mapped (λ m e. absurd (none-some m e))

@@ -1,10 +1,11 @@
 -- What becomes of what a space and a state have in common of translations, as pages change and tiles are used.
-use Rattle.std.proofs.Common.{◌≡◌, ◌≢◌, ℕ, zero, suc, ◌+◌, ◌*◌, ◌^◌, ◌<◌, ◌≤◌, Bool, true, false, ◌&&◌, ◌==◌, not, nat_lt, if◌then◌else◌, List, [], ◌∷◌, filter, take, map, length, slice_index_or, slice_set, Option, Some, None, is_some, option_map, refl, sym, ap, inl, inr, ◌∙◌, ◌⊎◌, arith}
+use Rattle.std.proofs.Common.{◌≡◌, ◌≢◌, ℕ, zero, suc, ◌+◌, ◌*◌, ◌^◌, ◌<◌, ◌≤◌, Bool, true, false, ◌&&◌, ◌==◌, not, nat_lt, min, if◌then◌else◌, List, [], ◌∷◌, filter, take, map, length, slice_index_or, slice_set, Option, Some, None, is_some, option_map, refl, sym, ap, inl, inr, ◌∙◌, ◌⊎◌, arith}
 use Rattle.std.specs.List.{list_all}
 use Rattle.std.proofs.lemmas.Bool.{cases_Bool, cases_eq, cases_lt, and_parts, cond-true, cond-false, eq-eqb, ne_eqb}
 use Rattle.std.proofs.lemmas.Bool.Decides.{nat_tests}
 use Rattle.std.proofs.lemmas.List.{get_or-map, length-map, get_or-set_same, get_or-set_other, length-set}
 use Rattle.std.proofs.lemmas.Option.{none-some, same_Some}
+use Rattle.std.proofs.Math.Nat.{min-eq_left, min-eq_right}
 use Rattle.pager_model.specs.declared.region.Region.{Region}
 use Rattle.pager_model.specs.declared.region.Rights.{Rights}
 use Rattle.pager_model.specs.declared.tile.Mapping.{Mapping}
@@ -96,6 +97,14 @@ counted_to : (last kept count by : ℕ) → (count ≤ last → kept ≡ count) 
 counted_to last kept count by same within =
     let is = same (omega arith) in
     rw is (elim (cases_lt (count + by) last) [ inl l ↦ grind (arith, nat_tests) | inr past ↦ grind (arith, nat_tests) ])
+
+-- and that is how a sum is cut at its type's end
+pub saturated : (count by : ℕ) → min (count + by) last_count ≡ counted_up count by
+saturated count by =
+    elim (cases_lt (count + by) last_count) [
+      | inl l ↦ let is : counted_up count by ≡ count + by = grind (arith, nat_tests) in min-eq_left (omega arith) ∙ sym is
+      | inr past ↦ let is : counted_up count by ≡ last_count = grind (arith, nat_tests) in min-eq_right past ∙ sym is
+    ]
 
 -- a count to which nothing is added
 same_count : (last kept count total by : ℕ) → by ≡ 0 → (count ≤ last → kept ≡ count) → total ≡ count + by → total ≤ last → kept ≡ total

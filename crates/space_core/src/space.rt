@@ -309,6 +309,7 @@ impl<S: Store + Send + Drop> Space<S> {
     fn begin_clearing(&mut self, first: u32, length: u32) -> u32
         requires range { IsRange self.old first length }
         requires none_pending { self.old.pending ≡ None }
+        ensures in_space { first + length ≤ 1048576 }
         ensures begun { first ≤ result }
         ensures done { (p : ℕ) → first ≤ p → p < result → frame_at self.old p ≡ None }
         ensures counts { BeginsClear self.old self.new first length }

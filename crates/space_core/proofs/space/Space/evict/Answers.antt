@@ -19,4 +19,4 @@ returns g c =
     })
     (ap (λ (k : Kept). k.store) e.same) e.taken e.maps
     (record { processors = e.retouched.processors; images = e.retouched.images; promotions = e.retouched.promotions; demotions = e.retouched.demotions })
-    (evicting_unbehind _ c.args.page r) c.is_dirty.result (rw (← c.self.view_is) at sym c.is_dirty.ensures.dirty) r.unwired)
+    (evicting_unbehind _ c.args.page r) c.is_dirty.result (sym c.is_dirty.ensures.dirty) r.unwired)

@@ -1,7 +1,7 @@
-use Rattle.std.proofs.Common.{◌∙◌, ap, refl}
-use Rattle.space_core.specs.Standing.{Kept}
+use Rattle.std.proofs.Common.{◌∙◌, ◌&&◌, not, ap, refl}
+use Rattle.space_core.specs.Standing.{Kept, is_page}
 use Rattle.space_core.proofs.SameView.{same_regions}
-use Rattle.space_core.proofs.GivingUp.{removes, clean_only, clean_unbehind}
+use Rattle.space_core.proofs.GivingUp.{removes, clean_only}
 use Rattle.space_core.proofs.space.Space.remove.Goals as goal
 
 pub returns : goal.returns
@@ -21,4 +21,4 @@ returns g c =
     })
     (ap (λ (k : Kept). k.store) e.same) e.taken e.maps
     (record { processors = e.retouched.processors; images = e.retouched.images; promotions = e.retouched.promotions; demotions = e.retouched.demotions })
-    (clean_unbehind _ c.args.page clean) clean none_paged)
+    (ap (λ d. d && not (is_page c.args.page c.self.inside.paged)) clean) clean none_paged)

@@ -1,0 +1,12 @@
+use Rattle.std.proofs.Common.{refl}
+use Rattle.space_core.proofs.Serving.{gone_kept}
+use Rattle.space_core.proofs.Translating.{retouched_by}
+use Rattle.space_core.proofs.space.Space.take.Goals as goal
+
+pub invariant_of-self : goal.invariant_of-self
+invariant_of-self g c = gone_kept c.self.inside.regions c.self.inside.table c.take.new.self _ _ _ c.args.page c.self.invariant c.take.ensures.after
+
+pub returns-clause-retouched : goal.returns-clause-retouched
+returns-clause-retouched g c =
+    rw (c.retouch.ensures, ← c.self.view_is)
+    (retouched_by _ _ c.in-Some.moves c.in-Some.ensures.some.1 refl refl refl)
