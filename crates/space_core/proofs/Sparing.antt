@@ -33,11 +33,12 @@ popped spare rest frame lowest ends =
     }
 
 -- all frames are spare for a space that has begun
-pub all_spare : (s : Kept) (spare : List Framed) (n : ℕ) → spare ≡ map zero_frame (range_with_len 0 n) → s.frames ≡ n → IsResting s → StandsFor s (empty_state false s.store.faults) → HasSpare s spare
-all_spare s spare n frames count resting stands =
+pub all_spare : (s : Kept) (spare : List Framed) (n : ℕ) → spare ≡ map zero_frame (range_with_len 0 n) → s.frames ≡ n → 0 < length s.images → IsResting s → StandsFor s (empty_state false s.store.faults) → HasSpare s spare
+all_spare s spare n frames count processor resting stands =
     let few : length spare ≡ n = ap length frames ∙ length-map-range_with_len zero_frame 0 n in
     record {
       resting = resting;
+      processor = processor;
       state = empty_state false s.store.faults;
       stands = stands;
       lowest = frames ∙ ap (λ (k : ℕ). map zero_frame (range_with_len 0 k)) (sym few);
@@ -48,12 +49,12 @@ all_spare s spare n frames count resting stands =
 -- the frames that are left are spare
 pub rest_spare : (kept : Kept) (spare rest : List Framed) (frame : Framed) → IsPopped spare rest frame → HasSpare kept spare → HasSpare kept rest
 rest_spare kept spare rest frame last had =
-    record { resting = had.resting; state = had.state; stands = had.stands; lowest = last.lowest; few = omega (arith, last, had.few); apart = λ p number has. omega (arith, last, had.apart p number has) }
+    record { resting = had.resting; processor = had.processor; state = had.state; stands = had.stands; lowest = last.lowest; few = omega (arith, last, had.few); apart = λ p number has. omega (arith, last, had.apart p number has) }
 
 -- frames are still spare where no page has another
-pub still_spare : (old new : Kept) (spare : List Framed) (state : SpaceState) → IsResting new → StandsFor new state → new.frames ≡ old.frames → ((p number : ℕ) → frame_at new p ≡ Some number → frame_at old p ≡ Some number) → HasSpare old spare → HasSpare new spare
-still_spare old new spare state resting stands count kept had =
-    record { resting = resting; state = state; stands = stands; lowest = had.lowest; few = omega (arith, had.few, count); apart = λ p number has. had.apart p number (kept p number has) }
+pub still_spare : (old new : Kept) (spare : List Framed) (state : SpaceState) → IsResting new → StandsFor new state → new.frames ≡ old.frames → length new.images ≡ length old.images → ((p number : ℕ) → frame_at new p ≡ Some number → frame_at old p ≡ Some number) → HasSpare old spare → HasSpare new spare
+still_spare old new spare state resting stands count processors kept had =
+    record { resting = resting; processor = omega (arith, processors, had.processor); state = state; stands = stands; lowest = had.lowest; few = omega (arith, had.few, count); apart = λ p number has. had.apart p number (kept p number has) }
 
 -- a page that gives its frame up has none of them
 pub kept_others : (old new : Kept) (page frame : ℕ) → GaveUp old new page frame → (p number : ℕ) → frame_at new p ≡ Some number → frame_at old p ≡ Some number
@@ -64,6 +65,7 @@ kept_others old new page frame gave p number has =
 pub record ClearsBut (first len : ℕ) (old new : Kept) : Type 0 where
   pub same_number : new.number ≡ old.number
   pub same_frames : new.frames ≡ old.frames
+  pub same_processors : length new.images ≡ length old.images
   pub none_pending : new.pending ≡ None
   pub none_paged : new.paged ≡ None
   pub stands : (st : SpaceState) → StandsFor old st → StandsBut first len new st
@@ -74,6 +76,7 @@ clears_one_more first len page frame old mid new so_far one =
     record {
       same_number = one.gave.same.number ∙ so_far.same_number;
       same_frames = one.gave.same.frames ∙ so_far.same_frames;
+      same_processors = one.gave.same.processors ∙ so_far.same_processors;
       none_pending = one.same_pending ∙ so_far.none_pending;
       none_paged = one.same_paged ∙ so_far.none_paged;
       stands = λ st stands. one.stands st (so_far.stands st stands);
@@ -98,4 +101,5 @@ pub spare_unmapped : (first len : ℕ) (old mid cleared new : Kept) (a : Answere
 spare_unmapped first len old mid cleared new a spare so_far none unmapped had =
     let stands = unmapped.stands _ (none.stands _ 0 (so_far.stands had.state had.stands)) 0 0 in
     still_spare old new spare _ unmapped.resting stands (unmapped.same_frames ∙ none.same.same.frames ∙ so_far.same_frames)
+    (unmapped.same_processors ∙ none.same.same.processors ∙ so_far.same_processors)
     (λ p number has. sym (had.stands.base p) ∙ left_base (in_range first len p) (had.state.base p) number (stands.base p ∙ has)) had

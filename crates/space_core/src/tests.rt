@@ -1,4 +1,4 @@
-ghost use Rattle.std.specs.Prelude.{◌≡◌, ◌<◌, ◌≤◌, ◌*◌, ◌^◌, ◌%◌, List, true, IfOk, OnOk};
+ghost use Rattle.std.specs.Prelude.{◌≡◌, ◌<◌, ◌≤◌, ◌*◌, ◌^◌, ◌%◌, List, length, true, IfOk, OnOk};
 ghost use Rattle.pager_model.specs.Flat.{space_of_call};
 ghost use Rattle.pager_model.specs.Frame.{Framed};
 ghost use Rattle.pager_model.specs.TraceText.{IsCall};
@@ -90,7 +90,7 @@ fn evict(page: u32) -> Call
 /// A space over a store in memory that fails at no read and no write.
 fn space_of(alloc: Global, number: u32, frames: u32) -> Result<Space<MemoryStore>, Fail>
     requires { frames ≤ 32768 }
-    ensures { IfOk result (λ s. (s.number ≡ number) × IsResting s) }
+    ensures { IfOk result (λ s. (s.number ≡ number) × (0 < length s.images) × IsResting s) }
 {
     let store = MemoryStore::of(alloc, Vec::new(alloc), Vec::new(alloc));
     match Space::create(alloc, number, frames, 1, store) {
@@ -121,9 +121,11 @@ fn begun(
 /// The reply to a call that needs no frame and no clearing, and `None` where it needs one or its store fails.
 fn ask(space: &mut Space<MemoryStore>, call: &Call) -> Option<Reply>
     requires space { space_of_call call.now ≡ space.old.number }
+    requires processor { 0 < length space.old.images }
     requires resting { IsResting space.old }
     requires can { CanBegin call.now }
     ensures number { space.new.number ≡ space.old.number }
+    ensures processor { 0 < length space.new.images }
     ensures resting { IsResting space.new }
 {
     match space.begin(0, call) {

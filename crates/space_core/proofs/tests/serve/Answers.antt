@@ -1,4 +1,4 @@
-use Rattle.std.proofs.Common.{◌≡◌, ℕ, sym, ap, ◌∙◌, arith, inl, inr}
+use Rattle.std.proofs.Common.{◌≡◌, ℕ, length, sym, ap, ◌∙◌, arith, inl, inr}
 use Rattle.std.proofs.lemmas.Bool.{cases_eq}
 use Rattle.std.proofs.lemmas.Option.{none-some, same_Some}
 use Rattle.space_core.specs.Standing.{Kept, StandsFor, frame_at}
@@ -22,7 +22,7 @@ returns-in-Answered-clause-spare c =
     let spare = c.requires.spare in
     let answered = c.in-Answered.ensures in
     let stands = answered.answers.stands spare.state spare.stands 0 in
-    still_spare _ _ _ _ answered.resting stands answered.same_frames (λ p number has. sym (spare.stands.base p) ∙ sym (same_base spare.state.base c.args.call.now p) ∙ stands.base p ∙ has) spare
+    still_spare _ _ _ _ answered.resting stands answered.same_frames answered.same_processors (λ p number has. sym (spare.stands.base p) ∙ sym (same_base spare.state.base c.args.call.now p) ∙ stands.base p ∙ has) spare
 
 pub returns-in-Ok-clause-spare : goal.returns-in-Ok-clause-spare
 returns-in-Ok-clause-spare c =
@@ -35,6 +35,7 @@ returns-in-Ok-clause-spare c =
     let same : (p : ℕ) → frame_at c.finish.new.self p ≡ frame_at c.place.new.self p = λ p. c.finish.ensures.same.frame p ∙ read.same.frame p in
     record {
       resting = c.finish.ensures.resting;
+      processor = omega (arith, spare.processor, c.finish.ensures.same.same.processors, read.same.same.processors, c.place.ensures.same.processors, ap (λ (k : Kept). length k.images) begun);
       state = _;
       stands = c.finish.ensures.answers.stands _ (read.stands _ placed) 0;
       lowest = last.lowest;
@@ -56,6 +57,7 @@ returns-in-Err-clause-spare c =
     let gave = c.remove.ensures.gave in
     still_spare c.args.space.now _ _ _ c.remove.ensures.resting (c.remove.ensures.stands _ (failed.stands _ placed 0) 0)
     (gave.same.frames ∙ failed.same.same.frames ∙ c.place.ensures.same.frames ∙ ap (λ (k : Kept). k.frames) begun)
+    (gave.same.processors ∙ failed.same.same.processors ∙ c.place.ensures.same.processors ∙ ap (λ (k : Kept). length k.images) begun)
     (λ p number has. elim (cases_eq p c.in-NeedsFrame.page) [
       | inl e ↦ absurd (none-some number (sym gave.gone ∙ ap (frame_at c.remove.new.self) (sym e) ∙ has))
       | inr n ↦ sym (gave.same_others p n ∙ failed.same.frame p ∙ c.place.ensures.same_others p n ∙ ap (λ (k : Kept). frame_at k p) begun) ∙ has
@@ -67,6 +69,6 @@ returns-in-NeedsEvict-clause-spare c =
     let spare = c.requires.spare in
     let begun = c.in-NeedsEvict.ensures in
     let evicted = c.evict-frame.ensures in
-    still_spare c.args.space.now _ _ _ evicted.resting (evicted.stands _ (begun.stands spare.state spare.stands) 0 0) (evicted.gave.same.frames ∙ begun.same.same.frames)
+    still_spare c.args.space.now _ _ _ evicted.resting (evicted.stands _ (begun.stands spare.state spare.stands) 0 0) (evicted.gave.same.frames ∙ begun.same.same.frames) (evicted.gave.same.processors ∙ begun.same.same.processors)
     (λ p number has. sym (begun.same.frame p) ∙ kept_others _ _ _ _ evicted.gave p number has)
     spare
