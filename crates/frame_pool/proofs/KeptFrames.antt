@@ -14,6 +14,7 @@ use Rattle.frame_pool.proofs.Partition.{IsPartition-sound}
 KeepsFrames-sound : (frames processors : ℕ) (st : FrameState) → IsSound frames processors st → KeepsFrames frames st
 KeepsFrames-sound frames processors st sound = record {
   partition = IsPartition-sound frames processors st sound;
+  named = λ id r is. (sound.laid.placed id r is).named;
   used = λ id r is. let some = sound.laid.some_used id r is in record { frame = some.0; place = some.1; used = some.2 };
   apart = sound.laid.one_cover;
   ages = sound.ages_differ;

@@ -1,5 +1,5 @@
 -- Steps that answer a flight's call.
-use Rattle.std.proofs.Common.{◌≡◌, ℕ, ◌+◌, ◌<◌, Bool, true, false, eqb, ◌&&◌, is_some, List, [], ◌∷◌, Some, None, refl, ap, sym, subst, ◌∙◌, inl, inr, arith}
+use Rattle.std.proofs.Common.{◌≡◌, ℕ, ◌+◌, ◌<◌, Bool, true, false, eqb, ◌&&◌, is_some, List, [], ◌∷◌, length, Some, None, refl, ap, sym, subst, ◌∙◌, inl, inr, arith}
 use Rattle.std.specs.List.{find}
 use Rattle.std.proofs.lemmas.Bool.{cases_Bool, cond-true, cond-false, and_from, eq-eqb, false≢true}
 use Rattle.pager_model.specs.declared.call.Call.{Call}
@@ -41,7 +41,7 @@ ending f a named = record { processor = f.processor; space = Some (space_of_call
 -- An answer ends its flight: one that the space allows and then stands for, and that may come where the flight is.
 module _ (f : Flight) (a : Answered) (was now : Kept) (st : SpaceState) where
   pub Makes-ending :
-      (named : Bool) → CanBegin f.call → space_of_call f.call ≡ was.number → now.number ≡ was.number → now.frames ≡ was.frames → IsResting now
+      (named : Bool) → CanBegin f.call → space_of_call f.call ≡ was.number → now.number ≡ was.number → now.frames ≡ was.frames → length now.images ≡ length was.images → IsResting now
       → MayGoOn st.next f.processor (Answer f.number f.call a)
       → WhatAllowed st named f.processor (Answer f.number f.call a)
       → StandsFor now (space_after st (ending f a named))
@@ -51,10 +51,11 @@ module _ (f : Flight) (a : Answered) (was now : Kept) (st : SpaceState) where
       → (before after : FrameState) → (named ≡ true → FramesAllow before 0 f.processor (Some (space_of_call f.call)) (Answer f.number f.call a))
       → after ≡ after_frames before (ending f a named)
       → Makes f (in_phase f (Ended a.reply)) was now st before after (ending f a named)
-  Makes-ending named can on same_number same_frames resting goes_on allowed stands made may some before after frames_allow frames_after = record {
+  Makes-ending named can on same_number same_frames same_processors resting goes_on allowed stands made may some before after frames_allow frames_after = record {
     same_call = record { processor = refl; number = refl; call = refl };
     same_space = same_number;
     same_count = same_frames;
+    same_processors = same_processors;
     processor = refl;
     parts = refl;
     own_space = on;
@@ -77,7 +78,7 @@ module _ (f : Flight) (a : Answered) (was now : Kept) (st : SpaceState) where
 
   -- one that leaves the frames alone
   pub Makes-answer :
-      CanBegin f.call → space_of_call f.call ≡ was.number → now.number ≡ was.number → now.frames ≡ was.frames → IsResting now
+      CanBegin f.call → space_of_call f.call ≡ was.number → now.number ≡ was.number → now.frames ≡ was.frames → length now.images ≡ length was.images → IsResting now
       → MayGoOn st.next f.processor (Answer f.number f.call a)
       → WhatAllowed st false f.processor (Answer f.number f.call a)
       → StandsFor now (space_after st (answer_entry f.processor f.number f.call a))
@@ -85,18 +86,18 @@ module _ (f : Flight) (a : Answered) (was now : Kept) (st : SpaceState) where
       → may_answer (row_of f).progress.doing f.call a.reply ≡ true
       → 0 < (row_of f).entries
       → (frames : FrameState) → Makes f (in_phase f (Ended a.reply)) was now st frames frames (answer_entry f.processor f.number f.call a)
-  Makes-answer can on same_number same_frames resting goes_on allowed stands made may some frames =
-      Makes-ending false can on same_number same_frames resting goes_on allowed stands made may some frames frames (λ is. absurd (false≢true is)) refl
+  Makes-answer can on same_number same_frames same_processors resting goes_on allowed stands made may some frames =
+      Makes-ending false can on same_number same_frames same_processors resting goes_on allowed stands made may some frames frames (λ is. absurd (false≢true is)) refl
 
 -- Start: the call is answered at once
-Makes-begin : (f : Flight) (a : Answered) (was now : Kept) (st : SpaceState) → IsReady (in_phase f Start) was st → BeginsAnswered was now f.call a → (frames : FrameState) → Makes (in_phase f Start) (in_phase f (Ended a.reply)) was now st frames frames (answer_entry f.processor f.number f.call a)
+Makes-begin : (f : Flight) (a : Answered) (was now : Kept) (st : SpaceState) → IsReady (in_phase f Start) was st → BeginsAnswered was now f.processor f.call a → (frames : FrameState) → Makes (in_phase f Start) (in_phase f (Ended a.reply)) was now st frames frames (answer_entry f.processor f.number f.call a)
 Makes-begin f a was now st ready begins =
-    Makes-answer (in_phase f Start) a was now st ready.fits.can (Some-same _ _ ready.under) begins.same_number begins.same_frames begins.resting
+    Makes-answer (in_phase f Start) a was now st ready.fits.can (Some-same _ _ ready.under) begins.same_number begins.same_frames begins.same_processors begins.resting
     (subst (λ next. MayGoOn next f.processor (Answer f.number f.call a)) (sym ready.next) tt)
-    (begins.answers.allowed st ready.stands f.processor f.number) (begins.answers.stands st ready.stands f.processor f.number)
+    (begins.answers.allowed st ready.stands f.number) (begins.answers.stands st ready.stands f.number)
     refl begins.alone (omega arith)
 
-pub start_answered : (f : Flight) (a : Answered) (was now : Kept) → f.phase ≡ Start → BeginsAnswered was now f.call a → (st : SpaceState) (frames : FrameState) → IsReady f was st → Makes f (in_phase f (Ended a.reply)) was now st frames frames (answer_entry f.processor f.number f.call a)
+pub start_answered : (f : Flight) (a : Answered) (was now : Kept) → f.phase ≡ Start → BeginsAnswered was now f.processor f.call a → (st : SpaceState) (frames : FrameState) → IsReady f was st → Makes f (in_phase f (Ended a.reply)) was now st frames frames (answer_entry f.processor f.number f.call a)
 start_answered f a was now phase begins st frames =
     by_phase f Start phase (λ g. IsReady g was st → Makes g (in_phase f (Ended a.reply)) was now st frames frames (answer_entry f.processor f.number f.call a))
     (λ ready. Makes-begin f a was now st ready begins frames)
@@ -123,7 +124,7 @@ Makes-unmap f s page first len a was now st call ready unmapped =
     let own : f.call ≡ Unmap was.number page = call ∙ ap (λ n. Unmap n page) (sym (ap space_of_call call) ∙ Some-same _ _ ready.under) in
     let within : in_range first len page ≡ true = sym (ap (λ n. in_range n r.length page) is.first_is ∙ ap (λ n. in_range first n page) is.length_is) ∙ region_at-has was.regions page r at in
     let next : st.next ≡ Unmaps f.processor r.first r.length = ready.next ∙ sym (ap (λ n. Unmaps f.processor n r.length) is.first_is ∙ ap (Unmaps f.processor first) is.length_is) in
-    Makes-answer (in_phase f (Gone first len)) a was now st ready.fits.can (Some-same _ _ ready.under) unmapped.same_number unmapped.same_frames unmapped.resting
+    Makes-answer (in_phase f (Gone first len)) a was now st ready.fits.can (Some-same _ _ ready.under) unmapped.same_number unmapped.same_frames unmapped.same_processors unmapped.resting
     (subst (λ next. MayGoOn next f.processor (Answer f.number f.call a)) (sym ready.next)
     (refl, subst (λ k. IsUnmapOf first len k a.reply) (sym own) (subst (IsUnmapOf first len (Unmap was.number page)) (sym unmapped.done) within)))
     (subst (λ k. WhatAllowed st false f.processor (Answer f.number k a)) (sym own) (unmapped.allowed st ready.stands f.processor f.number r at next))
@@ -175,27 +176,27 @@ alone_plain (Store space address word) reply is alone = alone
 alone_plain call reply is alone = absurd (false≢true is)
 
 -- Late: the access is answered, as it would be if it began now
-Makes-late : (f : Flight) (a : Answered) (was now : Kept) (st : SpaceState) → IsReady (in_phase f Late) was st → BeginsAnswered was now f.call a → (frames : FrameState) → Makes (in_phase f Late) (in_phase f (Ended a.reply)) was now st frames frames (answer_entry f.processor f.number f.call a)
+Makes-late : (f : Flight) (a : Answered) (was now : Kept) (st : SpaceState) → IsReady (in_phase f Late) was st → BeginsAnswered was now f.processor f.call a → (frames : FrameState) → Makes (in_phase f Late) (in_phase f (Ended a.reply)) was now st frames frames (answer_entry f.processor f.number f.call a)
 Makes-late f a was now st ready begins =
-    Makes-answer (in_phase f Late) a was now st ready.fits.can (Some-same _ _ ready.under) begins.same_number begins.same_frames begins.resting
+    Makes-answer (in_phase f Late) a was now st ready.fits.can (Some-same _ _ ready.under) begins.same_number begins.same_frames begins.same_processors begins.resting
     (subst (λ next. MayGoOn next f.processor (Answer f.number f.call a)) (sym ready.next) tt)
-    (begins.answers.allowed st ready.stands f.processor f.number) (begins.answers.stands st ready.stands f.processor f.number)
+    (begins.answers.allowed st ready.stands f.number) (begins.answers.stands st ready.stands f.number)
     refl (and_from _ _ (is_access_of f.call f.claimed ready.fits.phase) (alone_plain f.call a.reply ready.fits.phase begins.alone)) (omega arith)
 
-pub late_answered : (f : Flight) (a : Answered) (was now : Kept) → f.phase ≡ Late → BeginsAnswered was now f.call a → (st : SpaceState) (frames : FrameState) → IsReady f was st → Makes f (in_phase f (Ended a.reply)) was now st frames frames (answer_entry f.processor f.number f.call a)
+pub late_answered : (f : Flight) (a : Answered) (was now : Kept) → f.phase ≡ Late → BeginsAnswered was now f.processor f.call a → (st : SpaceState) (frames : FrameState) → IsReady f was st → Makes f (in_phase f (Ended a.reply)) was now st frames frames (answer_entry f.processor f.number f.call a)
 late_answered f a was now phase begins st frames =
     by_phase f Late phase (λ g. IsReady g was st → Makes g (in_phase f (Ended a.reply)) was now st frames frames (answer_entry f.processor f.number f.call a))
     (λ ready. Makes-late f a was now st ready begins frames)
 
 -- Fill: the access is served
-Makes-fill : (f : Flight) (page frame : ℕ) (a : Answered) (was mid now : Kept) (st : SpaceState) → IsReady (in_phase f (Fill page frame)) was st → ReadsIn was mid → Finishes mid now f.call a → (frames : FrameState) → Makes (in_phase f (Fill page frame)) (in_phase f (Ended a.reply)) was now st frames frames (answer_entry f.processor f.number f.call a)
+Makes-fill : (f : Flight) (page frame : ℕ) (a : Answered) (was mid now : Kept) (st : SpaceState) → IsReady (in_phase f (Fill page frame)) was st → ReadsIn was mid → Finishes mid now f.processor f.call a → (frames : FrameState) → Makes (in_phase f (Fill page frame)) (in_phase f (Ended a.reply)) was now st frames frames (answer_entry f.processor f.number f.call a)
 Makes-fill f page frame a was mid now st ready reads finishes =
-    Makes-answer (in_phase f (Fill page frame)) a was now st ready.fits.can (Some-same _ _ ready.under) (finishes.same.same.number ∙ reads.same.same.number) (finishes.same.same.frames ∙ reads.same.same.frames) finishes.resting
+    Makes-answer (in_phase f (Fill page frame)) a was now st ready.fits.can (Some-same _ _ ready.under) (finishes.same.same.number ∙ reads.same.same.number) (finishes.same.same.frames ∙ reads.same.same.frames) (finishes.same.same.processors ∙ reads.same.same.processors) finishes.resting
     (subst (λ next. MayGoOn next f.processor (Answer f.number f.call a)) (sym ready.next) refl)
-    (finishes.answers.allowed st (reads.stands st ready.stands) f.processor f.number) (finishes.answers.stands st (reads.stands st ready.stands) f.processor f.number)
+    (finishes.answers.allowed st (reads.stands st ready.stands) f.number) (finishes.answers.stands st (reads.stands st ready.stands) f.number)
     refl (and_from _ _ (is_access_of f.call f.claimed (is_access_by_page f.call page ready.found.lawful.page_is)) finishes.served) (omega arith)
 
-pub fill_answered : (f : Flight) (page frame : ℕ) (a : Answered) (was mid now : Kept) → f.phase ≡ Fill page frame → ReadsIn was mid → Finishes mid now f.call a → (st : SpaceState) (frames : FrameState) → IsReady f was st → Makes f (in_phase f (Ended a.reply)) was now st frames frames (answer_entry f.processor f.number f.call a)
+pub fill_answered : (f : Flight) (page frame : ℕ) (a : Answered) (was mid now : Kept) → f.phase ≡ Fill page frame → ReadsIn was mid → Finishes mid now f.processor f.call a → (st : SpaceState) (frames : FrameState) → IsReady f was st → Makes f (in_phase f (Ended a.reply)) was now st frames frames (answer_entry f.processor f.number f.call a)
 fill_answered f page frame a was mid now phase reads finishes st frames =
     by_phase f (Fill page frame) phase (λ g. IsReady g was st → Makes g (in_phase f (Ended a.reply)) was now st frames frames (answer_entry f.processor f.number f.call a))
     (λ ready. Makes-fill f page frame a was mid now st ready reads finishes frames)

@@ -12,7 +12,7 @@ use Rattle.pager_model.specs.Flat.{space_of_call}
 use Rattle.pager_model.specs.FrameStates.{FrameState, HasNothing, IsFull, IsVictim, claim_in, claimed, counted, frame_of, layout_of, used_at}
 use Rattle.pager_model.specs.Order.{Progress, ForAccess, Claiming, faulted_for, lacking_for, is_access, progress_after}
 use Rattle.pager_model.specs.Regions.{region_at}
-use Rattle.pager_model.specs.SpaceStates.{SpaceState, Anyone, MayGoOn, IsNeeded, access_page, has_right}
+use Rattle.pager_model.specs.SpaceStates.{SpaceState, MayGoOn, IsNeeded, access_page, has_right, space_after}
 use Rattle.frame_pool.proofs.PagePlaces.{frame_in-found}
 use Rattle.space_core.specs.Standing.{Kept, StandsFor, frame_at, is_allowed, is_in, copied_page, rights_at}
 use Rattle.pager_core.specs.declared.flight.Flight.{Flight}
@@ -23,6 +23,7 @@ use Rattle.pager_core.specs.Rows.{row_of, access_of, faulted, is_between, is_sto
 use Rattle.pager_core.specs.Steps.{AreAgreed, Makes, after_named, answer_made}
 use Rattle.pager_core.proofs.Answering.{in_phase, by_phase, is_access_by_page, Some-same}
 use Rattle.pager_core.proofs.Taking.{HasNothing-wanting, after_own}
+use Rattle.pager_core.proofs.Unchanged.{unchanged_stands}
 
 -- a flight that goes on in this space or another leaves it ready where it goes on there, and else at rest
 pub LeftBy-own_if : (own space : ℕ) (f : Flight) (kept : Kept) (st : SpaceState) → Fits f → IsAtRest kept st → (space ≡ own → (own ≡ kept.number) × IsReady f kept st) → LeftBy (own_if own space) f kept st
@@ -30,10 +31,6 @@ LeftBy-own_if own space f kept st fits rest ready = elim (cases_eq space own) [
   | inl same ↦ subst (λ o. LeftBy o f kept st) (sym (cond-true (eqb space own) (Some own) None (eq-eqb _ _ same))) (ready same)
   | inr other ↦ subst (λ o. LeftBy o f kept st) (sym (cond-false (eqb space own) (Some own) None (ne_eqb _ _ other))) (fits, rest)
 ]
-
--- a state in which anyone may make the next entry is the same where anyone may
-still_open : (st : SpaceState) → st.next ≡ Anyone → record { flat = st.flat; base = st.base; next = Anyone; told = st.told; tied = st.tied; highest = st.highest } ≡ st
-still_open st next = ap (λ n. (let s : SpaceState = record { flat = st.flat; base = st.base; next = n; told = st.told; tied = st.tied; highest = st.highest } in s)) (sym next)
 
 -- an access whose page has no frame is needed
 needed : (kept : Kept) (st : SpaceState) (call : Call) (page : ℕ) → StandsFor kept st → access_page call ≡ Some page → is_allowed kept call ≡ true → frame_at kept page ≡ None → IsNeeded st (Some (record { page = page; writing = is_store call }))
@@ -82,6 +79,7 @@ module _ (f : Flight) (page : ℕ) (want : Want) (v : Claimed) (kept : Kept) (st
     same_call = record { processor = refl; number = refl; call = refl };
     same_space = refl;
     same_count = refl;
+    same_processors = refl;
     processor = refl;
     parts = ((space_of_call f.call, refl), refl);
     own_space = on;
@@ -95,8 +93,9 @@ module _ (f : Flight) (page : ℕ) (want : Want) (v : Claimed) (kept : Kept) (st
     reply = refl;
     answer = refl;
     left = subst (LeftBy (own_if (space_of_call f.call) v.space) (in_phase (claiming f) (Out v)) kept) (sym same)
-        (LeftBy-own_if (space_of_call f.call) v.space (in_phase (claiming f) (Out v)) kept st fits (record { resting = ready.found.lacks.resting; stands = ready.stands; next = ready.next })
-        (λ own. (on, record { under = ap Some (own ∙ on); fits = fits; stands = ready.stands; next = ready.next; found = ready.found.lacks.resting })));
+        (LeftBy-own_if (space_of_call f.call) v.space (in_phase (claiming f) (Out v)) kept (space_after st (claim_entry f page v (is_store f.call))) fits
+        (record { resting = ready.found.lacks.resting; stands = stands; next = refl })
+        (λ own. (on, record { under = ap Some (own ∙ on); fits = fits; stands = stands; next = refl; found = ready.found.lacks.resting })));
     between = refl;
     fewer = omega arith;
   }
@@ -110,8 +109,11 @@ module _ (f : Flight) (page : ℕ) (want : Want) (v : Claimed) (kept : Kept) (st
       fits : Fits (in_phase (claiming f) (Out v))
       fits = record { can = ready.fits.can; phase = is_access_by_page f.call page lawful.page_is }
 
-      same : after_named kept.number st (claim_entry f page v (is_store f.call)) ≡ st
-      same = after_own (space_of_call f.call) kept.number st (claim_entry f page v (is_store f.call)) refl on ∙ still_open st ready.next
+      stands : StandsFor kept (space_after st (claim_entry f page v (is_store f.call)))
+      stands = unchanged_stands kept st (claim_entry f page v (is_store f.call)) ready.stands refl (λ p. refl) (λ p i. refl) refl refl
+
+      same : after_named kept.number st (claim_entry f page v (is_store f.call)) ≡ space_after st (claim_entry f page v (is_store f.call))
+      same = after_own (space_of_call f.call) kept.number st (claim_entry f page v (is_store f.call)) refl on
 
 pub victim_claimed : (f : Flight) (page : ℕ) (want : Want) (v : Claimed) (kept : Kept) (st : SpaceState) (before : FrameState) → f.phase ≡ Frame page want → OwnsBy before f.processor (row_of f).progress.doing → IsFull before → IsVictim before v.space v.page v.frame → IsReady f kept st → Makes f (in_phase (claiming f) (Out v)) kept kept st before (counted (claimed before v.frame (Some f.processor))) (claim_entry f page v (is_store f.call))
 victim_claimed f page want v kept st before phase owns full victim =
@@ -157,14 +159,14 @@ module _ (f : Flight) (v : Claimed) (frame : ℕ) (kept : Kept) (st : SpaceState
       ∙ ap (λ o. Some (let p : Progress = record { made = f.number; doing = faulted f.call f.claimed v.space count o } in p)) (sym (copies_none f.call access))
 
   -- and what stands there
-  unclaim-left : (fault : Option ℕ) → Fits (in_phase f (Unclaim v fault)) → is_access f.call ≡ true → v.space ≡ kept.number → IsAtRest kept st → LeftBy (row_of (in_phase f (unclaimed v fault))).keeps (in_phase f (unclaimed v fault)) kept st
-  unclaim-left None fits access on rest =
+  unclaim-left : (fault : Option ℕ) → Fits (in_phase f (Unclaim v fault)) → is_access f.call ≡ true → v.space ≡ kept.number → (after : SpaceState) → IsAtRest kept after → LeftBy (row_of (in_phase f (unclaimed v fault))).keeps (in_phase f (unclaimed v fault)) kept after
+  unclaim-left None fits access on after rest =
       let now : Fits (in_phase f (Lack v.space)) = record { can = fits.can; phase = access } in
-      LeftBy-own_if (space_of_call f.call) v.space (in_phase f (Lack v.space)) kept st now rest
+      LeftBy-own_if (space_of_call f.call) v.space (in_phase f (Lack v.space)) kept after now rest
       (λ own. (sym own ∙ on, record { under = ap Some (sym own ∙ on); fits = now; stands = rest.stands; next = rest.next; found = rest.resting }))
-  unclaim-left (Some count) fits access on rest =
+  unclaim-left (Some count) fits access on after rest =
       let now : Fits (in_phase f (Fault v.space count)) = record { can = fits.can; phase = inr access } in
-      LeftBy-own_if (space_of_call f.call) v.space (in_phase f (Fault v.space count)) kept st now rest
+      LeftBy-own_if (space_of_call f.call) v.space (in_phase f (Fault v.space count)) kept after now rest
       (λ own. (sym own ∙ on, record { under = ap Some (sym own ∙ on); fits = now; stands = rest.stands; next = rest.next; found = record { resting = rest.resting; must = λ page copies. (let none : None ≡ Some page = sym (copies_none f.call access) ∙ copies in cc) } }))
 
   unclaim-between : (fault : Option ℕ) → is_between (unclaimed v fault) ≡ true
@@ -178,6 +180,7 @@ module _ (f : Flight) (v : Claimed) (frame : ℕ) (kept : Kept) (st : SpaceState
     same_call = record { processor = refl; number = refl; call = refl };
     same_space = refl;
     same_count = refl;
+    same_processors = refl;
     processor = refl;
     parts = ((v.space, refl), refl);
     own_space = on;
@@ -191,7 +194,7 @@ module _ (f : Flight) (v : Claimed) (frame : ℕ) (kept : Kept) (st : SpaceState
     reply = silent fault;
     answer = unanswered fault;
     left = subst (LeftBy (row_of (in_phase f (unclaimed v fault))).keeps (in_phase f (unclaimed v fault)) kept) (sym same)
-        (unclaim-left fault ready.fits ready.fits.phase on (record { resting = has.resting; stands = ready.stands; next = ready.next }));
+        (unclaim-left fault ready.fits ready.fits.phase on (space_after st (unclaim_entry f.processor v.space frame)) (record { resting = has.resting; stands = stands; next = refl }));
     between = unclaim-between fault;
     fewer = fewer fault;
   }
@@ -224,8 +227,11 @@ module _ (f : Flight) (v : Claimed) (frame : ℕ) (kept : Kept) (st : SpaceState
       fewer None = omega arith
       fewer (Some count) = omega arith
 
-      same : after_named kept.number st (unclaim_entry f.processor v.space frame) ≡ st
-      same = after_own v.space kept.number st (unclaim_entry f.processor v.space frame) refl on ∙ still_open st ready.next
+      stands : StandsFor kept (space_after st (unclaim_entry f.processor v.space frame))
+      stands = unchanged_stands kept st (unclaim_entry f.processor v.space frame) ready.stands refl (λ p. refl) (λ p i. refl) refl refl
+
+      same : after_named kept.number st (unclaim_entry f.processor v.space frame) ≡ space_after st (unclaim_entry f.processor v.space frame)
+      same = after_own v.space kept.number st (unclaim_entry f.processor v.space frame) refl on
 
 pub claim_ended : (f : Flight) (v : Claimed) (fault : Option ℕ) (frame : ℕ) (kept : Kept) (st : SpaceState) (before : FrameState) → f.phase ≡ Unclaim v fault → OwnsBy before f.processor (row_of f).progress.doing → claim_in (used_at before frame) ≡ Some f.processor → IsReady f kept st → AreAgreed kept before → Makes f (in_phase f (unclaimed v fault)) kept kept st before (counted (claimed before frame None)) (unclaim_entry f.processor v.space frame)
 claim_ended f v fault frame kept st before phase owns claims ready agree =

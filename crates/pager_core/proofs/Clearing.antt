@@ -1,8 +1,8 @@
 -- A region's pages give their frames up, the lowest first, until none is resident.
-use Rattle.std.proofs.Common.{◌≡◌, ◌≢◌, ℕ, zero, suc, ◌+◌, ◌<◌, ◌≤◌, Bool, true, false, cond, eqb, leb, ltb, ◌&&◌, List, ◌∷◌, is_some, None, refl, ap, sym, subst, ◌∙◌, inl, inr, arith}
+use Rattle.std.proofs.Common.{◌≡◌, ◌≢◌, ℕ, zero, suc, ◌+◌, ◌<◌, ◌≤◌, Bool, true, false, cond, eqb, leb, ltb, ◌&&◌, List, ◌∷◌, length, is_some, None, refl, ap, sym, subst, ◌∙◌, inl, inr, arith}
 use Rattle.std.specs.List.{range_with_len, count_by}
 use Rattle.std.proofs.lemmas.List.Sums.{sum_by-cons}
-use Rattle.std.proofs.lemmas.Bool.{cases_eq, cond-true, cond-false, and_parts, and_from, and_right, eq-eqb, ne_eqb, le-leb, leb-true, lt-ltb, ltb-true}
+use Rattle.std.proofs.lemmas.Bool.{cases_eq, cond-true, cond-false, and_parts, and_from, and_right, eq-eqb, ne_eqb, le-leb, leb-true, lt-ltb, ltb-true, false≢true}
 use Rattle.pager_model.specs.declared.entry.What.TheVariants.{Clear as ClearEntry}
 use Rattle.pager_model.specs.Flat.{space_of_call}
 use Rattle.pager_model.specs.FrameStates.{FrameState, frame_of, counted, give_page, give_range}
@@ -10,7 +10,7 @@ use Rattle.pager_model.specs.Layouts.{covering}
 use Rattle.pager_model.specs.Regions.{region_at}
 use Rattle.pager_model.specs.SpaceStates.{SpaceState, IsRegionOf}
 use Rattle.space_core.specs.Beginning.{IsUnmapping, ClearsOne, ClearsNone}
-use Rattle.space_core.specs.Standing.{Kept, IsResting, StandsBeside, StandsFor, StandsBut, frame_at, is_in, clear_entry}
+use Rattle.space_core.specs.Standing.{Kept, IsResting, StandsBeside, StandsFor, StandsBut, frame_at, is_in, is_clearing, clear_entry}
 use Rattle.pager_core.specs.declared.flight.Flight.{Flight}
 use Rattle.pager_core.specs.declared.flight.Phase.TheVariants.{Clear, Gone}
 use Rattle.pager_core.specs.Flights.{IsReady}
@@ -61,6 +61,7 @@ count-fewer f g page first (suc len) low high same was now =
 pub record IsClearing (was : Kept) (before : FrameState) (now : Kept) (pool : FrameState) (first len : ℕ) : Type 0 where
   pub same_number : now.number ≡ was.number
   pub same_frames : now.frames ≡ was.frames
+  pub same_processors : length now.images ≡ length was.images
   pub same_regions : now.regions ≡ was.regions
   pub same_pending : now.pending ≡ was.pending
   pub same_paged : now.paged ≡ was.paged
@@ -78,6 +79,7 @@ module _ (was kept now : Kept) (before pool after : FrameState) (first len page 
   IsClearing-next so_far clears same given places = record {
     same_number = clears.gave.same.number ∙ so_far.same_number;
     same_frames = clears.gave.same.frames ∙ so_far.same_frames;
+    same_processors = clears.gave.same.processors ∙ so_far.same_processors;
     same_regions = clears.gave.same.regions ∙ so_far.same_regions;
     same_pending = clears.same_pending ∙ so_far.same_pending;
     same_paged = clears.same_paged ∙ so_far.same_paged;
@@ -143,6 +145,10 @@ StandsBut-rest kept st first len resting stands = record {
     highest = beside.highest;
   };
   base = λ page out. stands.base page;
+  pages = λ page out. stands.pages page;
+  translates = stands.translates;
+  not_begun = λ out page. stands.pages page;
+  counted = λ is. absurd (false≢true (sym (ap (λ o. is_clearing o first) resting.none_clearing) ∙ is));
 }
   where
     beside : StandsBeside (is_in kept.clearing) kept st
@@ -178,7 +184,7 @@ module _ (f : Flight) (first len : ℕ) (was kept now : Kept) (before pool : Fra
       → Makes (in_phase f (Clear first len)) (in_phase f (Gone first len)) was now st before (counted pool) (clear_entry f.processor (space_of_call f.call) first len)
   Makes-clear st ready so_far clears =
       Makes-going f (Clear first len) (Gone first len) (space_of_call f.call) true (ClearEntry first len) was now st ready (Leads-clear f first len)
-      on (clears.same.same.number ∙ so_far.same_number) (clears.same.same.frames ∙ so_far.same_frames)
+      on (clears.same.same.number ∙ so_far.same_number) (clears.same.same.frames ∙ so_far.same_frames) (clears.same.same.processors ∙ so_far.same_processors)
       (subst (λ o. IsRegionOf o first len) (sym (ap (λ rs. region_at rs first) ready.stands.beside.regions ∙ is.at_first)) (is.first_is, is.length_is))
       (clears.stands st f.processor (so_far.stands st (StandsBut-rest was st first len ready.found.resting ready.stands)))
       tt

@@ -22,6 +22,7 @@ Passes-evicting f page written was now st ready begins = record {
   same_call = record { processor = refl; number = refl; call = refl };
   same_space = begins.same.same.number;
   same_count = begins.same.same.frames;
+  same_processors = begins.same.same.processors;
   same_frames = begins.same.frame;
   keeps = ready.under;
   ready = record {
@@ -60,7 +61,7 @@ module _ (f : Flight) (page frame : ℕ) (a : Answered) (was now : Kept) (st : S
   Makes-evict ready agree evicts =
       let own : f.call ≡ EvictCall was.number page = ready.found.is_evict in
       let on : space_of_call f.call ≡ was.number = Some-same _ _ ready.under in
-      Makes-ending (in_phase f (Evict page)) a was now st true ready.fits.can on evicts.gave.same.number evicts.gave.same.frames evicts.resting
+      Makes-ending (in_phase f (Evict page)) a was now st true ready.fits.can on evicts.gave.same.number evicts.gave.same.frames evicts.gave.same.processors evicts.resting
       (subst (λ next. MayGoOn next f.processor (Answer f.number f.call a)) (sym ready.next) tt)
       (subst (λ k. WhatAllowed st true f.processor (Answer f.number k a)) (sym own) (evicts.allowed st ready.stands f.processor f.number))
       (subst (λ k. StandsFor now (space_after st (let e : Entry = record { processor = f.processor; space = Some was.number; frames = true; what = Answer f.number k a } in e))) (sym own)

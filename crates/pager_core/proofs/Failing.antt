@@ -35,7 +35,7 @@ Leads-failing f page count copies = record {
 Makes-failing : (f : Flight) (page count : ℕ) (was now : Kept) (st : SpaceState) → IsReady (in_phase f Start) was st → BeginsFailing was now f.call page count → (frames : FrameState) → Makes (in_phase f Start) (in_phase f (Fault (space_of_call f.call) count)) was now st frames frames (failed_entry f.processor (space_of_call f.call) page true count)
 Makes-failing f page count was now st ready begins frames =
     Makes-going f Start (Fault (space_of_call f.call) count) (space_of_call f.call) false (Failed page true count) was now st ready (Leads-failing f page count begins.must.is)
-    (Some-same _ _ ready.under) begins.fails.same.same.number begins.fails.same.same.frames
+    (Some-same _ _ ready.under) begins.fails.same.same.number begins.fails.same.same.frames begins.fails.same.same.processors
     (begins.fails.allowed st ready.stands f.processor) (begins.fails.stands st ready.stands f.processor)
     (inl (refl, ap is_some begins.must.is))
     (record { resting = begins.fails.resting; must = λ p copies. subst (MustWrite now f.call) (Some-same _ _ (sym begins.must.is ∙ copies)) begins.must })
@@ -66,7 +66,7 @@ Makes-unfilled : (f : Flight) (page frame count : ℕ) (was now : Kept) (st : Sp
 Makes-unfilled f page frame count was now st ready fails frames =
     let has = ready.found in
     Makes-going f (Fill page frame) (Unfill page frame count) (space_of_call f.call) false (Failed page false count) was now st ready (Leads-unfilled f page frame count has.lawful.page_is)
-    (Some-same _ _ ready.under) fails.same.same.number fails.same.same.frames
+    (Some-same _ _ ready.under) fails.same.same.number fails.same.same.frames fails.same.same.processors
     (fails.allowed st ready.stands f.processor) (fails.stands st ready.stands f.processor)
     tt
     (record {
@@ -112,7 +112,7 @@ module _ (f : Flight) (page own count given : ℕ) (was now : Kept) (st : SpaceS
       (Makes-going f (Unfill page given count) (Fault (space_of_call f.call) count) (space_of_call f.call) true (Give page given) was now st
       (subst (λ frame. IsReady (in_phase f (Unfill page frame count)) was st) (sym same) ready)
       (Leads-unfill f page given count ready.found.has.lawful.page_is)
-      on removes.gave.same.number removes.gave.same.frames
+      on removes.gave.same.number removes.gave.same.frames removes.gave.same.processors
       (removes.allowed st ready.stands f.processor) (removes.stands st ready.stands f.processor)
       (inr access)
       (record { resting = removes.resting; must = λ p copies. (let none : None ≡ Some p = sym (copies_none f.call access) ∙ copies in cc) })

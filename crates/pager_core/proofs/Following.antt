@@ -28,6 +28,11 @@ both_some : {P Q R : ℕ → Type 0} (o : Option ℕ) → ((s : ℕ) → P s →
 both_some None f p q = tt
 both_some (Some s) f p q = f s p q
 
+-- and what holds at a number that the value is holds at the value
+at_named : (P : ℕ → Type 0) (o : Option ℕ) (n s : ℕ) → n ≡ s → IfSome o (λ t. t ≡ n) → IfSome o (λ t. P s) → IfSome o P
+at_named P None n s at named holds = tt
+at_named P (Some t) n s at named holds = subst P (sym (named ∙ at)) holds
+
 pub differs : (t s : ℕ) → (t ≡ s → ⊥) → eqb t s ≡ false
 differs t s other = grind (arith, nat_tests)
 
@@ -123,7 +128,7 @@ module _ (g : Given) (h : List Entry) (f f' : Flight) (was now : Kept) (before a
         parts = makes.parts;
         processor = subst (λ c. c < length g.marks) (sym makes.processor) processor;
         space = both_some e.space (λ t named again. subst (λ n. n < length g.told) (sym (named ∙ at)) space) makes.own_space makes.own_space;
-        by_space = both_some e.space (λ t named allowed. subst (λ n. SpaceAllows (space_at g h n) e) (sym (named ∙ at)) allowed) makes.own_space makes.space_allows;
+        by_space = at_named (λ t. SpaceAllows (space_at g h t) e) e.space was.number s at makes.own_space makes.space_allows;
         by_frames = λ is.
             subst (λ st. FramesAllow st (mark_of g e.processor) e.processor e.space e.what) frames
             (subst (λ m. FramesAllow before m e.processor e.space e.what) (sym (ap (mark_of g) makes.processor ∙ mark))

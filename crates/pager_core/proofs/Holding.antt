@@ -61,6 +61,7 @@ module _ (f : Flight) (page : ℕ) (want : Want) (v : Claimed) (was now : Kept) 
     same_call = record { processor = refl; number = refl; call = refl };
     same_space = places.same.number;
     same_count = places.same.frames;
+    same_processors = places.same.processors;
     processor = refl;
     parts = ((space_of_call f.call, refl), refl);
     own_space = on;

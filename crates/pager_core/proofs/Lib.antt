@@ -1,3 +1,4 @@
+pub mod Unchanged
 pub mod Answering
 pub mod Making
 pub mod Failing
@@ -18,5 +19,6 @@ pub mod Readying
 pub mod Turned
 pub mod Laws
 pub mod Ending
+pub mod Counting
 pub mod Stores
 pub mod Starting

@@ -1,5 +1,5 @@
 -- A step that makes one entry on its space, with the frames or without them, and goes on there.
-use Rattle.std.proofs.Common.{◌≡◌, ℕ, ◌<◌, Bool, true, eqb, Some, refl, ap, sym, subst, ◌∙◌}
+use Rattle.std.proofs.Common.{◌≡◌, ℕ, ◌<◌, Bool, true, eqb, length, Some, refl, ap, sym, subst, ◌∙◌}
 use Rattle.std.proofs.lemmas.Bool.{cond-true, eq-eqb}
 use Rattle.pager_model.specs.declared.entry.Entry.{Entry}
 use Rattle.pager_model.specs.declared.entry.What.{What}
@@ -36,14 +36,15 @@ pub record Leads (f : Flight) (from to : Phase) (own : ℕ) (named : Bool) (what
 -- So the entry makes a step, where the space and the frames allow it, and the space then stands for it and for the next phase.
 module _ (f : Flight) (from to : Phase) (own : ℕ) (named : Bool) (what : What) (was now : Kept) (st : SpaceState) where
   pub Makes-going :
-      IsReady (in_phase f from) was st → Leads f from to own named what → own ≡ was.number → now.number ≡ was.number → now.frames ≡ was.frames
+      IsReady (in_phase f from) was st → Leads f from to own named what → own ≡ was.number → now.number ≡ was.number → now.frames ≡ was.frames → length now.images ≡ length was.images
       → WhatAllowed st named f.processor what → StandsFor now (space_after st (entry_on f own named what)) → PhaseFits f.call to → PhaseStands f.call now to
       → (before after : FrameState) → (named ≡ true → FramesAllow before 0 f.processor (Some own) what) → after ≡ after_frames before (entry_on f own named what)
       → Makes (in_phase f from) (in_phase f to) was now st before after (entry_on f own named what)
-  Makes-going ready leads on same_number same_frames allowed stands fits found before after frames_allow frames_after = record {
+  Makes-going ready leads on same_number same_frames same_processors allowed stands fits found before after frames_allow frames_after = record {
     same_call = record { processor = refl; number = refl; call = refl };
     same_space = same_number;
     same_count = same_frames;
+    same_processors = same_processors;
     processor = refl;
     parts = leads.parts;
     own_space = on;

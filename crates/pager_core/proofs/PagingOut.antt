@@ -34,6 +34,7 @@ module _ (f : Flight) (v : Claimed) (was now : Kept) (st : SpaceState) where
     same_call = record { processor = refl; number = refl; call = refl };
     same_space = out.same.same.number;
     same_count = out.same.same.frames;
+    same_processors = out.same.same.processors;
     processor = refl;
     parts = ((v.space, refl), refl);
     own_space = on;
@@ -69,6 +70,7 @@ module _ (f : Flight) (v : Claimed) (was now : Kept) (st : SpaceState) where
     same_call = record { processor = refl; number = refl; call = refl };
     same_space = fails.same.same.number;
     same_count = fails.same.same.frames;
+    same_processors = fails.same.same.processors;
     processor = refl;
     parts = ((v.space, refl), refl);
     own_space = on;
@@ -104,6 +106,7 @@ module _ (f : Flight) (v : Claimed) (was now : Kept) (st : SpaceState) where
     same_call = record { processor = refl; number = refl; call = refl };
     same_space = leaves.same.same.number;
     same_count = leaves.same.same.frames;
+    same_processors = leaves.same.same.processors;
     same_frames = leaves.same.frame;
     keeps = ap Some on;
     ready = record {
@@ -145,6 +148,7 @@ module _ (f : Flight) (v : Claimed) (frame : ℕ) (was now : Kept) (st : SpaceSt
     same_call = record { processor = refl; number = refl; call = refl };
     same_space = removes.gave.same.number;
     same_count = removes.gave.same.frames;
+    same_processors = removes.gave.same.processors;
     processor = refl;
     parts = ((v.space, refl), refl);
     own_space = on;

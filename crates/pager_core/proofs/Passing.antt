@@ -19,6 +19,7 @@ pub record HasPassed (old new : Flight) (was now : Kept) : Type 0 where
   pub same_call : SameCall old new
   pub same_space : now.number ≡ was.number
   pub same_count : now.frames ≡ was.frames
+  pub same_processors : length now.images ≡ length was.images
   pub same_frames : (page : ℕ) → frame_at now page ≡ frame_at was page
   pub ready : (st : SpaceState) → IsReady old was st → IsReady new now st
   pub same_progress : (row_of new).progress ≡ (row_of old).progress
@@ -31,6 +32,7 @@ HasPassed-none f kept going =
       same_call = record { processor = refl; number = refl; call = refl };
       same_space = refl;
       same_count = refl;
+      same_processors = refl;
       same_frames = λ page. refl;
       ready = λ st is. is;
       same_progress = refl;
@@ -51,6 +53,7 @@ module _ (old mid new : Flight) (was here now : Kept) (passed : HasPassed old mi
         same_call = SameCall-on old mid new passed.same_call one.same_call;
         same_space = one.same_space ∙ passed.same_space;
         same_count = one.same_count ∙ passed.same_count;
+        same_processors = one.same_processors ∙ passed.same_processors;
         same_frames = λ page. one.same_frames page ∙ passed.same_frames page;
         ready = λ t ready. (passes t (passed.ready t ready)).ready;
         same_progress = one.same_progress ∙ passed.same_progress;
@@ -65,6 +68,7 @@ module _ (old mid new : Flight) (was here now : Kept) (passed : HasPassed old mi
         same_call = SameCall-on old mid new passed.same_call makes.same_call;
         same_space = makes.same_space ∙ passed.same_space;
         same_count = makes.same_count ∙ passed.same_count;
+        same_processors = makes.same_processors ∙ passed.same_processors;
         processor = makes.processor ∙ passed.same_call.processor;
         parts = makes.parts;
         own_space = subst (λ n. IfSome e.space (λ s. s ≡ n)) passed.same_space makes.own_space;
@@ -97,6 +101,10 @@ OwnsBy-passed old mid was here frames passed owns =
 -- and the frames know it
 pub known-passed : (old mid : Flight) (was here : Kept) (frames : FrameState) → HasPassed old mid was here → old.processor < length frames.held → mid.processor < length frames.held
 known-passed old mid was here frames passed known = subst (λ c. c < length frames.held) (sym passed.same_call.processor) known
+
+-- and it has an image in the space
+pub image-passed : (old mid : Flight) (was here : Kept) → HasPassed old mid was here → old.processor < length was.images → mid.processor < length here.images
+image-passed old mid was here passed image = (let same = passed.same_call.processor in let count = passed.same_processors in omega (arith, same, count, image))
 
 -- what a step is made under is the space that the flight is ready in
 pub needs_space : (n : Needs) (k number : ℕ) → n ≡ Space k → space_under n ≡ Some number → n ≡ Space number

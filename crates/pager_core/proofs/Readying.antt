@@ -106,7 +106,7 @@ module _ (run : Running) (spaces : List Kept) (pool : FrameState) (capacity c s 
           let rest = rests keeps in
           let found = anywhere f.processor f.number (space_of_call f.call) f.call f.claimed f.phase was refl flying.going keeps flying.fits.phase rest.resting in
           record {
-            under = under ∙ ap Some (sym (machine.numbers s was at).0);
+            under = under ∙ ap Some (sym (machine.space_is s was at).number);
             fits = flying.fits;
             stands = rest.stands;
             next = rest.next ∙ sym found.0;
@@ -119,16 +119,24 @@ module _ (run : Running) (spaces : List Kept) (pool : FrameState) (capacity c s 
       pub AreAgreed-machine : AreAgreed was pool
       AreAgreed-machine =
           let ready = IsReady-machine in
-          let number = machine.numbers s was at in
+          let own = machine.space_is s was at in
           record {
-            count = sound.known ∙ sym number.1;
+            count = sound.known ∙ sym own.frames;
             pages = λ page.
                 sym (ready.stands.base page)
                 ∙ (IsKept-legal run.given (entries_in run.history) machine.lawful.legal).agrees s page
                 ∙ ap (λ st. frame_of st s page) (sym machine.frames)
-                ∙ ap (λ n. frame_of pool n page) (sym number.0);
-            sound = subst (λ n. IsSound n (length pool.held) pool) (sym number.1) (subst (λ n. IsSound run.given.frames n pool) (sym sound.processors_known) sound);
+                ∙ ap (λ n. frame_of pool n page) (sym own.number);
+            sound = subst (λ n. IsSound n (length pool.held) pool) (sym own.frames) (subst (λ n. IsSound run.given.frames n pool) (sym sound.processors_known) sound);
           }
+
+      -- the processor has an image there
+      pub image-machine : f.processor < length was.images
+      image-machine =
+          let below = processor_within in
+          let own = (machine.flights c f flies).processor in
+          let images = (machine.space_is s was at).processors in
+          omega (arith, below, own, images)
 
       -- after an entry something was left, so the history has room for it
       pub room_left : (f' : Flight) (now : Kept) (after : FrameState) (e : Entry) → Makes f f' was now (space_at run.given (entries_in run.history) s) pool after e → length run.history < capacity

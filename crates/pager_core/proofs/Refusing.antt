@@ -1,5 +1,5 @@
 -- A call that can't be served is answered so: no frame could be had, a store failed, or there was no memory.
-use Rattle.std.proofs.Common.{◌≡◌, ℕ, ◌<◌, ◌≤◌, Bool, true, false, ◌&&◌, is_some, Option, Some, None, refl, ap, sym, subst, ◌∙◌, inl, inr, arith}
+use Rattle.std.proofs.Common.{◌≡◌, ℕ, ◌<◌, Bool, true, false, ◌&&◌, is_some, Option, Some, None, option_map, refl, ap, sym, subst, ◌∙◌, inl, inr, arith}
 use Rattle.std.specs.Option.{IsSome}
 use Rattle.std.proofs.lemmas.Bool.{cond-true, cond-false, and_from, and_parts, eq-eqb, not-true, false≢true, true≢false}
 use Rattle.pager_model.specs.declared.call.Call.{Call}
@@ -9,13 +9,14 @@ use Rattle.pager_model.specs.declared.region.Region.{Region}
 use Rattle.pager_model.specs.declared.reply.Answered.{Answered}
 use Rattle.pager_model.specs.declared.reply.Reply.{Reply}
 use Rattle.pager_model.specs.declared.reply.Reply.TheVariants.{Done, Value, Written, NoFrames, StoreFault, NoMemory}
-use Rattle.pager_model.specs.Flat.{Flat, access_reply, evict_reply, sync_reply, can_read, can_write, is_lawful, page_of, reply_of, space_of_call, word_of}
+use Rattle.pager_model.specs.declared.tile.Tile.{Tile}
+use Rattle.pager_model.specs.Flat.{access_reply, evict_reply, sync_reply, can_read, can_write, is_lawful, page_of, reply_of, space_of_call, word_of}
 use Rattle.pager_model.specs.FrameStates.{FrameState}
+use Rattle.pager_model.specs.Images.{is_in_image}
 use Rattle.pager_model.specs.Order.{is_access, may_answer}
 use Rattle.pager_model.specs.Regions.{is_wired, region_at}
-use Rattle.pager_model.specs.SpaceStates.{SpaceState, LacksItsPage, MayFail, MayGoOn, ReplyAllowed, answered_flat, base_after_answer, frees_its_page, said_at, space_after}
-use Rattle.space_core.specs.Standing.{Kept, IsCopy, IsResting, MustWrite, StandsBeside, StandsFor, answer_entry, copied_page, is_allowed, is_in, is_unwired, rights_at}
-use Rattle.store_core.specs.Stored.{copy_at}
+use Rattle.pager_model.specs.SpaceStates.{SpaceState, LacksItsPage, MayFail, MayGoOn, ReplyAllowed, answered_flat, base_after_answer, frees_its_page, said_at, served_page, tile_at, pages_of, pages_after}
+use Rattle.space_core.specs.Standing.{Kept, IsResting, MustWrite, StandsFor, answer_entry, copied_page, is_allowed, is_in, is_unwired, rights_at}
 use Rattle.pager_core.specs.declared.flight.Flight.{Flight}
 use Rattle.pager_core.specs.declared.flight.Phase.{Phase}
 use Rattle.pager_core.specs.declared.flight.Phase.TheVariants.{Short, Fault, Lack, Ended}
@@ -23,6 +24,7 @@ use Rattle.pager_core.specs.Flights.{IsReady}
 use Rattle.pager_core.specs.Rows.{row_of, faulted}
 use Rattle.pager_core.specs.Steps.{Makes, Refuses}
 use Rattle.pager_core.proofs.Answering.{in_phase, by_phase, Makes-answer, Some-same, is_access_by_page, is_access_of}
+use Rattle.pager_core.proofs.Unchanged.{unchanged_stands}
 
 -- What such an answer does: nothing.
 
@@ -42,28 +44,11 @@ frees-none : (st : SpaceState) (call : Call) (reply : Reply) → is_lawful reply
 frees-none st (Evict space page) reply is = ap (λ b. b && is_some (st.base page)) (sym is)
 frees-none st call reply is = refl
 
--- a space stands for a state with the same flat memory and pages, of which no more was said
-StandsFor-same : (kept : Kept) (st after : SpaceState) → StandsFor kept st → after.flat ≡ st.flat → ((p : ℕ) → after.base p ≡ st.base p) → after.told ≡ st.told → ((p i : ℕ) → after.tied p i ≡ st.tied p i) → after.highest ≡ st.highest → StandsFor kept after
-StandsFor-same kept st after stands flat base told tied highest = record {
-  beside = record {
-    regions = ap (λ (m : Flat). m.regions) flat ∙ beside.regions;
-    rights = λ page has. ap (λ (m : Flat). m.rights page) flat ∙ beside.rights page has;
-    dirty = λ page out. ap (λ (m : Flat). m.dirty page) flat ∙ beside.dirty page out;
-    told = λ is. (let tells = beside.told (sym told ∙ is) in record {
-      tells = tells.tells;
-      words = λ page i out. ap (λ (m : Flat). m.words page i) flat ∙ tells.words page i out;
-      copies = λ page out rests. subst (λ (m : Flat). IsCopy (m.copies page) (copy_at kept.store page)) (sym flat) (tells.copies page out rests);
-      copied = tells.copied;
-    });
-    tied = λ page i word is. beside.tied page i word (sym (tied page i) ∙ is);
-    untied = λ page i is. tied page i ∙ beside.untied page i is;
-    highest = subst (λ n. n ≤ kept.store.faults) (sym highest) beside.highest;
-  };
-  base = λ page. base page ∙ stands.base page;
-}
-  where
-    beside : StandsBeside (is_in kept.clearing) kept st
-    beside = stands.beside
+-- nor does such an answer have a page
+served-none : (call : Call) (reply : Reply) → is_lawful reply ≡ false → served_page call reply ≡ None
+served-none (Load space address) (Value word) is = absurd (true≢false is)
+served-none (Store space address word) Done is = absurd (true≢false is)
+served-none call reply is = refl
 
 -- an answer with no more to it than its reply
 abbrev pub refusal : Reply → Answered
@@ -79,10 +64,16 @@ module _ (f : Flight) (phase : Phase) (reply : Reply) (kept : Kept) (st : SpaceS
       → 0 < (row_of (in_phase f phase)).entries
       → (frames : FrameState) → Makes (in_phase f phase) (in_phase f (Ended reply)) kept kept st frames frames (answer_entry f.processor f.number f.call (refusal reply))
   Makes-refusal ready on resting goes_on unlawful same allowed made may some =
-      Makes-answer (in_phase f phase) (refusal reply) kept kept st ready.fits.can on refl refl resting
+      Makes-answer (in_phase f phase) (refusal reply) kept kept st ready.fits.can on refl refl refl resting
       (subst (λ next. MayGoOn next f.processor (Answer f.number f.call (refusal reply))) (sym ready.next) goes_on)
-      (record { reply = allowed; parts = frees-none st f.call reply unlawful; hit = refl; size = refl })
-      (StandsFor-same kept st (space_after st (answer_entry f.processor f.number f.call (refusal reply))) ready.stands same (base-unnamed st.base f.call) refl (λ p i. said-none p i f.call reply (st.tied p i) unlawful) refl)
+      (record {
+        reply = allowed;
+        parts = frees-none st f.call reply unlawful;
+        hit = ap (λ (o : Option ℕ). is_in_image (st.images f.processor) (tile_at (pages_of st) o)) (sym (served-none f.call reply unlawful));
+        size = ap (λ (o : Option ℕ). option_map (λ (t : Tile). t.extent.size) (tile_at (pages_after st false (Answer f.number f.call (refusal reply))) o)) (sym (served-none f.call reply unlawful));
+      })
+      (unchanged_stands kept st (answer_entry f.processor f.number f.call (refusal reply)) ready.stands same (base-unnamed st.base f.call) (λ p i. said-none p i f.call reply (st.tied p i) unlawful) refl
+      (ap (tile_at (pages_after st false (Answer f.number f.call (refusal reply)))) (served-none f.call reply unlawful)))
       made may some
 
 -- No frame could be had.

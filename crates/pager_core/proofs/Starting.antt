@@ -128,7 +128,7 @@ first_left c [] = omega arith
 first_left c (call ∷ calls) = omega arith
 
 -- A trace over stores, of which the spaces use the first.
-module _ (plan : Plan) (trace : HasText plan) (stores : List Stored) (enough : plan.spaces ≤ length stores) (unused : List Stored) (calls : List (List Call)) (are : calls ≡ map (λ c. calls_of c plan.calls) (range_with_len 0 plan.processors)) (spaces : List Kept) (count : length spaces ≡ plan.spaces) (new : (s : ℕ) (kept : Kept) → slice_get spaces s ≡ Some kept → IsNew plan.frames s (is_told (setting_over plan stores) s) (faults_at_entry (setting_over plan stores) s) kept) where
+module _ (plan : Plan) (trace : HasText plan) (stores : List Stored) (enough : plan.spaces ≤ length stores) (unused : List Stored) (calls : List (List Call)) (are : calls ≡ map (λ c. calls_of c plan.calls) (range_with_len 0 plan.processors)) (spaces : List Kept) (count : length spaces ≡ plan.spaces) (new : (s : ℕ) (kept : Kept) → slice_get spaces s ≡ Some kept → IsNew plan.frames plan.processors s (is_told (setting_over plan stores) s) (faults_at_entry (setting_over plan stores) s) kept) where
   abbrev start : Running
   start = record { given = setting_over plan stores; calls = calls; flights = first_flights calls; history = []; unused = unused }
 
@@ -240,18 +240,19 @@ module _ (plan : Plan) (trace : HasText plan) (stores : List Stored) (enough : p
         known = known;
         frames = ap (start_frames plan.frames) (sym (ap length marks ∙ length-replicate (length calls) 0 ∙ processors));
         few_calls = λ c. (let own = length-at c in let lines = length-calls c plan.calls in omega (arith, own, lines, trace.few));
+        few_spaces = (let few = trace.spaces_in.1 in omega (arith, few, count));
         calls = can_fly;
         flights = flights;
-        numbers = λ s kept at. ((new s kept at).number_is, (new s kept at).frames_are);
+        space_is = λ s kept at. record { number = (new s kept at).number_is; frames = (new s kept at).frames_are; processors = (new s kept at).processors_are ∙ sym processors };
         rest = λ s kept at none. record { resting = (new s kept at).resting; stands = (new s kept at).stands; next = refl };
         room = (let few = all_few in omega (arith, few, enough));
         few = (let few = all_few in omega (arith, few, trace.few));
       }
 
 -- whatever its parts are called
-pub IsMachine-started : (plan : Plan) → HasText plan → (stores : List Stored) → plan.spaces ≤ length stores → (run : Running) (spaces : List Kept) (pool : FrameState) (capacity : ℕ) → run.given ≡ setting_over plan stores → run.calls ≡ map (λ c. calls_of c plan.calls) (range_with_len 0 plan.processors) → run.flights ≡ first_flights run.calls → run.history ≡ [] → length spaces ≡ plan.spaces → ((s : ℕ) (kept : Kept) → slice_get spaces s ≡ Some kept → IsNew plan.frames s (is_told run.given s) (faults_at_entry run.given s) kept) → pool ≡ start_frames plan.frames plan.processors → 8 * length plan.calls ≤ capacity → IsMachine run spaces pool capacity
+pub IsMachine-started : (plan : Plan) → HasText plan → (stores : List Stored) → plan.spaces ≤ length stores → (run : Running) (spaces : List Kept) (pool : FrameState) (capacity : ℕ) → run.given ≡ setting_over plan stores → run.calls ≡ map (λ c. calls_of c plan.calls) (range_with_len 0 plan.processors) → run.flights ≡ first_flights run.calls → run.history ≡ [] → length spaces ≡ plan.spaces → ((s : ℕ) (kept : Kept) → slice_get spaces s ≡ Some kept → IsNew plan.frames plan.processors s (is_told run.given s) (faults_at_entry run.given s) kept) → pool ≡ start_frames plan.frames plan.processors → 8 * length plan.calls ≤ capacity → IsMachine run spaces pool capacity
 IsMachine-started plan trace stores enough run spaces pool capacity given calls same_flights none count new same_pool room =
-    let new' = subst (λ (g : Given). (s : ℕ) (kept : Kept) → slice_get spaces s ≡ Some kept → IsNew plan.frames s (is_told g s) (faults_at_entry g s) kept) given new in
+    let new' = subst (λ (g : Given). (s : ℕ) (kept : Kept) → slice_get spaces s ≡ Some kept → IsNew plan.frames plan.processors s (is_told g s) (faults_at_entry g s) kept) given new in
     let same : run ≡ start plan trace stores enough run.unused run.calls calls spaces count new' =
     λ i. record { given = given i; calls = run.calls; flights = same_flights i; history = none i; unused = run.unused } in
     subst (λ r. IsMachine r spaces pool capacity) (sym same)

@@ -124,8 +124,8 @@ IsZeroIfTold store = store.told ≡ true → TellsZero store
 -- The start: each space is over the store of its number, and what the setting says of its copies and faults is what that store said.
 pub are_new : (plan : Plan) (spaces : List Kept) (others all : List Stored) → all ≡ map (λ (k : Kept). k.store) spaces ++ others → length spaces ≡ plan.spaces
     → ((s : ℕ) (store : Stored) → s < plan.spaces → slice_get all s ≡ Some store → store.told ≡ true → TellsZero store)
-    → ((s : ℕ) (kept : Kept) (told : Bool) → slice_get spaces s ≡ Some kept → (told ≡ true → TellsZero kept.store) → IsNew plan.frames s told kept.store.faults kept)
-    → (s : ℕ) (kept : Kept) → slice_get spaces s ≡ Some kept → IsNew plan.frames s (is_told (setting_over plan all) s) (faults_at_entry (setting_over plan all) s) kept
+    → ((s : ℕ) (kept : Kept) (told : Bool) → slice_get spaces s ≡ Some kept → (told ≡ true → TellsZero kept.store) → IsNew plan.frames plan.processors s told kept.store.faults kept)
+    → (s : ℕ) (kept : Kept) → slice_get spaces s ≡ Some kept → IsNew plan.frames plan.processors s (is_told (setting_over plan all) s) (faults_at_entry (setting_over plan all) s) kept
 are_new plan spaces others all are count zeros new s kept at =
     let own : List Stored = map (λ (k : Kept). k.store) spaces in
     let first : take plan.spaces all ≡ own = ap (take plan.spaces) are ∙ ap (λ m. take m (own ++ others)) (sym (length-map spaces (λ (k : Kept). k.store) ∙ count)) ∙ take-append_seam own others in
@@ -134,20 +134,20 @@ are_new plan spaces others all are count zeros new s kept at =
     let faults : faults_at_entry (setting_over plan all) s ≡ kept.store.faults =
     ap (λ l. get_or (map (λ (x : Stored). x.faults) l) s 0) first ∙ read_one (λ (k : Kept). k.store) (λ (x : Stored). x.faults) 0 spaces s kept at in
     let below = slice_get_within spaces s kept at in
-    subst (λ n. IsNew plan.frames s (is_told (setting_over plan all) s) n kept) (sym faults)
+    subst (λ n. IsNew plan.frames plan.processors s (is_told (setting_over plan all) s) n kept) (sym faults)
     (new s kept (is_told (setting_over plan all) s) at
     (λ is. zeros s kept.store (omega (arith, below, count)) (ap (λ l. slice_get l s) are ∙ at_one (λ (k : Kept). k.store) spaces others s kept at) (sym told ∙ is)))
 
 -- each space is as a machine begins with it, whatever was told of its store that is so
-abbrev pub AreNew : ℕ → List Kept → Type 0
-AreNew frames spaces = (s : ℕ) (kept : Kept) (told : Bool) → slice_get spaces s ≡ Some kept → (told ≡ true → TellsZero kept.store) → IsNew frames s told kept.store.faults kept
+abbrev pub AreNew : ℕ → ℕ → List Kept → Type 0
+AreNew frames processors spaces = (s : ℕ) (kept : Kept) (told : Bool) → slice_get spaces s ≡ Some kept → (told ≡ true → TellsZero kept.store) → IsNew frames processors s told kept.store.faults kept
 
-pub AreNew-push : (frames : ℕ) (spaces more : List Kept) (space : Kept) → AreNew frames spaces → more ≡ spaces ++ space ∷ [] → ((told : Bool) → (told ≡ true → TellsZero space.store) → IsNew frames (length spaces) told space.store.faults space) → AreNew frames more
-AreNew-push frames spaces more space are pushed new s kept told at zeros =
+pub AreNew-push : (frames processors : ℕ) (spaces more : List Kept) (space : Kept) → AreNew frames processors spaces → more ≡ spaces ++ space ∷ [] → ((told : Bool) → (told ≡ true → TellsZero space.store) → IsNew frames processors (length spaces) told space.store.faults space) → AreNew frames processors more
+AreNew-push frames processors spaces more space are pushed new s kept told at zeros =
     elim (slice_get-push spaces space s kept (subst (λ l. slice_get l s ≡ Some kept) pushed at)) [
       | inl before ↦ are s kept told before zeros
-      | inr last ↦ subst (λ n. IsNew frames n told kept.store.faults kept) (sym last.0)
-          (subst (λ k. IsNew frames (length spaces) told k.store.faults k) last.1 (new told (λ is. subst (λ k. TellsZero k.store) (sym last.1) (zeros is))))
+      | inr last ↦ subst (λ n. IsNew frames processors n told kept.store.faults kept) (sym last.0)
+          (subst (λ k. IsNew frames processors (length spaces) told k.store.faults k) last.1 (new told (λ is. subst (λ k. TellsZero k.store) (sym last.1) (zeros is))))
     ]
 
 -- The end.

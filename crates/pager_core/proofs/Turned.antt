@@ -17,7 +17,7 @@ use Rattle.pager_core.specs.Running.{Running, calls_at, flight_at, flight_of, Is
 use Rattle.pager_core.specs.Steps.{AreAgreed, Makes}
 use Rattle.pager_core.proofs.GoingOn.{Lands-on}
 use Rattle.pager_core.proofs.Lists.{within}
-use Rattle.pager_core.proofs.Readying.{space_within, IsReady-machine, AreAgreed-machine, room_left}
+use Rattle.pager_core.proofs.Readying.{space_within, IsReady-machine, AreAgreed-machine, image-machine, room_left}
 use Rattle.pager_core.proofs.Turning.{Turns, run_after, left_own, IsMachine-turn}
 
 -- what an index gives
@@ -31,8 +31,8 @@ flight_read run self spaces pool capacity actor x f machine same below read is =
 pub calls_read : {V : Type 0} (items : V → List Call) (vs : List V) (c : ℕ) (v : V) → c < length vs → v ≡ get_or vs c v → items v ≡ calls_at (map items vs) c
 calls_read items vs c v below read = ap items read ∙ sym (get_or-map items vs c v [] below)
 
--- What a turn that goes on finds: the actor's flight, and the space that it is ready in, which no other flight keeps and which agrees with
--- the frames. After an entry of its the history has room for it.
+-- What a turn that goes on finds: the actor's flight, and the space that it is ready in, which no other flight keeps, which agrees with the
+-- frames and has an image for its processor. After an entry of its the history has room for it.
 pub record Finds (run : Running) (spaces : List Kept) (pool : FrameState) (capacity c s : ℕ) (f : Flight) (was : Kept) : Type 0 where
   pub flies : flight_at run.flights c ≡ Some f
   pub under : space_under (row_of f).needs ≡ Some s
@@ -40,6 +40,7 @@ pub record Finds (run : Running) (spaces : List Kept) (pool : FrameState) (capac
   pub unkept : IsKeptByOther run.flights c s → ⊥
   pub ready : IsReady f was (space_at run.given (entries_in run.history) s)
   pub agreed : AreAgreed was pool
+  pub image : f.processor < length was.images
   pub room : (f' : Flight) (now : Kept) (after : FrameState) (e : Entry) → Makes f f' was now (space_at run.given (entries_in run.history) s) pool after e → length run.history < capacity
 
 pub finds : (run self : Running) (spaces : List Kept) (pool : FrameState) (capacity c s : ℕ) (x : Option Flight) (f : Flight) (was : Kept) (u : Option ℕ) (flights : List (Option Flight)) → IsMachine run spaces pool capacity → run ≡ self → c < length self.calls → x ≡ get_or run.flights c x → x ≡ Some f
@@ -56,6 +57,7 @@ finds run self spaces pool capacity c s x f was u flights machine same below rea
       unkept = unkept;
       ready = IsReady-machine run spaces pool capacity c s f machine flies under was at unkept;
       agreed = AreAgreed-machine run spaces pool capacity c s f machine flies under was at unkept;
+      image = image-machine run spaces pool capacity c s f machine flies under was at unkept;
       room = room_left run spaces pool capacity c s f machine flies under was at unkept;
     }
 

@@ -1,5 +1,5 @@
 -- A machine after a turn.
-use Rattle.std.proofs.Common.{◌≡◌, ◌≢◌, ℕ, suc, ◌+◌, ◌-◌, ◌*◌, ◌<◌, true, List, [], ◌∷◌, ◌++◌, length, take, replicate, get_or, slice_get, Option, Some, None, option_to_list, filter_map, refl, ap, sym, subst, ◌∙◌, inl, inr, arith, ◌⊎◌}
+use Rattle.std.proofs.Common.{◌≡◌, ◌≢◌, ℕ, suc, ◌+◌, ◌-◌, ◌*◌, ◌<◌, ◌≤◌, true, List, [], ◌∷◌, ◌++◌, length, take, replicate, get_or, slice_get, Option, Some, None, option_to_list, filter_map, refl, ap, sym, subst, ◌∙◌, inl, inr, arith, ◌⊎◌}
 use Rattle.std.specs.List.{enumerate_from, range_with_len}
 use Rattle.std.proofs.lemmas.Bool.{cases_eq, cases_lt}
 use Rattle.std.proofs.lemmas.List.{append-nil, map_push, take_more, length_push, get_or-set_same, get_or-set_other, get_or-replicate, get_or_past}
@@ -26,7 +26,7 @@ use Rattle.space_core.specs.Standing.{Kept}
 use Rattle.pager_core.specs.declared.flight.Flight.{Flight}
 use Rattle.pager_core.specs.declared.flight.Phase.TheVariants.{Out}
 use Rattle.pager_core.specs.Flights.{Fits, PhaseFits, IsReady, IsAtRest, LeftBy}
-use Rattle.pager_core.specs.Machines.{CanFly, all_left, IsFlying, IsMachine}
+use Rattle.pager_core.specs.Machines.{CanFly, all_left, IsFlying, IsSpaceOf, IsMachine}
 use Rattle.pager_core.specs.Rows.{row_of, row_in, is_between, space_under}
 use Rattle.pager_core.specs.Running.{Running, calls_at, flight_at, progress_by_flight, progress_of_actor, kept_by, IsKeptByOther, entries_left, left_at, IsNumbered, IsLawful}
 use Rattle.pager_core.specs.Steps.{Makes, after_named, answer_made}
@@ -139,7 +139,7 @@ module _ (run : Running) (spaces : List Kept) (pool after : FrameState) (capacit
   processor_in machine turns = (let at = actor_in machine turns in let known = machine.known in omega (arith, at, known))
 
   was_number : M → T → was.number ≡ s
-  was_number machine turns = (machine.numbers s was turns.at).0
+  was_number machine turns = (machine.space_is s was turns.at).number
 
   now_number : M → T → now.number ≡ s
   now_number machine turns = turns.makes.same_space ∙ was_number machine turns
@@ -330,14 +330,17 @@ module _ (run : Running) (spaces : List Kept) (pool after : FrameState) (capacit
         | inr other ↦ flying_other machine turns d g other.0 other.1
       ]
 
-  numbers_after : M → T → (t : ℕ) (kept : Kept) → slice_get (set spaces s now) t ≡ Some kept → (kept.number ≡ t) × (kept.frames ≡ run.given.frames)
-  numbers_after machine turns t kept at =
+  spaces_after : M → T → (t : ℕ) (kept : Kept) → slice_get (set spaces s now) t ≡ Some kept → IsSpaceOf new t kept
+  spaces_after machine turns t kept at =
       elim (cases_eq t s) [
         | inl here ↦
             let same = space_here turns kept (subst (λ k. slice_get (set spaces s now) k ≡ Some kept) here at) in
-            subst (λ (k : Kept). (k.number ≡ t) × (k.frames ≡ run.given.frames)) same
-            (now_number machine turns ∙ sym here, turns.makes.same_count ∙ (machine.numbers s was turns.at).1)
-        | inr elsewhere ↦ machine.numbers t kept (space_elsewhere t kept elsewhere at)
+            let before = machine.space_is s was turns.at in
+            subst (IsSpaceOf new t) same
+            (record { number = now_number machine turns ∙ sym here; frames = turns.makes.same_count ∙ before.frames; processors = turns.makes.same_processors ∙ before.processors })
+        | inr elsewhere ↦
+            let before = machine.space_is t kept (space_elsewhere t kept elsewhere at) in
+            record { number = before.number; frames = before.frames; processors = before.processors }
       ]
 
   -- where no flight keeps the space that was stepped under, the actor's keeps none
@@ -434,9 +437,10 @@ module _ (run : Running) (spaces : List Kept) (pool after : FrameState) (capacit
         known = length-set run.flights c o ∙ machine.known;
         frames = frames_at-step run.given h f f' was now pool after e s turns.makes machine.frames ∙ ap (frames_at run.given) (sym (entries-push run.history number e));
         few_calls = machine.few_calls;
+        few_spaces = subst (λ n. n ≤ 16) (sym (length-set spaces s now)) machine.few_spaces;
         calls = can_fly machine turns;
         flights = flights_after machine turns;
-        numbers = numbers_after machine turns;
+        space_is = spaces_after machine turns;
         rest = rest_after machine turns;
         room = (let room = machine.room in omega (arith, room, less, count));
         few = (let few = machine.few in omega (arith, few, less, count));

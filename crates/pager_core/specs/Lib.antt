@@ -3,3 +3,4 @@ pub mod Flights
 pub mod Steps
 pub mod Running
 pub mod Machines
+pub mod Sums

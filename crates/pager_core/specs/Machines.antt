@@ -57,10 +57,11 @@ pub record IsMachine (run : Running) (spaces : List Kept) (pool : FrameState) (c
   pub frames : pool ≡ frames_at run.given (entries_in run.history)
   -- no processor has more calls than a trace has lines
   pub few_calls : (c : ℕ) → length (calls_at run.calls c) ≤ 262144
+  pub few_spaces : length spaces ≤ 16
   -- every call can be made
   pub calls : (c n : ℕ) (call : Call) → slice_get (calls_at run.calls c) n ≡ Some call → CanFly (length spaces) call
   pub flights : (c : ℕ) (f : Flight) → flight_at run.flights c ≡ Some f → IsFlying run spaces c f
-  pub spaces : (s : ℕ) (kept : Kept) → slice_get spaces s ≡ Some kept → IsSpaceOf run s kept
+  pub space_is : (s : ℕ) (kept : Kept) → slice_get spaces s ≡ Some kept → IsSpaceOf run s kept
   -- where no flight keeps a space, it is at rest
   pub rest : (s : ℕ) (kept : Kept) → slice_get spaces s ≡ Some kept → ((c : ℕ) (f : Flight) → flight_at run.flights c ≡ Some f → (row_of f).keeps ≢ Some s) → IsAtRest kept (space_at run.given (entries_in run.history) s)
   -- the history has room for what is left

@@ -294,6 +294,7 @@ impl Flight {
     /// Begins the call.
     fn start<S: Store + Send + Drop>(&mut self, space: &mut Space<S>) -> Option<Entry>
         requires phase { self.old.phase ≡ Phase.Start }
+        requires image { self.old.processor < length space.old.images }
         requires ready { (st : SpaceState) × IsReady self.old space.old st }
         ensures entry { IfSome result (λ e. (st : SpaceState) (frames : FrameState) → IsReady self.old space.old st → Makes self.old self.new space.old space.new st frames frames e) }
         ensures none { IfNone result ((st : SpaceState) → IsReady self.old space.old st → Passes self.old self.new space.old space.new st) }
@@ -370,6 +371,7 @@ impl Flight {
     /// Reads the page's copy in and answers, or finds that the read fails.
     fn fill<S: Store + Send + Drop>(&mut self, space: &mut Space<S>, page: u32, frame: u32) -> Entry
         requires phase { self.old.phase ≡ Phase.Fill page frame }
+        requires image { self.old.processor < length space.old.images }
         requires ready { (st : SpaceState) × IsReady self.old space.old st }
         ensures entry { (st : SpaceState) (frames : FrameState) → IsReady self.old space.old st → Makes self.old self.new space.old space.new st frames frames result }
         ensures nearer { (row_of self.new).steps < (row_of self.old).steps }
@@ -399,6 +401,7 @@ impl Flight {
     /// Answers the access that needs no frame any more.
     fn answer_late<S: Store + Send + Drop>(&mut self, space: &mut Space<S>) -> Entry
         requires phase { self.old.phase ≡ Phase.Late }
+        requires image { self.old.processor < length space.old.images }
         requires ready { (st : SpaceState) × IsReady self.old space.old st }
         ensures entry { (st : SpaceState) (frames : FrameState) → IsReady self.old space.old st → Makes self.old self.new space.old space.new st frames frames result }
         ensures nearer { (row_of self.new).steps < (row_of self.old).steps }

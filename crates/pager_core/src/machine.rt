@@ -1,7 +1,7 @@
-ghost use Rattle.std.specs.Prelude.{◌≡◌, ◌≢◌, ℕ, ◌+◌, ◌*◌, ◌^◌, ◌<◌, ◌≤◌, ◌↔◌, Bool, [], ◌++◌, Some, None, IfOk, IfErr, IfSome, IfNone, IsTrue, length, map, drop, reverse, true, slice_get, vec_capacity, vec_len};
+ghost use Rattle.std.specs.Prelude.{◌≡◌, ◌≢◌, ℕ, ◌+◌, ◌*◌, ◌^◌, ◌<◌, ◌≤◌, ◌↔◌, Bool, [], ◌∷◌, ◌++◌, Some, None, IfOk, IfErr, IfSome, IfNone, IsTrue, length, map, drop, reverse, true, slice_get, vec_capacity, vec_len};
 ghost use Rattle.std.specs.List.{range_with_len};
 ghost use Rattle.pager_model.specs.Agreement.{OwnsBy};
-ghost use Rattle.pager_model.specs.Counts.{counts, is_hit_in, is_miss_in};
+ghost use Rattle.pager_model.specs.Counts.{counts, hits_in, misses_in, is_hit_in, is_miss_in};
 ghost use Rattle.pager_model.specs.FrameStates.{start_frames};
 ghost use Rattle.pager_model.specs.Laws.{KeepsLaws};
 ghost use Rattle.pager_model.specs.Legal.{entries_in, frames_at};
@@ -15,6 +15,7 @@ ghost use Rattle.pager_core.specs.Machines.{IsNew};
 ghost use Rattle.pager_core.specs.Rows.{row_of};
 ghost use Rattle.pager_core.specs.Running.{Running, progress_of_actor, flight_at, flight_of, first_flights, kept_by, setting_over, HasEnded, IsKeptByOther, MustWait, OneMore, IsLawful, IsWholeRun, StoresEnd, AreCapped};
 ghost use Rattle.pager_core.specs.Steps.{AreAgreed, Makes, Passes};
+ghost use Rattle.pager_core.specs.Sums.{AreFewer, sum_at, tiles_in, promotions_in, demotions_in};
 ghost use Rattle.store_core.specs.Stored.{Stored, TellsZero};
 
 use crate::flight::{Flight, Needs};
@@ -198,26 +199,27 @@ impl<S: Store + Send + Drop> Machine<S> {
         ensures summary { result.summary ≡ counts self.given (entries_in self.history) }
     {
         let frames = self.pool.counts();
+        let preemptions = self.pool.preempted();
+        let tiles = tiles_of(self.spaces.as_slice());
         let (promotions, demotions) = moves_of(self.spaces.as_slice());
         let (hits, misses) = accesses_in(self.history.as_slice());
-        let summary = Summary {
-            tiles: tiles_of(self.spaces.as_slice()),
-            promotions,
-            demotions,
-            preemptions: self.pool.preempted(),
-            hits,
-            misses,
-            free: frames.free,
-            reserved: frames.reserved,
-            used: frames.used,
-        };
         let mut stores = self.stores;
         give_back(self.spaces, &mut stores);
         stores.reverse();
         Gathered {
             history: self.history,
             stores,
-            summary,
+            summary: Summary {
+                tiles,
+                promotions,
+                demotions,
+                preemptions,
+                hits,
+                misses,
+                free: frames.free,
+                reserved: frames.reserved,
+                used: frames.used,
+            },
         }
     }
 }
@@ -336,52 +338,6 @@ fn spaces_over<S: Store + Send + Drop>(
     Ok(spaces)
 }
 
-/// How many tiles of each size the spaces have.
-fn tiles_of<S: Store + Send + Drop>(spaces: &[Space<S>]) -> [u32; 4] {
-    let mut tiles = [0; 4];
-    for space in spaces {
-        let own = space.tile_counts();
-        tiles = [
-            tiles[0] + own[0],
-            tiles[1] + own[1],
-            tiles[2] + own[2],
-            tiles[3] + own[3],
-        ];
-    }
-    tiles
-}
-
-/// How many promotions and demotions the spaces had.
-fn moves_of<S: Store + Send + Drop>(spaces: &[Space<S>]) -> (u64, u64) {
-    let mut promotions = 0;
-    let mut demotions = 0;
-    for space in spaces {
-        let moves = space.moves();
-        promotions += moves.0;
-        demotions += moves.1;
-    }
-    (promotions, demotions)
-}
-
-/// How many accesses a history answers that hit, and that missed.
-fn accesses_in(history: &[Numbered]) -> (u64, u64) {
-    let mut hits = 0;
-    let mut misses = 0;
-    for numbered in history {
-        let What::Answer { answered, .. } = &numbered.entry.what else {
-            continue;
-        };
-        if answered.size.is_some() {
-            if answered.hit {
-                hits += 1;
-            } else {
-                misses += 1;
-            }
-        }
-    }
-    (hits, misses)
-}
-
 /// Puts the stores of the spaces behind these, the first space's last.
 fn give_back<S: Store + Send + Drop>(spaces: Vec<Space<S>>, stores: &mut Vec<S>)
     requires room { length stores.old.items + length spaces.items ≤ vec_capacity stores.old }
@@ -391,6 +347,82 @@ fn give_back<S: Store + Send + Drop>(spaces: Vec<Space<S>>, stores: &mut Vec<S>)
     let mut spaces = spaces;
     while let Some(space) = spaces.pop() {
         stores.push_reserved(space.into_store());
+    }
+}
+
+/// How many tiles of each size the spaces have.
+fn tiles_of<S: Store + Send + Drop>(spaces: &[Space<S>]) -> [u32; 4]
+    requires few { length spaces.now ≤ 16 }
+    ensures { result ≡ tiles_in spaces.now 0 ∷ tiles_in spaces.now 1 ∷ tiles_in spaces.now 2 ∷ tiles_in spaces.now 3 ∷ [] }
+{
+    let mut tiles = [0; 4];
+    for space in spaces {
+        tiles = added(&tiles, &space.tile_counts());
+    }
+    tiles
+}
+
+/// The sums of two counts of tiles, size by size.
+fn added(tiles: &[u32; 4], more: &[u32; 4]) -> [u32; 4]
+    requires few { AreFewer tiles.now 1073741824 }
+    requires few_more { AreFewer more.now 1073741824 }
+    ensures { result ≡ sum_at tiles.now more.now 0 ∷ sum_at tiles.now more.now 1 ∷ sum_at tiles.now more.now 2 ∷ sum_at tiles.now more.now 3 ∷ [] }
+{
+    [
+        tiles[0] + more[0],
+        tiles[1] + more[1],
+        tiles[2] + more[2],
+        tiles[3] + more[3],
+    ]
+}
+
+/// How many promotions and demotions the spaces counted.
+fn moves_of<S: Store + Send + Drop>(spaces: &[Space<S>]) -> (u64, u64)
+    requires promotions { promotions_in spaces.now < 2 ^ 64 }
+    requires demotions { demotions_in spaces.now < 2 ^ 64 }
+    ensures { result ≡ (promotions_in spaces.now, demotions_in spaces.now) }
+{
+    let (mut promotions, mut demotions): (u64, u64) = (0, 0);
+    for space in spaces {
+        let own = space.moves();
+        promotions += own.0;
+        demotions += own.1;
+    }
+    (promotions, demotions)
+}
+
+/// How many answers of a history are hits, and how many are misses.
+fn accesses_in(history: &[Numbered]) -> (u64, u64)
+    ensures { result ≡ (hits_in (entries_in history.now), misses_in (entries_in history.now)) }
+{
+    let hits = history
+        .iter()
+        .filter(|numbered| is_hit(&numbered.entry.what))
+        .count();
+    let misses = history
+        .iter()
+        .filter(|numbered| is_miss(&numbered.entry.what))
+        .count();
+    (hits as u64, misses as u64)
+}
+
+/// Whether it is an answer whose page's tile stood in its processor's image.
+fn is_hit(what: &What) -> bool
+    ensures { result ≡ is_hit_in what.now }
+{
+    match what {
+        What::Answer { answered, .. } => answered.size.is_some() && answered.hit,
+        _ => false,
+    }
+}
+
+/// Whether it is an answer with a tile that didn't.
+fn is_miss(what: &What) -> bool
+    ensures { result ≡ is_miss_in what.now }
+{
+    match what {
+        What::Answer { answered, .. } => answered.size.is_some() && !answered.hit,
+        _ => false,
     }
 }
 

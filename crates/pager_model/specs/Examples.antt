@@ -1,5 +1,5 @@
 -- Small values on which the definitions are computed.
-use Rattle.std.specs.Prelude.{ℕ, ◌+◌, ◌==◌, Bool, true, false, nat_lt, if◌then◌else◌, List, [], ◌∷◌, fold, Option, Some, None}
+use Rattle.std.specs.Prelude.{ℕ, ◌+◌, ◌==◌, Bool, true, false, nat_lt, if◌then◌else◌, List, [], ◌∷◌, fold, Option, Some, None, option_map}
 use Rattle.pager_model.specs.declared.call.Call.{Call}
 use Rattle.pager_model.specs.declared.call.Call.TheVariants.{Map, Load, Store}
 use Rattle.pager_model.specs.declared.entry.Entry.{Entry}
@@ -7,7 +7,7 @@ use Rattle.pager_model.specs.declared.entry.Want.{Want}
 use Rattle.pager_model.specs.declared.entry.What.{What}
 use Rattle.pager_model.specs.declared.entry.What.TheVariants.{Answer, Out, Failed, Take, Give, Claim, DropHeld, Unclaim, Rest}
 use Rattle.pager_model.specs.declared.region.Kind.TheVariants.{Fixed}
-use Rattle.pager_model.specs.declared.region.Rights.TheVariants.{Write}
+use Rattle.pager_model.specs.declared.region.Rights.TheVariants.{Read, Write}
 use Rattle.pager_model.specs.declared.reply.Reply.{Reply}
 use Rattle.pager_model.specs.declared.reply.Reply.TheVariants.{Done, Unmapped, StoreFault}
 use Rattle.pager_model.specs.declared.reservation.Reservation.{Reservation}
@@ -156,6 +156,13 @@ run_of_pages frame end page = if nat_lt page end then Some (writable (frame + pa
 
 abbrev pub with_dirty : ℕ → (ℕ → Option Mapping) → ℕ → Option Mapping
 with_dirty dirty pages page = if page == dirty then Some (writable (16 + page) true) else pages page
+
+-- a page that may only be read, and one of another region
+abbrev pub with_read : ℕ → (ℕ → Option Mapping) → ℕ → Option Mapping
+with_read read pages page = if page == read then Some (record { frame = 16 + page; region = 0; rights = Read; dirty = false }) else pages page
+
+abbrev pub with_region : ℕ → (ℕ → Option Mapping) → ℕ → Option Mapping
+with_region first pages page = if nat_lt page first then pages page else option_map (λ m. record { frame = m.frame; region = first; rights = m.rights; dirty = m.dirty }) (pages page)
 
 -- a translation of one page
 abbrev pub small_tile : ℕ → Tile

@@ -40,10 +40,11 @@ pub record HasUsed (l : Layout) (r : Reservation) : Type 0 where
   pub place : has_frame frame (Some r) ≡ true
   pub used : is_used l.used frame ≡ true
 
--- Each frame is in one role; every reservation has a used place, and no two of one space have a common page; no two used places are of
+-- Each frame is in one role; a reservation is named by its first frame and has a used place, and no two of one space have a common page; no two used places are of
 -- one age; and a processor claims at most one frame, and holds none while it does.
 pub record KeepsFrames (frames : ℕ) (st : FrameState) : Type 0 where
   pub partition : IsPartition frames st
+  pub named : (id : ℕ) (r : Reservation) → record_at (layout_of st) id ≡ Some r → r.frame ≡ id
   pub used : (id : ℕ) (r : Reservation) → record_at (layout_of st) id ≡ Some r → HasUsed (layout_of st) r
   pub apart : (id other space page : ℕ) (r q : Reservation) → record_at (layout_of st) id ≡ Some r → record_at (layout_of st) other ≡ Some q → covers space page r ≡ true → covers space page q ≡ true → id ≡ other
   pub ages : (frame other : ℕ) (u v : Used) → used_at st frame ≡ Some u → used_at st other ≡ Some v → u.age ≡ v.age → frame ≡ other

@@ -7,7 +7,7 @@ ghost use Rattle.pager_model.specs.declared.call.Call.TheVariants.{Grow, Unmap, 
 ghost use Rattle.pager_model.specs.declared.region.Rights.TheVariants.{NoAccess, Read};
 ghost use Rattle.pager_model.specs.declared.reply.Reply.TheVariants.{Done, Value, Denied, Unmapped};
 ghost use Rattle.pager_model.specs.Ages.{with_member, oldest_in};
-ghost use Rattle.pager_model.specs.Examples.{eight_pages, two_frames, one_taken, one_broken, one_given, one_carved, both_taken, want_eight, small_setting, legal_history, exchanged_history, small_plan, take_page_one, on_both, on_frames, eight_places, eight_parts_used, one_turn, failing_load, made_up_fault, untold_space, run_of_pages, with_dirty, writable, small_tile};
+ghost use Rattle.pager_model.specs.Examples.{eight_pages, two_frames, one_taken, one_broken, one_given, one_carved, both_taken, want_eight, small_setting, legal_history, exchanged_history, small_plan, take_page_one, on_both, on_frames, eight_places, eight_parts_used, one_turn, failing_load, made_up_fault, untold_space, run_of_pages, with_dirty, with_read, with_region, writable, small_tile};
 ghost use Rattle.pager_model.specs.Order.{progress_of, at_rest};
 ghost use Rattle.pager_model.specs.SpaceStates.{IsAsked};
 ghost use Rattle.pager_model.specs.Flat.{after_call, reply_of};
@@ -19,7 +19,7 @@ ghost use Rattle.pager_model.specs.Records.{yield_of, kept_part};
 ghost use Rattle.pager_model.specs.TraceText.{call_line, line_words, text_of};
 ghost use Rattle.pager_model.specs.Legal.{IsLegal, MayFollow};
 ghost use Rattle.pager_model.specs.Settings.{Given};
-ghost use Rattle.pager_model.specs.Images.{is_in_image, touched, still_tiles};
+ghost use Rattle.pager_model.specs.Images.{is_in_image, images_with, touched, still_tiles};
 ghost use Rattle.pager_model.specs.Tiles.{tile_of, tile_with, size_at, is_promoted};
 
 /// A legal history goes on by an entry that may follow it.
@@ -158,6 +158,8 @@ pub fn tiles_are_aligned_and_uniform()
     ensures eight { tile_of (run_of_pages 16 8) 3 ≡ Some (tile_with 1 0 (writable 16 false)) }
     ensures unaligned { size_at (run_of_pages 12 8) 3 ≡ 0 }
     ensures one_dirty { size_at (with_dirty 5 (run_of_pages 16 8)) 3 ≡ 0 }
+    ensures other_right { size_at (with_read 5 (run_of_pages 16 8)) 3 ≡ 0 }
+    ensures two_regions { size_at (with_region 5 (run_of_pages 16 8)) 3 ≡ 0 }
     ensures absent { tile_of (run_of_pages 16 8) 8 ≡ None }
 {}
 
@@ -175,6 +177,13 @@ pub fn a_promotion_is_counted_at_the_first_page()
     ensures promoted { is_promoted (run_of_pages 16 7) (run_of_pages 16 8) 0 ≡ true }
     ensures once { is_promoted (run_of_pages 16 7) (run_of_pages 16 8) 7 ≡ false }
     ensures demoted { is_promoted (with_dirty 5 (run_of_pages 16 8)) (run_of_pages 16 8) 0 ≡ true }
+{}
+
+/// An access puts its page's tile into its own processor's image alone, and each entry takes out of every image what is no tile any more.
+pub fn an_entry_changes_the_images()
+    ensures own { images_with (run_of_pages 16 7) 1 (Some (small_tile 0)) (λ c. small_tile 1 ∷ []) 1 ≡ small_tile 0 ∷ small_tile 1 ∷ [] }
+    ensures other { images_with (run_of_pages 16 7) 1 (Some (small_tile 0)) (λ c. small_tile 1 ∷ []) 0 ≡ small_tile 1 ∷ [] }
+    ensures gone { images_with (run_of_pages 16 8) 1 None (λ c. small_tile 1 ∷ []) 0 ≡ [] }
 {}
 
 /// The tile used last comes to the front and stands once, and a tile that is none any more is gone.

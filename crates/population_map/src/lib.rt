@@ -17,13 +17,10 @@ mod way;
 
 use extent_tree::ExtentTree;
 use mark::Mark;
-use pager_model::{Extent, NoMemory, Steps};
+use pager_model::{Extent, NoMemory, PAGES, Steps};
 use std::alloc::Global;
 use std::marker::{Brand, Model};
 use std::sync::ledger::{Blank, Ledger};
-
-/// The pages of a space.
-const PAGES: u32 = 1_048_576;
 
 /// The extents of 512 pages of a space.
 const ROOTS: u32 = 2048;

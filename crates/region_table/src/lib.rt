@@ -11,11 +11,8 @@ ghost use Rattle.region_table.specs.Table.{IsTable, region_of};
 
 use arrayvec::ArrayVec;
 pub use pager_model::Region;
-use pager_model::{Kind, Reply, Rights};
+use pager_model::{Kind, PAGES, Reply, Rights};
 use std::marker::Model;
-
-/// The number of pages of a space.
-const PAGES: u32 = 1_048_576;
 
 /// The most regions that a space may have.
 const MOST: usize = 64;

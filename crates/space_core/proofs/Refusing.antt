@@ -216,6 +216,20 @@ begins_denied old c (Store space address word) page r can resting is at refused 
     access_denied _ _ _ (ap (λ rs. is_some (region_at rs (page_of address))) s.beside.regions ∙ here.0) (ap can_write (s.beside.rights (page_of address) here.0 ∙ here.1) ∙ refused))
 begins_denied old c call page r can resting is at refused = absurd (none-some page is)
 
+-- an access to a page without a region is unmapped
+access_unmapped : (o : Option Region) (allowed : Bool) (reply : Reply) → o ≡ None → access_reply o allowed reply ≡ Unmapped
+access_unmapped None allowed reply none = refl
+access_unmapped (Some r) allowed reply none = absurd (none-some r (sym none))
+
+pub begins_unmapped : (old : Kept) (c : ℕ) (call : Call) (page : ℕ) → CanBegin call → IsResting old → access_page call ≡ Some page → region_at old.regions page ≡ None → BeginsAnswered old old c call (record { reply = Unmapped; hit = false; size = None })
+begins_unmapped old c (Load space address) page can resting is none =
+    begins_refused old c (Load space address) Unmapped can resting refl tt (λ st s.
+    access_unmapped _ _ _ (ap (λ rs. region_at rs (page_of address)) s.beside.regions ∙ ap (region_at old.regions) (same_Some _ _ is) ∙ none))
+begins_unmapped old c (Store space address word) page can resting is none =
+    begins_refused old c (Store space address word) Unmapped can resting refl tt (λ st s.
+    access_unmapped _ _ _ (ap (λ rs. region_at rs (page_of address)) s.beside.regions ∙ ap (region_at old.regions) (same_Some _ _ is) ∙ none))
+begins_unmapped old c call page can resting is none = absurd (none-some page is)
+
 refused_if : (b : Bool) (x y : Reply) → is_refusal x ≡ true → (y ≢ Done → is_refusal y ≡ true) → (if b then x else y) ≢ Done → is_refusal (if b then x else y) ≡ true
 refused_if true x y hx hy n = hx
 refused_if false x y hx hy n = hy n

@@ -18,7 +18,7 @@ use Rattle.pager_model.specs.SpaceStates.{SpaceState, IsResident, IsValue, IsWor
 use Rattle.pager_model.specs.Tiles.{mapping_with, mappings, tile_of}
 use Rattle.space_core.specs.Beginning.{Places, Finishes, SameRegions}
 use Rattle.space_core.specs.Keeping.{IsKept, IsMapped}
-use Rattle.space_core.specs.Pages.{SameOwn, IsFresh, Maps, Writes, Cleans}
+use Rattle.space_core.specs.Pages.{SameOwn, IsFresh, Maps, Refills, Writes, Cleans}
 use Rattle.space_core.specs.Standing.{Kept, StandsFor, image_at, rights_by, word_at, is_settled, is_allowed, answer_entry, take_entry}
 use Rattle.space_core.specs.Tables.{Table, mapping_in, frame_in, word_in, own_in, dirty_in, flag_in}
 use Rattle.space_core.specs.Translating.{Retouches, Touches}
@@ -201,6 +201,10 @@ placed_kept regions t u p page scan m clearing k moves in_space none unwritten i
   where
     clean : (q : ℕ) → page ≡ q → dirty_in u q ≡ false
     clean q e = maps_dirty page (Some m) t u moves q ∙ cond-true _ _ _ (eq-eqb q page (sym e)) ∙ unwritten
+
+-- a page that is read in is said the same of
+pub refilled_mapped : (regions : List Region) (t u : Table) (page : ℕ) → Refills page t u → AreMapped regions t → AreMapped regions u
+refilled_mapped regions t u page refills mapped p m is = mapped_again regions t u p m (refills.same.own p) (mapped p m (sym (refills.mapping p) ∙ is))
 
 -- what is kept stays so where each page keeps its frame, and no page is pending
 pub same_kept : (regions : List Region) (t u : Table) (p : Option ℕ) (clearing : Option Region) (scan : ℕ) → IsKept regions t p clearing scan → SameOwn t u → ((q : ℕ) → frame_in u q ≡ frame_in t q) → AreMapped regions u → IsKept regions u None clearing scan

@@ -8,7 +8,7 @@ use Rattle.pager_model.specs.declared.entry.What.TheVariants.{Answer}
 use Rattle.pager_model.specs.declared.region.Kind.{Kind}
 use Rattle.pager_model.specs.declared.region.Kind.TheVariants.{Fixed, Growing, Wired}
 use Rattle.pager_model.specs.declared.region.Region.{Region}
-use Rattle.pager_model.specs.declared.reply.Reply.TheVariants.{Clean, NoMemory}
+use Rattle.pager_model.specs.declared.reply.Reply.TheVariants.{Clean, Denied, NoMemory, Written}
 use Rattle.pager_model.specs.declared.tile.Tile.{Tile}
 use Rattle.pager_model.specs.Images.{is_in_image}
 use Rattle.pager_model.specs.Flat.{Flat, after_call, reply_of, is_lawful, out, sync_reply, evict_reply}
@@ -172,6 +172,10 @@ unwired_at regions page r at other = ap is_unwired at ∙ not_wired r.kind other
     not_wired Fixed other = refl
     not_wired Growing other = refl
     not_wired Wired other = absurd (other refl)
+
+-- a page of a wired region is not evicted
+pub evict_denied : (regions : List Region) (page : ℕ) (r : Region) → region_at regions page ≡ Some r → r.kind ≡ Wired → (dirty : Bool) → evict_reply (region_at regions page) dirty ≡ Denied
+evict_denied regions page r at wired dirty = ap (λ o. evict_reply o dirty) at ∙ ap (λ k. if is_wired k then Denied else (if dirty then Written else Clean)) wired
 
 -- nothing is done for a clean page
 saves_clean : (old : Kept) (page : ℕ) → dirty_at old page ≡ false → Saves old old page false

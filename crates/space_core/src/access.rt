@@ -10,9 +10,6 @@ ghost use Rattle.space_core.specs.Standing.{CanBegin};
 
 use pager_model::{Answered, Call, Kind, Region, Reply, Rights, Want};
 
-/// The number of pages of a space.
-pub const PAGES: u32 = 1 << 20;
-
 /// The bytes of a base page.
 const PAGE_BYTES: u64 = 8192;
 

@@ -8,9 +8,8 @@ ghost use Rattle.space_core.specs.Tables.{mapping_in, frame_in, word_in, own_in,
 ghost use Rattle.space_core.specs.Pages.{IsFresh, Maps, Refills, HasWords, Writes, Cleans, OwnsRights, Protects, Forgets, IsFirstResident, NoneFrom};
 ghost use Rattle.store_core.specs.Stored.{copy_at, keeps_at, SameCopies, SetsCopy};
 
-use crate::access::PAGES;
 use crate::frames::{set_word, word};
-use pager_model::{Frame, Mapping, NoMemory, Rights, Tile};
+use pager_model::{Frame, Mapping, NoMemory, PAGES, Rights, Tile};
 use std::alloc::Global;
 use std::marker::Model;
 use store_core::{Store, StoreFailed, WriteRefused};

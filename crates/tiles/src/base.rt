@@ -7,8 +7,8 @@ ghost use Rattle.tiles.specs.Resident.{mapping_at, frames_in, frame_of_page, lar
 ghost use Rattle.tiles.specs.Blocks.{KeepsRights, ProtectsTo, ProtectsInBlock, AreSizesOfBlock, OutsideSame, AreMovesOf, begun_at};
 
 use crate::moves::Moves;
-use crate::pages::{PAGES, Pages, size_of};
-use pager_model::{Extent, Mapping, NoMemory, Rights, Size, Tile};
+use crate::pages::{Pages, size_of};
+use pager_model::{Extent, Mapping, NoMemory, PAGES, Rights, Size, Tile};
 use std::alloc::Global;
 use std::marker::Model;
 

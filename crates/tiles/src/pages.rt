@@ -5,12 +5,9 @@ ghost use Rattle.tiles.specs.Resident.{mapping_at, frames_in, frame_of_page, Map
 ghost use Rattle.tiles.specs.Kept.{size_kept, place_of_number, said_by, Sizes, SizesBut, SameSizes};
 ghost use Rattle.tiles.specs.Beside.{SamePages};
 
-use pager_model::{Mapping, NoMemory, Rights, Size};
+use pager_model::{Mapping, NoMemory, PAGES, Rights, Size};
 use std::alloc::Global;
 use std::marker::Model;
-
-/// The number of pages of a space.
-pub(crate) const PAGES: u32 = 1 << 20;
 
 /// What is kept of a resident page, at its frame's number.
 #[derive(Clone, Copy, Debug)]

@@ -10,13 +10,10 @@ ghost use Rattle.trace_reader.specs.Words.{seen};
 
 use crate::fault::LineCause;
 use crate::word::{any_number, kind, number, rights, small, words};
-use pager_model::{Call, Line};
+use pager_model::{Call, Line, PAGES};
 
 /// The first word of a trace.
 const TRACE: &[u8] = b"trace";
-
-/// The pages of a space.
-const PAGES: u32 = 1_048_576;
 
 /// The bytes of a space.
 const ADDRESSES: u64 = 8_589_934_592;

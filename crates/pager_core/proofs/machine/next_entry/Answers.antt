@@ -2,7 +2,7 @@ use Rattle.std.proofs.Common.{◌<◌, length, refl, sym, subst, ◌∙◌}
 use Rattle.pager_model.specs.Agreement.{OwnsBy}
 use Rattle.pager_core.specs.Rows.{row_of}
 use Rattle.pager_core.specs.Steps.{AreAgreed, Makes}
-use Rattle.pager_core.proofs.Passing.{HasPassed-none, HasPassed-more, Makes-passed, AreAgreed-passed, OwnsBy-passed, known-passed}
+use Rattle.pager_core.proofs.Passing.{HasPassed-none, HasPassed-more, Makes-passed, AreAgreed-passed, OwnsBy-passed, known-passed, image-passed}
 use Rattle.pager_core.proofs.machine.next_entry.Goals as goal
 
 pub loop-entry-init : goal.loop-entry-init
@@ -35,6 +35,9 @@ pub step-requires-clause-owns : goal.step-requires-clause-owns
 step-requires-clause-owns g c κs within =
     subst (λ p. OwnsBy p c.loop-entry.flight.processor (row_of c.loop-entry.flight).progress.doing) (sym c.loop-entry.invariant.same_pool)
     (OwnsBy-passed c.args.flight.now c.loop-entry.flight c.args.space.now c.loop-entry.space c.args.pool.now c.loop-entry.invariant.passed c.requires.owns)
+
+pub step-requires-clause-image : goal.step-requires-clause-image
+step-requires-clause-image g c κs within = image-passed c.args.flight.now c.loop-entry.flight c.args.space.now c.loop-entry.space c.loop-entry.invariant.passed c.requires.image
 
 pub step-requires-clause-known : goal.step-requires-clause-known
 step-requires-clause-known g c κs within =

@@ -32,7 +32,7 @@ returns-clause-new g c =
     let value = c.as_slice-2.ensures.value in
     let given = c.in_ok-setting.ensures.given ∙ ap (λ l. setting_over plan (map g.S.Store.seen (reverse l))) value in
     let told = subst (λ l. (s : ℕ) (store : Stored) → s < plan.spaces → slice_get (map g.S.Store.seen (reverse l)) s ≡ Some store → store.told ≡ true → TellsZero store) value c.in_ok-setting.ensures.told in
-    subst (λ (s : Given). (n : ℕ) (kept : Kept) → slice_get c.in_ok-spaces.spaces.items n ≡ Some kept → IsNew plan.frames n (is_told s n) (faults_at_entry s n) kept) (sym given)
+    subst (λ (s : Given). (n : ℕ) (kept : Kept) → slice_get c.in_ok-spaces.spaces.items n ≡ Some kept → IsNew plan.frames plan.processors n (is_told s n) (faults_at_entry s n) kept) (sym given)
     (are_new plan c.in_ok-spaces.spaces.items _ _ c.in_ok-spaces.ensures.stores c.in_ok-spaces.ensures.count told c.in_ok-spaces.ensures.new)
 
 pub returns-clause-capped : goal.returns-clause-capped

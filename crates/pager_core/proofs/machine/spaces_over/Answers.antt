@@ -12,15 +12,16 @@ loop-number-preserved g c =
     let made = c.in-Ok.ensures.made in
     let before = c.loop-number.invariant in (
       search rules,
-      AreNew-push c.args.trace.now.frames c.loop-number.spaces.items c.push_reserved.new.self.items c.in-Ok.space before.1 c.push_reserved.ensures.items
+      AreNew-push c.args.trace.now.frames c.args.trace.now.processors c.loop-number.spaces.items c.push_reserved.new.self.items c.in-Ok.space before.1 c.push_reserved.ensures.items
           (λ told zeros. record {
             number_is = made.0 ∙ sym before.0;
             frames_are = made.1 ∙ c.frames.ensures.frames;
-            resting = made.3;
+            processors_are = made.2 ∙ c.processors.ensures.processors;
+            resting = made.4;
             stands = c.in-Ok.ensures.stands told zeros;
           }),
       in_order-more g.S.Store.seen c.args.stores.now.items c.loop-number.stores.items c.pop.new.self.items c.in-Some.store c.loop-number.spaces.items c.push_reserved.new.self.items c.in-Ok.space
-          before.2 c.in-Some.ensures.items c.push_reserved.ensures.items made.2,
+          before.2 c.in-Some.ensures.items c.push_reserved.ensures.items made.3,
       search rules,
       search rules,
       search rules,

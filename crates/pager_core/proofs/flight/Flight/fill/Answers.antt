@@ -1,3 +1,4 @@
+use Rattle.std.proofs.Common.{arith}
 use Rattle.pager_core.proofs.Answering.{fill_answered}
 use Rattle.pager_core.proofs.Failing.{fill_failed}
 use Rattle.pager_core.proofs.flight.Flight.fill.Goals as goal
@@ -11,3 +12,6 @@ returns-in-Ok-clause-entry g c = λ st frames.
 pub returns-in-Err-clause-entry : goal.returns-in-Err-clause-entry
 returns-in-Err-clause-entry g c = λ st frames.
     rw c.entry.ensures (rw c.space.ensures (fill_failed c.args.self.now c.args.page c.args.frame c.in-Err.count c.args.space.now c.read_in.new.self c.requires.phase c.in-Err.ensures.failed st frames))
+
+pub finish-answered-requires-clause-processor : goal.finish-answered-requires-clause-processor
+finish-answered-requires-clause-processor g c κs within = (let same = c.in-Ok.ensures.read.same.same.processors in let image = c.requires.image in omega (arith, same, image))

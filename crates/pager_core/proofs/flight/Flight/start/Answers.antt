@@ -14,3 +14,6 @@ returns-in-NeedsEvict-clause-none g c =
 pub returns-in-Failed-clause-entry : goal.returns-in-Failed-clause-entry
 returns-in-Failed-clause-entry g c = λ st frames.
     rw c.entry.ensures (rw c.space-own.ensures (begin_failed c.args.self.now c.in-Failed.page c.in-Failed.count c.args.space.now c.begin.new.self c.requires.phase c.in-Failed.ensures st frames))
+
+pub begin-requires-clause-processor : goal.begin-requires-clause-processor
+begin-requires-clause-processor g c κs within = c.requires.image

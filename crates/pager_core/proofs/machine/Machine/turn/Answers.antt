@@ -37,6 +37,13 @@ next_entry-entry-requires-clause-agree g c κs within =
     c.self.invariant.0 c.self.view_is c.requires c.index.ensures c.in-Some.is c.under.ensures c.in-Some-under.is c.index_mut.ensures.value c.as_slice.ensures.value c.if-is_kept_by_other.ensures.1 in
     found.agreed
 
+pub next_entry-entry-requires-clause-image : goal.next_entry-entry-requires-clause-image
+next_entry-entry-requires-clause-image g c κs within =
+    let i = c.self.inside in
+    let found = finds _ c.args.self.now i.spaces.items i.pool _ c.args.actor c.in-Some-under.space c.index.result.now c.in-Some.flight c.index_mut.result.now c.under.result c.as_slice.result.now
+    c.self.invariant.0 c.self.view_is c.requires c.index.ensures c.in-Some.is c.under.ensures c.in-Some-under.is c.index_mut.ensures.value c.as_slice.ensures.value c.if-is_kept_by_other.ensures.1 in
+    found.image
+
 pub next_entry-entry-requires-clause-owns : goal.next_entry-entry-requires-clause-owns
 next_entry-entry-requires-clause-owns g c κs within =
     let i = c.self.inside in

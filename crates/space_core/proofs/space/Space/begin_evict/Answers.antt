@@ -1,15 +1,44 @@
-use Rattle.std.proofs.Common.{◌≡◌, ap, refl, true, None, Err, rules}
+use Rattle.std.proofs.Common.{◌≡◌, ◌≢◌, ◌<◌, ◌∙◌, ap, sym, refl, true, None, Some, Err, rules}
+use Rattle.std.proofs.lemmas.Bool.{true≢false}
 use Rattle.pager_model.specs.declared.call.Call.TheVariants.{Evict}
+use Rattle.pager_model.specs.declared.reply.Reply.TheVariants.{Denied, Unmapped}
+use Rattle.pager_model.specs.Flat.{evict_reply}
 use Rattle.pager_model.specs.Regions.{region_at}
-use Rattle.space_core.specs.Standing.{is_unwired, frame_at}
-use Rattle.space_core.proofs.Syncing.{evicts_absent, begins_unwritten, unwired_at}
+use Rattle.space_core.specs.Standing.{Kept, is_unwired, frame_at}
+use Rattle.space_core.proofs.Refusing.{begins_refused}
+use Rattle.space_core.proofs.SameView.{same_regions}
+use Rattle.space_core.proofs.Syncing.{evicts_absent, begins_unwritten, begins_evicting, evict_denied, unwired_at}
 use Rattle.space_core.proofs.space.Space.begin_evict.Goals as goal
+use Rattle.space_core.proofs.space.Space.begin_evict.Goals.{in-Wired, in_default-matches}
+
+pub returns-in_default : goal.returns-in_default
+returns-in_default g c =
+    let none : region_at c.args.self.now.regions c.args.page ≡ None = ap (λ (k : Kept). region_at k.regions c.args.page) (sym c.self.view_is) ∙ sym c.find.ensures.value ∙ c.in_default.is in
+    rw c.answered.ensures (λ processor. begins_refused c.args.self.now processor (Evict c.args.self.now.number c.args.page) Unmapped c.requires.can c.requires.resting refl tt
+    (λ st s. ap (λ o. evict_reply o (st.flat.dirty c.args.page)) (ap (λ rs. region_at rs c.args.page) s.beside.regions ∙ none)))
+
+pub returns-then-matches : goal.returns-then-matches
+returns-then-matches g c =
+    let found : region_at c.args.self.now.regions c.args.page ≡ Some c.in-Some.region = ap (λ (k : Kept). region_at k.regions c.args.page) (sym c.self.view_is) ∙ sym c.in-Some.ensures.value in
+    elim c.match-matches.branch [
+      | in-Wired w ↦ rw c.answered-then-matches.ensures (λ processor. begins_refused c.args.self.now processor (Evict c.args.self.now.number c.args.page) Denied c.requires.can c.requires.resting refl tt
+        (λ st s. ap (λ rs. evict_reply (region_at rs c.args.page) (st.flat.dirty c.args.page)) s.beside.regions ∙ evict_denied _ c.args.page c.in-Some.region found w.in-Wired.is (st.flat.dirty c.args.page)))
+      | in_default-matches w ↦ absurd (true≢false (sym c.if-matches.true ∙ w.matches-is))
+    ]
 
 pub returns-then-is_none : goal.returns-then-is_none
 returns-then-is_none g c =
     let unwired : is_unwired (region_at c.args.self.now.regions c.args.page) ≡ true = rw (← c.self.view_is) (search (rules, unwired_at)) in
     let absent : frame_at c.args.self.now c.args.page ≡ None = rw (← c.self.view_is) (search rules) in
     rw c.answered-then-is_none.ensures (λ processor. evicts_absent c.args.self.now processor c.args.page c.requires.resting unwired absent)
+
+pub returns-in-Ok : goal.returns-in-Ok
+returns-in-Ok g c =
+    let unwired : is_unwired (region_at c.args.self.now.regions c.args.page) ≡ true = rw (← c.self.view_is) (search (rules, unwired_at)) in
+    let resident : frame_at c.args.self.now c.args.page ≢ None = rw (← c.self.view_is) (search rules) in
+    let in_space : c.args.page < 1048576 = search rules in
+    λ processor. begins_evicting c.args.self.now c.save.new.self _ c.args.page c.in-Ok.written c.requires.resting in_space unwired resident c.in-Ok.ensures.saved
+    (rw (← c.self-2.view_is) (record { same = same_regions _ _ refl refl refl refl (λ p. refl); table = refl; pending = refl; clearing = refl; paged = refl; store = refl; still = record { images = refl; promotions = refl; demotions = refl } }))
 
 pub returns-in-Err : goal.returns-in-Err
 returns-in-Err g c =

@@ -1,4 +1,10 @@
-use Rattle.std.proofs.Common.{sym, arith, refl}
+use Rattle.std.proofs.Common.{◌≡◌, ◌+◌, ◌∙◌, ap, sym, arith, refl, if◌then◌else◌, None, Some}
+use Rattle.std.proofs.lemmas.Bool.{cond-false, lt-leb}
+use Rattle.pager_model.specs.declared.call.Call.TheVariants.{Protect}
+use Rattle.pager_model.specs.declared.reply.Reply.TheVariants.{Done, Unmapped}
+use Rattle.pager_model.specs.Regions.{end_of, range_in, region_at}
+use Rattle.space_core.specs.Standing.{Kept}
+use Rattle.space_core.proofs.Refusing.{begins_refused}
 use Rattle.space_core.proofs.Finding.{found_page}
 use Rattle.space_core.proofs.Changing.{protect_own, protect_mapped, changed_kept, begins_protected}
 use Rattle.space_core.proofs.Translating.{retouched_by}
@@ -7,8 +13,21 @@ use Rattle.space_core.proofs.space.Space.begin_protect.Goals as goal
 pub overflow_add-region : goal.overflow_add-region
 overflow_add-region g c = omega (arith, found_page c.self.inside.regions c.self.invariant.ordered.in_order c.args.page c.in-Some.region (sym c.in-Some.ensures.value))
 
-pub protect-requires : goal.protect-requires
-protect-requires g c = omega (arith, found_page c.self.inside.regions c.self.invariant.ordered.in_order c.args.page c.in-Some.region (sym c.in-Some.ensures.value))
+pub protect-moves-requires : goal.protect-moves-requires
+protect-moves-requires g c = omega (arith, found_page c.self.inside.regions c.self.invariant.ordered.in_order c.args.page c.in-Some.region (sym c.in-Some.ensures.value))
+
+pub returns-in_default : goal.returns-in_default
+returns-in_default g c =
+    let none : region_at c.args.self.now.regions c.args.page ≡ None = ap (λ (k : Kept). region_at k.regions c.args.page) (sym c.self.view_is) ∙ sym c.find.ensures.value ∙ c.in_default.is in
+    rw c.answered.ensures (λ processor. begins_refused c.args.self.now processor (Protect c.args.self.now.number c.args.page c.args.length c.args.rights) Unmapped c.requires.can c.requires.resting refl tt
+    (λ st s. ap (λ o. if range_in c.args.page c.args.length o then Done else Unmapped) (ap (λ rs. region_at rs c.args.page) s.beside.regions ∙ none)))
+
+pub returns-then-page-length : goal.returns-then-page-length
+returns-then-page-length g c =
+    let found : region_at c.args.self.now.regions c.args.page ≡ Some c.in-Some.region = ap (λ (k : Kept). region_at k.regions c.args.page) (sym c.self.view_is) ∙ sym c.in-Some.ensures.value in
+    rw c.answered-then-page-length.ensures (λ processor. begins_refused c.args.self.now processor (Protect c.args.self.now.number c.args.page c.args.length c.args.rights) Unmapped c.requires.can c.requires.resting refl tt
+    (λ st s. cond-false _ _ _ (ap (λ rs. range_in c.args.page c.args.length (region_at rs c.args.page)) s.beside.regions ∙ ap (range_in c.args.page c.args.length) found
+      ∙ lt-leb (c.args.page + c.args.length) (end_of c.in-Some.region) (omega arith))))
 
 pub invariant_of-self : goal.invariant_of-self
 invariant_of-self g c =
@@ -23,6 +42,6 @@ pub returns : goal.returns
 returns g c =
     let rest = rw (← c.self.view_is) at c.requires.resting in
     let found = sym c.in-Some.ensures.value in
-    rw (c.retouch.ensures, c.answered.ensures, ← c.self.view_is, rest.none_pending, rest.none_clearing, rest.none_paged)
+    rw (c.retouch.ensures, c.answered-2.ensures, ← c.self.view_is, rest.none_pending, rest.none_clearing, rest.none_paged)
     (λ processor. begins_protected c.self.inside.regions _ _ _ _ _ c.self.invariant.ordered c.in-Some.region found (omega arith) c.protect-moves.ensures.protects c.self.invariant.mapped _ _ _ _ _ _ _ _ _ processor
     (retouched_by _ _ c.protect-moves.result c.protect-moves.ensures.moves refl refl refl))

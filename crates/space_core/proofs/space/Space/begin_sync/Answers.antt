@@ -1,8 +1,17 @@
-use Rattle.std.proofs.Common.{◌≡◌, ap, refl, true, is_some, Err, rules}
+use Rattle.std.proofs.Common.{◌≡◌, ◌∙◌, ap, refl, true, is_some, None, Err, rules}
 use Rattle.pager_model.specs.declared.call.Call.TheVariants.{Sync}
+use Rattle.pager_model.specs.declared.reply.Reply.TheVariants.{Unmapped}
+use Rattle.pager_model.specs.Flat.{sync_reply}
 use Rattle.pager_model.specs.Regions.{region_at}
+use Rattle.space_core.proofs.Refusing.{begins_refused}
 use Rattle.space_core.proofs.Syncing.{syncs, begins_unwritten}
 use Rattle.space_core.proofs.space.Space.begin_sync.Goals as goal
+
+pub returns-then-is_none : goal.returns-then-is_none
+returns-then-is_none g c =
+    let none : region_at c.args.self.now.regions c.args.page ≡ None = rw (← c.self.view_is) (search rules) in
+    rw c.answered.ensures (λ processor. begins_refused c.args.self.now processor (Sync c.args.self.now.number c.args.page) Unmapped c.requires.can c.requires.resting refl tt
+    (λ st s. ap (λ o. sync_reply o (st.flat.dirty c.args.page)) (ap (λ rs. region_at rs c.args.page) s.beside.regions ∙ none)))
 
 pub returns-in-Ok : goal.returns-in-Ok
 returns-in-Ok g c =

@@ -1,0 +1,192 @@
+-- The counts of the spaces at the end of a run.
+use Rattle.std.proofs.Common.{◌≡◌, ℕ, zero, suc, ◌+◌, ◌*◌, ◌^◌, ◌<◌, ◌≤◌, Bool, cond, not, List, [], ◌∷◌, length, map, take, fold, slice_get, Option, Some, None, refl, ap, sym, ◌∙◌, arith}
+use Rattle.std.specs.List.{range_with_len, sum_by, count_by}
+use Rattle.std.proofs.lemmas.List.Filters.{length-filter_both}
+use Rattle.std.proofs.lemmas.List.FromFn.{length-range_with_len}
+use Rattle.std.proofs.lemmas.List.Sums.{sum_by-cons, sum_by-take-le}
+use Rattle.std.proofs.Math.ListN.{length-map}
+use Rattle.std.proofs.Math.Nat.{suc-mul}
+use Rattle.pager_model.specs.declared.entry.Entry.{Entry}
+use Rattle.pager_model.specs.declared.entry.Numbered.{Numbered}
+use Rattle.pager_model.specs.declared.tile.Mapping.{Mapping}
+use Rattle.pager_model.specs.declared.summary.Summary.{Summary}
+use Rattle.pager_model.specs.Counts.{counts, hits_in, misses_in, over_spaces, tiles_after}
+use Rattle.pager_model.specs.Entries.{names_space, space_part}
+use Rattle.pager_model.specs.FrameStates.{FrameState, free_count, reserved_count, used_count}
+use Rattle.pager_model.specs.Legal.{space_at, frames_at, entries_in}
+use Rattle.pager_model.specs.Settings.{is_told, faults_at_entry}
+use Rattle.pager_model.specs.SpaceStates.{SpaceState, empty_state, space_after, pages_of, pages_after}
+use Rattle.pager_model.specs.Tiles.{tiles_of_size, begins_tile, is_promoted, promotions_between, demotions_between}
+use Rattle.space_core.specs.Standing.{Kept}
+use Rattle.space_core.specs.Tables.{mapping_in}
+use Rattle.tiles.proofs.Counting.{count_pages_most}
+use Rattle.pager_core.specs.Flights.{IsAtRest}
+use Rattle.pager_core.specs.Machines.{IsMachine}
+use Rattle.pager_core.specs.Running.{Running, HasEnded}
+use Rattle.pager_core.specs.Sums.{AreFewer, tiles_in, promotions_in, demotions_in}
+
+-- Sums.
+
+count-cons : {X : Type 0} (p : X → Bool) (x : X) (xs : List X) → count_by p (x ∷ xs) ≡ cond (p x) 1 0 + count_by p xs
+count-cons p x xs = sum_by-cons (λ y. cond (p y) 1 0) x xs
+
+-- a count of what is mapped
+pub count_by-map : {X Y : Type 0} (p : Y → Bool) (f : X → Y) (xs : List X) → count_by p (map f xs) ≡ count_by (λ x. p (f x)) xs
+count_by-map p f [] = refl
+count_by-map p f (x ∷ xs) = count-cons p (f x) (map f xs) ∙ ap (λ n. cond (p (f x)) 1 0 + n) (count_by-map p f xs) ∙ sym (count-cons (λ y. p (f y)) x xs)
+
+-- a sum over a list is one over its places
+sum_by-places : {X : Type 0} (f : X → ℕ) (g : ℕ → ℕ) (a : ℕ) (xs : List X) → ((s : ℕ) (x : X) → slice_get xs s ≡ Some x → f x ≡ g (a + s)) → sum_by f xs ≡ sum_by g (range_with_len a (length xs))
+sum_by-places f g a [] are = refl
+sum_by-places f g a (x ∷ xs) are =
+    let first : f x ≡ g a = are 0 x refl ∙ ap g (let e : a + 0 ≡ a = omega arith in e) in
+    let rest = sum_by-places f g (a + 1) xs (λ s y at. are (suc s) y at ∙ ap g (let e : a + suc s ≡ a + 1 + s = omega arith in e)) in
+    sum_by-cons f x xs ∙ ap (λ n. n + sum_by f xs) first ∙ ap (λ n. g a + n) rest ∙ sym (sum_by-cons g a (range_with_len (a + 1) (length xs)))
+
+-- so many terms, each at most so much
+sum_by-most : {X : Type 0} (f : X → ℕ) (most : ℕ) (xs : List X) → ((x : X) → f x ≤ most) → sum_by f xs ≤ length xs * most
+sum_by-most f most [] each = omega arith
+sum_by-most f most (x ∷ xs) each =
+    let cons = sum_by-cons f x xs in
+    let rest = sum_by-most f most xs each in
+    let all = suc-mul (length xs) most in
+    omega (arith, cons, each x, rest, all)
+
+-- Each page is the first of at most one tile, so an entry promotes and breaks few.
+pub tiles_few : (pages : ℕ → Option Mapping) (size : ℕ) → tiles_of_size pages size ≤ 1048576
+tiles_few pages size = count_pages_most (begins_tile pages size)
+
+four_fewer : (most a b c d : ℕ) → a < most → b < most → c < most → d < most → AreFewer (a ∷ b ∷ c ∷ d ∷ []) most
+four_fewer most a b c d in_a in_b in_c in_d zero = in_a
+four_fewer most a b c d in_a in_b in_c in_d (suc zero) = in_b
+four_fewer most a b c d in_a in_b in_c in_d (suc (suc zero)) = in_c
+four_fewer most a b c d in_a in_b in_c in_d (suc (suc (suc zero))) = in_d
+four_fewer most a b c d in_a in_b in_c in_d (suc (suc (suc (suc size)))) = omega (arith, in_a)
+
+-- one space's tiles, and those of some of few spaces
+pub own_fewer : (pages : ℕ → Option Mapping) → AreFewer (tiles_of_size pages 0 ∷ tiles_of_size pages 1 ∷ tiles_of_size pages 2 ∷ tiles_of_size pages 3 ∷ []) 1073741824
+own_fewer pages = four_fewer 1073741824 _ _ _ _ (below 0) (below 1) (below 2) (below 3)
+  where
+    below : (size : ℕ) → tiles_of_size pages size < 1073741824
+    below size = (let few = tiles_few pages size in omega (arith, few))
+
+pub some_fewer : (spaces : List Kept) (n : ℕ) → length spaces ≤ 16 → AreFewer (tiles_in (take n spaces) 0 ∷ tiles_in (take n spaces) 1 ∷ tiles_in (take n spaces) 2 ∷ tiles_in (take n spaces) 3 ∷ []) 1073741824
+some_fewer spaces n few = four_fewer 1073741824 _ _ _ _ (below 0) (below 1) (below 2) (below 3)
+  where
+    below : (size : ℕ) → tiles_in (take n spaces) size < 1073741824
+    below size =
+        let part = sum_by-take-le (λ (k : Kept). tiles_of_size (mapping_in k.table) size) spaces n in
+        let all = sum_by-most (λ (k : Kept). tiles_of_size (mapping_in k.table) size) 1048576 spaces (λ k. tiles_few (mapping_in k.table) size) in
+        omega (arith, part, all, few)
+
+promotions_few : (es : List Entry) (st : SpaceState) → (fold space_after st es).promotions ≤ st.promotions + 1048576 * length es
+promotions_few [] st = omega arith
+promotions_few (e ∷ es) st =
+    let rest = promotions_few es (space_after st e) in
+    let one : promotions_between (pages_of st) (pages_after st e.frames e.what) ≤ 1048576 = count_pages_most (is_promoted (pages_of st) (pages_after st e.frames e.what)) in
+    let total : (space_after st e).promotions ≡ st.promotions + promotions_between (pages_of st) (pages_after st e.frames e.what) = refl in
+    omega (arith, rest, one, total)
+
+demotions_few : (es : List Entry) (st : SpaceState) → (fold space_after st es).demotions ≤ st.demotions + 1048576 * length es
+demotions_few [] st = omega arith
+demotions_few (e ∷ es) st =
+    let rest = demotions_few es (space_after st e) in
+    let one : demotions_between (pages_of st) (pages_after st e.frames e.what) ≤ 1048576 = count_pages_most (is_promoted (pages_after st e.frames e.what) (pages_of st)) in
+    let total : (space_after st e).demotions ≡ st.demotions + demotions_between (pages_of st) (pages_after st e.frames e.what) = refl in
+    omega (arith, rest, one, total)
+
+-- a space's entries are some of the history's
+part_few : (s : ℕ) (h : List Entry) → length (space_part s h) ≤ length h
+part_few s h = (let both = length-filter_both (names_space s) (λ e. not (names_space s e)) (λ e. refl) h in omega (arith, both))
+
+module _ (run : Running) (spaces : List Kept) (pool : FrameState) (capacity : ℕ) (machine : IsMachine run spaces pool capacity) where
+  abbrev h : List Entry
+  h = entries_in run.history
+
+  history_few : length h ≤ 2097152
+  history_few = (let same : length h ≡ length run.history = length-map run.history (λ (n : Numbered). n.entry) in let few = machine.few in omega (arith, same, few))
+
+  promotions_at : (s : ℕ) → (space_at run.given h s).promotions ≤ 2199023255552
+  promotions_at s =
+      let few = promotions_few (space_part s h) (empty_state (is_told run.given s) (faults_at_entry run.given s)) in
+      let part = part_few s h in
+      let all = history_few in
+      omega (arith, few, part, all)
+
+  demotions_at : (s : ℕ) → (space_at run.given h s).demotions ≤ 2199023255552
+  demotions_at s =
+      let few = demotions_few (space_part s h) (empty_state (is_told run.given s) (faults_at_entry run.given s)) in
+      let part = part_few s h in
+      let all = history_few in
+      omega (arith, few, part, all)
+
+  module _ (ended : HasEnded run) where
+    -- no space is kept
+    rests : (s : ℕ) (kept : Kept) → slice_get spaces s ≡ Some kept → IsAtRest kept (space_at run.given h s)
+    rests s kept at = machine.rest s kept at (λ c f flies keeps. (let e : None ≡ Some f = sym (ended c) ∙ flies in cc))
+
+    -- a count of each space that its state has is the same over all
+    summed : (f : Kept → ℕ) (count : SpaceState → ℕ) → ((s : ℕ) (kept : Kept) → slice_get spaces s ≡ Some kept → f kept ≡ count (space_at run.given h s)) → sum_by f spaces ≡ over_spaces run.given h count
+    summed f count are =
+        sum_by-places f (λ s. count (space_at run.given h s)) 0 spaces (λ s kept at. are s kept at ∙ ap (λ k. count (space_at run.given h k)) (let e : s ≡ 0 + s = omega arith in e))
+        ∙ ap (λ n. sum_by (λ s. count (space_at run.given h s)) (range_with_len 0 n)) (sym machine.told)
+
+    pub tiles_summed : (size : ℕ) → tiles_in spaces size ≡ tiles_after run.given h size
+    tiles_summed size =
+        summed (λ (k : Kept). tiles_of_size (mapping_in k.table) size) (λ st. tiles_of_size (pages_of st) size)
+        (λ s kept at. ap (λ (ps : ℕ → Option Mapping). tiles_of_size ps size) (let same : mapping_in kept.table ≡ pages_of (space_at run.given h s) = λ i p. sym ((rests s kept at).stands.pages p) i in same))
+
+    pub promotions_summed : promotions_in spaces ≡ over_spaces run.given h (λ st. st.promotions)
+    promotions_summed =
+        summed (λ (k : Kept). k.promotions) (λ st. st.promotions)
+        (λ s kept at. (rests s kept at).stands.translates.promotions (let few = promotions_at s in omega (arith, few)))
+
+    pub demotions_summed : demotions_in spaces ≡ over_spaces run.given h (λ st. st.demotions)
+    demotions_summed =
+        summed (λ (k : Kept). k.demotions) (λ st. st.demotions)
+        (λ s kept at. (rests s kept at).stands.translates.demotions (let few = demotions_at s in omega (arith, few)))
+
+    -- so the counts of all spaces are small
+    pub promotions_small : promotions_in spaces < 2 ^ 64
+    promotions_small =
+        let most = sum_by-most (λ s. (space_at run.given h s).promotions) 2199023255552 (range_with_len 0 (length run.given.told)) promotions_at in
+        let count = length-range_with_len 0 (length run.given.told) in
+        let same = promotions_summed in
+        let told = machine.told in
+        let few = machine.few_spaces in
+        omega (arith, most, count, same, told, few)
+
+    pub demotions_small : demotions_in spaces < 2 ^ 64
+    demotions_small =
+        let most = sum_by-most (λ s. (space_at run.given h s).demotions) 2199023255552 (range_with_len 0 (length run.given.told)) demotions_at in
+        let count = length-range_with_len 0 (length run.given.told) in
+        let same = demotions_summed in
+        let told = machine.told in
+        let few = machine.few_spaces in
+        omega (arith, most, count, same, told, few)
+
+    -- and the counts that were read of the spaces, the frames and the history are the run's
+    pub counts_are : (tiles : List ℕ) (promotions demotions preemptions hits misses free reserved used : ℕ)
+        → tiles ≡ tiles_in spaces 0 ∷ tiles_in spaces 1 ∷ tiles_in spaces 2 ∷ tiles_in spaces 3 ∷ [] → promotions ≡ promotions_in spaces → demotions ≡ demotions_in spaces
+        → preemptions ≡ pool.preemptions → hits ≡ hits_in h → misses ≡ misses_in h → free ≡ free_count pool → reserved ≡ reserved_count pool → used ≡ used_count pool
+        → (let s : Summary = record { tiles = tiles; promotions = promotions; demotions = demotions; preemptions = preemptions; hits = hits; misses = misses; free = free; reserved = reserved; used = used } in s) ≡ counts run.given h
+    counts_are tiles promotions demotions preemptions hits misses free reserved used in_tiles in_promotions in_demotions in_preemptions in_hits in_misses in_free in_reserved in_used =
+        let all_tiles : tiles ≡ tiles_after run.given h 0 ∷ tiles_after run.given h 1 ∷ tiles_after run.given h 2 ∷ tiles_after run.given h 3 ∷ [] =
+        in_tiles ∙ (λ i. tiles_summed 0 i ∷ tiles_summed 1 i ∷ tiles_summed 2 i ∷ tiles_summed 3 i ∷ []) in
+        let all_promotions = in_promotions ∙ promotions_summed in
+        let all_demotions = in_demotions ∙ demotions_summed in
+        let all_preemptions : preemptions ≡ (frames_at run.given h).preemptions = in_preemptions ∙ ap (λ (st : FrameState). st.preemptions) machine.frames in
+        let all_free : free ≡ free_count (frames_at run.given h) = in_free ∙ ap free_count machine.frames in
+        let all_reserved : reserved ≡ reserved_count (frames_at run.given h) = in_reserved ∙ ap reserved_count machine.frames in
+        let all_used : used ≡ used_count (frames_at run.given h) = in_used ∙ ap used_count machine.frames in
+        λ i. record {
+          tiles = all_tiles i;
+          promotions = all_promotions i;
+          demotions = all_demotions i;
+          preemptions = all_preemptions i;
+          hits = in_hits i;
+          misses = in_misses i;
+          free = all_free i;
+          reserved = all_reserved i;
+          used = all_used i;
+        }
