@@ -278,7 +278,7 @@ AllServed-legal g history legal none before after e number call answered split i
     let st = space_at g before (space_of_call call) in
     let named : e.space ≡ Some (space_of_call call) = subst (IsOn e.space e.frames) is at.1.parts in
     let judged : SpaceAllows st e = subst (λ o. IfSome o (λ s. SpaceJudges g s (space_part s before) e)) named at.1.by_space in
-    let allowed : AnswerAllowed st e.frames e.processor call answered = subst (WhatAllowed st e.frames e.processor) is judged.1 in
+    let allowed : AnswerAllowed st e.frames e.processor number call answered = subst (WhatAllowed st e.frames e.processor) is judged.1 in
     served_by st e.processor call answered.reply allowed.reply
     (λ s count told.
     none s count (subst (λ h. HasFailed g h s count) (sym split)

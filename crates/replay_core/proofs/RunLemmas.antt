@@ -8,7 +8,9 @@ use Rattle.std.proofs.lemmas.List.FromFn.{get_or-map-range_with_len, length-map-
 use Rattle.std.specs.List.{enumerate_from, range_with_len}
 use Rattle.pager_model.specs.declared.call.Call.{Call}
 use Rattle.pager_model.specs.declared.entry.Numbered.{Numbered}
+use Rattle.pager_model.specs.declared.summary.Summary.{Summary}
 use Rattle.pager_model.specs.Agreement.{IsPartition, NothingHeld, Agrees}
+use Rattle.pager_model.specs.Counts.{counts}
 use Rattle.pager_model.specs.Legal.{IsLegal, frames_at, entries_in}
 use Rattle.pager_model.specs.Plans.{Plan}
 use Rattle.pager_model.specs.Settings.{Given, faults_at_entry}
@@ -19,7 +21,7 @@ use Rattle.frame_pool.proofs.OrderedRefusals.{RefusesRightly-legal}
 use Rattle.pager_core.specs.Running.{Running, calls_at, setting_over, IsLawful, IsWholeRun, EndsWith, StoresEnd, AreCapped}
 use Rattle.pager_core.proofs.Laws.{KeepsLawsAllAlong-legal}
 use Rattle.store_core.specs.Stored.{Stored}
-use Rattle.replay_core.specs.Replays.{NoneFailed, IsReplay}
+use Rattle.replay_core.specs.Replays.{NoneFailed, IsReplay, AreItsCounts}
 use Rattle.replay_core.proofs.ReplyLemmas.{HasFailed, AllServed-legal}
 
 -- The machine runs this trace over these stores.
@@ -99,3 +101,8 @@ IsReplay-whole plan stores after run enough capped now whole ends unused =
       stores = ended;
       unused = sym (ap (λ n. drop n after) (ap (λ (g : Given). length g.told) g ∙ told-over plan stores enough)) ∙ unused ∙ now.unused;
     }
+
+-- its counts are the run's
+pub AreItsCounts-whole : (plan : Plan) (stores : List Stored) (run : Running) (history : List Numbered) (summary : Summary) → IsRunOf plan stores run → history ≡ run.history → summary ≡ counts run.given (entries_in run.history) → AreItsCounts plan stores history summary
+AreItsCounts-whole plan stores run history summary now same are =
+    subst (λ l. AreItsCounts plan stores l summary) (sym same) (subst (λ g. summary ≡ counts g (entries_in run.history)) now.given are)

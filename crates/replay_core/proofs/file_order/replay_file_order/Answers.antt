@@ -8,7 +8,7 @@ use Rattle.pager_model.specs.Legal.{entries_in}
 use Rattle.pager_model.specs.Showing.{IsFiled}
 use Rattle.replay_core.specs.Replays.{IsReplay}
 use Rattle.replay_core.proofs.FiledLemmas.{LineAt-read, Filed-start, Filed-more, IsAbout-line, NoneKeeps-line, known_call, HasEnded-filed, IsFiled-all}
-use Rattle.replay_core.proofs.RunLemmas.{IsReplay-whole}
+use Rattle.replay_core.proofs.RunLemmas.{IsReplay-whole, AreItsCounts-whole}
 use Rattle.replay_core.proofs.file_order.replay_file_order.Goals as goal
 
 abbrev some_line : Line
@@ -55,3 +55,7 @@ returns-clause-filed g c =
     let all : c.loop-line.line-index ≡ length c.args.trace.now.calls = (let far : c.loop-line.line-index ≡ length c.calls-line-items.result.now = omega arith in far ∙ ap length c.calls-line-items.ensures.calls) in
     subst (λ h. IsFiled c.args.trace.now.calls (entries_in h)) (sym c.finish.ensures.history)
     (IsFiled-all c.args.trace.now (map g.S.Store.seen c.args.stores.items) c.loop-line.line-index c.loop-line.machine c.loop-line.invariant all)
+
+pub returns-clause-counts : goal.returns-clause-counts
+returns-clause-counts g c =
+    AreItsCounts-whole c.args.trace.now (map g.S.Store.seen c.args.stores.items) c.loop-line.machine c.finish.result.history.items c.finish.result.summary c.loop-line.invariant.of c.finish.ensures.history c.finish.ensures.summary

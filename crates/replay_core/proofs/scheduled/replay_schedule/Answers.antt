@@ -6,7 +6,7 @@ use Rattle.pager_model.specs.Legal.{entries_in}
 use Rattle.replay_core.specs.Orders.{IsScheduled}
 use Rattle.replay_core.specs.Replays.{IsReplay}
 use Rattle.replay_core.specs.Turns.{IsStuck, FirstStepped}
-use Rattle.replay_core.proofs.RunLemmas.{length-calls, IsReplay-whole}
+use Rattle.replay_core.proofs.RunLemmas.{length-calls, IsReplay-whole, AreItsCounts-whole}
 use Rattle.replay_core.proofs.StandingLemmas.{known_in}
 use Rattle.replay_core.proofs.TurnLemmas.{range_known, range_can}
 use Rattle.replay_core.proofs.OrderLemmas.{Following-start, Following-turn, Lowering-start, Lowering-step, fewer_lowest, IsScheduled-end}
@@ -75,3 +75,7 @@ pub returns-clause-scheduled : goal.returns-clause-scheduled
 returns-clause-scheduled g c =
     subst (λ h. IsScheduled c.args.trace.now c.args.schedule.now (entries_in h)) (sym c.finish.ensures.history)
     (IsScheduled-end c.args.trace.now (map g.S.Store.seen c.args.stores.items) c.args.schedule.now c.loop-actors.machine c.loop-actors.invariant)
+
+pub returns-clause-counts : goal.returns-clause-counts
+returns-clause-counts g c =
+    AreItsCounts-whole c.args.trace.now (map g.S.Store.seen c.args.stores.items) c.loop-actors.machine c.finish.result.history.items c.finish.result.summary c.loop-actors.invariant.of c.finish.ensures.history c.finish.ensures.summary

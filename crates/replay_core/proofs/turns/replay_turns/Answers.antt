@@ -4,7 +4,7 @@ use Rattle.std.proofs.lemmas.Bool.{true≢false}
 use Rattle.pager_model.specs.Legal.{entries_in}
 use Rattle.replay_core.specs.Orders.{IsSeeded}
 use Rattle.replay_core.specs.Replays.{IsReplay}
-use Rattle.replay_core.proofs.RunLemmas.{length-calls, IsReplay-whole}
+use Rattle.replay_core.proofs.RunLemmas.{length-calls, IsReplay-whole, AreItsCounts-whole}
 use Rattle.replay_core.proofs.OrderLemmas.{Drawing, Drawing-start, Drawing-step, fewer_drawn}
 use Rattle.replay_core.proofs.turns.replay_turns.Goals as goal
 
@@ -45,3 +45,7 @@ returns-clause-run g c =
 
 pub returns-clause-seeded : goal.returns-clause-seeded
 returns-clause-seeded g c = subst (λ h. IsSeeded c.args.trace.now c.args.seed (entries_in h)) (sym c.finish.ensures.history) c.loop-generator.invariant.seeded
+
+pub returns-clause-counts : goal.returns-clause-counts
+returns-clause-counts g c =
+    AreItsCounts-whole c.args.trace.now (map g.S.Store.seen c.args.stores.items) c.loop-generator.machine c.finish.result.history.items c.finish.result.summary c.loop-generator.invariant.of c.finish.ensures.history c.finish.ensures.summary
