@@ -26,7 +26,7 @@ pub static NAMED: [Run; 10] = [
         full: false,
         history: "\
             0 s1 answer 513 done; 0 s1+f claim 0 0 0 for 0 read; 0 s0 out 0 written; 0 s0+f give 0 0; 0 s1+f use 0 0 0 8 8 \
-            0; 0 s1 answer 514 value 0",
+            0; 0 s1 answer 514 value 0 miss 0",
     },
     Run {
         name: "the write of the oldest page fails",
@@ -40,7 +40,7 @@ pub static NAMED: [Run; 10] = [
         history: "\
             0 s1 answer 513 done; 0 s1+f claim 0 0 0 for 0 read; 0 s0 failed 0 write 1; 0 s0+f unclaim 0; 0 s1 answer 514 \
             storefault 0 1; 0 s1+f claim 0 0 0 for 0 read; 0 s0 out 0 written; 0 s0+f give 0 0; 0 s1+f use 0 0 0 8 8 0; 0 \
-            s1 answer 515 value 0",
+            s1 answer 515 value 0 miss 0",
     },
     Run {
         name: "there is no memory to write the oldest page",
@@ -53,7 +53,7 @@ pub static NAMED: [Run; 10] = [
         full: true,
         history: "\
             0 s1 answer 513 done; 0 s1+f claim 0 0 0 for 0 read; 0 s0+f unclaim 0; 0 s1 answer 514 nomemory; 0 s0 answer \
-            515 value 5",
+            515 value 5 hit 0",
     },
     Run {
         name: "a claimed page is unmapped",
@@ -66,7 +66,7 @@ pub static NAMED: [Run; 10] = [
         full: false,
         history: "\
             1 s1 answer 0 done; 1 s1+f claim 0 0 0 for 0 read; 0 s0+f clear 0 512; 0 s0 answer 513 done; 1 f got 0; 1 s1+f \
-            use 0 0 0 8 8 0; 1 s1 answer 1 value 0",
+            use 0 0 0 8 8 0; 1 s1 answer 1 value 0 miss 0",
     },
     Run {
         name: "a claimed page is evicted",
@@ -79,7 +79,7 @@ pub static NAMED: [Run; 10] = [
         full: false,
         history: "\
             1 s1 answer 0 done; 1 s1+f claim 0 0 0 for 0 read; 0 s0+f answer 513 clean; 1 f got 0; 1 s1+f use 0 0 0 8 8 0; \
-            1 s1 answer 1 value 0",
+            1 s1 answer 1 value 0 miss 0",
     },
     Run {
         name: "the page is resident when its claimer comes back",
@@ -92,8 +92,8 @@ pub static NAMED: [Run; 10] = [
         full: false,
         history: "\
             1 s1 answer 0 done; 1 s1+f claim 0 0 0 for 0 read; 2 s1+f claim 0 1 1 for 0 read; 2 s0 out 1 clean; 2 s0+f \
-            give 1 1; 2 s1+f use 0 1 0 8 8 0; 2 s1 answer 0 value 0; 1 s0 out 0 clean; 1 s0+f give 0 0; 1 f drop 0; 1 s1 \
-            answer 1 value 0",
+            give 1 1; 2 s1+f use 0 1 0 8 8 0; 2 s1 answer 0 value 0 miss 0; 1 s0 out 0 clean; 1 s0+f give 0 0; 1 f drop 0; \
+            1 s1 answer 1 value 0 miss 0",
     },
     Run {
         name: "the region is gone when the claimer comes back",
