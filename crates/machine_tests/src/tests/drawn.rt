@@ -23,9 +23,9 @@ pub static FIRST: [Run; 10] = [
             0 s0 answer 514 done; 0 s1 answer 515 done; 2 s0 answer 0 done; 0 s1+f claim 0 511 511 for 0 read; 1 f refused \
             511 1 0; 1 s0 answer 0 noframes 511 1 0; 1 s1 answer 1 clean; 1 s0 answer 2 clean; 2 s0+f answer 1 clean; 2 f \
             refused 511 0 1; 0 f got 511; 2 s1 answer 2 noframes 511 0 1; 2 s1 answer 3 outofspace; 0 s1+f use 0 511 0 8 8 \
-            0; 0 s1 answer 516 value 0; 2 s1+f claim 1 0 511 for 4 write; 2 s1 out 0 clean; 2 s1+f give 0 511; 2 s1+f use \
-            4 511 0 8 8 0; 2 s1 answer 4 done; 0 s1+f clear 0 8; 0 s1 answer 517 done; 0 s0 answer 518 done; 2 s0 answer 5 \
-            overlap; 2 s1 answer 6 unmapped",
+            0; 0 s1 answer 516 value 0 miss 0; 2 s1+f claim 1 0 511 for 4 write; 2 s1 out 0 clean; 2 s1+f give 0 511; 2 \
+            s1+f use 4 511 0 8 8 0; 2 s1 answer 4 done miss 0; 0 s1+f clear 0 8; 0 s1 answer 517 done; 0 s0 answer 518 \
+            done; 2 s0 answer 5 overlap; 2 s1 answer 6 unmapped",
     },
     Run {
         name: "drawn from 104",
@@ -41,10 +41,11 @@ pub static FIRST: [Run; 10] = [
         full: false,
         history: "\
             0 s0 answer 514 done; 1 s0 answer 0 outofspace; 1 s0+f claim 0 509 509 for 512 read; 1 s0 out 509 clean; 1 \
-            s0+f give 509 509; 1 s0+f use 512 509 512 514 2 0; 1 s0 answer 1 value 0; 1 s0 answer 2 done; 0 s0 answer 515 \
-            written; 1 s0+f clear 0 509; 1 s0 answer 3 done; 0 s0 answer 516 value 22; 1 s0 answer 4 clean; 0 s0 answer \
-            517 done; 0 s0 answer 518 value 28; 0 s0+f answer 519 written; 0 s0 answer 520 unmapped; 0 s0 answer 521 \
-            unmapped; 0 s0+f take 512 508 512 514 2 0; 0 s0 answer 522 value 28; 0 s0 answer 523 unmapped",
+            s0+f give 509 509; 1 s0+f use 512 509 512 514 2 0; 1 s0 answer 1 value 0 miss 0; 1 s0 answer 2 done hit 0; 0 \
+            s0 answer 515 written; 1 s0+f clear 0 509; 1 s0 answer 3 done; 0 s0 answer 516 value 22 miss 0; 1 s0 answer 4 \
+            clean; 0 s0 answer 517 done hit 0; 0 s0 answer 518 value 28 hit 0; 0 s0+f answer 519 written; 0 s0 answer 520 \
+            unmapped; 0 s0 answer 521 unmapped; 0 s0+f take 512 508 512 514 2 0; 0 s0 answer 522 value 28 miss 0; 0 s0 \
+            answer 523 unmapped",
     },
     Run {
         name: "drawn from 187",
@@ -77,10 +78,10 @@ pub static FIRST: [Run; 10] = [
         full: true,
         history: "\
             0 s0 answer 512 done; 0 s1 answer 513 done; 0 s1 answer 514 done; 1 s1 answer 0 done; 0 s1+f take 7 511 6 9 3 \
-            0; 1 s0+f claim 1 7 511 for 513 write; 0 s1 answer 515 value 0; 1 s1 out 7 clean; 1 s1+f give 7 511; 0 f \
-            refused 511 0 1; 0 s1 answer 516 noframes 511 0 1; 1 s0+f use 513 511 512 515 3 0; 1 s0 answer 1 done; 1 s0+f \
-            claim 0 513 511 for 512 read; 1 s0+f unclaim 511; 1 s0 answer 2 nomemory; 1 s1+f claim 0 513 511 for 6 write; \
-            1 s0+f unclaim 511; 1 s1 answer 3 nomemory; 1 s0 answer 4 unmapped",
+            0; 1 s0+f claim 1 7 511 for 513 write; 0 s1 answer 515 value 0 miss 0; 1 s1 out 7 clean; 1 s1+f give 7 511; 0 \
+            f refused 511 0 1; 0 s1 answer 516 noframes 511 0 1; 1 s0+f use 513 511 512 515 3 0; 1 s0 answer 1 done miss \
+            0; 1 s0+f claim 0 513 511 for 512 read; 1 s0+f unclaim 511; 1 s0 answer 2 nomemory; 1 s1+f claim 0 513 511 for \
+            6 write; 1 s0+f unclaim 511; 1 s1 answer 3 nomemory; 1 s0 answer 4 unmapped",
     },
     Run {
         name: "drawn from 306",
@@ -100,8 +101,8 @@ pub static FIRST: [Run; 10] = [
             read; 0 s0 failed 0 write 2; 0 s0+f unclaim 0; 0 s0 answer 517 storefault 0 2; 1 s0+f claim 0 0 0 for 525 \
             read; 1 s0 out 0 written; 1 s0+f give 0 0; 1 s0+f use 525 0 525 526 1 1; 1 s0 failed 525 read 3; 1 s0+f give \
             525 0; 1 s0 answer 0 storefault 0 3; 1 s1 answer 1 done; 1 s0 answer 2 unmapped; 1 s0+f take 512 0 512 520 8 \
-            1; 1 s0 answer 3 done; 1 s2+f claim 0 1 1 for 0 write; 1 s0 out 1 clean; 1 s0+f give 1 1; 1 s2+f use 0 1 0 \
-            1048576 3 0; 1 s2 failed 0 read 1; 1 s2+f give 0 1; 1 s2 answer 4 storefault 2 1",
+            1; 1 s0 answer 3 done miss 0; 1 s2+f claim 0 1 1 for 0 write; 1 s0 out 1 clean; 1 s0+f give 1 1; 1 s2+f use 0 \
+            1 0 1048576 3 0; 1 s2 failed 0 read 1; 1 s2+f give 0 1; 1 s2 answer 4 storefault 2 1",
     },
     Run {
         name: "drawn from 333",
@@ -117,10 +118,10 @@ pub static FIRST: [Run; 10] = [
         full: true,
         history: "\
             0 s0 answer 576 regionsfull; 0 s1 answer 577 done; 2 s1 answer 0 clean; 3 s0 answer 0 unmapped; 3 s1+f claim 0 \
-            504 504 for 0 read; 2 s0 answer 1 value 0; 3 s0 out 504 clean; 3 s0+f give 504 504; 2 s1+f claim 0 505 505 for \
-            0 write; 0 s0 answer 578 unmapped; 2 s0 out 505 clean; 3 s1+f use 0 504 0 3 3 1; 2 s0+f give 505 505; 3 s1 \
-            answer 1 value 0; 0 s0 answer 579 unmapped; 0 s0 answer 580 unmapped; 2 f drop 505; 2 s1 answer 2 done; 2 s0 \
-            answer 3 outofspace; 2 s1 answer 4 done; 3 s0 answer 2 done",
+            504 504 for 0 read; 2 s0 answer 1 value 0 miss 1; 3 s0 out 504 clean; 3 s0+f give 504 504; 2 s1+f claim 0 505 \
+            505 for 0 write; 0 s0 answer 578 unmapped; 2 s0 out 505 clean; 3 s1+f use 0 504 0 3 3 1; 2 s0+f give 505 505; \
+            3 s1 answer 1 value 0 miss 0; 0 s0 answer 579 unmapped; 0 s0 answer 580 unmapped; 2 f drop 505; 2 s1 answer 2 \
+            done miss 0; 2 s0 answer 3 outofspace; 2 s1 answer 4 done hit 0; 3 s0 answer 2 done miss 0",
     },
     Run {
         name: "drawn from 347",
@@ -137,13 +138,13 @@ pub static FIRST: [Run; 10] = [
         full: false,
         history: "\
             0 s0 answer 514 done; 0 s0 answer 515 done; 0 s1 answer 516 done; 0 s1 answer 517 done; 0 s2 answer 518 done; \
-            2 s0 answer 0 done; 2 s0 answer 1 notgrowing; 2 s0+f claim 0 510 510 for 520 write; 0 s1 answer 519 clean; 1 \
-            s1+f clear 5 2; 1 s1 answer 0 done; 2 s0 out 510 clean; 2 s0+f give 510 510; 1 s2+f claim 0 511 511 for 1 \
-            read; 2 s0+f use 520 510 520 521 1 0; 2 s0 answer 2 done; 0 s0 answer 520 value 43; 0 s0 answer 521 done; 0 \
-            s2+f claim 0 520 510 for 1 read; 0 s0 out 520 written; 0 s0+f give 520 510; 1 s0 failed 511 write 1; 1 s0+f \
-            unclaim 511; 0 s2+f use 1 510 0 3 3 1; 2 s0+f claim 0 511 511 for 520 read; 0 s2 answer 522 value 0; 1 s2 \
-            answer 1 storefault 0 1; 1 s2 answer 2 done; 2 s0 failed 511 write 2; 2 s0+f unclaim 511; 2 s0 answer 3 \
-            storefault 0 2; 0 s0 answer 523 value 43; 1 s0 answer 3 overlap",
+            2 s0 answer 0 done miss 0; 2 s0 answer 1 notgrowing; 2 s0+f claim 0 510 510 for 520 write; 0 s1 answer 519 \
+            clean; 1 s1+f clear 5 2; 1 s1 answer 0 done; 2 s0 out 510 clean; 2 s0+f give 510 510; 1 s2+f claim 0 511 511 \
+            for 1 read; 2 s0+f use 520 510 520 521 1 0; 2 s0 answer 2 done miss 0; 0 s0 answer 520 value 43 miss 0; 0 s0 \
+            answer 521 done miss 0; 0 s2+f claim 0 520 510 for 1 read; 0 s0 out 520 written; 0 s0+f give 520 510; 1 s0 \
+            failed 511 write 1; 1 s0+f unclaim 511; 0 s2+f use 1 510 0 3 3 1; 2 s0+f claim 0 511 511 for 520 read; 0 s2 \
+            answer 522 value 0 miss 0; 1 s2 answer 1 storefault 0 1; 1 s2 answer 2 done miss 0; 2 s0 failed 511 write 2; 2 \
+            s0+f unclaim 511; 2 s0 answer 3 storefault 0 2; 0 s0 answer 523 value 43 hit 0; 1 s0 answer 3 overlap",
     },
     Run {
         name: "drawn from 531",
@@ -162,9 +163,9 @@ pub static FIRST: [Run; 10] = [
             0 s0 answer 514 done; 0 s1 answer 515 done; 0 s2 answer 516 done; 2 s1+f claim 0 511 511 for 0 read; 1 s1 \
             answer 0 done; 2 s0 out 511 clean; 1 s1 answer 1 denied; 2 s0+f give 511 511; 3 s0 answer 0 unmapped; 2 f drop \
             511; 2 s1 answer 0 denied; 0 s1 answer 517 denied; 3 s0 answer 1 unmapped; 0 s0 answer 518 denied; 3 s0 answer \
-            2 done; 3 s2+f take 0 511 0 1 1 0; 3 s2 answer 3 done; 0 s2 answer 519 value 86; 0 s0+f claim 2 0 511 for 512 \
-            read; 3 s2 answer 4 done; 0 s2+f unclaim 511; 0 s0 answer 520 nomemory; 3 s2 answer 5 nomemory; 3 s1 answer 6 \
-            clean; 3 s0 answer 7 denied",
+            2 done; 3 s2+f take 0 511 0 1 1 0; 3 s2 answer 3 done miss 0; 0 s2 answer 519 value 86 miss 0; 0 s0+f claim 2 \
+            0 511 for 512 read; 3 s2 answer 4 done hit 0; 0 s2+f unclaim 511; 0 s0 answer 520 nomemory; 3 s2 answer 5 \
+            nomemory; 3 s1 answer 6 clean; 3 s0 answer 7 denied",
     },
     Run {
         name: "drawn from 539",
@@ -180,10 +181,10 @@ pub static FIRST: [Run; 10] = [
         full: false,
         history: "\
             0 s0 answer 513 done; 2 s0 answer 0 unmapped; 2 s0 answer 1 clean; 0 s0 answer 514 unmapped; 2 s0+f claim 0 0 \
-            0 for 512 read; 2 s0 out 0 clean; 2 s0+f give 0 0; 2 s0+f use 512 0 512 514 2 0; 2 s0 answer 2 value 0; 2 s0 \
-            answer 3 value 0; 0 s0 answer 515 done; 2 s0 answer 4 written; 0 s0 answer 516 unmapped; 0 s0+f answer 517 \
-            clean; 0 s0+f take 512 0 512 514 2 0; 0 s0 answer 518 value 15; 2 s0 answer 5 unmapped; 2 s0 answer 6 done; 2 \
-            s0+f clear 512 2; 2 s0 answer 7 done; 2 s0 answer 8 unmapped",
+            0 for 512 read; 2 s0 out 0 clean; 2 s0+f give 0 0; 2 s0+f use 512 0 512 514 2 0; 2 s0 answer 2 value 0 miss 0; \
+            2 s0 answer 3 value 0 hit 0; 0 s0 answer 515 done miss 0; 2 s0 answer 4 written; 0 s0 answer 516 unmapped; 0 \
+            s0+f answer 517 clean; 0 s0+f take 512 0 512 514 2 0; 0 s0 answer 518 value 15 miss 0; 2 s0 answer 5 unmapped; \
+            2 s0 answer 6 done miss 0; 2 s0+f clear 512 2; 2 s0 answer 7 done; 2 s0 answer 8 unmapped",
     },
     Run {
         name: "drawn from 609",
@@ -199,10 +200,11 @@ pub static FIRST: [Run; 10] = [
         full: false,
         history: "\
             0 s0 answer 511 done; 0 s0 answer 512 done; 0 s1 answer 513 done; 0 s2 answer 514 done; 2 s1+f take 1 510 0 8 \
-            8 0; 2 s1 answer 0 done; 2 s2+f take 0 511 0 1 1 1; 0 s0+f claim 1 1 510 for 513 write; 0 s1 failed 1 write 1; \
-            2 s2 answer 1 value 0; 0 s1+f unclaim 510; 0 s0 answer 515 storefault 1 1; 1 s2 answer 0 done; 1 s0+f claim 1 \
-            1 510 for 514 write; 1 s1 out 1 written; 0 f refused 511 1 0; 0 s0 answer 516 noframes 511 1 0; 1 s1+f give 1 \
-            510; 0 s1 answer 517 notgrowing; 1 s0+f use 514 510 514 515 1 1; 1 s0 answer 1 done",
+            8 0; 2 s1 answer 0 done miss 0; 2 s2+f take 0 511 0 1 1 1; 0 s0+f claim 1 1 510 for 513 write; 0 s1 failed 1 \
+            write 1; 2 s2 answer 1 value 0 miss 0; 0 s1+f unclaim 510; 0 s0 answer 515 storefault 1 1; 1 s2 answer 0 done \
+            miss 0; 1 s0+f claim 1 1 510 for 514 write; 1 s1 out 1 written; 0 f refused 511 1 0; 0 s0 answer 516 noframes \
+            511 1 0; 1 s1+f give 1 510; 0 s1 answer 517 notgrowing; 1 s0+f use 514 510 514 515 1 1; 1 s0 answer 1 done \
+            miss 0",
     },
 ];
 
@@ -222,10 +224,10 @@ pub static SECOND: [Run; 10] = [
         full: true,
         history: "\
             0 s0 answer 514 done; 0 s0 answer 515 done; 2 s0 answer 0 denied; 2 s0+f claim 0 511 511 for 515 write; 2 s0 \
-            out 511 clean; 2 s0+f give 511 511; 2 s0+f use 515 511 515 523 8 0; 2 s0 answer 1 done; 1 s0+f claim 0 515 511 \
-            for 512 read; 1 s0+f unclaim 511; 1 s0 answer 0 nomemory; 1 s0 answer 1 value 0; 2 s0 answer 2 denied; 2 s0+f \
-            clear 512 3; 2 s0 answer 3 done; 2 s0 answer 4 unmapped; 0 s0+f claim 0 515 511 for 522 read; 0 s0+f unclaim \
-            511; 0 s0 answer 516 nomemory; 0 s0 answer 517 done; 0 s0 answer 518 nomemory",
+            out 511 clean; 2 s0+f give 511 511; 2 s0+f use 515 511 515 523 8 0; 2 s0 answer 1 done miss 0; 1 s0+f claim 0 \
+            515 511 for 512 read; 1 s0+f unclaim 511; 1 s0 answer 0 nomemory; 1 s0 answer 1 value 0 miss 2; 2 s0 answer 2 \
+            denied; 2 s0+f clear 512 3; 2 s0 answer 3 done; 2 s0 answer 4 unmapped; 0 s0+f claim 0 515 511 for 522 read; 0 \
+            s0+f unclaim 511; 0 s0 answer 516 nomemory; 0 s0 answer 517 done; 0 s0 answer 518 nomemory",
     },
     Run {
         name: "drawn from 734",
@@ -240,11 +242,11 @@ pub static SECOND: [Run; 10] = [
         writes: &[4],
         full: false,
         history: "\
-            0 s0 answer 514 done; 0 s1 answer 515 done; 0 s0 answer 516 done; 2 s0+f claim 0 510 510 for 512 write; 2 s0 \
-            out 510 clean; 2 s0+f give 510 510; 2 s0+f use 512 510 512 513 1 1; 2 s0 answer 0 done; 3 s1+f claim 0 511 511 \
-            for 0 read; 1 s0 answer 0 done; 2 s1+f clear 0 1; 3 s0 out 511 written; 3 s0+f give 511 511; 2 s1 answer 1 \
-            done; 1 s1 answer 1 unmapped; 2 s0 answer 2 denied; 2 s0 answer 3 denied; 3 f drop 511; 3 s1 answer 0 \
-            unmapped; 2 s0 answer 4 denied; 2 s1 answer 5 unmapped",
+            0 s0 answer 514 done; 0 s1 answer 515 done; 0 s0 answer 516 done hit 0; 2 s0+f claim 0 510 510 for 512 write; \
+            2 s0 out 510 clean; 2 s0+f give 510 510; 2 s0+f use 512 510 512 513 1 1; 2 s0 answer 0 done miss 0; 3 s1+f \
+            claim 0 511 511 for 0 read; 1 s0 answer 0 done; 2 s1+f clear 0 1; 3 s0 out 511 written; 3 s0+f give 511 511; 2 \
+            s1 answer 1 done; 1 s1 answer 1 unmapped; 2 s0 answer 2 denied; 2 s0 answer 3 denied; 3 f drop 511; 3 s1 \
+            answer 0 unmapped; 2 s0 answer 4 denied; 2 s1 answer 5 unmapped",
     },
     Run {
         name: "drawn from 749",
@@ -261,9 +263,9 @@ pub static SECOND: [Run; 10] = [
         history: "\
             0 s0 answer 514 done; 0 s0 answer 515 done; 0 s1 answer 516 done; 0 s2 answer 517 done; 2 s0 answer 0 denied; \
             1 s0 answer 0 done; 0 s0+f claim 0 510 510 for 512 read; 0 s0 out 510 clean; 0 s0+f give 510 510; 2 s2+f claim \
-            0 511 511 for 0 write; 0 s0+f use 512 510 512 513 1 1; 0 s0 answer 518 value 0; 2 s0 out 511 clean; 2 s0+f \
-            give 511 511; 1 s2 answer 1 done; 0 s0 answer 519 denied; 1 s0 answer 2 done; 1 s1 answer 3 done; 2 f drop \
-            511; 2 s2 answer 1 denied; 2 s0+f take 513 511 513 1048576 1 0; 2 s0 answer 2 done",
+            0 511 511 for 0 write; 0 s0+f use 512 510 512 513 1 1; 0 s0 answer 518 value 0 miss 0; 2 s0 out 511 clean; 2 \
+            s0+f give 511 511; 1 s2 answer 1 done; 0 s0 answer 519 denied; 1 s0 answer 2 done; 1 s1 answer 3 done; 2 f \
+            drop 511; 2 s2 answer 1 denied; 2 s0+f take 513 511 513 1048576 1 0; 2 s0 answer 2 done miss 0",
     },
     Run {
         name: "drawn from 776",
@@ -279,10 +281,10 @@ pub static SECOND: [Run; 10] = [
         full: true,
         history: "\
             0 s0 answer 510 done; 0 s1 answer 511 done; 0 s2 answer 512 done; 0 s0 answer 513 clean; 0 s1+f take 2 509 0 8 \
-            8 0; 0 s1 answer 514 done; 1 s2+f take 0 510 0 1048576 1 0; 1 s2 answer 0 value 0; 2 s0+f take 515 511 512 \
-            1048576 8 0; 2 s0 answer 0 value 0; 2 s0+f claim 1 2 509 for 512 write; 2 s1+f unclaim 509; 1 s0+f clear 512 \
-            8; 1 s0 answer 1 done; 1 s2 answer 2 done; 1 s2 answer 3 nomemory; 2 s0 answer 1 nomemory; 1 s1 answer 4 \
-            clean; 2 s0 answer 2 done; 1 s2 answer 5 done",
+            8 0; 0 s1 answer 514 done miss 0; 1 s2+f take 0 510 0 1048576 1 0; 1 s2 answer 0 value 0 miss 0; 2 s0+f take \
+            515 511 512 1048576 8 0; 2 s0 answer 0 value 0 miss 0; 2 s0+f claim 1 2 509 for 512 write; 2 s1+f unclaim 509; \
+            1 s0+f clear 512 8; 1 s0 answer 1 done; 1 s2 answer 2 done hit 0; 1 s2 answer 3 nomemory; 2 s0 answer 1 \
+            nomemory; 1 s1 answer 4 clean; 2 s0 answer 2 done; 1 s2 answer 5 done",
     },
     Run {
         name: "drawn from 798",
@@ -300,10 +302,11 @@ pub static SECOND: [Run; 10] = [
             0 s0 answer 514 done; 0 s1 answer 515 done; 0 s1 answer 516 done; 0 s1+f claim 0 510 510 for 0 write; 2 s1+f \
             claim 0 511 511 for 7 read; 0 s0 out 510 clean; 1 f refused 510 2 0; 0 s0+f give 510 510; 2 s0 out 511 clean; \
             2 s0+f give 511 511; 1 s1 answer 0 noframes 510 2 0; 1 f refused 510 0 2; 1 s1 answer 1 noframes 510 0 2; 0 \
-            s1+f use 0 510 0 3 3 0; 0 s1 answer 517 done; 0 s1+f answer 518 written; 1 s1+f take 7 510 7 10 3 0; 0 s0 \
-            answer 519 unmapped; 1 s1 answer 2 done; 0 s0+f claim 1 7 510 for 514 read; 0 s1 failed 7 write 1; 0 s1+f \
-            unclaim 510; 2 f drop 511; 0 s0 answer 520 storefault 1 1; 2 s1 answer 0 value 10; 2 s1 answer 1 value 10; 2 \
-            s1 answer 2 done; 2 s0 answer 3 unmapped; 2 s0 answer 4 denied; 2 s1 answer 5 clean; 2 s1 answer 6 done",
+            s1+f use 0 510 0 3 3 0; 0 s1 answer 517 done miss 0; 0 s1+f answer 518 written; 1 s1+f take 7 510 7 10 3 0; 0 \
+            s0 answer 519 unmapped; 1 s1 answer 2 done miss 0; 0 s0+f claim 1 7 510 for 514 read; 0 s1 failed 7 write 1; 0 \
+            s1+f unclaim 510; 2 f drop 511; 0 s0 answer 520 storefault 1 1; 2 s1 answer 0 value 10 miss 0; 2 s1 answer 1 \
+            value 10 hit 0; 2 s1 answer 2 done hit 0; 2 s0 answer 3 unmapped; 2 s0 answer 4 denied; 2 s1 answer 5 clean; 2 \
+            s1 answer 6 done hit 0",
     },
     Run {
         name: "drawn from 879",
@@ -321,9 +324,9 @@ pub static SECOND: [Run; 10] = [
             0 s0 answer 513 done; 0 s1 answer 514 done; 0 s2 answer 515 done; 1 s1+f claim 0 0 0 for 0 read; 0 s2+f claim \
             0 1 1 for 0 write; 1 s0+f unclaim 0; 1 s1 answer 0 nomemory; 0 s0 out 1 clean; 0 s0+f give 1 1; 1 s0+f claim 0 \
             0 0 for 512 write; 1 s0+f unclaim 0; 1 s0 answer 1 nomemory; 0 s2+f use 0 1 0 1048576 8 0; 1 s1 answer 2 \
-            clean; 0 s2 answer 516 done; 1 s2 answer 3 done; 0 s2 answer 517 denied; 0 s1 answer 518 clean; 0 s0+f clear \
-            512 1; 0 s0 answer 519 done; 1 s0 answer 4 unmapped; 1 s0 answer 5 unmapped; 0 s2 answer 520 outofspace; 0 s1 \
-            answer 521 denied; 0 s0 answer 522 unmapped",
+            clean; 0 s2 answer 516 done miss 0; 1 s2 answer 3 done; 0 s2 answer 517 denied; 0 s1 answer 518 clean; 0 s0+f \
+            clear 512 1; 0 s0 answer 519 done; 1 s0 answer 4 unmapped; 1 s0 answer 5 unmapped; 0 s2 answer 520 outofspace; \
+            0 s1 answer 521 denied; 0 s0 answer 522 unmapped",
     },
     Run {
         name: "drawn from 883",
@@ -338,11 +341,11 @@ pub static SECOND: [Run; 10] = [
         writes: &[1],
         full: false,
         history: "\
-            0 s0 answer 514 done; 0 s0 answer 515 done; 2 s0 answer 0 done; 1 s0 failed 0 write 1; 1 s0 answer 0 \
-            storefault 0 1; 1 s0 answer 1 clean; 2 s0 answer 1 done; 1 s0 answer 2 done; 3 s0 answer 0 done; 0 s0 answer \
-            516 denied; 3 s0+f claim 0 511 511 for 514 write; 3 s0 out 511 clean; 3 s0+f give 511 511; 3 s0+f use 514 511 \
-            512 515 3 1; 3 s0 answer 1 done; 3 s0+f clear 512 3; 3 s0 answer 2 done; 3 s0 answer 3 unmapped; 3 s0 answer 4 \
-            unmapped; 3 s0 answer 5 written",
+            0 s0 answer 514 done; 0 s0 answer 515 done hit 0; 2 s0 answer 0 done miss 0; 1 s0 failed 0 write 1; 1 s0 \
+            answer 0 storefault 0 1; 1 s0 answer 1 clean; 2 s0 answer 1 done; 1 s0 answer 2 done miss 0; 3 s0 answer 0 \
+            done miss 0; 0 s0 answer 516 denied; 3 s0+f claim 0 511 511 for 514 write; 3 s0 out 511 clean; 3 s0+f give 511 \
+            511; 3 s0+f use 514 511 512 515 3 1; 3 s0 answer 1 done miss 0; 3 s0+f clear 512 3; 3 s0 answer 2 done; 3 s0 \
+            answer 3 unmapped; 3 s0 answer 4 unmapped; 3 s0 answer 5 written",
     },
     Run {
         name: "drawn from 891",
@@ -361,8 +364,8 @@ pub static SECOND: [Run; 10] = [
             claim 0 1 1 for 0 write; 0 s0 out 0 clean; 0 s0+f give 0 0; 0 s0+f use 512 0 512 520 8 0; 0 s0 failed 512 read \
             1; 0 s0+f give 512 0; 0 s0 answer 516 storefault 0 1; 2 s0+f clear 0 512; 0 s1+f take 0 0 0 2 2 1; 0 s1 failed \
             0 read 1; 0 s1+f give 0 0; 0 s1 answer 517 storefault 1 1; 2 s0 answer 0 done; 1 s0 answer 0 done; 1 s1 answer \
-            1 outofspace; 2 s0+f clear 512 8; 2 s0 answer 1 done; 2 s1+f take 0 0 0 2 2 1; 2 s1 answer 2 value 0; 2 s0 \
-            answer 3 unmapped; 3 f got 1; 3 f drop 1; 3 s1 answer 0 done",
+            1 outofspace; 2 s0+f clear 512 8; 2 s0 answer 1 done; 2 s1+f take 0 0 0 2 2 1; 2 s1 answer 2 value 0 miss 0; 2 \
+            s0 answer 3 unmapped; 3 f got 1; 3 f drop 1; 3 s1 answer 0 done miss 0",
     },
     Run {
         name: "drawn from 926",
@@ -378,10 +381,10 @@ pub static SECOND: [Run; 10] = [
         history: "\
             0 s0 answer 513 done; 0 s1 answer 514 done; 1 s1+f claim 0 0 0 for 0 read; 0 s1+f claim 0 1 1 for 0 write; 2 \
             s1+f claim 0 2 2 for 0 read; 3 s0+f claim 0 3 3 for 512 read; 3 s0 out 3 clean; 3 s0+f give 3 3; 3 s0+f use \
-            512 3 512 513 1 1; 3 s0 answer 0 value 0; 2 s0 out 2 clean; 2 s0+f give 2 2; 2 s1+f use 0 2 0 1 1 0; 1 s0 out \
-            0 written; 2 s1 answer 0 value 0; 1 s0+f give 0 0; 0 s0 out 1 clean; 0 s0+f give 1 1; 0 f drop 1; 0 s1 answer \
-            515 done; 0 s0 answer 516 unmapped; 1 f drop 0; 1 s1 answer 0 value 19; 1 s1 answer 1 done; 1 s0 answer 2 \
-            denied; 1 s1 answer 3 written; 2 s0 answer 1 done; 2 s0 answer 2 denied",
+            512 3 512 513 1 1; 3 s0 answer 0 value 0 miss 0; 2 s0 out 2 clean; 2 s0+f give 2 2; 2 s1+f use 0 2 0 1 1 0; 1 \
+            s0 out 0 written; 2 s1 answer 0 value 0 miss 0; 1 s0+f give 0 0; 0 s0 out 1 clean; 0 s0+f give 1 1; 0 f drop \
+            1; 0 s1 answer 515 done miss 0; 0 s0 answer 516 unmapped; 1 f drop 0; 1 s1 answer 0 value 19 miss 0; 1 s1 \
+            answer 1 done; 1 s0 answer 2 denied; 1 s1 answer 3 written; 2 s0 answer 1 done; 2 s0 answer 2 denied",
     },
     Run {
         name: "drawn from 939",
@@ -398,10 +401,10 @@ pub static SECOND: [Run; 10] = [
         history: "\
             0 s0 answer 512 done; 1 s0 answer 0 done; 0 s0 answer 513 overlap; 0 s0+f take 514 511 512 515 3 0; 0 s0 \
             failed 514 read 1; 0 s0+f give 514 511; 0 s0 answer 514 storefault 0 1; 1 s0+f take 512 511 512 515 3 0; 1 s0 \
-            answer 1 done; 0 s0+f claim 0 512 511 for 514 write; 0 s0 out 512 written; 0 s0+f give 512 511; 0 s0+f use 514 \
-            511 512 515 3 0; 0 s0 answer 515 done; 1 s0 answer 2 unmapped; 0 s0 answer 516 value 55; 1 s0+f claim 0 514 \
-            511 for 512 write; 1 s0 failed 514 write 2; 1 s0+f unclaim 511; 1 s0 answer 3 storefault 0 2; 1 s0 answer 4 \
-            value 55; 0 s0+f clear 512 3; 0 s0 answer 517 done",
+            answer 1 done miss 0; 0 s0+f claim 0 512 511 for 514 write; 0 s0 out 512 written; 0 s0+f give 512 511; 0 s0+f \
+            use 514 511 512 515 3 0; 0 s0 answer 515 done miss 0; 1 s0 answer 2 unmapped; 0 s0 answer 516 value 55 hit 0; \
+            1 s0+f claim 0 514 511 for 512 write; 1 s0 failed 514 write 2; 1 s0+f unclaim 511; 1 s0 answer 3 storefault 0 \
+            2; 1 s0 answer 4 value 55 miss 0; 0 s0+f clear 512 3; 0 s0 answer 517 done",
     },
 ];
 
@@ -421,14 +424,14 @@ pub static THIRD: [Run; 10] = [
         full: false,
         history: "\
             0 s0 answer 512 done; 0 s0 answer 513 done; 0 s1 answer 514 done; 0 s1 answer 515 done; 1 s1 answer 0 clean; 1 \
-            s1+f take 12 511 12 20 8 0; 0 s0 answer 516 clean; 1 s1 answer 1 value 0; 1 s1 answer 2 clean; 1 s1+f claim 1 \
-            12 511 for 0 read; 1 s1 out 12 clean; 1 s1+f give 12 511; 1 s1+f use 0 511 0 8 8 0; 1 s1 answer 3 value 0; 1 \
-            s1+f claim 1 0 511 for 12 write; 1 s1 out 0 clean; 1 s1+f give 0 511; 1 s1+f use 12 511 12 20 8 0; 1 s1 failed \
-            12 read 1; 1 s1+f give 12 511; 1 s1 answer 4 storefault 1 1; 0 s1+f take 7 511 0 8 8 0; 1 s0+f claim 1 7 511 \
-            for 521 read; 0 s1 failed 7 read 2; 0 s1+f give 7 511; 0 s1 answer 517 storefault 1 2; 0 f refused 511 0 1; 0 \
-            s0 answer 518 noframes 511 0 1; 0 s0 answer 519 done; 0 s0 answer 520 clean; 0 f refused 511 0 1; 0 s1 answer \
-            521 noframes 511 0 1; 0 f refused 511 0 1; 0 s1 answer 522 noframes 511 0 1; 1 f got 511; 1 f drop 511; 1 s0 \
-            answer 5 denied; 1 s1 answer 6 denied",
+            s1+f take 12 511 12 20 8 0; 0 s0 answer 516 clean; 1 s1 answer 1 value 0 miss 0; 1 s1 answer 2 clean; 1 s1+f \
+            claim 1 12 511 for 0 read; 1 s1 out 12 clean; 1 s1+f give 12 511; 1 s1+f use 0 511 0 8 8 0; 1 s1 answer 3 \
+            value 0 miss 0; 1 s1+f claim 1 0 511 for 12 write; 1 s1 out 0 clean; 1 s1+f give 0 511; 1 s1+f use 12 511 12 \
+            20 8 0; 1 s1 failed 12 read 1; 1 s1+f give 12 511; 1 s1 answer 4 storefault 1 1; 0 s1+f take 7 511 0 8 8 0; 1 \
+            s0+f claim 1 7 511 for 521 read; 0 s1 failed 7 read 2; 0 s1+f give 7 511; 0 s1 answer 517 storefault 1 2; 0 f \
+            refused 511 0 1; 0 s0 answer 518 noframes 511 0 1; 0 s0 answer 519 done; 0 s0 answer 520 clean; 0 f refused \
+            511 0 1; 0 s1 answer 521 noframes 511 0 1; 0 f refused 511 0 1; 0 s1 answer 522 noframes 511 0 1; 1 f got 511; \
+            1 f drop 511; 1 s0 answer 5 denied; 1 s1 answer 6 denied",
     },
     Run {
         name: "drawn from 1107",
@@ -444,11 +447,11 @@ pub static THIRD: [Run; 10] = [
         full: true,
         history: "\
             0 s0 answer 514 done; 0 s0 answer 515 done; 1 s0+f claim 0 510 510 for 521 read; 1 s0 out 510 clean; 1 s0+f \
-            give 510 510; 1 s0+f use 521 510 519 522 3 1; 1 s0 answer 0 value 0; 2 s0+f claim 0 511 511 for 512 write; 2 \
-            s0 out 511 clean; 2 s0+f give 511 511; 2 s0+f use 512 511 512 519 2 0; 2 s0 answer 0 done; 0 s0 answer 516 \
-            done; 0 s0 answer 517 unmapped; 0 s0+f claim 0 512 511 for 519 read; 0 s0+f unclaim 511; 0 s0 answer 518 \
-            nomemory; 3 s0 answer 0 denied; 3 s0 answer 1 denied; 3 s0 answer 2 outofspace; 3 s0 answer 3 value 0; 3 s0 \
-            answer 4 done",
+            give 510 510; 1 s0+f use 521 510 519 522 3 1; 1 s0 answer 0 value 0 miss 0; 2 s0+f claim 0 511 511 for 512 \
+            write; 2 s0 out 511 clean; 2 s0+f give 511 511; 2 s0+f use 512 511 512 519 2 0; 2 s0 answer 0 done miss 0; 0 \
+            s0 answer 516 done; 0 s0 answer 517 unmapped; 0 s0+f claim 0 512 511 for 519 read; 0 s0+f unclaim 511; 0 s0 \
+            answer 518 nomemory; 3 s0 answer 0 denied; 3 s0 answer 1 denied; 3 s0 answer 2 outofspace; 3 s0 answer 3 value \
+            0 miss 0; 3 s0 answer 4 done",
     },
     Run {
         name: "drawn from 1174",
@@ -463,11 +466,12 @@ pub static THIRD: [Run; 10] = [
         writes: &[1, 2],
         full: false,
         history: "\
-            0 s0 answer 511 done; 0 s1 answer 512 done; 0 s0+f take 512 510 512 520 8 0; 0 s0 answer 513 done; 1 s0 answer \
-            0 done; 0 s0 answer 514 notgrowing; 1 s0 answer 1 done; 1 s1+f take 0 511 0 3 3 0; 1 s1 answer 2 done; 1 s1 \
-            failed 0 write 1; 1 s1 answer 3 storefault 1 1; 0 s1 answer 515 value 58; 1 s0 answer 4 done; 0 s0 answer 516 \
-            done; 0 s0+f claim 0 512 510 for 517 read; 0 s0 failed 512 write 1; 0 s0+f unclaim 510; 0 s0 answer 517 \
-            storefault 0 1; 0 s0 answer 518 denied; 0 s0 answer 519 value 60; 0 s0 answer 520 done",
+            0 s0 answer 511 done; 0 s1 answer 512 done; 0 s0+f take 512 510 512 520 8 0; 0 s0 answer 513 done miss 0; 1 s0 \
+            answer 0 done miss 0; 0 s0 answer 514 notgrowing; 1 s0 answer 1 done miss 0; 1 s1+f take 0 511 0 3 3 0; 1 s1 \
+            answer 2 done miss 0; 1 s1 failed 0 write 1; 1 s1 answer 3 storefault 1 1; 0 s1 answer 515 value 58 miss 0; 1 \
+            s0 answer 4 done; 0 s0 answer 516 done; 0 s0+f claim 0 512 510 for 517 read; 0 s0 failed 512 write 1; 0 s0+f \
+            unclaim 510; 0 s0 answer 517 storefault 0 1; 0 s0 answer 518 denied; 0 s0 answer 519 value 60 miss 0; 0 s0 \
+            answer 520 done miss 0",
     },
     Run {
         name: "drawn from 1177",
@@ -482,11 +486,11 @@ pub static THIRD: [Run; 10] = [
         full: false,
         history: "\
             0 s0 answer 510 done; 0 s1 answer 511 done; 1 s0 answer 0 unmapped; 2 s1+f take 0 509 0 8 8 0; 0 s0+f take 515 \
-            510 512 1048576 8 0; 0 s0 answer 512 done; 0 s0 answer 513 unmapped; 1 s0+f take 512 511 512 1048576 8 0; 2 s1 \
-            answer 0 done; 1 s0 answer 1 value 0; 0 s1+f claim 1 0 509 for 5 write; 0 s1 out 0 written; 0 s1+f give 0 509; \
-            0 s1+f use 5 509 0 8 8 0; 0 s1 answer 514 done; 0 s1+f claim 0 515 510 for 0 read; 0 s0 out 515 written; 0 \
-            s0+f give 515 510; 0 s1+f use 0 510 0 8 8 0; 0 s1 failed 0 read 1; 0 s1+f give 0 510; 0 s1 answer 515 \
-            storefault 1 1",
+            510 512 1048576 8 0; 0 s0 answer 512 done miss 0; 0 s0 answer 513 unmapped; 1 s0+f take 512 511 512 1048576 8 \
+            0; 2 s1 answer 0 done miss 0; 1 s0 answer 1 value 0 miss 0; 0 s1+f claim 1 0 509 for 5 write; 0 s1 out 0 \
+            written; 0 s1+f give 0 509; 0 s1+f use 5 509 0 8 8 0; 0 s1 answer 514 done miss 0; 0 s1+f claim 0 515 510 for \
+            0 read; 0 s0 out 515 written; 0 s0+f give 515 510; 0 s1+f use 0 510 0 8 8 0; 0 s1 failed 0 read 1; 0 s1+f give \
+            0 510; 0 s1 answer 515 storefault 1 1",
     },
     Run {
         name: "drawn from 1180",
@@ -502,10 +506,11 @@ pub static THIRD: [Run; 10] = [
         full: false,
         history: "\
             0 s0 answer 511 done; 0 s1 answer 512 done; 0 s1 answer 513 done; 0 s2 answer 514 done; 0 s1+f take 7 510 5 13 \
-            8 0; 0 s1 answer 515 done; 2 s2 answer 0 denied; 0 s1+f take 0 511 0 3 3 0; 0 s1 answer 516 done; 0 s1 answer \
-            517 notgrowing; 2 s2+f claim 1 7 510 for 0 write; 2 s1 failed 7 write 1; 2 s1+f unclaim 510; 2 s2 answer 1 \
-            storefault 1 1; 1 s1 answer 0 value 18; 1 s1 answer 1 value 98; 1 s1 answer 2 value 98; 1 s2+f claim 1 7 510 \
-            for 0 read; 1 s1 out 7 written; 1 s1+f give 7 510; 1 s2+f use 0 510 0 8 8 1; 1 s2 answer 3 value 0",
+            8 0; 0 s1 answer 515 done miss 0; 2 s2 answer 0 denied; 0 s1+f take 0 511 0 3 3 0; 0 s1 answer 516 done miss \
+            0; 0 s1 answer 517 notgrowing; 2 s2+f claim 1 7 510 for 0 write; 2 s1 failed 7 write 1; 2 s1+f unclaim 510; 2 \
+            s2 answer 1 storefault 1 1; 1 s1 answer 0 value 18 miss 0; 1 s1 answer 1 value 98 miss 0; 1 s1 answer 2 value \
+            98 hit 0; 1 s2+f claim 1 7 510 for 0 read; 1 s1 out 7 written; 1 s1+f give 7 510; 1 s2+f use 0 510 0 8 8 1; 1 \
+            s2 answer 3 value 0 miss 0",
     },
     Run {
         name: "drawn from 1240",
@@ -521,10 +526,11 @@ pub static THIRD: [Run; 10] = [
         full: false,
         history: "\
             0 s0 answer 514 done; 0 s1 answer 515 done; 0 s1 answer 516 done; 1 s1+f claim 0 510 510 for 0 read; 0 s0+f \
-            clear 510 2; 0 s0 answer 517 done; 2 s1+f take 7 511 6 9 3 1; 1 f got 510; 2 s1 answer 0 value 0; 3 s1 answer \
-            0 outofspace; 3 s0 answer 1 notgrowing; 3 s0 answer 2 unmapped; 3 s1 answer 3 done; 1 s1+f use 0 510 0 6 3 0; \
-            1 s1 failed 0 read 1; 3 s0+f clear 512 8; 3 s0 answer 4 done; 1 s1+f give 0 510; 1 s1 answer 0 storefault 1 1; \
-            3 s1+f take 6 510 6 9 3 1; 3 s1 answer 5 done; 1 s1+f clear 0 3; 1 s1 answer 1 done; 1 s1 answer 2 unmapped",
+            clear 510 2; 0 s0 answer 517 done; 2 s1+f take 7 511 6 9 3 1; 1 f got 510; 2 s1 answer 0 value 0 miss 0; 3 s1 \
+            answer 0 outofspace; 3 s0 answer 1 notgrowing; 3 s0 answer 2 unmapped; 3 s1 answer 3 done miss 0; 1 s1+f use 0 \
+            510 0 6 3 0; 1 s1 failed 0 read 1; 3 s0+f clear 512 8; 3 s0 answer 4 done; 1 s1+f give 0 510; 1 s1 answer 0 \
+            storefault 1 1; 3 s1+f take 6 510 6 9 3 1; 3 s1 answer 5 done miss 0; 1 s1+f clear 0 3; 1 s1 answer 1 done; 1 \
+            s1 answer 2 unmapped",
     },
     Run {
         name: "drawn from 1388",
@@ -539,11 +545,11 @@ pub static THIRD: [Run; 10] = [
         writes: &[],
         full: false,
         history: "\
-            0 s0 answer 512 done; 0 s1 answer 513 done; 0 s2 answer 514 done; 2 s0 answer 0 done; 2 s2+f take 0 511 0 \
-            1048576 2 0; 1 s1+f claim 2 0 511 for 1 write; 2 s2 answer 1 done; 2 s0 answer 2 outofspace; 2 f refused 511 1 \
-            0; 0 s2+f clear 0 2; 2 s1 answer 3 noframes 511 1 0; 0 s2 answer 515 done; 1 f got 511; 3 s2 answer 0 \
-            unmapped; 1 s1+f use 1 511 0 8 8 0; 1 s1 answer 0 done; 2 s0 answer 4 overlap; 2 s0 answer 5 notgrowing; 2 s0 \
-            answer 6 denied; 3 s1 answer 1 done",
+            0 s0 answer 512 done; 0 s1 answer 513 done; 0 s2 answer 514 done; 2 s0 answer 0 done miss 0; 2 s2+f take 0 511 \
+            0 1048576 2 0; 1 s1+f claim 2 0 511 for 1 write; 2 s2 answer 1 done miss 0; 2 s0 answer 2 outofspace; 2 f \
+            refused 511 1 0; 0 s2+f clear 0 2; 2 s1 answer 3 noframes 511 1 0; 0 s2 answer 515 done; 1 f got 511; 3 s2 \
+            answer 0 unmapped; 1 s1+f use 1 511 0 8 8 0; 1 s1 answer 0 done miss 0; 2 s0 answer 4 overlap; 2 s0 answer 5 \
+            notgrowing; 2 s0 answer 6 denied; 3 s1 answer 1 done",
     },
     Run {
         name: "drawn from 1392",
@@ -580,8 +586,8 @@ pub static THIRD: [Run; 10] = [
             509 clean; 0 s0+f give 509 509; 1 s0+f claim 0 510 510 for 517 read; 1 s0 out 510 clean; 1 s0+f give 510 510; \
             1 s0+f use 517 510 512 520 8 1; 1 s0 failed 517 read 1; 0 s2+f use 4 509 0 1048576 8 0; 1 s0+f give 517 510; 0 \
             s2 failed 4 read 1; 1 s0 answer 0 storefault 0 1; 0 s2+f give 4 509; 0 s2 answer 517 storefault 2 1; 0 s2 \
-            answer 518 overlap; 1 s2+f take 0 509 0 1048576 8 0; 0 s0 answer 519 value 0; 1 s2 answer 1 value 0; 1 s0 \
-            answer 2 notgrowing; 1 s0 answer 3 denied",
+            answer 518 overlap; 1 s2+f take 0 509 0 1048576 8 0; 0 s0 answer 519 value 0 hit 2; 1 s2 answer 1 value 0 miss \
+            0; 1 s0 answer 2 notgrowing; 1 s0 answer 3 denied",
     },
     Run {
         name: "drawn from 1414",
@@ -624,13 +630,13 @@ pub static FOURTH: [Run; 10] = [
             for 4 read; 1 s0 out 509 clean; 0 s1+f claim 0 510 510 for 0 write; 1 s0+f give 509 509; 3 s0 answer 0 \
             unmapped; 0 s0 out 510 clean; 0 s0+f give 510 510; 3 s0+f claim 0 511 511 for 512 read; 0 s1+f use 0 510 0 3 3 \
             0; 0 s1 failed 0 read 1; 0 s1+f give 0 510; 0 s1 answer 518 storefault 1 1; 0 s1+f take 1 510 0 3 3 0; 0 s1 \
-            answer 519 done; 1 s1+f use 4 509 4 6 2 1; 1 s1 answer 0 value 0; 2 s1 failed 1 write 2; 3 s0 out 511 clean; 2 \
-            s1 answer 0 storefault 1 2; 1 s1+f claim 1 1 510 for 0 read; 1 s1 out 1 written; 1 s1+f give 1 510; 1 s1+f use \
-            0 510 0 3 3 0; 1 s1 failed 0 read 3; 1 s1+f give 0 510; 1 s1 answer 1 storefault 1 3; 3 s0+f give 511 511; 3 \
-            s0+f use 512 510 512 514 2 0; 3 s0 failed 512 read 1; 3 s0+f give 512 510; 3 s0 answer 1 storefault 0 1; 2 \
-            s0+f take 512 510 512 514 2 0; 2 s0 answer 1 done; 2 s1+f take 0 511 0 3 3 0; 2 s1 answer 2 done; 2 s1 answer \
-            3 value 0; 3 s0 answer 2 done; 3 s2+f claim 0 512 510 for 0 read; 3 s0 failed 512 write 2; 3 s0+f unclaim 510; \
-            3 s2 answer 3 storefault 0 2; 3 s0 answer 4 unmapped",
+            answer 519 done miss 0; 1 s1+f use 4 509 4 6 2 1; 1 s1 answer 0 value 0 miss 0; 2 s1 failed 1 write 2; 3 s0 \
+            out 511 clean; 2 s1 answer 0 storefault 1 2; 1 s1+f claim 1 1 510 for 0 read; 1 s1 out 1 written; 1 s1+f give \
+            1 510; 1 s1+f use 0 510 0 3 3 0; 1 s1 failed 0 read 3; 1 s1+f give 0 510; 1 s1 answer 1 storefault 1 3; 3 s0+f \
+            give 511 511; 3 s0+f use 512 510 512 514 2 0; 3 s0 failed 512 read 1; 3 s0+f give 512 510; 3 s0 answer 1 \
+            storefault 0 1; 2 s0+f take 512 510 512 514 2 0; 2 s0 answer 1 done miss 0; 2 s1+f take 0 511 0 3 3 0; 2 s1 \
+            answer 2 done miss 0; 2 s1 answer 3 value 0 miss 0; 3 s0 answer 2 done miss 0; 3 s2+f claim 0 512 510 for 0 \
+            read; 3 s0 failed 512 write 2; 3 s0+f unclaim 510; 3 s2 answer 3 storefault 0 2; 3 s0 answer 4 unmapped",
     },
     Run {
         name: "drawn from 1639",
@@ -647,13 +653,13 @@ pub static FOURTH: [Run; 10] = [
         full: true,
         history: "\
             0 s0 answer 510 done; 0 s1 answer 511 done; 0 s1 answer 512 done; 0 s2 answer 513 done; 0 s1+f take 1 509 0 2 \
-            2 0; 0 s1 answer 514 done; 0 s0 answer 515 unmapped; 0 s1 answer 516 done; 0 s0+f take 512 510 512 515 3 0; 1 \
-            s1 answer 0 nomemory; 0 s0 answer 517 value 0; 1 s1+f take 0 511 0 2 2 0; 1 s1 answer 1 done; 1 s1+f claim 1 1 \
-            509 for 7 write; 1 s1+f unclaim 509; 1 s1 answer 2 nomemory; 0 s1+f claim 1 1 509 for 7 write; 0 s1+f unclaim \
-            509; 0 s1 answer 518 nomemory; 0 s1 answer 519 done; 0 s0 answer 520 value 0; 0 s0+f claim 1 1 509 for 513 \
-            write; 0 s1+f unclaim 509; 0 s0 answer 521 nomemory; 0 s1 answer 522 value 9; 0 s0+f claim 1 1 509 for 513 \
-            read; 0 s1+f unclaim 509; 0 s0 answer 523 nomemory; 0 s0+f claim 1 1 509 for 513 write; 0 s1+f unclaim 509; 0 \
-            s0 answer 524 nomemory",
+            2 0; 0 s1 answer 514 done miss 0; 0 s0 answer 515 unmapped; 0 s1 answer 516 done; 0 s0+f take 512 510 512 515 \
+            3 0; 1 s1 answer 0 nomemory; 0 s0 answer 517 value 0 miss 0; 1 s1+f take 0 511 0 2 2 0; 1 s1 answer 1 done \
+            miss 0; 1 s1+f claim 1 1 509 for 7 write; 1 s1+f unclaim 509; 1 s1 answer 2 nomemory; 0 s1+f claim 1 1 509 for \
+            7 write; 0 s1+f unclaim 509; 0 s1 answer 518 nomemory; 0 s1 answer 519 done; 0 s0 answer 520 value 0 hit 0; 0 \
+            s0+f claim 1 1 509 for 513 write; 0 s1+f unclaim 509; 0 s0 answer 521 nomemory; 0 s1 answer 522 value 9 miss \
+            0; 0 s0+f claim 1 1 509 for 513 read; 0 s1+f unclaim 509; 0 s0 answer 523 nomemory; 0 s0+f claim 1 1 509 for \
+            513 write; 0 s1+f unclaim 509; 0 s0 answer 524 nomemory",
     },
     Run {
         name: "drawn from 1690",
@@ -672,8 +678,9 @@ pub static FOURTH: [Run; 10] = [
             answer 580 done; 0 s1+f claim 0 504 504 for 0 read; 1 s0+f answer 0 clean; 1 s2+f take 8 511 8 10 2 1; 1 s2 \
             failed 8 read 1; 1 s2+f give 8 511; 0 s0 out 504 clean; 0 s0+f give 504 504; 0 s1+f use 0 504 0 1048576 3 0; 1 \
             s2 answer 1 storefault 2 1; 1 s0 answer 2 unmapped; 0 s1 failed 0 read 1; 0 s1+f give 0 504; 0 s1 answer 581 \
-            storefault 1 1; 1 s1+f take 2 504 0 1048576 3 0; 1 s1 answer 3 done; 0 s2 answer 582 notgrowing; 1 s0 answer 4 \
-            unmapped; 1 s1 answer 5 done; 1 s2+f take 0 511 0 3 3 0; 1 s2 answer 6 value 0; 1 s0 answer 7 clean",
+            storefault 1 1; 1 s1+f take 2 504 0 1048576 3 0; 1 s1 answer 3 done miss 0; 0 s2 answer 582 notgrowing; 1 s0 \
+            answer 4 unmapped; 1 s1 answer 5 done; 1 s2+f take 0 511 0 3 3 0; 1 s2 answer 6 value 0 miss 0; 1 s0 answer 7 \
+            clean",
     },
     Run {
         name: "drawn from 1694",
@@ -691,8 +698,8 @@ pub static FOURTH: [Run; 10] = [
             0 s0 answer 513 done; 0 s0 answer 514 clean; 2 s0 answer 0 unmapped; 1 s0 answer 0 clean; 1 s0 answer 1 clean; \
             1 s0+f claim 0 0 0 for 512 read; 1 s0 failed 0 write 1; 1 s0+f unclaim 0; 1 s0 answer 2 storefault 0 1; 3 s0 \
             answer 0 unmapped; 1 s0 answer 3 unmapped; 1 s0+f claim 0 0 0 for 512 read; 1 s0 out 0 written; 1 s0+f give 0 \
-            0; 1 s0+f use 512 0 512 513 1 0; 1 s0 answer 4 value 0; 2 s0 answer 1 value 0; 2 s0+f clear 512 1; 2 s0 answer \
-            2 done; 2 s0 answer 3 unmapped; 2 s0 answer 4 unmapped; 2 s0 answer 5 unmapped",
+            0; 1 s0+f use 512 0 512 513 1 0; 1 s0 answer 4 value 0 miss 0; 2 s0 answer 1 value 0 miss 0; 2 s0+f clear 512 \
+            1; 2 s0 answer 2 done; 2 s0 answer 3 unmapped; 2 s0 answer 4 unmapped; 2 s0 answer 5 unmapped",
     },
     Run {
         name: "drawn from 1767",
@@ -710,9 +717,9 @@ pub static FOURTH: [Run; 10] = [
             0 s0 answer 576 regionsfull; 0 s1 answer 577 done; 0 s1 answer 578 done; 0 s2 answer 579 done; 0 s1+f claim 0 \
             504 504 for 2 read; 2 s1+f clear 0 3; 2 s1 answer 0 done; 2 s1 answer 1 unmapped; 0 s0 out 504 clean; 2 s1+f \
             claim 0 505 505 for 13 write; 0 s0+f give 504 504; 2 s0 out 505 clean; 2 s0+f give 505 505; 1 s1 answer 0 \
-            unmapped; 2 s1+f use 13 505 7 15 8 0; 2 s1 answer 2 done; 1 s0 answer 1 unmapped; 2 s0 answer 3 done; 2 s0 \
-            answer 4 unmapped; 0 f drop 504; 0 s1 answer 580 unmapped; 0 s1 answer 581 done; 0 s1 answer 582 unmapped; 0 \
-            s0 answer 583 written",
+            unmapped; 2 s1+f use 13 505 7 15 8 0; 2 s1 answer 2 done miss 0; 1 s0 answer 1 unmapped; 2 s0 answer 3 done \
+            miss 0; 2 s0 answer 4 unmapped; 0 f drop 504; 0 s1 answer 580 unmapped; 0 s1 answer 581 done miss 0; 0 s1 \
+            answer 582 unmapped; 0 s0 answer 583 written",
     },
     Run {
         name: "drawn from 1799",
@@ -726,12 +733,13 @@ pub static FOURTH: [Run; 10] = [
         writes: &[1, 2],
         full: false,
         history: "\
-            0 s0 answer 514 done; 0 s0 answer 515 value 0; 0 s0 answer 516 done; 1 s0+f claim 0 511 511 for 512 read; 1 s0 \
-            out 511 clean; 1 s0+f give 511 511; 1 s0+f use 512 511 512 515 3 0; 1 s0 answer 0 value 0; 1 s0 answer 1 value \
-            0; 1 s0 answer 2 clean; 0 s0 answer 517 overlap; 0 s0+f claim 0 512 511 for 513 write; 0 s0 out 512 clean; 0 \
-            s0+f give 512 511; 0 s0+f use 513 511 512 515 3 0; 0 s0 answer 518 done; 1 s0+f claim 0 513 511 for 512 write; \
-            1 s0 failed 513 write 1; 1 s0+f unclaim 511; 1 s0 answer 3 storefault 0 1; 1 s0+f claim 0 513 511 for 512 \
-            write; 1 s0 failed 513 write 2; 1 s0+f unclaim 511; 1 s0 answer 4 storefault 0 2",
+            0 s0 answer 514 done; 0 s0 answer 515 value 0 hit 2; 0 s0 answer 516 done hit 0; 1 s0+f claim 0 511 511 for \
+            512 read; 1 s0 out 511 clean; 1 s0+f give 511 511; 1 s0+f use 512 511 512 515 3 0; 1 s0 answer 0 value 0 miss \
+            0; 1 s0 answer 1 value 0 hit 0; 1 s0 answer 2 clean; 0 s0 answer 517 overlap; 0 s0+f claim 0 512 511 for 513 \
+            write; 0 s0 out 512 clean; 0 s0+f give 512 511; 0 s0+f use 513 511 512 515 3 0; 0 s0 answer 518 done miss 0; 1 \
+            s0+f claim 0 513 511 for 512 write; 1 s0 failed 513 write 1; 1 s0+f unclaim 511; 1 s0 answer 3 storefault 0 1; \
+            1 s0+f claim 0 513 511 for 512 write; 1 s0 failed 513 write 2; 1 s0+f unclaim 511; 1 s0 answer 4 storefault 0 \
+            2",
     },
     Run {
         name: "drawn from 1860",
@@ -748,10 +756,11 @@ pub static FOURTH: [Run; 10] = [
         history: "\
             0 s0 answer 514 done; 0 s1 answer 515 done; 0 s1 answer 516 done; 0 s1+f claim 0 509 509 for 8 read; 1 s0 \
             answer 0 denied; 3 s1+f claim 0 510 510 for 8 write; 3 s0 out 510 clean; 2 s1+f claim 0 511 511 for 8 read; 3 \
-            s0+f give 510 510; 2 s0 out 511 clean; 2 s0+f give 511 511; 2 s1+f use 8 511 8 9 1 0; 2 s1 answer 0 value 0; 3 \
-            f drop 510; 3 s1 answer 0 done; 0 s0 out 509 clean; 3 s1 answer 1 overlap; 2 s1 answer 1 nomemory; 2 s1 answer \
-            2 done; 2 s1 answer 3 done; 0 s0+f give 509 509; 0 f drop 509; 0 s1 answer 517 value 49; 0 s1 answer 518 value \
-            49; 0 s0 answer 519 denied; 3 s0+f take 513 509 512 520 8 0; 3 s0 answer 2 value 0",
+            s0+f give 510 510; 2 s0 out 511 clean; 2 s0+f give 511 511; 2 s1+f use 8 511 8 9 1 0; 2 s1 answer 0 value 0 \
+            miss 0; 3 f drop 510; 3 s1 answer 0 done miss 0; 0 s0 out 509 clean; 3 s1 answer 1 overlap; 2 s1 answer 1 \
+            nomemory; 2 s1 answer 2 done miss 0; 2 s1 answer 3 done hit 0; 0 s0+f give 509 509; 0 f drop 509; 0 s1 answer \
+            517 value 49 miss 0; 0 s1 answer 518 value 49 hit 0; 0 s0 answer 519 denied; 3 s0+f take 513 509 512 520 8 0; \
+            3 s0 answer 2 value 0 miss 0",
     },
     Run {
         name: "drawn from 1928",
@@ -766,11 +775,11 @@ pub static FOURTH: [Run; 10] = [
         writes: &[1],
         full: false,
         history: "\
-            0 s0 answer 511 done; 0 s0+f take 513 510 512 515 3 0; 0 s0 answer 512 done; 1 s0+f clear 512 3; 1 s0 answer 0 \
-            done; 1 s0 answer 1 done; 0 s0 answer 513 unmapped; 0 s0 answer 514 done; 0 s0 answer 515 unmapped; 1 s0 \
-            answer 2 done; 0 s0+f take 512 510 512 514 2 0; 0 s0 answer 516 done; 0 s0+f take 513 511 512 514 2 0; 0 s0 \
-            answer 517 value 0; 1 s0 answer 3 done; 1 s0 answer 4 clean; 1 s0 answer 5 done; 1 s0 answer 6 done; 1 s0 \
-            failed 512 write 1; 1 s0 answer 7 storefault 0 1",
+            0 s0 answer 511 done; 0 s0+f take 513 510 512 515 3 0; 0 s0 answer 512 done miss 0; 1 s0+f clear 512 3; 1 s0 \
+            answer 0 done; 1 s0 answer 1 done miss 0; 0 s0 answer 513 unmapped; 0 s0 answer 514 done; 0 s0 answer 515 \
+            unmapped; 1 s0 answer 2 done; 0 s0+f take 512 510 512 514 2 0; 0 s0 answer 516 done miss 0; 0 s0+f take 513 \
+            511 512 514 2 0; 0 s0 answer 517 value 0 miss 0; 1 s0 answer 3 done; 1 s0 answer 4 clean; 1 s0 answer 5 done; \
+            1 s0 answer 6 done; 1 s0 failed 512 write 1; 1 s0 answer 7 storefault 0 1",
     },
     Run {
         name: "drawn from 1932",
@@ -785,11 +794,11 @@ pub static FOURTH: [Run; 10] = [
         full: false,
         history: "\
             0 s0 answer 514 done; 1 s0+f claim 0 509 509 for 514 write; 1 s0 out 509 clean; 1 s0+f give 509 509; 1 s0+f \
-            use 514 509 512 515 3 0; 1 s0 answer 0 done; 1 s0+f claim 0 510 510 for 512 read; 1 s0 out 510 clean; 1 s0+f \
-            give 510 510; 1 s0+f use 512 510 512 515 3 0; 1 s0 answer 1 value 0; 0 s0 answer 515 done; 0 s0+f answer 516 \
-            written; 2 s0 answer 0 overlap; 0 s0+f take 514 509 512 515 3 0; 0 s0 failed 514 read 1; 0 s0+f give 514 509; \
-            0 s0 answer 517 storefault 0 1; 0 s0 failed 511 write 2; 0 s0 answer 518 storefault 0 2; 0 s0+f answer 519 \
-            written; 1 s0 answer 2 done",
+            use 514 509 512 515 3 0; 1 s0 answer 0 done miss 0; 1 s0+f claim 0 510 510 for 512 read; 1 s0 out 510 clean; 1 \
+            s0+f give 510 510; 1 s0+f use 512 510 512 515 3 0; 1 s0 answer 1 value 0 miss 0; 0 s0 answer 515 done hit 0; 0 \
+            s0+f answer 516 written; 2 s0 answer 0 overlap; 0 s0+f take 514 509 512 515 3 0; 0 s0 failed 514 read 1; 0 \
+            s0+f give 514 509; 0 s0 answer 517 storefault 0 1; 0 s0 failed 511 write 2; 0 s0 answer 518 storefault 0 2; 0 \
+            s0+f answer 519 written; 1 s0 answer 2 done",
     },
     Run {
         name: "drawn from 1999",
@@ -804,9 +813,9 @@ pub static FOURTH: [Run; 10] = [
         full: true,
         history: "\
             0 s0 answer 513 done; 0 s1 answer 514 done; 0 s0+f answer 515 clean; 1 s0+f take 0 0 0 512 512 0; 0 s1+f claim \
-            0 1 1 for 0 read; 1 s0 answer 0 value 0; 0 s0 out 1 clean; 1 s1+f claim 0 2 2 for 0 read; 0 s0+f give 1 1; 0 \
-            s1+f use 0 1 0 1 1 1; 1 s0 out 2 clean; 0 s1 answer 516 value 0; 1 s0+f give 2 2; 1 f drop 2; 0 s0+f take 512 \
-            2 512 514 2 1; 1 s1 answer 1 value 0; 0 s0 answer 517 value 0; 1 s1 answer 2 value 0; 0 s0 answer 518 clean; 1 \
-            s0 answer 3 value 0; 0 s0+f clear 0 512; 0 s0 answer 519 done",
+            0 1 1 for 0 read; 1 s0 answer 0 value 0 miss 3; 0 s0 out 1 clean; 1 s1+f claim 0 2 2 for 0 read; 0 s0+f give 1 \
+            1; 0 s1+f use 0 1 0 1 1 1; 1 s0 out 2 clean; 0 s1 answer 516 value 0 miss 0; 1 s0+f give 2 2; 1 f drop 2; 0 \
+            s0+f take 512 2 512 514 2 1; 1 s1 answer 1 value 0 miss 0; 0 s0 answer 517 value 0 miss 0; 1 s1 answer 2 value \
+            0 hit 0; 0 s0 answer 518 clean; 1 s0 answer 3 value 0 miss 0; 0 s0+f clear 0 512; 0 s0 answer 519 done",
     },
 ];

@@ -6,7 +6,7 @@ pub const FIXED_1: Fill = Fill {
     calls: "0 map 0 0 511 wired write; 0 map 0 511 1 fixed write; 0 load 0 0",
     pages: 512,
     entries: 1026,
-    hash: 10482134952120856727,
+    hash: 17695872794824675243,
 };
 
 /// Wired pages, and behind them as many pages of a fixed region as the name says: 512 pages in all.
@@ -14,7 +14,7 @@ pub const FIXED_2: Fill = Fill {
     calls: "0 map 0 0 510 wired write; 0 map 0 510 2 fixed write; 0 load 0 0",
     pages: 512,
     entries: 1026,
-    hash: 9465032835869391216,
+    hash: 12719258797451815080,
 };
 
 /// Wired pages, and behind them as many pages of a fixed region as the name says: 512 pages in all.
@@ -22,7 +22,7 @@ pub const FIXED_3: Fill = Fill {
     calls: "0 map 0 0 509 wired write; 0 map 0 509 3 fixed write; 0 load 0 0",
     pages: 512,
     entries: 1026,
-    hash: 15805138244098693662,
+    hash: 7872524081274597940,
 };
 
 /// Wired pages, and behind them as many pages of a growing region as the name says: 512 pages in all.
@@ -30,7 +30,7 @@ pub const GROWING_1: Fill = Fill {
     calls: "0 map 0 0 511 wired write; 0 map 0 511 1 growing write; 0 load 0 0",
     pages: 512,
     entries: 1026,
-    hash: 6547734460679658576,
+    hash: 13297239910460142342,
 };
 
 /// Wired pages, and behind them as many pages of a growing region as the name says: 512 pages in all.
@@ -38,7 +38,7 @@ pub const GROWING_2: Fill = Fill {
     calls: "0 map 0 0 510 wired write; 0 map 0 510 2 growing write; 0 load 0 0",
     pages: 512,
     entries: 1026,
-    hash: 1503815838456472216,
+    hash: 165188383975318238,
 };
 
 /// Wired pages, and behind them as many pages of a growing region as the name says: 512 pages in all.
@@ -46,7 +46,7 @@ pub const GROWING_3: Fill = Fill {
     calls: "0 map 0 0 509 wired write; 0 map 0 509 3 growing write; 0 load 0 0",
     pages: 512,
     entries: 1026,
-    hash: 10502026910111618185,
+    hash: 18217701094203966239,
 };
 
 /// 512 pages of a fixed region.
@@ -54,7 +54,7 @@ pub const LOADED: Fill = Fill {
     calls: "0 map 0 0 512 fixed write; 0 load 0 0",
     pages: 512,
     entries: 1025,
-    hash: 15606330370707086390,
+    hash: 8175528682228193697,
 };
 
 /// No call.
@@ -86,7 +86,7 @@ pub const REGIONS_FULL: Fill = Fill {
         fixed write; 0 load 0 0",
     pages: 512,
     entries: 1088,
-    hash: 5373534231666902215,
+    hash: 12395672936604461087,
 };
 
 /// 512 pages of a fixed region, the first of which is dirty.
@@ -94,7 +94,7 @@ pub const STORED: Fill = Fill {
     calls: "0 map 0 0 512 fixed write; 0 store 0 0 5",
     pages: 512,
     entries: 1025,
-    hash: 5168766416094997685,
+    hash: 12142511382351804977,
 };
 
 /// 509 wired pages.
@@ -102,7 +102,7 @@ pub const WIRED_509: Fill = Fill {
     calls: "0 map 0 0 509 wired write; 0 load 0 0",
     pages: 509,
     entries: 1019,
-    hash: 2551852793490324671,
+    hash: 16541853851243342983,
 };
 
 /// 510 wired pages.
@@ -110,7 +110,7 @@ pub const WIRED_510: Fill = Fill {
     calls: "0 map 0 0 510 wired write; 0 load 0 0",
     pages: 510,
     entries: 1021,
-    hash: 11468429761165739457,
+    hash: 6609879241612476671,
 };
 
 /// 511 wired pages.
@@ -118,7 +118,7 @@ pub const WIRED_511: Fill = Fill {
     calls: "0 map 0 0 511 wired write; 0 load 0 0",
     pages: 511,
     entries: 1023,
-    hash: 12549168294461907748,
+    hash: 11809279626620831774,
 };
 
 /// 512 wired pages.
@@ -126,5 +126,5 @@ pub const WIRED_512: Fill = Fill {
     calls: "0 map 0 0 512 wired write; 0 load 0 0",
     pages: 512,
     entries: 1025,
-    hash: 10796764056648448464,
+    hash: 8957372650100802751,
 };

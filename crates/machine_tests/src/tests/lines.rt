@@ -1,6 +1,6 @@
 //! The lines of a history, as the recorded histories have them: without its number, which is proved to be its place.
 use itoa::Buffer;
-use pager_model::{Entry, Need, Numbered, Reply, Want, What};
+use pager_model::{Answered, Entry, Need, Numbered, Reply, Want, What};
 use std::alloc::{AllocError, Global};
 use std::process::Abort;
 
@@ -76,6 +76,16 @@ fn put_reply(line: &mut String, reply: &Reply) -> Result<(), AllocError> {
     }
 }
 
+/// Adds an answer: its reply, and behind one that has a size whether it was a hit, and the size.
+fn put_answered(line: &mut String, answered: &Answered) -> Result<(), AllocError> {
+    put_reply(line, &answered.reply)?;
+    let Some(size) = answered.size else {
+        return Ok(());
+    };
+    let word = if answered.hit { "hit" } else { "miss" };
+    put(line, word, &[u32::from(size.level())])
+}
+
 /// Whether a page was read or written.
 fn side_of(writing: bool) -> &'static str {
     if writing { "write" } else { "read" }
@@ -122,7 +132,7 @@ fn put_what(line: &mut String, what: &What) -> Result<(), AllocError> {
             ..
         } => {
             put(line, "answer", &[number])?;
-            put_reply(line, &answered.reply)
+            put_answered(line, &answered)
         }
         What::Out { page, written } => {
             put(line, "out", &[page])?;

@@ -3,7 +3,7 @@ use super::fills::{LOADED, NONE, STORED, WIRED_512};
 use super::runs::Run;
 
 /// Runs that show what their names say.
-pub static NAMED: [Run; 10] = [
+pub static NAMED: [Run; 11] = [
     Run {
         name: "an empty history",
         head: "trace 1 512 1 1",
@@ -26,7 +26,7 @@ pub static NAMED: [Run; 10] = [
         full: false,
         history: "\
             0 s1 answer 513 done; 0 s1+f claim 0 0 0 for 0 read; 0 s0 out 0 written; 0 s0+f give 0 0; 0 s1+f use 0 0 0 8 8 \
-            0; 0 s1 answer 514 value 0",
+            0; 0 s1 answer 514 value 0 miss 0",
     },
     Run {
         name: "the write of the oldest page fails",
@@ -40,7 +40,7 @@ pub static NAMED: [Run; 10] = [
         history: "\
             0 s1 answer 513 done; 0 s1+f claim 0 0 0 for 0 read; 0 s0 failed 0 write 1; 0 s0+f unclaim 0; 0 s1 answer 514 \
             storefault 0 1; 0 s1+f claim 0 0 0 for 0 read; 0 s0 out 0 written; 0 s0+f give 0 0; 0 s1+f use 0 0 0 8 8 0; 0 \
-            s1 answer 515 value 0",
+            s1 answer 515 value 0 miss 0",
     },
     Run {
         name: "there is no memory to write the oldest page",
@@ -53,7 +53,7 @@ pub static NAMED: [Run; 10] = [
         full: true,
         history: "\
             0 s1 answer 513 done; 0 s1+f claim 0 0 0 for 0 read; 0 s0+f unclaim 0; 0 s1 answer 514 nomemory; 0 s0 answer \
-            515 value 5",
+            515 value 5 hit 0",
     },
     Run {
         name: "a claimed page is unmapped",
@@ -66,7 +66,7 @@ pub static NAMED: [Run; 10] = [
         full: false,
         history: "\
             1 s1 answer 0 done; 1 s1+f claim 0 0 0 for 0 read; 0 s0+f clear 0 512; 0 s0 answer 513 done; 1 f got 0; 1 s1+f \
-            use 0 0 0 8 8 0; 1 s1 answer 1 value 0",
+            use 0 0 0 8 8 0; 1 s1 answer 1 value 0 miss 0",
     },
     Run {
         name: "a claimed page is evicted",
@@ -79,7 +79,7 @@ pub static NAMED: [Run; 10] = [
         full: false,
         history: "\
             1 s1 answer 0 done; 1 s1+f claim 0 0 0 for 0 read; 0 s0+f answer 513 clean; 1 f got 0; 1 s1+f use 0 0 0 8 8 0; \
-            1 s1 answer 1 value 0",
+            1 s1 answer 1 value 0 miss 0",
     },
     Run {
         name: "the page is resident when its claimer comes back",
@@ -92,8 +92,8 @@ pub static NAMED: [Run; 10] = [
         full: false,
         history: "\
             1 s1 answer 0 done; 1 s1+f claim 0 0 0 for 0 read; 2 s1+f claim 0 1 1 for 0 read; 2 s0 out 1 clean; 2 s0+f \
-            give 1 1; 2 s1+f use 0 1 0 8 8 0; 2 s1 answer 0 value 0; 1 s0 out 0 clean; 1 s0+f give 0 0; 1 f drop 0; 1 s1 \
-            answer 1 value 0",
+            give 1 1; 2 s1+f use 0 1 0 8 8 0; 2 s1 answer 0 value 0 miss 0; 1 s0 out 0 clean; 1 s0+f give 0 0; 1 f drop 0; \
+            1 s1 answer 1 value 0 miss 0",
     },
     Run {
         name: "the region is gone when the claimer comes back",
@@ -131,5 +131,26 @@ pub static NAMED: [Run; 10] = [
         writes: &[],
         full: false,
         history: "0 s0 answer 513 done; 0 f refused 512 0 0; 0 s0 answer 514 noframes 512 0 0; 0 s0 answer 515 denied",
+    },
+    Run {
+        name: "a translation that is changed leaves the images of both processors",
+        head: "trace 1 512 2 1",
+        fill: &NONE,
+        calls: "\
+            0 map 0 0 8 fixed write; 0 load 0 0; 0 load 0 8192; 0 load 0 16384; 0 load 0 24576; 0 load 0 32768; 0 load 0 \
+            40960; 0 load 0 49152; 0 load 0 57344; 1 load 0 0; 1 load 0 57344; 0 evict 0 1; 0 load 0 8192; 1 load 0 57344; \
+            0 store 0 0 7; 1 load 0 57344; 1 load 0 57344",
+        turns: "00000000000000000110001011",
+        reads: &[],
+        writes: &[],
+        full: false,
+        history: "\
+            0 s0 answer 0 done; 0 s0+f take 0 0 0 8 8 0; 0 s0 answer 1 value 0 miss 0; 0 s0+f take 1 1 0 8 8 0; 0 s0 \
+            answer 2 value 0 miss 0; 0 s0+f take 2 2 0 8 8 0; 0 s0 answer 3 value 0 miss 0; 0 s0+f take 3 3 0 8 8 0; 0 s0 \
+            answer 4 value 0 miss 0; 0 s0+f take 4 4 0 8 8 0; 0 s0 answer 5 value 0 miss 0; 0 s0+f take 5 5 0 8 8 0; 0 s0 \
+            answer 6 value 0 miss 0; 0 s0+f take 6 6 0 8 8 0; 0 s0 answer 7 value 0 miss 0; 0 s0+f take 7 7 0 8 8 0; 0 s0 \
+            answer 8 value 0 miss 1; 1 s0 answer 0 value 0 miss 1; 1 s0 answer 1 value 0 hit 1; 0 s0+f answer 9 clean; 0 \
+            s0+f take 1 1 0 8 8 0; 0 s0 answer 10 value 0 miss 1; 1 s0 answer 2 value 0 miss 1; 0 s0 answer 11 done hit 0; \
+            1 s0 answer 3 value 0 miss 0; 1 s0 answer 4 value 0 hit 0",
     },
 ];

@@ -150,329 +150,364 @@ load 1 2514936; 2 load 2 1892352; 0 load 0 4055048; 3 load 0 4022272; 1 load 1 2
 pub const HISTORY: &str = "\
 2 s2 answer 0 done; 3 s0 answer 0 done; 1 s1 answer 0 done; 1 s1 answer 1 done; 1 s1 answer 2 done; 3 s0 answer 1 \
 unmapped; 0 s0 answer 0 done; 0 s0 answer 1 done; 3 s0 answer 2 unmapped; 2 s2 answer 1 done; 3 s0 answer 3 done; 3 s0+f \
-take 6 6 0 8 8 0; 1 s1+f take 7 15 0 11 11 0; 2 s2 answer 2 done; 1 s1 answer 3 value 0; 3 s0 answer 4 value 0; 0 s0 \
-answer 2 done; 3 s0 answer 5 done; 0 s0+f take 142 78 128 198 70 1; 1 s1+f take 137 17 128 152 24 1; 1 s1 answer 4 done; 0 \
-s0 answer 3 done; 0 s0+f take 1 1 0 8 8 0; 1 s1+f take 10 24 0 11 11 0; 1 s1 answer 5 value 0; 0 s0 answer 4 value 0; 0 \
-s0+f take 2 2 0 8 8 0; 1 s1+f take 134 38 128 152 24 1; 1 s1 answer 6 value 0; 1 s1+f take 130 34 128 152 24 1; 0 s0 \
-answer 5 value 0; 0 s0+f take 3 3 0 8 8 0; 1 s1 answer 7 value 0; 0 s0 answer 6 value 0; 2 s1+f take 143 23 128 152 24 1; \
-0 s0+f take 144 80 128 198 70 1; 0 s0 answer 7 value 0; 0 s0+f take 192 25 128 198 70 1; 0 s0 answer 8 value 0; 2 s1 \
-answer 3 done; 2 s2+f take 21 45 5 93 64 0; 0 s0 answer 9 value 0; 2 s2 answer 4 value 0; 1 s1+f take 142 22 128 152 24 1; \
-0 s0+f take 133 69 128 198 70 1; 2 s2+f take 18 42 5 93 64 0; 0 s0 answer 10 value 0; 0 s0+f take 146 82 128 198 70 1; 2 \
-s2 answer 5 value 0; 1 s1 answer 8 value 0; 0 s0 answer 11 value 0; 3 s0+f take 138 74 128 198 70 1; 1 s1+f take 128 32 \
-128 152 24 1; 3 s0 answer 6 value 0; 0 s0 answer 12 done; 2 s2 answer 6 clean; 1 s1 answer 9 value 0; 2 s2+f take 14 54 5 \
-93 64 0; 2 s2 answer 7 value 0; 3 s0+f take 131 67 128 198 70 1; 1 s1+f take 150 62 128 152 24 1; 2 s2+f take 22 46 5 93 \
-64 0; 1 s1 answer 10 value 0; 2 s2 answer 8 value 0; 2 s2+f answer 9 clean; 3 s0 answer 7 value 0; 0 s0+f take 150 86 128 \
-198 70 1; 0 s0 answer 13 done; 1 s1+f take 131 35 128 152 24 1; 3 s0+f take 5 5 0 8 8 0; 2 s2 answer 10 clean; 3 s0 answer \
-8 done; 3 s0+f take 149 85 128 198 70 1; 3 s0 answer 9 done; 1 s1 answer 11 done; 1 s1 answer 12 value 0; 1 s1+f take 64 \
-26 64 128 3 0; 2 s2+f take 41 129 5 93 64 0; 0 s0+f take 177 113 128 198 70 1; 2 s2 answer 11 value 0; 0 s0 answer 14 \
-value 0; 1 s1 answer 13 value 0; 3 s0+f take 154 90 128 198 70 1; 2 s2+f take 42 130 5 93 64 0; 1 s1+f take 132 36 128 152 \
-24 1; 3 s0 answer 10 done; 3 s0+f take 143 79 128 198 70 1; 3 s0 answer 11 value 0; 0 s0+f take 157 93 128 198 70 1; 2 s2 \
-answer 12 value 0; 1 s1 answer 14 value 0; 0 s0 answer 15 value 0; 0 s0+f take 155 91 128 198 70 1; 1 s1+f take 148 60 128 \
-152 24 1; 2 s2+f take 2 27 1 4 3 0; 2 s2 answer 13 value 0; 1 s1 answer 15 done; 2 s2 answer 14 clean; 2 s2+f take 7 28 5 \
-93 64 0; 2 s2 answer 15 done; 2 s2 answer 16 done; 2 s2+f take 31 143 5 93 64 0; 0 s0 answer 16 done; 0 s0 answer 17 value \
-0; 2 s2 answer 17 value 0; 1 s1+f take 147 59 128 152 24 1; 1 s1 answer 16 value 0; 2 s2+f take 32 144 5 93 64 0; 1 s1 \
-answer 17 value 0; 3 s0+f take 182 118 128 198 70 1; 1 s1 answer 18 unmapped; 1 s1 answer 19 written; 3 s0 answer 12 value \
-0; 1 s1+f take 1 9 0 11 11 0; 3 s0+f take 168 104 128 198 70 1; 1 s1 answer 20 value 0; 2 s2 answer 18 done; 3 s0 answer \
-13 value 0; 2 s2+f take 19 43 5 93 64 0; 1 s1+f take 136 16 128 152 24 1; 1 s1 answer 21 value 0; 2 s2 answer 19 value 0; \
-1 s1+f take 6 14 0 11 11 0; 3 s0+f take 153 89 128 198 70 1; 1 s1 answer 22 value 0; 2 s2+f take 11 51 5 93 64 0; 3 s0 \
-answer 14 done; 1 s1+f take 151 63 128 152 24 1; 1 s1 answer 23 value 0; 1 s1 answer 24 value 0; 3 s0 answer 15 value \
-1293055446153180493; 0 s0+f take 136 72 128 198 70 1; 1 s1+f take 2 10 0 11 11 0; 2 s2 answer 20 done; 0 s0 answer 18 \
-done; 3 s0+f take 137 73 128 198 70 1; 1 s1 answer 25 done; 2 s2+f take 10 50 5 93 64 0; 3 s0 answer 16 value 0; 2 s2 \
-answer 21 value 0; 3 s0+f take 162 98 128 198 70 1; 2 s2+f answer 22 clean; 3 s0 answer 17 done; 2 s1 answer 23 unmapped; \
-2 s2+f take 36 148 5 93 64 0; 2 s2 answer 24 value 0; 0 s1+f take 135 39 128 152 24 1; 2 s2+f take 51 155 5 93 64 0; 0 s1 \
-answer 19 value 0; 1 s1+f take 138 18 128 152 24 1; 1 s1 answer 26 value 0; 0 s0+f take 130 66 128 198 70 1; 1 s1+f take \
-133 37 128 152 24 1; 1 s1 answer 27 done; 2 s2 answer 25 value 0; 1 s1 answer 28 unmapped; 2 s2+f take 46 134 5 93 64 0; 0 \
-s0 answer 20 value 0; 1 s0 answer 29 value 801; 0 s0+f take 145 81 128 198 70 1; 0 s0 answer 21 value 0; 0 s0 answer 22 \
-value 0; 0 s0+f take 163 99 128 198 70 1; 2 s2 answer 26 value 0; 2 s2 answer 27 clean; 2 s2+f take 52 156 5 93 64 0; 2 s2 \
-answer 28 value 0; 0 s0 answer 23 value 0; 1 s1 answer 30 clean; 1 s1 answer 31 done; 0 s0+f take 165 101 128 198 70 1; 1 \
-s2+f take 35 147 5 93 64 0; 0 s0 answer 24 done; 1 s2 answer 32 value 0; 2 s2+f take 13 53 5 93 64 0; 2 s2 answer 29 done; \
-0 s0+f take 147 83 128 198 70 1; 1 s1+f take 183 167 153 217 64 1; 0 s0 answer 25 done; 1 s1 answer 33 done; 1 s1+f take 5 \
-13 0 11 11 0; 1 s1 answer 34 done; 1 s1 answer 35 value 0; 1 s1 answer 36 unmapped; 0 s0+f take 141 77 128 198 70 1; 1 \
-s2+f take 26 138 5 93 64 0; 0 s0 answer 26 done; 1 s2 answer 37 value 0; 2 s2+f answer 30 clean; 0 s0+f take 180 116 128 \
-198 70 1; 2 s2 answer 31 value 0; 1 s1+f take 65 29 64 128 3 0; 1 s1 answer 38 done; 0 s0 answer 27 value 0; 0 s0+f take 4 \
-4 0 8 8 0; 0 s0 answer 28 done; 2 s2 answer 32 unmapped; 2 s2+f take 25 137 5 93 64 0; 2 s2 answer 33 done; 1 s1+f take \
-174 174 153 217 64 1; 2 s2+f take 45 133 5 93 64 0; 0 s0+f take 189 125 128 198 70 1; 2 s2 answer 34 value 0; 0 s0 answer \
-29 done; 1 s1 answer 39 done; 2 s2 answer 35 value 0; 3 s0+f take 64 30 64 128 3 0; 1 s1+f take 162 178 153 217 64 1; 3 s0 \
-answer 18 value 0; 3 s0+f take 171 107 128 198 70 1; 2 s2+f take 49 153 5 93 64 0; 3 s0 answer 19 value 0; 2 s2 answer 36 \
-done; 2 s2+f take 29 141 5 93 64 0; 3 s0+f take 185 121 128 198 70 1; 2 s2 answer 37 value 0; 1 s1 answer 40 value 0; 2 \
-s2+f answer 38 clean; 3 s0 answer 20 value 0; 0 s0+f take 148 84 128 198 70 1; 0 s0 answer 30 value 0; 1 s1+f take 164 180 \
-153 217 64 1; 2 s2+f take 67 187 5 93 64 0; 3 s0+f take 134 70 128 198 70 1; 2 s2 answer 39 value 0; 3 s0 answer 21 done; \
-2 s2+f take 44 132 5 93 64 0; 2 s2 answer 40 value 0; 1 s1 answer 41 value 0; 2 s2+f take 5 31 5 93 64 0; 1 s1+f take 146 \
-58 128 152 24 1; 1 s1 answer 42 value 0; 2 s2 answer 41 value 0; 2 s2+f take 50 154 5 93 64 0; 2 s2 answer 42 value 0; 0 \
-s0+f take 191 127 128 198 70 1; 1 s1+f take 173 173 153 217 64 1; 0 s0 answer 31 done; 1 s1 answer 43 done; 2 s2+f take 20 \
-44 5 93 64 0; 2 s2 answer 43 value 0; 2 s2 answer 44 unmapped; 2 s2+f take 56 192 5 93 64 0; 1 s1+f take 145 57 128 152 24 \
-1; 1 s1 answer 44 value 0; 1 s1+f take 159 200 153 217 64 1; 2 s2 answer 45 done; 0 s2+f take 23 47 5 93 64 0; 1 s1 answer \
-45 value 0; 3 s1+f take 66 201 64 128 3 0; 0 s2 answer 32 done; 0 s0+f take 184 120 128 198 70 1; 0 s0 answer 33 value 0; \
-3 s1 answer 22 done; 0 s0+f take 183 119 128 198 70 1; 3 s1+f take 149 61 128 152 24 1; 3 s1 answer 23 done; 2 s2+f take \
-53 157 5 93 64 0; 1 s1+f take 165 181 153 217 64 1; 1 s1 answer 46 value 0; 1 s1 answer 47 clean; 0 s0 answer 34 done; 2 \
-s2 answer 46 done; 2 s2+f take 48 152 5 93 64 0; 1 s1 answer 48 overlap; 2 s2 answer 47 done; 1 s1+f take 140 20 128 152 \
-24 1; 1 s1 answer 49 value 0; 2 s2+f take 28 140 5 93 64 0; 2 s2 answer 48 value 0; 3 s0+f take 166 102 128 198 70 1; 3 s0 \
-answer 24 done; 3 s0+f take 169 105 128 198 70 1; 3 s0 answer 25 value 0; 0 s0+f take 164 100 128 198 70 1; 1 s1+f take 8 \
-202 0 11 11 0; 1 s1 answer 50 value 0; 2 s2+f answer 49 clean; 2 s2+f take 9 49 5 93 64 0; 2 s2 answer 50 done; 1 s1 \
-answer 51 unmapped; 1 s1 answer 52 unmapped; 1 s1+f take 194 210 153 217 64 1; 1 s1 answer 53 value 0; 1 s1+f take 154 203 \
-153 217 64 1; 0 s0 answer 35 done; 0 s0 answer 36 value 0; 1 s1 answer 54 value 0; 3 s0 answer 26 value 0; 3 s0+f take 170 \
-106 128 198 70 1; 2 s1+f take 172 172 153 217 64 1; 3 s0 answer 27 done; 3 s0 answer 28 value 0; 2 s1 answer 51 value 0; 3 \
-s1+f take 0 8 0 11 11 0; 2 s2+f take 66 186 5 93 64 0; 3 s1 answer 29 value 0; 0 s0+f take 190 126 128 198 70 1; 0 s0 \
-answer 37 value 0; 0 s0+f take 151 87 128 198 70 1; 2 s2 answer 52 value 0; 0 s0 answer 38 value 0; 2 s1+f take 180 164 \
-153 217 64 1; 0 s0+f take 178 114 128 198 70 1; 2 s1 answer 53 done; 0 s0 answer 39 done; 0 s0+f take 269 221 256 296 40 \
-0; 2 s2+f take 64 184 5 93 64 0; 2 s2 answer 54 value 0; 2 s2 answer 55 clean; 0 s0 answer 40 value 0; 3 s0+f take 179 115 \
-128 198 70 1; 3 s0 answer 30 done; 0 s0 answer 41 outofspace; 3 s0+f take 65 204 64 128 3 0; 1 s1+f take 4 12 0 11 11 0; 3 \
-s0 answer 31 value 0; 0 s0+f take 264 216 256 296 40 0; 1 s1 answer 55 value 0; 0 s0 answer 42 done; 3 s0+f take 0 0 0 8 8 \
-0; 1 s1+f take 170 170 153 217 64 1; 3 s0 answer 32 done; 3 s0+f take 187 123 128 198 70 1; 2 s2 answer 56 done; 2 s2+f \
-take 61 197 5 93 64 0; 2 s2 answer 57 done; 2 s2+f take 30 142 5 93 64 0; 3 s0 answer 33 value 0; 0 s0+f take 132 68 128 \
-198 70 1; 1 s1 answer 56 done; 1 s1+f take 160 176 153 217 64 1; 0 s0 answer 43 done; 3 s0+f take 160 96 128 198 70 1; 2 \
-s2 answer 58 value 0; 1 s1 answer 57 done; 3 s0 answer 34 done; 3 s0 answer 35 value 0; 3 s0+f take 159 95 128 198 70 1; 1 \
-s1+f take 129 33 128 152 24 1; 3 s0 answer 36 value 0; 0 s0+f take 156 92 128 198 70 1; 2 s2+f take 34 146 5 93 64 0; 0 s0 \
-answer 44 value 0; 0 s0+f take 257 225 256 296 40 0; 1 s1 answer 58 value 0; 1 s1+f take 157 205 153 217 64 1; 1 s1 answer \
-59 value 0; 2 s2 answer 59 value 0; 2 s2+f take 116 236 93 183 90 1; 0 s0 answer 45 value 0; 2 s2 answer 60 value 0; 0 \
-s2+f take 15 55 5 93 64 0; 1 s1 answer 60 done; 1 s1+f take 185 241 153 217 64 1; 3 s0 answer 37 written; 1 s1 answer 61 \
-done; 0 s2 answer 46 done; 2 s2+f take 27 139 5 93 64 0; 1 s1 answer 62 done; 2 s2 answer 61 done; 0 s0 answer 47 written; \
-1 s1+f take 141 21 128 152 24 1; 3 s0+f take 129 65 128 198 70 1; 1 s1 answer 63 value 0; 1 s1+f take 166 182 153 217 64 \
-1; 3 s0 answer 38 value 0; 3 s0+f take 196 206 128 198 70 1; 1 s1 answer 64 done; 3 s0 answer 39 value 0; 2 s2+f take 68 \
-188 5 93 64 0; 2 s2 answer 62 value 0; 2 s2+f take 62 198 5 93 64 0; 1 s1+f take 184 240 153 217 64 1; 0 s0+f take 167 103 \
-128 198 70 1; 1 s1 answer 65 done; 1 s1 answer 66 value 0; 2 s2 answer 63 value 0; 2 s2+f take 55 159 5 93 64 0; 1 s1+f \
-take 200 248 153 217 64 1; 1 s1 answer 67 value 0; 0 s0 answer 48 value 0; 2 s2 answer 64 value 0; 2 s2+f take 149 261 93 \
-183 90 1; 1 s1+f take 175 175 153 217 64 1; 0 s0+f take 194 207 128 198 70 1; 1 s1 answer 68 done; 0 s0 answer 49 done; 2 \
-s2 answer 65 done; 0 s0 answer 50 value 944; 3 s0 answer 40 done; 3 s0+f take 181 117 128 198 70 1; 1 s1 answer 69 \
-unmapped; 1 s1 answer 70 outofspace; 2 s2+f take 38 150 5 93 64 0; 1 s1+f take 198 214 153 217 64 1; 3 s0 answer 41 value \
-0; 3 s0+f take 175 111 128 198 70 1; 1 s1 answer 71 value 0; 3 s0 answer 42 done; 2 s2 answer 66 done; 2 s2+f take 54 158 \
-5 93 64 0; 2 s2 answer 67 value 0; 2 s2+f take 33 145 5 93 64 0; 1 s1+f take 199 215 153 217 64 1; 1 s1 answer 72 done; 2 \
-s2 answer 68 value 0; 0 s0+f take 173 109 128 198 70 1; 2 s2+f take 37 149 5 93 64 0; 0 s0 answer 51 done; 0 s0+f take 139 \
-75 128 198 70 1; 2 s2 answer 69 value 0; 1 s1+f take 139 19 128 152 24 1; 2 s2+f take 57 193 5 93 64 0; 1 s1 answer 73 \
-done; 2 s2 answer 70 value 0; 0 s0 answer 52 done; 2 s1+f take 158 264 153 217 64 1; 2 s1 answer 71 value 0; 2 s2+f take 3 \
-265 1 4 3 0; 0 s0+f take 289 273 256 296 40 0; 0 s0 answer 53 value 0; 2 s2 answer 72 value 0; 1 s1+f take 201 249 153 217 \
-64 1; 0 s0+f take 282 282 256 296 40 0; 0 s0 answer 54 value 0; 2 s2 answer 73 done; 2 s2 answer 74 clean; 3 s0+f take 172 \
-108 128 198 70 1; 1 s1 answer 74 value 0; 3 s0 answer 43 value 0; 3 s1+f take 144 56 128 152 24 1; 0 s0+f take 279 295 256 \
-296 40 0; 3 s1 answer 44 value 0; 0 s0 answer 55 value 0; 1 s1+f take 169 169 153 217 64 1; 1 s1 answer 75 value 0; 0 s0+f \
-take 290 274 256 296 40 0; 0 s0 answer 56 done; 2 s2+f take 180 266 93 183 90 1; 3 s0 answer 45 done; 2 s2 answer 75 value \
-0; 0 s0+f take 281 281 256 296 40 0; 1 s1+f take 205 253 153 217 64 1; 1 s1 answer 76 value 0; 1 s1 answer 77 done; 2 s2+f \
-take 8 48 5 93 73 0; 1 s1 answer 78 done; 0 s0 answer 57 value 0; 0 s0 answer 58 done; 3 s0+f take 161 97 128 198 70 1; 1 \
-s1+f take 3 11 0 11 11 0; 3 s0 answer 46 value 0; 1 s1 answer 79 done; 0 s0+f take 287 287 256 296 40 0; 2 s2 answer 76 \
-value 0; 2 s2+f take 93 267 93 183 90 1; 1 s1+f take 186 242 153 217 64 1; 0 s0 answer 59 done; 0 s0+f take 193 268 128 \
-198 70 1; 2 s2 answer 77 value 0; 2 s2+f take 43 131 5 93 73 0; 2 s2 answer 78 done; 1 s1 answer 80 value 0; 0 s0 answer \
-60 value 0; 0 s0 answer 61 done; 2 s2+f take 58 194 5 93 73 0; 0 s0 answer 62 done; 0 s0 answer 63 unmapped; 3 s0 answer \
-47 notgrowing; 0 s1+f take 202 250 153 217 64 1; 2 s2 answer 79 value 0; 3 s0+f take 265 217 256 296 40 0; 2 s2 answer 80 \
-value 0; 0 s1 answer 64 value 0; 3 s0 answer 48 done; 2 s2+f take 17 41 5 93 73 0; 3 s0 answer 49 value \
-1300722740271442838; 3 s0+f take 260 228 256 296 40 0; 3 s0 answer 50 value 0; 2 s2 answer 81 done; 2 s2 answer 82 value \
-0; 2 s2+f take 165 301 93 183 90 1; 3 s0+f take 273 289 256 296 40 0; 3 s0 answer 51 value 0; 2 s2 answer 83 value 0; 1 \
-s2+f take 117 237 93 183 90 1; 1 s2 answer 81 done; 3 s0 answer 52 denied; 1 s1+f take 207 255 153 217 64 1; 2 s2+f take \
-104 304 93 183 90 1; 0 s0+f take 128 64 128 198 70 1; 0 s0 answer 65 done; 2 s2 answer 84 done; 1 s1 answer 82 value 0; 1 \
-s1 answer 83 value 0; 0 s0 answer 66 done; 2 s2+f take 133 317 93 183 90 1; 2 s2 answer 85 value 0; 3 s0 answer 53 done; 3 \
-s0 answer 54 value 0; 3 s0+f take 140 76 128 198 70 1; 1 s1+f take 188 244 153 217 64 1; 3 s0 answer 55 value 0; 2 s2+f \
-take 12 52 5 93 73 0; 0 s0+f take 152 88 128 198 70 1; 2 s2 answer 86 done; 0 s0 answer 67 done; 1 s1 answer 84 done; 3 \
-s0+f take 276 292 256 296 40 0; 1 s1+f take 153 269 153 217 64 1; 3 s0 answer 56 value 0; 3 s0+f take 263 231 256 296 40 \
-0; 1 s1 answer 85 value 0; 3 s0 answer 57 done; 0 s0+f take 293 277 256 296 40 0; 2 s2 answer 87 done; 2 s2+f take 130 314 \
-93 183 90 1; 2 s2 answer 88 value 0; 2 s1+f take 225 321 218 242 24 1; 2 s1 answer 89 value 0; 2 s2 answer 90 done; 0 s0 \
-answer 68 value 0; 3 s0+f take 259 227 256 296 40 0; 3 s0 answer 58 value 0; 0 s0 answer 69 done; 2 s2+f take 103 335 93 \
-183 90 1; 2 s2 answer 91 value 0; 2 s2 answer 92 value 465; 3 s0+f take 188 124 128 198 70 1; 2 s2 answer 93 denied; 0 \
-s2+f take 178 270 93 183 90 1; 0 s2 answer 70 value 0; 3 s0 answer 59 done; 0 s0 answer 71 notgrowing; 1 s0+f take 158 94 \
-128 198 70 1; 2 s2 answer 94 value 0; 2 s2 answer 95 done; 1 s0 answer 86 done; 2 s2+f answer 96 clean; 1 s0+f take 291 \
-275 256 296 40 0; 1 s0 answer 87 value 0; 0 s0+f take 267 219 256 296 40 0; 0 s0 answer 72 done; 3 s0+f answer 60 clean; 1 \
-s1+f take 181 165 153 217 64 1; 0 s0+f take 261 229 256 296 40 0; 0 s0 answer 73 value 0; 2 s2 answer 97 denied; 1 s1 \
-answer 88 done; 1 s1+f take 192 208 153 217 64 1; 2 s2+f take 106 306 93 183 90 1; 1 s1 answer 89 value 0; 2 s2 answer 98 \
-value 0; 1 s1 answer 90 value 0; 0 s0 answer 74 value 0; 3 s1+f take 204 252 153 217 64 1; 0 s2+f take 60 196 5 93 74 0; 0 \
-s2 answer 75 done; 0 s0+f take 135 71 128 198 70 1; 2 s2+f take 47 135 5 93 74 0; 3 s1 answer 61 value 0; 0 s0 answer 76 \
-value 0; 2 s2 answer 99 value 0; 3 s0+f take 195 204 128 198 70 1; 3 s0 answer 62 value 0; 0 s0+f take 274 290 256 296 40 \
-0; 0 s0 answer 77 value 0; 3 s0+f take 256 224 256 296 40 0; 3 s0 answer 63 value 0; 1 s1+f take 211 339 153 217 64 1; 3 \
-s0 answer 64 done; 3 s0 answer 65 denied; 3 s0+f take 271 223 256 296 40 0; 0 s2+f take 59 195 5 93 74 0; 1 s1 answer 91 \
-done; 1 s1+f take 212 340 153 217 64 1; 3 s0 answer 66 value 0; 3 s0+f take 197 271 128 198 70 1; 1 s1 answer 92 done; 0 \
-s2 answer 78 done; 1 s1+f take 171 171 153 217 64 1; 2 s2+f take 24 136 5 93 74 0; 3 s0 answer 67 value 0; 3 s0+f take 278 \
-294 256 296 40 0; 1 s1 answer 93 done; 2 s2 answer 100 done; 3 s0 answer 68 done; 1 s1+f take 161 177 153 217 64 1; 2 s2+f \
-take 65 185 5 93 74 0; 2 s2 answer 101 value 0; 2 s2 answer 102 value 0; 3 s0+f take 275 291 256 296 40 0; 2 s2+f take 126 \
-350 93 183 90 1; 2 s2 answer 103 value 0; 3 s0 answer 69 done; 0 s0+f take 277 293 256 296 40 0; 0 s0 answer 79 done; 1 s1 \
-answer 94 value 0; 3 s0 answer 70 clean; 2 s2+f take 108 308 93 183 90 1; 0 s0+f take 320 352 297 345 24 0; 2 s2 answer \
-104 value 0; 1 s1+f take 177 161 153 217 64 1; 1 s1 answer 95 value 0; 1 s1+f take 215 343 153 217 64 1; 1 s1 answer 96 \
-value 0; 2 s2+f take 111 311 93 183 90 1; 0 s0 answer 80 value 0; 3 s0+f take 284 284 256 296 40 0; 1 s1+f take 156 360 \
-153 217 64 1; 3 s0 answer 71 done; 3 s0 answer 72 done; 1 s1 answer 97 done; 2 s2 answer 105 done; 0 s0 answer 81 denied; \
-3 s0+f take 292 276 256 296 40 0; 3 s0 answer 73 done; 1 s1+f take 226 322 218 242 24 1; 3 s0+f take 268 220 256 296 40 0; \
-1 s1 answer 98 done; 2 s2+f take 39 151 5 93 74 0; 3 s0 answer 74 done; 3 s0 answer 75 done; 0 s0+f take 307 371 297 345 \
-24 0; 0 s0 answer 82 value 0; 1 s1+f take 178 162 153 217 64 1; 0 s0+f take 360 376 345 435 90 0; 0 s0 answer 83 value 0; \
-2 s2 answer 106 done; 1 s1 answer 99 value 0; 1 s1+f take 231 327 218 242 24 1; 3 s0+f take 66 361 64 128 7 0; 2 s2+f take \
-95 362 93 183 90 1; 2 s2 answer 107 value 0; 2 s2+f take 100 332 93 183 90 1; 1 s1 answer 100 done; 3 s0 answer 76 done; 1 \
-s0+f take 283 283 256 296 40 0; 1 s0 answer 101 done; 2 s2 answer 108 value 0; 2 s2+f take 181 363 93 183 90 1; 3 s0+f \
-take 300 364 297 345 24 0; 2 s2 answer 109 value 0; 3 s0 answer 77 value 0; 1 s1+f take 208 336 153 217 64 1; 0 s0+f take \
-400 384 345 435 90 0; 1 s1 answer 102 done; 1 s1+f take 176 160 153 217 64 1; 0 s0 answer 84 done; 0 s0+f take 348 365 345 \
-435 90 0; 2 s2+f take 1 366 1 4 3 0; 2 s2 answer 110 done; 0 s0 answer 85 done; 1 s1 answer 103 value 0; 2 s2+f take 107 \
-307 93 183 90 1; 1 s1+f take 193 209 153 217 64 1; 0 s0+f take 272 288 256 296 40 0; 1 s1 answer 104 done; 2 s2 answer 111 \
-done; 1 s1+f take 220 367 218 242 24 1; 0 s0 answer 86 done; 0 s0+f take 319 399 297 345 24 0; 0 s0 answer 87 value 0; 3 \
-s0+f take 258 226 256 296 40 0; 1 s1 answer 105 value 0; 2 s2 answer 112 denied; 3 s0 answer 78 done; 2 s2+f take 16 40 5 \
-93 74 0; 2 s2 answer 113 done; 3 s0 answer 79 denied; 3 s0 answer 80 denied; 2 s2+f take 127 351 93 183 90 1; 0 s0+f take \
-355 403 345 435 90 0; 1 s1+f take 228 324 218 242 24 1; 1 s1 answer 106 value 0; 2 s2 answer 114 value 0; 0 s0 answer 88 \
-done; 3 s0+f take 270 222 256 296 40 0; 3 s0 answer 81 value 0; 3 s1+f take 189 245 153 217 64 1; 2 s2+f take 131 315 93 \
-183 90 1; 1 s0+f take 313 393 297 345 24 0; 3 s1 answer 82 value 0; 1 s0 answer 107 value 0; 1 s1+f take 179 163 153 217 \
-64 1; 3 s0+f take 285 285 256 296 40 0; 1 s1 answer 108 value 0; 1 s1+f take 196 212 153 217 64 1; 2 s2 answer 115 done; 3 \
-s0 answer 83 value 0; 2 s0+f answer 116 clean; 3 s0 answer 84 denied; 1 s1 answer 109 value 0; 0 s0 answer 89 done; 0 s1 \
-answer 90 done; 0 s0+f take 392 408 345 435 90 0; 2 s1+f take 236 420 218 242 24 1; 0 s0 answer 91 done; 2 s1 answer 117 \
-value 0; 0 s2+f take 113 233 93 183 90 1; 1 s1+f take 222 424 218 242 24 1; 3 s0 answer 85 denied; 0 s2 answer 92 done; 1 \
-s1 answer 110 value 0; 2 s2+f take 135 319 93 183 90 1; 1 s1+f take 197 213 153 217 64 1; 3 s0 answer 86 done; 1 s1 answer \
-111 done; 0 s0+f take 363 379 345 435 90 0; 1 s1+f take 9 425 0 11 11 0; 0 s0 answer 93 value 0; 2 s2 answer 118 value 0; \
-2 s0+f take 346 426 345 435 90 0; 3 s2+f take 109 309 93 183 90 1; 2 s0 answer 119 done; 0 s0+f take 345 427 345 435 90 0; \
-0 s0 answer 94 value 0; 3 s2 answer 87 value 0; 2 s0+f take 295 279 256 296 40 0; 1 s1 answer 112 value 0; 2 s0 answer 120 \
-value 0; 3 s0+f take 176 112 128 198 70 1; 3 s0 answer 88 value 0; 2 s2 answer 121 denied; 1 s1+f take 155 428 153 217 64 \
-1; 1 s1 answer 113 value 0; 1 s1+f take 224 320 218 242 24 1; 2 s2+f take 129 313 93 183 90 1; 2 s2 answer 122 done; 0 \
-s0+f take 426 434 345 435 90 0; 2 s2 answer 123 value 0; 2 s2 answer 124 value 0; 2 s2+f take 118 238 93 183 90 1; 1 s1 \
-answer 114 value 0; 1 s1+f take 240 429 218 242 24 1; 2 s2 answer 125 value 0; 1 s1 answer 115 value 0; 1 s1 answer 116 \
-unmapped; 1 s1+f take 230 326 218 242 24 1; 0 s0 answer 95 value 0; 3 s0 answer 89 value 0; 0 s0+f take 430 438 345 435 90 \
-0; 0 s0 answer 96 value 0; 1 s1 answer 117 done; 2 s2+f take 101 333 93 183 90 1; 0 s1+f take 203 251 153 217 64 1; 3 s0+f \
-take 316 396 297 345 24 0; 2 s2 answer 126 done; 0 s1 answer 97 value 0; 1 s1+f take 229 325 218 242 24 1; 3 s0 answer 90 \
-value 0; 0 s0+f take 270 222 256 296 40 0; 0 s0 answer 98 value 0; 1 s1 answer 118 value 0; 0 s0+f take 359 407 345 435 90 \
-0; 0 s0 answer 99 value 0; 1 s1 answer 119 unmapped; 2 s0 answer 127 denied; 3 s0 answer 91 denied; 1 s1+f take 182 166 \
-153 217 64 1; 1 s1 answer 120 done; 1 s1+f take 210 338 153 217 64 1; 3 s0 answer 92 value 0; 0 s0 answer 100 clean; 0 s0 \
-answer 101 clean; 1 s1 answer 121 done; 0 s0+f take 410 442 345 435 90 0; 2 s2+f take 128 312 93 183 90 1; 1 s1 answer 122 \
-done; 0 s0 answer 102 done; 1 s1 answer 123 clean; 0 s0+f take 349 430 345 435 90 0; 2 s2 answer 128 done; 1 s2 answer 124 \
-unmapped; 2 s2 answer 129 denied; 2 s2 answer 130 outofspace; 1 s1+f take 195 211 153 217 64 1; 1 s1 answer 125 done; 1 \
-s1+f take 241 431 218 242 24 1; 0 s0 answer 103 value 0; 0 s0+f take 379 451 345 435 90 0; 1 s1 answer 126 done; 1 s1+f \
-take 209 337 153 217 64 1; 2 s2 answer 131 value 0; 2 s2 answer 132 denied; 2 s2+f take 154 458 93 183 90 1; 2 s2 answer \
-133 done; 0 s0 answer 104 value 0; 2 s2 answer 134 denied; 2 s2 answer 135 denied; 3 s0 answer 93 done; 3 s0 answer 94 \
-denied; 2 s2+f take 157 461 93 183 90 1; 0 s0+f take 368 464 345 435 90 0; 1 s1 answer 127 done; 2 s2 answer 136 done; 2 \
-s2+f take 161 297 93 183 90 1; 0 s0 answer 105 value 0; 3 s0+f take 174 110 128 198 70 1; 3 s0 answer 95 value 0; 3 s0+f \
-take 262 230 256 296 40 0; 1 s1+f take 216 472 153 217 64 1; 2 s2 answer 137 done; 2 s2 answer 138 clean; 1 s1 answer 128 \
-done; 3 s0 answer 96 done; 1 s1+f take 168 168 153 217 64 1; 2 s2+f take 168 480 93 183 90 1; 1 s1 answer 129 done; 3 s0+f \
-take 186 122 128 198 70 1; 1 s1+f take 238 422 218 242 24 1; 1 s1 answer 130 done; 3 s0 answer 97 value 0; 0 s0 answer 106 \
-done; 2 s2 answer 139 done; 3 s0 answer 98 written; 2 s2 answer 140 denied; 0 s0+f take 414 446 345 435 90 0; 1 s2 answer \
-131 clean; 2 s2+f take 132 316 93 183 90 1; 0 s0 answer 107 done; 2 s2 answer 141 done; 2 s2 answer 142 denied; 3 s0 \
-answer 99 denied; 2 s2+f take 156 460 93 183 90 1; 1 s1 answer 132 done; 3 s0+f take 318 398 297 345 24 0; 3 s0 answer 100 \
-value 0; 1 s1+f take 233 417 218 242 24 1; 0 s0+f take 310 374 297 345 24 0; 0 s0 answer 108 value 0; 1 s1 answer 133 \
-done; 3 s0+f take 266 218 256 296 40 0; 3 s0 answer 101 value 0; 3 s1+f take 167 183 153 217 64 1; 3 s1 answer 102 done; 0 \
-s0+f take 396 412 345 435 90 0; 2 s2 answer 143 done; 1 s1+f take 227 323 218 242 24 1; 1 s1 answer 134 value 0; 1 s1+f \
-take 163 179 153 217 64 1; 1 s1 answer 135 value 0; 2 s2 answer 144 denied; 2 s2 answer 145 denied; 0 s0 answer 109 done; \
-0 s0 answer 110 value 23; 3 s0+f take 361 377 345 435 90 0; 1 s1+f take 219 473 218 242 24 1; 3 s0 answer 103 value 0; 1 \
-s1 answer 136 value 0; 0 s0+f take 350 474 345 435 90 0; 1 s1+f take 239 423 218 242 24 1; 2 s2 answer 146 done; 1 s1 \
-answer 137 value 0; 0 s0 answer 111 value 0; 2 s2 answer 147 done; 2 s2+f take 121 345 93 183 90 1; 2 s2 answer 148 value \
-0; 1 s1+f take 213 341 153 217 64 1; 3 s0+f take 294 278 256 296 40 0; 2 s2+f take 119 239 93 183 90 1; 3 s0 answer 104 \
-value 0; 3 s0+f take 432 475 345 435 90 0; 3 s0 answer 105 value 0; 1 s1 answer 138 value 0; 0 s1+f take 237 421 218 242 \
-24 1; 2 s2 answer 149 done; 3 s0+f take 303 476 297 345 24 0; 0 s1 answer 112 value 0; 1 s1 answer 139 denied; 2 s1 answer \
-150 written; 2 s2+f take 159 463 93 183 90 1; 2 s2 answer 151 value 0; 1 s1+f take 232 416 218 242 24 1; 3 s0 answer 106 \
-value 0; 2 s2+f take 122 346 93 183 90 1; 1 s1 answer 140 done; 3 s1+f take 218 477 218 242 24 1; 3 s1 answer 107 value 0; \
-1 s1+f take 191 247 153 217 64 1; 3 s0+f take 317 397 297 345 24 0; 1 s1 answer 141 done; 3 s0 answer 108 value 0; 2 s2 \
-answer 152 done; 3 s0+f take 370 466 345 435 90 0; 1 s1 answer 142 clean; 1 s1+f take 235 419 218 242 24 1; 3 s0 answer \
-109 done; 3 s2 answer 110 denied; 0 s0+f take 305 369 297 345 24 0; 2 s2+f take 102 334 93 183 90 1; 1 s1 answer 143 done; \
-1 s1+f take 206 254 153 217 64 1; 0 s0 answer 113 value 0; 0 s0+f take 369 465 345 435 90 0; 2 s2 answer 153 done; 2 s2+f \
-take 134 318 93 183 90 1; 1 s1 answer 144 value 0; 2 s2 answer 154 done; 0 s0 answer 114 done; 3 s0+f take 371 467 345 435 \
-90 0; 3 s0 answer 111 value 0; 1 s1 answer 145 clean; 1 s1+f take 190 246 153 217 64 1; 3 s0 answer 112 value 449; 1 s1 \
-answer 146 value 0; 3 s0 answer 113 done; 0 s0 answer 115 done; 1 s1+f take 234 418 218 242 24 1; 2 s2+f take 163 299 93 \
-183 90 1; 2 s2 answer 155 done; 3 s0+f take 401 385 345 435 90 0; 1 s1 answer 147 value 0; 1 s1+f take 214 342 153 217 64 \
-1; 1 s1 answer 148 done; 3 s0 answer 114 value 0; 3 s0+f take 280 280 256 296 40 0; 1 s1+f take 223 478 218 242 24 1; 1 s1 \
-answer 149 value 0; 1 s1+f take 187 243 153 217 64 1; 2 s2+f take 160 296 93 183 90 1; 1 s1 answer 150 done; 2 s2 answer \
-156 value 0; 2 s2 answer 157 denied; 1 s1+f take 221 479 218 242 24 1; 2 s2 answer 158 clean; 1 s1 answer 151 value 0; 3 \
-s0 answer 115 done; 1 s0 answer 152 done; 3 s0+f take 357 405 345 435 90 0; 3 s0 answer 116 done; 2 s0+f take 386 490 345 \
-435 90 0; 1 s1 answer 153 done; 2 s0 answer 159 value 0; 3 s0+f take 311 375 297 345 24 0; 1 s1+f take 244 496 242 1048024 \
-3 0; 3 s0 answer 117 value 0; 2 s2+f take 63 199 5 93 83 0; 0 s0+f take 380 452 345 435 90 0; 2 s2 answer 160 done; 1 s1 \
-answer 154 value 0; 2 s2+f take 94 497 93 183 90 1; 2 s2 answer 161 value 0; 1 s1+f take 243 498 242 1048024 3 0; 2 s2+f \
-take 124 348 93 183 90 1; 1 s1 answer 155 value 0; 1 s1+f take 242 499 242 1048024 3 0; 1 s1 answer 156 value 0; 0 s0 \
-answer 116 value 0; 0 s0+f take 406 390 345 435 90 0; 1 s1 answer 157 done; 0 s0 answer 117 done; 1 s1 answer 158 \
-unmapped; 3 s0+f take 367 383 345 435 90 0; 2 s2 answer 162 done; 3 s0 answer 118 done; 2 s2+f take 110 310 93 183 90 1; 3 \
-s0+f take 372 468 345 435 90 0; 2 s2 answer 163 value 0; 2 s2+f take 170 482 93 183 90 1; 1 s1 answer 159 denied; 1 s1+f \
-take 281 505 269 333 64 0; 1 s1 answer 160 value 0; 3 s0 answer 119 value 0; 1 s1 answer 161 value 0; 2 s2 answer 164 \
-value 0; 2 s2 answer 165 done; 3 s0+f take 351 500 345 435 90 0; 2 s2 answer 166 clean; 2 s2+f take 169 481 93 183 90 1; 3 \
-s0 answer 120 value 0; 2 s2 answer 167 value 0; 2 s0+f take 408 440 345 435 90 0; 1 s1 answer 162 denied; 1 s1+f take 293 \
-501 269 333 64 0; 1 s1 answer 163 value 0; 1 s1+f take 273 502 269 333 64 0; 2 s0 answer 168 done; 1 s1 answer 164 value \
-0; 3 s0+f take 314 394 297 345 24 0; 2 s2+f take 182 503 93 183 90 1; 2 s2 answer 169 value 0; 1 s1+f take 314 7 269 333 \
-64 0; 3 s0 answer 121 value 0; 0 s0 answer 118 denied; 3 s0+f take 387 491 345 435 90 0; 2 s2 answer 170 done; 0 s2+f take \
-171 483 93 183 90 1; 0 s2 answer 119 value 0; 3 s0 answer 122 value 0; 3 s0+f take 378 450 345 435 90 0; 2 s2 answer 171 \
-value 0; 3 s0 answer 123 done; 2 s2+f take 105 305 93 183 90 1; 3 s0+f take 382 454 345 435 90 0; 1 s1 answer 165 value 0; \
-0 s1+f take 301 260 269 333 64 0; 0 s1 answer 120 value 0; 3 s0 answer 124 done; 3 s0 answer 125 denied; 3 s0 answer 126 \
-value 0; 2 s2 answer 172 done; 3 s0+f take 366 382 345 435 90 0; 1 s1+f take 270 262 269 333 64 0; 2 s2+f take 166 302 93 \
-183 90 1; 2 s2 answer 173 done; 3 s0 answer 127 value 0; 3 s0+f take 388 492 345 435 90 0; 2 s2+f take 115 235 93 183 90 \
-1; 2 s2 answer 174 value 0; 1 s1 answer 166 value 0; 3 s0 answer 128 value 0; 2 s2 answer 175 value 0; 1 s1 answer 167 \
-unmapped; 3 s0+f answer 129 written; 1 s1+f take 272 263 269 333 64 0; 3 s0 answer 130 denied; 2 s2+f take 164 300 93 183 \
-90 1; 0 s0+f take 424 432 345 435 90 0; 0 s0 answer 121 done; 3 s0+f take 347 256 345 435 90 0; 1 s1 answer 168 value 0; 1 \
-s1+f take 286 510 269 333 64 0; 2 s2 answer 176 done; 1 s1 answer 169 value 0; 1 s1 answer 170 denied; 1 s1 answer 171 \
-denied; 3 s0 answer 131 value 0; 3 s2+f take 162 298 93 183 90 1; 1 s1+f take 307 257 269 333 64 0; 3 s2 answer 132 done; \
-1 s1 answer 172 value 0; 3 s0+f take 389 493 345 435 90 0; 1 s1 answer 173 value 0; 3 s0 answer 133 done; 0 s2+f take 179 \
-258 93 183 90 1; 0 s2 answer 122 value 0; 0 s0+f take 375 471 345 435 90 0; 0 s0 answer 123 value 0; 2 s2+f take 177 259 \
-93 183 90 1; 0 s0+f take 385 489 345 435 90 0; 1 s1+f clear 64 3; 2 s2 answer 177 done; 1 s1 answer 174 done; 1 s1+f take \
-304 26 269 333 64 0; 2 s2+f take 218 29 192 232 40 0; 2 s2 answer 178 done; 2 s2+f take 203 201 192 232 40 0; 1 s1 answer \
-175 value 0; 2 s2 answer 179 done; 1 s1+f take 275 155 269 333 64 0; 0 s0 answer 124 value 0; 1 s1 answer 176 value 0; 1 \
-s1 answer 177 denied; 0 s0+f take 288 272 256 296 40 0; 2 s2 answer 180 notgrowing; 1 s1+f take 298 128 269 333 64 0; 2 \
-s2+f take 6 142 5 93 83 0; 0 s0 answer 125 value 0; 1 s1 answer 178 value 0; 3 s0+f take 356 404 345 435 90 0; 3 s0 answer \
-134 done; 2 s2 answer 181 value 0; 1 s1 answer 179 value 72; 1 s1 answer 180 notgrowing; 2 s2+f take 158 462 93 183 90 1; \
-0 s0+f answer 126 clean; 2 s2 answer 182 value 0; 3 s0+f answer 135 clean; 2 s2 answer 183 done; 0 s0 answer 127 done; 2 \
-s2+f take 125 349 93 183 90 1; 0 s0+f take 417 143 345 435 90 0; 0 s0 answer 128 value 0; 1 s1+f take 310 475 269 333 64 \
-0; 0 s0+f take 418 189 345 435 90 0; 2 s2 answer 184 value 0; 1 s1 answer 181 value 0; 1 s2+f take 114 234 93 183 90 1; 0 \
-s0 answer 129 value 0; 0 s0+f take 420 190 345 435 90 0; 0 s0 answer 130 value 0; 1 s2 answer 182 done; 0 s0+f take 411 \
-443 345 435 90 0; 0 s0 answer 131 done; 1 s1 answer 183 outofspace; 3 s0+f take 353 401 345 435 90 0; 3 s0 answer 136 \
-value 0; 0 s0+f take 413 445 345 435 90 0; 0 s0 answer 132 value 0; 0 s0+f take 352 400 345 435 90 0; 0 s0 answer 133 \
-value 0; 0 s0+f take 364 380 345 435 90 0; 0 s0 answer 134 done; 2 s2 answer 185 denied; 0 s2+f take 172 484 93 183 90 1; \
-3 s1 answer 137 denied; 3 s0+f answer 138 clean; 1 s1 answer 184 denied; 1 s1+f take 283 507 269 333 64 0; 0 s2 answer 135 \
-value 0; 3 s2 answer 139 done; 0 s0+f take 419 191 345 435 90 0; 0 s0 answer 136 done; 0 s0 answer 137 value 0; 1 s1 \
-answer 185 value 0; 2 s2 answer 186 value 0; 2 s2+f take 211 500 192 232 40 0; 2 s2 answer 187 value 0; 0 s0+f take 384 \
-488 345 435 90 0; 0 s0 answer 138 value 0; 1 s1+f take 277 353 269 333 64 0; 3 s0 answer 140 value 0; 2 s2+f answer 188 \
-clean; 1 s1 answer 186 value 0; 0 s0+f take 484 154 448 538 90 1; 0 s0 answer 139 value 0; 0 s0+f take 404 388 345 435 90 \
-0; 0 s0 answer 140 value 0; 2 s2+f take 40 354 5 93 83 0; 3 s0+f take 393 409 345 435 90 0; 3 s0 answer 141 value 0; 1 \
-s1+f take 269 355 269 333 64 0; 2 s2 answer 189 done; 2 s2 answer 190 value 0; 1 s1 answer 187 value 0; 0 s1+f take 326 \
-356 269 333 64 0; 2 s2 answer 191 done; 3 s2 answer 142 clean; 0 s1 answer 141 value 0; 0 s0+f take 374 470 345 435 90 0; \
-1 s1 answer 188 value 8221203865238951870; 2 s2+f take 175 487 93 183 90 1; 1 s1 answer 189 denied; 2 s2 answer 192 value \
-0; 1 s1 answer 190 denied; 2 s2 answer 193 value 0; 1 s1 answer 191 denied; 1 s1 answer 192 done; 1 s1+f take 300 357 269 \
-333 64 0; 1 s1 answer 193 value 0; 1 s1+f take 292 358 269 333 64 0; 2 s2+f take 199 359 192 232 40 0; 1 s1 answer 194 \
-value 0; 2 s2 answer 194 value 0; 0 s0 answer 142 done; 0 s0+f take 518 42 448 538 90 1; 0 s0 answer 143 done; 3 s0+f take \
-409 441 345 435 90 0; 3 s0 answer 143 done; 3 s0+f take 399 415 345 435 90 0; 1 s1+f take 318 45 269 333 64 0; 3 s0 answer \
-144 done; 0 s0+f take 412 444 345 435 90 0; 0 s0 answer 144 done; 3 s0+f take 425 433 345 435 90 0; 1 s1 answer 195 value \
-0; 3 s0 answer 145 value 0; 0 s1 answer 145 denied; 2 s2+f take 174 486 93 183 90 1; 3 s0+f take 398 414 345 435 90 0; 1 \
-s1 answer 196 denied; 1 s1+f take 297 46 269 333 64 0; 2 s2 answer 195 value 0; 2 s2+f take 220 328 192 232 40 0; 2 s2 \
-answer 196 value 0; 3 s0 answer 146 value 0; 3 s0 answer 147 value 0; 3 s0 answer 148 clean; 2 s0+f take 405 389 345 435 \
-90 0; 0 s2+f take 206 329 192 232 40 0; 1 s1 answer 197 value 0; 0 s2 answer 146 done; 1 s1 answer 198 done; 1 s1 answer \
-199 denied; 2 s0 answer 197 value 0; 1 s1 answer 200 denied; 0 s0 answer 147 value 928; 0 s0+f take 459 330 448 538 90 1; \
-0 s0 answer 148 value 0; 2 s2 answer 198 done; 1 s1 answer 201 denied; 2 s2 answer 199 value 198; 0 s0+f take 391 495 345 \
-435 90 0; 0 s0 answer 149 value 0; 2 s2+f take 194 331 192 232 40 0; 3 s0+f take 421 284 345 435 90 0; 3 s0 answer 149 \
-value 0; 0 s0+f take 461 286 448 538 90 1; 2 s2 answer 200 done; 1 s1 answer 202 denied; 2 s2+f take 196 368 192 232 40 0; \
-1 s1+f take 319 370 269 333 64 0; 2 s2 answer 201 value 0; 0 s0 answer 150 done; 0 s0+f answer 151 clean; 3 s0 answer 150 \
-denied; 3 s0+f take 394 410 345 435 90 0; 2 s2+f take 205 476 192 232 40 0; 3 s0 answer 151 value 0; 0 s0+f take 469 372 \
-448 538 90 1; 1 s1 answer 203 value 0; 2 s2 answer 202 value 0; 0 s0 answer 152 done; 2 s2+f take 120 344 93 183 90 1; 1 \
-s1 answer 204 denied; 0 s0+f take 397 413 345 435 90 0; 0 s0 answer 153 value 0; 1 s1+f take 315 373 269 333 64 0; 3 s0 \
-answer 152 done; 1 s1 answer 205 value 0; 3 s0+f take 377 449 345 435 90 0; 1 s1 answer 206 denied; 1 s1 answer 207 value \
-0; 3 s0 answer 153 value 0; 2 s2 answer 203 value 0; 3 s0+f take 381 453 345 435 90 0; 1 s1+f take 327 392 269 333 64 0; 1 \
-s1 answer 208 value 0; 1 s1+f take 308 395 269 333 64 0; 3 s0 answer 154 value 0; 2 s0+f take 476 303 448 538 90 1; 2 s0 \
-answer 204 done; 3 s0+f take 402 386 345 435 90 0; 1 s1 answer 209 value 0; 1 s1 answer 210 outofspace; 3 s0 answer 155 \
-value 0; 0 s0+f take 403 387 345 435 90 0; 0 s0 answer 154 value 0; 2 s2+f take 202 272 192 232 40 0; 0 s0 answer 155 \
-unmapped; 2 s2 answer 205 done; 3 s0+f take 429 437 345 435 90 0; 3 s0 answer 156 value 0; 3 s0+f take 431 439 345 435 90 \
-0; 3 s0 answer 157 value 0; 3 s0+f take 416 459 345 435 90 0; 3 s0 answer 158 value 0; 3 s0+f take 434 456 345 435 90 0; 3 \
-s0 answer 159 value 0; 0 s2 answer 156 value 0; 2 s2+f take 204 457 192 232 40 0; 0 s0 answer 157 done; 0 s0 answer 158 \
-value 0; 1 s0 answer 211 done; 1 s1 answer 212 denied; 0 s0+f take 358 406 345 435 90 0; 0 s0 answer 159 value 0; 3 s0+f \
-take 470 232 448 538 90 1; 1 s1+f take 305 378 269 333 64 0; 2 s2 answer 206 done; 2 s2 answer 207 unmapped; 2 s2+f take \
-155 381 93 183 90 1; 1 s1 answer 213 value 0; 2 s2 answer 208 value 0; 1 s1+f take 320 504 269 333 64 0; 1 s1 answer 214 \
-value 0; 1 s1 answer 215 denied; 2 s2+f take 195 506 192 232 40 0; 2 s2 answer 209 value 0; 2 s2+f take 198 511 192 232 40 \
-0; 2 s2 answer 210 value 0; 3 s0 answer 160 value 0; 3 s0+f take 376 448 345 435 90 0; 3 s0 answer 161 value 0; 2 s2+f \
-take 173 485 93 183 90 1; 3 s0+f take 390 494 345 435 90 0; 2 s2 answer 211 value 0; 2 s2 answer 212 unmapped; 2 s2+f take \
-152 508 93 183 90 1; 3 s0 answer 162 value 0; 1 s0+f take 286 509 256 296 40 0; 2 s2 answer 213 value 0; 1 s0 answer 216 \
-done; 2 s2+f take 192 469 192 232 40 0; 3 s0+f take 423 447 345 435 90 0; 3 s0 answer 163 value 0; 1 s1 answer 217 denied; \
-0 s0 answer 160 value 0; 1 s1+f take 276 347 269 333 64 0; 1 s1 answer 218 value 0; 3 s0+f take 450 411 448 538 90 1; 2 s2 \
-answer 214 value 0; 1 s1+f take 303 391 269 333 64 0; 3 s0 answer 164 value 0; 1 s1 answer 219 value 0; 2 s2+f take 167 \
-435 93 183 90 1; 0 s0+f take 463 436 448 538 90 1; 1 s1+f take 284 402 269 333 64 0; 0 s0 answer 161 done; 3 s0+f take 298 \
-455 297 345 24 0; 3 s0 answer 165 value 0; 2 s2 answer 215 value 0; 0 s0+f claim 0 6 6 for 495 read; 2 s2 answer 216 \
-clean; 0 s0 out 6 clean; 1 s1 answer 220 value 0; 0 s0+f give 6 6; 2 s2+f claim 1 7 15 for 153 read; 0 s0+f use 495 6 448 \
-538 90 1; 0 s0 answer 162 value 0; 2 s1 out 7 clean; 2 s1+f give 7 15; 1 s1+f claim 0 1 1 for 289 read; 2 s2+f use 153 15 \
-93 183 90 1; 2 s2 answer 217 value 0; 3 s0+f claim 1 10 24 for 433 write; 2 s2 answer 218 unmapped; 3 s1 out 10 clean; 1 \
-s0 out 1 clean; 3 s1+f give 10 24; 2 s2+f claim 0 2 2 for 208 write; 1 s0+f give 1 1; 3 s0+f use 433 24 345 435 90 0; 3 s0 \
-answer 166 done; 0 s0+f claim 0 3 3 for 474 read; 1 s1+f use 289 1 269 333 64 0; 1 s1 answer 221 value 0; 1 s1 answer 222 \
-denied; 1 s1+f claim 2 14 54 for 329 read; 0 s0 out 3 clean; 0 s0+f give 3 3; 0 s0+f use 474 3 448 538 90 1; 0 s0 answer \
-163 value 0; 0 s0 answer 164 denied; 1 s2 out 14 clean; 1 s2+f give 14 54; 3 s0+f claim 0 5 5 for 407 write; 1 s1+f use \
-329 54 269 333 64 0; 3 s0 out 5 written; 3 s0+f give 5 5; 1 s1 answer 223 value 0; 1 s1+f claim 2 41 129 for 316 read; 3 \
-s0+f use 407 5 345 435 90 0; 3 s0 answer 167 done; 2 s0 out 2 clean; 2 s0+f give 2 2; 2 s2+f use 208 2 192 232 40 0; 2 s2 \
-answer 219 done; 0 s0+f claim 2 42 130 for 457 read; 0 s2 out 42 clean; 0 s2+f give 42 130; 3 s0+f answer 168 clean; 0 \
-s0+f use 457 130 448 538 90 1; 2 s2 answer 220 value 0; 3 s2+f take 98 449 93 183 90 1; 3 s2 answer 169 done; 0 s0 answer \
-165 value 0; 2 s2+f claim 2 2 27 for 226 write; 2 s2 out 2 clean; 2 s2+f give 2 27; 2 s2+f use 226 27 192 232 40 0; 2 s2 \
-answer 221 done; 2 s1 answer 222 value 435; 3 s0+f claim 2 7 28 for 354 write; 3 s2 out 7 written; 3 s2+f give 7 28; 1 s2 \
-out 41 written; 1 s2+f give 41 129; 1 s1+f use 316 129 269 333 64 0; 3 s0+f use 354 28 345 435 90 0; 2 s2 answer 223 \
-denied; 1 s1 answer 224 value 0; 2 s2+f claim 2 32 144 for 217 write; 3 s0 answer 170 done; 1 s1 answer 225 denied; 3 s0 \
-answer 171 written; 1 s1+f claim 1 1 9 for 278 read; 3 s0+f claim 2 19 43 for 486 write; 1 s1 out 1 clean; 2 s2 out 32 \
-written; 2 s2+f give 32 144; 2 s2+f use 217 144 192 232 40 0; 1 s1+f give 1 9; 1 s1+f use 278 9 269 333 64 0; 2 s2 answer \
-224 done; 3 s2 out 19 clean; 1 s1 answer 226 value 0; 3 s2+f give 19 43; 2 s2+f claim 1 6 14 for 96 write; 2 s1 out 6 \
+take 6 6 0 8 8 0; 1 s1+f take 7 15 0 11 11 0; 2 s2 answer 2 done; 1 s1 answer 3 value 0 miss 0; 3 s0 answer 4 value 0 miss \
+0; 0 s0 answer 2 done; 3 s0 answer 5 done; 0 s0+f take 142 78 128 198 70 1; 1 s1+f take 137 17 128 152 24 1; 1 s1 answer 4 \
+done miss 0; 0 s0 answer 3 done miss 0; 0 s0+f take 1 1 0 8 8 0; 1 s1+f take 10 24 0 11 11 0; 1 s1 answer 5 value 0 miss \
+0; 0 s0 answer 4 value 0 miss 0; 0 s0+f take 2 2 0 8 8 0; 1 s1+f take 134 38 128 152 24 1; 1 s1 answer 6 value 0 miss 0; 1 \
+s1+f take 130 34 128 152 24 1; 0 s0 answer 5 value 0 miss 0; 0 s0+f take 3 3 0 8 8 0; 1 s1 answer 7 value 0 miss 0; 0 s0 \
+answer 6 value 0 miss 0; 2 s1+f take 143 23 128 152 24 1; 0 s0+f take 144 80 128 198 70 1; 0 s0 answer 7 value 0 miss 0; 0 \
+s0+f take 192 25 128 198 70 1; 0 s0 answer 8 value 0 miss 0; 2 s1 answer 3 done miss 0; 2 s2+f take 21 45 5 93 64 0; 0 s0 \
+answer 9 value 0 hit 0; 2 s2 answer 4 value 0 miss 0; 1 s1+f take 142 22 128 152 24 1; 0 s0+f take 133 69 128 198 70 1; 2 \
+s2+f take 18 42 5 93 64 0; 0 s0 answer 10 value 0 miss 0; 0 s0+f take 146 82 128 198 70 1; 2 s2 answer 5 value 0 miss 0; 1 \
+s1 answer 8 value 0 miss 0; 0 s0 answer 11 value 0 miss 0; 3 s0+f take 138 74 128 198 70 1; 1 s1+f take 128 32 128 152 24 \
+1; 3 s0 answer 6 value 0 miss 0; 0 s0 answer 12 done hit 0; 2 s2 answer 6 clean; 1 s1 answer 9 value 0 miss 0; 2 s2+f take \
+14 54 5 93 64 0; 2 s2 answer 7 value 0 miss 0; 3 s0+f take 131 67 128 198 70 1; 1 s1+f take 150 62 128 152 24 1; 2 s2+f \
+take 22 46 5 93 64 0; 1 s1 answer 10 value 0 miss 0; 2 s2 answer 8 value 0 miss 0; 2 s2+f answer 9 clean; 3 s0 answer 7 \
+value 0 miss 0; 0 s0+f take 150 86 128 198 70 1; 0 s0 answer 13 done miss 0; 1 s1+f take 131 35 128 152 24 1; 3 s0+f take \
+5 5 0 8 8 0; 2 s2 answer 10 clean; 3 s0 answer 8 done miss 0; 3 s0+f take 149 85 128 198 70 1; 3 s0 answer 9 done miss 0; \
+1 s1 answer 11 done miss 0; 1 s1 answer 12 value 0 hit 0; 1 s1+f take 64 26 64 128 3 0; 2 s2+f take 41 129 5 93 64 0; 0 \
+s0+f take 177 113 128 198 70 1; 2 s2 answer 11 value 0 miss 0; 0 s0 answer 14 value 0 miss 0; 1 s1 answer 13 value 0 miss \
+0; 3 s0+f take 154 90 128 198 70 1; 2 s2+f take 42 130 5 93 64 0; 1 s1+f take 132 36 128 152 24 1; 3 s0 answer 10 done \
+miss 0; 3 s0+f take 143 79 128 198 70 1; 3 s0 answer 11 value 0 miss 0; 0 s0+f take 157 93 128 198 70 1; 2 s2 answer 12 \
+value 0 miss 0; 1 s1 answer 14 value 0 miss 0; 0 s0 answer 15 value 0 miss 0; 0 s0+f take 155 91 128 198 70 1; 1 s1+f take \
+148 60 128 152 24 1; 2 s2+f take 2 27 1 4 3 0; 2 s2 answer 13 value 0 miss 0; 1 s1 answer 15 done miss 0; 2 s2 answer 14 \
+clean; 2 s2+f take 7 28 5 93 64 0; 2 s2 answer 15 done miss 0; 2 s2 answer 16 done hit 0; 2 s2+f take 31 143 5 93 64 0; 0 \
+s0 answer 16 done miss 0; 0 s0 answer 17 value 0 miss 0; 2 s2 answer 17 value 0 miss 0; 1 s1+f take 147 59 128 152 24 1; 1 \
+s1 answer 16 value 0 miss 0; 2 s2+f take 32 144 5 93 64 0; 1 s1 answer 17 value 0 hit 0; 3 s0+f take 182 118 128 198 70 1; \
+1 s1 answer 18 unmapped; 1 s1 answer 19 written; 3 s0 answer 12 value 0 miss 0; 1 s1+f take 1 9 0 11 11 0; 3 s0+f take 168 \
+104 128 198 70 1; 1 s1 answer 20 value 0 miss 0; 2 s2 answer 18 done miss 0; 3 s0 answer 13 value 0 miss 0; 2 s2+f take 19 \
+43 5 93 64 0; 1 s1+f take 136 16 128 152 24 1; 1 s1 answer 21 value 0 miss 0; 2 s2 answer 19 value 0 miss 0; 1 s1+f take 6 \
+14 0 11 11 0; 3 s0+f take 153 89 128 198 70 1; 1 s1 answer 22 value 0 miss 0; 2 s2+f take 11 51 5 93 64 0; 3 s0 answer 14 \
+done miss 0; 1 s1+f take 151 63 128 152 24 1; 1 s1 answer 23 value 0 miss 0; 1 s1 answer 24 value 0 hit 0; 3 s0 answer 15 \
+value 1293055446153180493 hit 0; 0 s0+f take 136 72 128 198 70 1; 1 s1+f take 2 10 0 11 11 0; 2 s2 answer 20 done miss 0; \
+0 s0 answer 18 done miss 0; 3 s0+f take 137 73 128 198 70 1; 1 s1 answer 25 done miss 0; 2 s2+f take 10 50 5 93 64 0; 3 s0 \
+answer 16 value 0 miss 0; 2 s2 answer 21 value 0 miss 0; 3 s0+f take 162 98 128 198 70 1; 2 s2+f answer 22 clean; 3 s0 \
+answer 17 done miss 0; 2 s1 answer 23 unmapped; 2 s2+f take 36 148 5 93 64 0; 2 s2 answer 24 value 0 miss 0; 0 s1+f take \
+135 39 128 152 24 1; 2 s2+f take 51 155 5 93 64 0; 0 s1 answer 19 value 0 miss 0; 1 s1+f take 138 18 128 152 24 1; 1 s1 \
+answer 26 value 0 miss 0; 0 s0+f take 130 66 128 198 70 1; 1 s1+f take 133 37 128 152 24 1; 1 s1 answer 27 done miss 0; 2 \
+s2 answer 25 value 0 miss 0; 1 s1 answer 28 unmapped; 2 s2+f take 46 134 5 93 64 0; 0 s0 answer 20 value 0 miss 0; 1 s0 \
+answer 29 value 801 miss 0; 0 s0+f take 145 81 128 198 70 1; 0 s0 answer 21 value 0 miss 0; 0 s0 answer 22 value 0 miss 0; \
+0 s0+f take 163 99 128 198 70 1; 2 s2 answer 26 value 0 miss 0; 2 s2 answer 27 clean; 2 s2+f take 52 156 5 93 64 0; 2 s2 \
+answer 28 value 0 miss 0; 0 s0 answer 23 value 0 miss 0; 1 s1 answer 30 clean; 1 s1 answer 31 done; 0 s0+f take 165 101 \
+128 198 70 1; 1 s2+f take 35 147 5 93 64 0; 0 s0 answer 24 done miss 0; 1 s2 answer 32 value 0 miss 0; 2 s2+f take 13 53 5 \
+93 64 0; 2 s2 answer 29 done miss 0; 0 s0+f take 147 83 128 198 70 1; 1 s1+f take 183 167 153 217 64 1; 0 s0 answer 25 \
+done miss 0; 1 s1 answer 33 done miss 0; 1 s1+f take 5 13 0 11 11 0; 1 s1 answer 34 done miss 0; 1 s1 answer 35 value 0 \
+hit 0; 1 s1 answer 36 unmapped; 0 s0+f take 141 77 128 198 70 1; 1 s2+f take 26 138 5 93 64 0; 0 s0 answer 26 done miss 0; \
+1 s2 answer 37 value 0 miss 0; 2 s2+f answer 30 clean; 0 s0+f take 180 116 128 198 70 1; 2 s2 answer 31 value 0 miss 0; 1 \
+s1+f take 65 29 64 128 3 0; 1 s1 answer 38 done miss 0; 0 s0 answer 27 value 0 miss 0; 0 s0+f take 4 4 0 8 8 0; 0 s0 \
+answer 28 done miss 0; 2 s2 answer 32 unmapped; 2 s2+f take 25 137 5 93 64 0; 2 s2 answer 33 done miss 0; 1 s1+f take 174 \
+174 153 217 64 1; 2 s2+f take 45 133 5 93 64 0; 0 s0+f take 189 125 128 198 70 1; 2 s2 answer 34 value 0 miss 0; 0 s0 \
+answer 29 done miss 0; 1 s1 answer 39 done miss 0; 2 s2 answer 35 value 0 hit 0; 3 s0+f take 64 30 64 128 3 0; 1 s1+f take \
+162 178 153 217 64 1; 3 s0 answer 18 value 0 miss 0; 3 s0+f take 171 107 128 198 70 1; 2 s2+f take 49 153 5 93 64 0; 3 s0 \
+answer 19 value 0 miss 0; 2 s2 answer 36 done miss 0; 2 s2+f take 29 141 5 93 64 0; 3 s0+f take 185 121 128 198 70 1; 2 s2 \
+answer 37 value 0 miss 0; 1 s1 answer 40 value 0 miss 0; 2 s2+f answer 38 clean; 3 s0 answer 20 value 0 miss 0; 0 s0+f \
+take 148 84 128 198 70 1; 0 s0 answer 30 value 0 miss 0; 1 s1+f take 164 180 153 217 64 1; 2 s2+f take 67 187 5 93 64 0; 3 \
+s0+f take 134 70 128 198 70 1; 2 s2 answer 39 value 0 miss 0; 3 s0 answer 21 done miss 0; 2 s2+f take 44 132 5 93 64 0; 2 \
+s2 answer 40 value 0 miss 0; 1 s1 answer 41 value 0 miss 0; 2 s2+f take 5 31 5 93 64 0; 1 s1+f take 146 58 128 152 24 1; 1 \
+s1 answer 42 value 0 miss 0; 2 s2 answer 41 value 0 miss 0; 2 s2+f take 50 154 5 93 64 0; 2 s2 answer 42 value 0 miss 0; 0 \
+s0+f take 191 127 128 198 70 1; 1 s1+f take 173 173 153 217 64 1; 0 s0 answer 31 done miss 0; 1 s1 answer 43 done miss 0; \
+2 s2+f take 20 44 5 93 64 0; 2 s2 answer 43 value 0 miss 0; 2 s2 answer 44 unmapped; 2 s2+f take 56 192 5 93 64 0; 1 s1+f \
+take 145 57 128 152 24 1; 1 s1 answer 44 value 0 miss 0; 1 s1+f take 159 200 153 217 64 1; 2 s2 answer 45 done miss 0; 0 \
+s2+f take 23 47 5 93 64 0; 1 s1 answer 45 value 0 miss 0; 3 s1+f take 66 201 64 128 3 0; 0 s2 answer 32 done miss 0; 0 \
+s0+f take 184 120 128 198 70 1; 0 s0 answer 33 value 0 miss 0; 3 s1 answer 22 done miss 0; 0 s0+f take 183 119 128 198 70 \
+1; 3 s1+f take 149 61 128 152 24 1; 3 s1 answer 23 done miss 0; 2 s2+f take 53 157 5 93 64 0; 1 s1+f take 165 181 153 217 \
+64 1; 1 s1 answer 46 value 0 miss 0; 1 s1 answer 47 clean; 0 s0 answer 34 done miss 0; 2 s2 answer 46 done miss 0; 2 s2+f \
+take 48 152 5 93 64 0; 1 s1 answer 48 overlap; 2 s2 answer 47 done miss 0; 1 s1+f take 140 20 128 152 24 1; 1 s1 answer 49 \
+value 0 miss 0; 2 s2+f take 28 140 5 93 64 0; 2 s2 answer 48 value 0 miss 0; 3 s0+f take 166 102 128 198 70 1; 3 s0 answer \
+24 done miss 0; 3 s0+f take 169 105 128 198 70 1; 3 s0 answer 25 value 0 miss 0; 0 s0+f take 164 100 128 198 70 1; 1 s1+f \
+take 8 202 0 11 11 0; 1 s1 answer 50 value 0 miss 0; 2 s2+f answer 49 clean; 2 s2+f take 9 49 5 93 64 0; 2 s2 answer 50 \
+done miss 0; 1 s1 answer 51 unmapped; 1 s1 answer 52 unmapped; 1 s1+f take 194 210 153 217 64 1; 1 s1 answer 53 value 0 \
+miss 0; 1 s1+f take 154 203 153 217 64 1; 0 s0 answer 35 done miss 0; 0 s0 answer 36 value 0 hit 0; 1 s1 answer 54 value 0 \
+miss 0; 3 s0 answer 26 value 0 hit 0; 3 s0+f take 170 106 128 198 70 1; 2 s1+f take 172 172 153 217 64 1; 3 s0 answer 27 \
+done miss 0; 3 s0 answer 28 value 0 hit 0; 2 s1 answer 51 value 0 miss 0; 3 s1+f take 0 8 0 11 11 0; 2 s2+f take 66 186 5 \
+93 64 0; 3 s1 answer 29 value 0 miss 0; 0 s0+f take 190 126 128 198 70 1; 0 s0 answer 37 value 0 miss 0; 0 s0+f take 151 \
+87 128 198 70 1; 2 s2 answer 52 value 0 miss 0; 0 s0 answer 38 value 0 miss 0; 2 s1+f take 180 164 153 217 64 1; 0 s0+f \
+take 178 114 128 198 70 1; 2 s1 answer 53 done miss 0; 0 s0 answer 39 done miss 0; 0 s0+f take 269 221 256 296 40 0; 2 \
+s2+f take 64 184 5 93 64 0; 2 s2 answer 54 value 0 miss 0; 2 s2 answer 55 clean; 0 s0 answer 40 value 0 miss 0; 3 s0+f \
+take 179 115 128 198 70 1; 3 s0 answer 30 done miss 0; 0 s0 answer 41 outofspace; 3 s0+f take 65 204 64 128 3 0; 1 s1+f \
+take 4 12 0 11 11 0; 3 s0 answer 31 value 0 miss 0; 0 s0+f take 264 216 256 296 40 0; 1 s1 answer 55 value 0 miss 0; 0 s0 \
+answer 42 done miss 0; 3 s0+f take 0 0 0 8 8 0; 1 s1+f take 170 170 153 217 64 1; 3 s0 answer 32 done miss 0; 3 s0+f take \
+187 123 128 198 70 1; 2 s2 answer 56 done; 2 s2+f take 61 197 5 93 64 0; 2 s2 answer 57 done miss 0; 2 s2+f take 30 142 5 \
+93 64 0; 3 s0 answer 33 value 0 miss 0; 0 s0+f take 132 68 128 198 70 1; 1 s1 answer 56 done miss 0; 1 s1+f take 160 176 \
+153 217 64 1; 0 s0 answer 43 done miss 0; 3 s0+f take 160 96 128 198 70 1; 2 s2 answer 58 value 0 miss 0; 1 s1 answer 57 \
+done miss 0; 3 s0 answer 34 done miss 0; 3 s0 answer 35 value 0 hit 0; 3 s0+f take 159 95 128 198 70 1; 1 s1+f take 129 33 \
+128 152 24 1; 3 s0 answer 36 value 0 miss 0; 0 s0+f take 156 92 128 198 70 1; 2 s2+f take 34 146 5 93 64 0; 0 s0 answer 44 \
+value 0 miss 0; 0 s0+f take 257 225 256 296 40 0; 1 s1 answer 58 value 0 miss 0; 1 s1+f take 157 205 153 217 64 1; 1 s1 \
+answer 59 value 0 miss 0; 2 s2 answer 59 value 0 miss 0; 2 s2+f take 116 236 93 183 90 1; 0 s0 answer 45 value 0 miss 0; 2 \
+s2 answer 60 value 0 miss 0; 0 s2+f take 15 55 5 93 64 0; 1 s1 answer 60 done hit 0; 1 s1+f take 185 241 153 217 64 1; 3 \
+s0 answer 37 written; 1 s1 answer 61 done miss 0; 0 s2 answer 46 done miss 0; 2 s2+f take 27 139 5 93 64 0; 1 s1 answer 62 \
+done; 2 s2 answer 61 done miss 0; 0 s0 answer 47 written; 1 s1+f take 141 21 128 152 24 1; 3 s0+f take 129 65 128 198 70 \
+1; 1 s1 answer 63 value 0 miss 0; 1 s1+f take 166 182 153 217 64 1; 3 s0 answer 38 value 0 miss 0; 3 s0+f take 196 206 128 \
+198 70 1; 1 s1 answer 64 done miss 0; 3 s0 answer 39 value 0 miss 0; 2 s2+f take 68 188 5 93 64 0; 2 s2 answer 62 value 0 \
+miss 0; 2 s2+f take 62 198 5 93 64 0; 1 s1+f take 184 240 153 217 64 1; 0 s0+f take 167 103 128 198 70 1; 1 s1 answer 65 \
+done miss 0; 1 s1 answer 66 value 0 hit 0; 2 s2 answer 63 value 0 miss 0; 2 s2+f take 55 159 5 93 64 0; 1 s1+f take 200 \
+248 153 217 64 1; 1 s1 answer 67 value 0 miss 0; 0 s0 answer 48 value 0 miss 0; 2 s2 answer 64 value 0 miss 0; 2 s2+f take \
+149 261 93 183 90 1; 1 s1+f take 175 175 153 217 64 1; 0 s0+f take 194 207 128 198 70 1; 1 s1 answer 68 done miss 0; 0 s0 \
+answer 49 done miss 0; 2 s2 answer 65 done miss 0; 0 s0 answer 50 value 944 miss 0; 3 s0 answer 40 done hit 0; 3 s0+f take \
+181 117 128 198 70 1; 1 s1 answer 69 unmapped; 1 s1 answer 70 outofspace; 2 s2+f take 38 150 5 93 64 0; 1 s1+f take 198 \
+214 153 217 64 1; 3 s0 answer 41 value 0 miss 0; 3 s0+f take 175 111 128 198 70 1; 1 s1 answer 71 value 0 miss 0; 3 s0 \
+answer 42 done miss 0; 2 s2 answer 66 done miss 0; 2 s2+f take 54 158 5 93 64 0; 2 s2 answer 67 value 0 miss 0; 2 s2+f \
+take 33 145 5 93 64 0; 1 s1+f take 199 215 153 217 64 1; 1 s1 answer 72 done miss 0; 2 s2 answer 68 value 0 miss 0; 0 s0+f \
+take 173 109 128 198 70 1; 2 s2+f take 37 149 5 93 64 0; 0 s0 answer 51 done miss 0; 0 s0+f take 139 75 128 198 70 1; 2 s2 \
+answer 69 value 0 miss 0; 1 s1+f take 139 19 128 152 24 1; 2 s2+f take 57 193 5 93 64 0; 1 s1 answer 73 done miss 0; 2 s2 \
+answer 70 value 0 miss 0; 0 s0 answer 52 done miss 0; 2 s1+f take 158 264 153 217 64 1; 2 s1 answer 71 value 0 miss 0; 2 \
+s2+f take 3 265 1 4 3 0; 0 s0+f take 289 273 256 296 40 0; 0 s0 answer 53 value 0 miss 0; 2 s2 answer 72 value 0 miss 0; 1 \
+s1+f take 201 249 153 217 64 1; 0 s0+f take 282 282 256 296 40 0; 0 s0 answer 54 value 0 miss 0; 2 s2 answer 73 done; 2 s2 \
+answer 74 clean; 3 s0+f take 172 108 128 198 70 1; 1 s1 answer 74 value 0 miss 0; 3 s0 answer 43 value 0 miss 0; 3 s1+f \
+take 144 56 128 152 24 1; 0 s0+f take 279 295 256 296 40 0; 3 s1 answer 44 value 0 miss 0; 0 s0 answer 55 value 0 miss 0; \
+1 s1+f take 169 169 153 217 64 1; 1 s1 answer 75 value 0 miss 0; 0 s0+f take 290 274 256 296 40 0; 0 s0 answer 56 done \
+miss 0; 2 s2+f take 180 266 93 183 90 1; 3 s0 answer 45 done; 2 s2 answer 75 value 0 miss 0; 0 s0+f take 281 281 256 296 \
+40 0; 1 s1+f take 205 253 153 217 64 1; 1 s1 answer 76 value 0 miss 0; 1 s1 answer 77 done hit 0; 2 s2+f take 8 48 5 93 73 \
+0; 1 s1 answer 78 done hit 0; 0 s0 answer 57 value 0 miss 0; 0 s0 answer 58 done hit 0; 3 s0+f take 161 97 128 198 70 1; 1 \
+s1+f take 3 11 0 11 11 0; 3 s0 answer 46 value 0 miss 0; 1 s1 answer 79 done miss 0; 0 s0+f take 287 287 256 296 40 0; 2 \
+s2 answer 76 value 0 miss 0; 2 s2+f take 93 267 93 183 90 1; 1 s1+f take 186 242 153 217 64 1; 0 s0 answer 59 done miss 0; \
+0 s0+f take 193 268 128 198 70 1; 2 s2 answer 77 value 0 miss 0; 2 s2+f take 43 131 5 93 73 0; 2 s2 answer 78 done miss 0; \
+1 s1 answer 80 value 0 miss 0; 0 s0 answer 60 value 0 miss 0; 0 s0 answer 61 done hit 0; 2 s2+f take 58 194 5 93 73 0; 0 \
+s0 answer 62 done; 0 s0 answer 63 unmapped; 3 s0 answer 47 notgrowing; 0 s1+f take 202 250 153 217 64 1; 2 s2 answer 79 \
+value 0 miss 0; 3 s0+f take 265 217 256 296 40 0; 2 s2 answer 80 value 0 hit 0; 0 s1 answer 64 value 0 miss 0; 3 s0 answer \
+48 done miss 0; 2 s2+f take 17 41 5 93 73 0; 3 s0 answer 49 value 1300722740271442838 miss 0; 3 s0+f take 260 228 256 296 \
+40 0; 3 s0 answer 50 value 0 miss 0; 2 s2 answer 81 done miss 0; 2 s2 answer 82 value 0 hit 0; 2 s2+f take 165 301 93 183 \
+90 1; 3 s0+f take 273 289 256 296 40 0; 3 s0 answer 51 value 0 miss 0; 2 s2 answer 83 value 0 miss 0; 1 s2+f take 117 237 \
+93 183 90 1; 1 s2 answer 81 done miss 0; 3 s0 answer 52 denied; 1 s1+f take 207 255 153 217 64 1; 2 s2+f take 104 304 93 \
+183 90 1; 0 s0+f take 128 64 128 198 70 1; 0 s0 answer 65 done miss 0; 2 s2 answer 84 done miss 0; 1 s1 answer 82 value 0 \
+miss 0; 1 s1 answer 83 value 0 miss 0; 0 s0 answer 66 done; 2 s2+f take 133 317 93 183 90 1; 2 s2 answer 85 value 0 miss \
+0; 3 s0 answer 53 done; 3 s0 answer 54 value 0 miss 0; 3 s0+f take 140 76 128 198 70 1; 1 s1+f take 188 244 153 217 64 1; \
+3 s0 answer 55 value 0 miss 0; 2 s2+f take 12 52 5 93 73 0; 0 s0+f take 152 88 128 198 70 1; 2 s2 answer 86 done miss 0; 0 \
+s0 answer 67 done miss 0; 1 s1 answer 84 done miss 0; 3 s0+f take 276 292 256 296 40 0; 1 s1+f take 153 269 153 217 64 1; \
+3 s0 answer 56 value 0 miss 0; 3 s0+f take 263 231 256 296 40 0; 1 s1 answer 85 value 0 miss 0; 3 s0 answer 57 done miss \
+0; 0 s0+f take 293 277 256 296 40 0; 2 s2 answer 87 done; 2 s2+f take 130 314 93 183 90 1; 2 s2 answer 88 value 0 miss 0; \
+2 s1+f take 225 321 218 242 24 1; 2 s1 answer 89 value 0 miss 0; 2 s2 answer 90 done; 0 s0 answer 68 value 0 miss 0; 3 \
+s0+f take 259 227 256 296 40 0; 3 s0 answer 58 value 0 miss 0; 0 s0 answer 69 done miss 0; 2 s2+f take 103 335 93 183 90 \
+1; 2 s2 answer 91 value 0 miss 0; 2 s2 answer 92 value 465 hit 0; 3 s0+f take 188 124 128 198 70 1; 2 s2 answer 93 denied; \
+0 s2+f take 178 270 93 183 90 1; 0 s2 answer 70 value 0 miss 0; 3 s0 answer 59 done miss 0; 0 s0 answer 71 notgrowing; 1 \
+s0+f take 158 94 128 198 70 1; 2 s2 answer 94 value 0 hit 0; 2 s2 answer 95 done; 1 s0 answer 86 done miss 0; 2 s2+f \
+answer 96 clean; 1 s0+f take 291 275 256 296 40 0; 1 s0 answer 87 value 0 miss 0; 0 s0+f take 267 219 256 296 40 0; 0 s0 \
+answer 72 done miss 0; 3 s0+f answer 60 clean; 1 s1+f take 181 165 153 217 64 1; 0 s0+f take 261 229 256 296 40 0; 0 s0 \
+answer 73 value 0 miss 0; 2 s2 answer 97 denied; 1 s1 answer 88 done miss 0; 1 s1+f take 192 208 153 217 64 1; 2 s2+f take \
+106 306 93 183 90 1; 1 s1 answer 89 value 0 miss 0; 2 s2 answer 98 value 0 miss 0; 1 s1 answer 90 value 0 hit 0; 0 s0 \
+answer 74 value 0 hit 0; 3 s1+f take 204 252 153 217 64 1; 0 s2+f take 60 196 5 93 74 0; 0 s2 answer 75 done miss 0; 0 \
+s0+f take 135 71 128 198 70 1; 2 s2+f take 47 135 5 93 74 0; 3 s1 answer 61 value 0 miss 0; 0 s0 answer 76 value 0 miss 0; \
+2 s2 answer 99 value 0 miss 0; 3 s0+f take 195 204 128 198 70 1; 3 s0 answer 62 value 0 miss 0; 0 s0+f take 274 290 256 \
+296 40 0; 0 s0 answer 77 value 0 miss 0; 3 s0+f take 256 224 256 296 40 0; 3 s0 answer 63 value 0 miss 0; 1 s1+f take 211 \
+339 153 217 64 1; 3 s0 answer 64 done miss 0; 3 s0 answer 65 denied; 3 s0+f take 271 223 256 296 40 0; 0 s2+f take 59 195 \
+5 93 74 0; 1 s1 answer 91 done miss 0; 1 s1+f take 212 340 153 217 64 1; 3 s0 answer 66 value 0 miss 0; 3 s0+f take 197 \
+271 128 198 70 1; 1 s1 answer 92 done miss 0; 0 s2 answer 78 done miss 0; 1 s1+f take 171 171 153 217 64 1; 2 s2+f take 24 \
+136 5 93 74 0; 3 s0 answer 67 value 0 miss 0; 3 s0+f take 278 294 256 296 40 0; 1 s1 answer 93 done miss 0; 2 s2 answer \
+100 done miss 0; 3 s0 answer 68 done miss 0; 1 s1+f take 161 177 153 217 64 1; 2 s2+f take 65 185 5 93 74 0; 2 s2 answer \
+101 value 0 miss 0; 2 s2 answer 102 value 0 hit 0; 3 s0+f take 275 291 256 296 40 0; 2 s2+f take 126 350 93 183 90 1; 2 s2 \
+answer 103 value 0 miss 0; 3 s0 answer 69 done miss 0; 0 s0+f take 277 293 256 296 40 0; 0 s0 answer 79 done miss 0; 1 s1 \
+answer 94 value 0 miss 0; 3 s0 answer 70 clean; 2 s2+f take 108 308 93 183 90 1; 0 s0+f take 320 352 297 345 24 0; 2 s2 \
+answer 104 value 0 miss 0; 1 s1+f take 177 161 153 217 64 1; 1 s1 answer 95 value 0 miss 0; 1 s1+f take 215 343 153 217 64 \
+1; 1 s1 answer 96 value 0 miss 0; 2 s2+f take 111 311 93 183 90 1; 0 s0 answer 80 value 0 miss 0; 3 s0+f take 284 284 256 \
+296 40 0; 1 s1+f take 156 360 153 217 64 1; 3 s0 answer 71 done miss 0; 3 s0 answer 72 done miss 0; 1 s1 answer 97 done \
+miss 0; 2 s2 answer 105 done miss 0; 0 s0 answer 81 denied; 3 s0+f take 292 276 256 296 40 0; 3 s0 answer 73 done miss 0; \
+1 s1+f take 226 322 218 242 24 1; 3 s0+f take 268 220 256 296 40 0; 1 s1 answer 98 done miss 0; 2 s2+f take 39 151 5 93 74 \
+0; 3 s0 answer 74 done miss 0; 3 s0 answer 75 done hit 0; 0 s0+f take 307 371 297 345 24 0; 0 s0 answer 82 value 0 miss 0; \
+1 s1+f take 178 162 153 217 64 1; 0 s0+f take 360 376 345 435 90 0; 0 s0 answer 83 value 0 miss 0; 2 s2 answer 106 done \
+miss 0; 1 s1 answer 99 value 0 miss 0; 1 s1+f take 231 327 218 242 24 1; 3 s0+f take 66 361 64 128 7 0; 2 s2+f take 95 362 \
+93 183 90 1; 2 s2 answer 107 value 0 miss 0; 2 s2+f take 100 332 93 183 90 1; 1 s1 answer 100 done miss 0; 3 s0 answer 76 \
+done miss 0; 1 s0+f take 283 283 256 296 40 0; 1 s0 answer 101 done miss 0; 2 s2 answer 108 value 0 miss 0; 2 s2+f take \
+181 363 93 183 90 1; 3 s0+f take 300 364 297 345 24 0; 2 s2 answer 109 value 0 miss 0; 3 s0 answer 77 value 0 miss 0; 1 \
+s1+f take 208 336 153 217 64 1; 0 s0+f take 400 384 345 435 90 0; 1 s1 answer 102 done miss 0; 1 s1+f take 176 160 153 217 \
+64 1; 0 s0 answer 84 done miss 0; 0 s0+f take 348 365 345 435 90 0; 2 s2+f take 1 366 1 4 3 0; 2 s2 answer 110 done miss \
+0; 0 s0 answer 85 done miss 0; 1 s1 answer 103 value 0 miss 0; 2 s2+f take 107 307 93 183 90 1; 1 s1+f take 193 209 153 \
+217 64 1; 0 s0+f take 272 288 256 296 40 0; 1 s1 answer 104 done miss 0; 2 s2 answer 111 done miss 0; 1 s1+f take 220 367 \
+218 242 24 1; 0 s0 answer 86 done miss 0; 0 s0+f take 319 399 297 345 24 0; 0 s0 answer 87 value 0 miss 0; 3 s0+f take 258 \
+226 256 296 40 0; 1 s1 answer 105 value 0 miss 0; 2 s2 answer 112 denied; 3 s0 answer 78 done miss 0; 2 s2+f take 16 40 5 \
+93 74 0; 2 s2 answer 113 done miss 0; 3 s0 answer 79 denied; 3 s0 answer 80 denied; 2 s2+f take 127 351 93 183 90 1; 0 \
+s0+f take 355 403 345 435 90 0; 1 s1+f take 228 324 218 242 24 1; 1 s1 answer 106 value 0 miss 0; 2 s2 answer 114 value 0 \
+miss 0; 0 s0 answer 88 done miss 0; 3 s0+f take 270 222 256 296 40 0; 3 s0 answer 81 value 0 miss 0; 3 s1+f take 189 245 \
+153 217 64 1; 2 s2+f take 131 315 93 183 90 1; 1 s0+f take 313 393 297 345 24 0; 3 s1 answer 82 value 0 miss 0; 1 s0 \
+answer 107 value 0 miss 0; 1 s1+f take 179 163 153 217 64 1; 3 s0+f take 285 285 256 296 40 0; 1 s1 answer 108 value 0 \
+miss 0; 1 s1+f take 196 212 153 217 64 1; 2 s2 answer 115 done miss 0; 3 s0 answer 83 value 0 miss 0; 2 s0+f answer 116 \
+clean; 3 s0 answer 84 denied; 1 s1 answer 109 value 0 miss 0; 0 s0 answer 89 done; 0 s1 answer 90 done; 0 s0+f take 392 \
+408 345 435 90 0; 2 s1+f take 236 420 218 242 24 1; 0 s0 answer 91 done miss 0; 2 s1 answer 117 value 0 miss 0; 0 s2+f \
+take 113 233 93 183 90 1; 1 s1+f take 222 424 218 242 24 1; 3 s0 answer 85 denied; 0 s2 answer 92 done miss 0; 1 s1 answer \
+110 value 0 miss 0; 2 s2+f take 135 319 93 183 90 1; 1 s1+f take 197 213 153 217 64 1; 3 s0 answer 86 done miss 0; 1 s1 \
+answer 111 done miss 0; 0 s0+f take 363 379 345 435 90 0; 1 s1+f take 9 425 0 11 11 0; 0 s0 answer 93 value 0 miss 0; 2 s2 \
+answer 118 value 0 miss 0; 2 s0+f take 346 426 345 435 90 0; 3 s2+f take 109 309 93 183 90 1; 2 s0 answer 119 done miss 0; \
+0 s0+f take 345 427 345 435 90 0; 0 s0 answer 94 value 0 miss 0; 3 s2 answer 87 value 0 miss 0; 2 s0+f take 295 279 256 \
+296 40 0; 1 s1 answer 112 value 0 miss 0; 2 s0 answer 120 value 0 miss 0; 3 s0+f take 176 112 128 198 70 1; 3 s0 answer 88 \
+value 0 miss 0; 2 s2 answer 121 denied; 1 s1+f take 155 428 153 217 64 1; 1 s1 answer 113 value 0 miss 0; 1 s1+f take 224 \
+320 218 242 24 1; 2 s2+f take 129 313 93 183 90 1; 2 s2 answer 122 done miss 0; 0 s0+f take 426 434 345 435 90 0; 2 s2 \
+answer 123 value 0 hit 0; 2 s2 answer 124 value 0 miss 0; 2 s2+f take 118 238 93 183 90 1; 1 s1 answer 114 value 0 miss 0; \
+1 s1+f take 240 429 218 242 24 1; 2 s2 answer 125 value 0 miss 0; 1 s1 answer 115 value 0 miss 0; 1 s1 answer 116 \
+unmapped; 1 s1+f take 230 326 218 242 24 1; 0 s0 answer 95 value 0 miss 0; 3 s0 answer 89 value 0 hit 0; 0 s0+f take 430 \
+438 345 435 90 0; 0 s0 answer 96 value 0 miss 0; 1 s1 answer 117 done miss 0; 2 s2+f take 101 333 93 183 90 1; 0 s1+f take \
+203 251 153 217 64 1; 3 s0+f take 316 396 297 345 24 0; 2 s2 answer 126 done miss 0; 0 s1 answer 97 value 0 miss 0; 1 s1+f \
+take 229 325 218 242 24 1; 3 s0 answer 90 value 0 miss 0; 0 s0+f take 270 222 256 296 40 0; 0 s0 answer 98 value 0 miss 0; \
+1 s1 answer 118 value 0 miss 0; 0 s0+f take 359 407 345 435 90 0; 0 s0 answer 99 value 0 miss 0; 1 s1 answer 119 unmapped; \
+2 s0 answer 127 denied; 3 s0 answer 91 denied; 1 s1+f take 182 166 153 217 64 1; 1 s1 answer 120 done miss 0; 1 s1+f take \
+210 338 153 217 64 1; 3 s0 answer 92 value 0 hit 0; 0 s0 answer 100 clean; 0 s0 answer 101 clean; 1 s1 answer 121 done \
+miss 0; 0 s0+f take 410 442 345 435 90 0; 2 s2+f take 128 312 93 183 90 1; 1 s1 answer 122 done hit 0; 0 s0 answer 102 \
+done miss 0; 1 s1 answer 123 clean; 0 s0+f take 349 430 345 435 90 0; 2 s2 answer 128 done miss 0; 1 s2 answer 124 \
+unmapped; 2 s2 answer 129 denied; 2 s2 answer 130 outofspace; 1 s1+f take 195 211 153 217 64 1; 1 s1 answer 125 done miss \
+0; 1 s1+f take 241 431 218 242 24 1; 0 s0 answer 103 value 0 miss 0; 0 s0+f take 379 451 345 435 90 0; 1 s1 answer 126 \
+done miss 0; 1 s1+f take 209 337 153 217 64 1; 2 s2 answer 131 value 0 miss 0; 2 s2 answer 132 denied; 2 s2+f take 154 458 \
+93 183 90 1; 2 s2 answer 133 done miss 0; 0 s0 answer 104 value 0 miss 0; 2 s2 answer 134 denied; 2 s2 answer 135 denied; \
+3 s0 answer 93 done hit 0; 3 s0 answer 94 denied; 2 s2+f take 157 461 93 183 90 1; 0 s0+f take 368 464 345 435 90 0; 1 s1 \
+answer 127 done miss 0; 2 s2 answer 136 done miss 0; 2 s2+f take 161 297 93 183 90 1; 0 s0 answer 105 value 0 miss 0; 3 \
+s0+f take 174 110 128 198 70 1; 3 s0 answer 95 value 0 miss 0; 3 s0+f take 262 230 256 296 40 0; 1 s1+f take 216 472 153 \
+217 64 1; 2 s2 answer 137 done miss 0; 2 s2 answer 138 clean; 1 s1 answer 128 done miss 0; 3 s0 answer 96 done miss 0; 1 \
+s1+f take 168 168 153 217 64 1; 2 s2+f take 168 480 93 183 90 1; 1 s1 answer 129 done miss 0; 3 s0+f take 186 122 128 198 \
+70 1; 1 s1+f take 238 422 218 242 24 1; 1 s1 answer 130 done miss 0; 3 s0 answer 97 value 0 miss 0; 0 s0 answer 106 done; \
+2 s2 answer 139 done miss 0; 3 s0 answer 98 written; 2 s2 answer 140 denied; 0 s0+f take 414 446 345 435 90 0; 1 s2 answer \
+131 clean; 2 s2+f take 132 316 93 183 90 1; 0 s0 answer 107 done miss 0; 2 s2 answer 141 done miss 0; 2 s2 answer 142 \
+denied; 3 s0 answer 99 denied; 2 s2+f take 156 460 93 183 90 1; 1 s1 answer 132 done hit 0; 3 s0+f take 318 398 297 345 24 \
+0; 3 s0 answer 100 value 0 miss 0; 1 s1+f take 233 417 218 242 24 1; 0 s0+f take 310 374 297 345 24 0; 0 s0 answer 108 \
+value 0 miss 0; 1 s1 answer 133 done miss 0; 3 s0+f take 266 218 256 296 40 0; 3 s0 answer 101 value 0 miss 0; 3 s1+f take \
+167 183 153 217 64 1; 3 s1 answer 102 done miss 0; 0 s0+f take 396 412 345 435 90 0; 2 s2 answer 143 done miss 0; 1 s1+f \
+take 227 323 218 242 24 1; 1 s1 answer 134 value 0 miss 0; 1 s1+f take 163 179 153 217 64 1; 1 s1 answer 135 value 0 miss \
+0; 2 s2 answer 144 denied; 2 s2 answer 145 denied; 0 s0 answer 109 done miss 0; 0 s0 answer 110 value 23 hit 0; 3 s0+f \
+take 361 377 345 435 90 0; 1 s1+f take 219 473 218 242 24 1; 3 s0 answer 103 value 0 miss 0; 1 s1 answer 136 value 0 miss \
+0; 0 s0+f take 350 474 345 435 90 0; 1 s1+f take 239 423 218 242 24 1; 2 s2 answer 146 done; 1 s1 answer 137 value 0 miss \
+0; 0 s0 answer 111 value 0 miss 0; 2 s2 answer 147 done; 2 s2+f take 121 345 93 183 90 1; 2 s2 answer 148 value 0 miss 0; \
+1 s1+f take 213 341 153 217 64 1; 3 s0+f take 294 278 256 296 40 0; 2 s2+f take 119 239 93 183 90 1; 3 s0 answer 104 value \
+0 miss 0; 3 s0+f take 432 475 345 435 90 0; 3 s0 answer 105 value 0 miss 0; 1 s1 answer 138 value 0 miss 0; 0 s1+f take \
+237 421 218 242 24 1; 2 s2 answer 149 done miss 0; 3 s0+f take 303 476 297 345 24 0; 0 s1 answer 112 value 0 miss 0; 1 s1 \
+answer 139 denied; 2 s1 answer 150 written; 2 s2+f take 159 463 93 183 90 1; 2 s2 answer 151 value 0 miss 0; 1 s1+f take \
+232 416 218 242 24 1; 3 s0 answer 106 value 0 miss 0; 2 s2+f take 122 346 93 183 90 1; 1 s1 answer 140 done miss 0; 3 s1+f \
+take 218 477 218 242 24 1; 3 s1 answer 107 value 0 miss 0; 1 s1+f take 191 247 153 217 64 1; 3 s0+f take 317 397 297 345 \
+24 0; 1 s1 answer 141 done miss 0; 3 s0 answer 108 value 0 miss 0; 2 s2 answer 152 done miss 0; 3 s0+f take 370 466 345 \
+435 90 0; 1 s1 answer 142 clean; 1 s1+f take 235 419 218 242 24 1; 3 s0 answer 109 done miss 0; 3 s2 answer 110 denied; 0 \
+s0+f take 305 369 297 345 24 0; 2 s2+f take 102 334 93 183 90 1; 1 s1 answer 143 done miss 0; 1 s1+f take 206 254 153 217 \
+64 1; 0 s0 answer 113 value 0 miss 0; 0 s0+f take 369 465 345 435 90 0; 2 s2 answer 153 done miss 0; 2 s2+f take 134 318 \
+93 183 90 1; 1 s1 answer 144 value 0 miss 1; 2 s2 answer 154 done miss 0; 0 s0 answer 114 done miss 0; 3 s0+f take 371 467 \
+345 435 90 0; 3 s0 answer 111 value 0 miss 0; 1 s1 answer 145 clean; 1 s1+f take 190 246 153 217 64 1; 3 s0 answer 112 \
+value 449 miss 0; 1 s1 answer 146 value 0 miss 0; 3 s0 answer 113 done; 0 s0 answer 115 done hit 0; 1 s1+f take 234 418 \
+218 242 24 1; 2 s2+f take 163 299 93 183 90 1; 2 s2 answer 155 done miss 0; 3 s0+f take 401 385 345 435 90 0; 1 s1 answer \
+147 value 0 miss 0; 1 s1+f take 214 342 153 217 64 1; 1 s1 answer 148 done miss 0; 3 s0 answer 114 value 0 miss 0; 3 s0+f \
+take 280 280 256 296 40 0; 1 s1+f take 223 478 218 242 24 1; 1 s1 answer 149 value 0 miss 0; 1 s1+f take 187 243 153 217 \
+64 1; 2 s2+f take 160 296 93 183 90 1; 1 s1 answer 150 done miss 0; 2 s2 answer 156 value 0 miss 0; 2 s2 answer 157 \
+denied; 1 s1+f take 221 479 218 242 24 1; 2 s2 answer 158 clean; 1 s1 answer 151 value 0 miss 0; 3 s0 answer 115 done miss \
+0; 1 s0 answer 152 done; 3 s0+f take 357 405 345 435 90 0; 3 s0 answer 116 done miss 0; 2 s0+f take 386 490 345 435 90 0; \
+1 s1 answer 153 done; 2 s0 answer 159 value 0 miss 0; 3 s0+f take 311 375 297 345 24 0; 1 s1+f take 244 496 242 1048024 3 \
+0; 3 s0 answer 117 value 0 miss 0; 2 s2+f take 63 199 5 93 83 0; 0 s0+f take 380 452 345 435 90 0; 2 s2 answer 160 done \
+miss 0; 1 s1 answer 154 value 0 miss 0; 2 s2+f take 94 497 93 183 90 1; 2 s2 answer 161 value 0 miss 0; 1 s1+f take 243 \
+498 242 1048024 3 0; 2 s2+f take 124 348 93 183 90 1; 1 s1 answer 155 value 0 miss 0; 1 s1+f take 242 499 242 1048024 3 0; \
+1 s1 answer 156 value 0 miss 0; 0 s0 answer 116 value 0 miss 0; 0 s0+f take 406 390 345 435 90 0; 1 s1 answer 157 done; 0 \
+s0 answer 117 done miss 0; 1 s1 answer 158 unmapped; 3 s0+f take 367 383 345 435 90 0; 2 s2 answer 162 done miss 0; 3 s0 \
+answer 118 done miss 0; 2 s2+f take 110 310 93 183 90 1; 3 s0+f take 372 468 345 435 90 0; 2 s2 answer 163 value 0 miss 0; \
+2 s2+f take 170 482 93 183 90 1; 1 s1 answer 159 denied; 1 s1+f take 281 505 269 333 64 0; 1 s1 answer 160 value 0 miss 0; \
+3 s0 answer 119 value 0 miss 0; 1 s1 answer 161 value 0 hit 0; 2 s2 answer 164 value 0 miss 0; 2 s2 answer 165 done hit 0; \
+3 s0+f take 351 500 345 435 90 0; 2 s2 answer 166 clean; 2 s2+f take 169 481 93 183 90 1; 3 s0 answer 120 value 0 miss 0; \
+2 s2 answer 167 value 0 miss 0; 2 s0+f take 408 440 345 435 90 0; 1 s1 answer 162 denied; 1 s1+f take 293 501 269 333 64 \
+0; 1 s1 answer 163 value 0 miss 0; 1 s1+f take 273 502 269 333 64 0; 2 s0 answer 168 done miss 0; 1 s1 answer 164 value 0 \
+miss 0; 3 s0+f take 314 394 297 345 24 0; 2 s2+f take 182 503 93 183 90 1; 2 s2 answer 169 value 0 miss 0; 1 s1+f take 314 \
+7 269 333 64 0; 3 s0 answer 121 value 0 miss 0; 0 s0 answer 118 denied; 3 s0+f take 387 491 345 435 90 0; 2 s2 answer 170 \
+done hit 0; 0 s2+f take 171 483 93 183 90 1; 0 s2 answer 119 value 0 miss 0; 3 s0 answer 122 value 0 miss 0; 3 s0+f take \
+378 450 345 435 90 0; 2 s2 answer 171 value 0 hit 0; 3 s0 answer 123 done miss 0; 2 s2+f take 105 305 93 183 90 1; 3 s0+f \
+take 382 454 345 435 90 0; 1 s1 answer 165 value 0 miss 0; 0 s1+f take 301 260 269 333 64 0; 0 s1 answer 120 value 0 miss \
+0; 3 s0 answer 124 done miss 0; 3 s0 answer 125 denied; 3 s0 answer 126 value 0 miss 0; 2 s2 answer 172 done miss 0; 3 \
+s0+f take 366 382 345 435 90 0; 1 s1+f take 270 262 269 333 64 0; 2 s2+f take 166 302 93 183 90 1; 2 s2 answer 173 done \
+miss 0; 3 s0 answer 127 value 0 miss 0; 3 s0+f take 388 492 345 435 90 0; 2 s2+f take 115 235 93 183 90 1; 2 s2 answer 174 \
+value 0 miss 0; 1 s1 answer 166 value 0 miss 0; 3 s0 answer 128 value 0 miss 0; 2 s2 answer 175 value 0 hit 0; 1 s1 answer \
+167 unmapped; 3 s0+f answer 129 written; 1 s1+f take 272 263 269 333 64 0; 3 s0 answer 130 denied; 2 s2+f take 164 300 93 \
+183 90 1; 0 s0+f take 424 432 345 435 90 0; 0 s0 answer 121 done miss 0; 3 s0+f take 347 256 345 435 90 0; 1 s1 answer 168 \
+value 0 miss 0; 1 s1+f take 286 510 269 333 64 0; 2 s2 answer 176 done miss 0; 1 s1 answer 169 value 0 miss 0; 1 s1 answer \
+170 denied; 1 s1 answer 171 denied; 3 s0 answer 131 value 0 miss 0; 3 s2+f take 162 298 93 183 90 1; 1 s1+f take 307 257 \
+269 333 64 0; 3 s2 answer 132 done miss 0; 1 s1 answer 172 value 0 miss 0; 3 s0+f take 389 493 345 435 90 0; 1 s1 answer \
+173 value 0 hit 0; 3 s0 answer 133 done miss 0; 0 s2+f take 179 258 93 183 90 1; 0 s2 answer 122 value 0 miss 0; 0 s0+f \
+take 375 471 345 435 90 0; 0 s0 answer 123 value 0 miss 0; 2 s2+f take 177 259 93 183 90 1; 0 s0+f take 385 489 345 435 90 \
+0; 1 s1+f clear 64 3; 2 s2 answer 177 done miss 0; 1 s1 answer 174 done; 1 s1+f take 304 26 269 333 64 0; 2 s2+f take 218 \
+29 192 232 40 0; 2 s2 answer 178 done miss 0; 2 s2+f take 203 201 192 232 40 0; 1 s1 answer 175 value 0 miss 0; 2 s2 \
+answer 179 done miss 0; 1 s1+f take 275 155 269 333 64 0; 0 s0 answer 124 value 0 miss 0; 1 s1 answer 176 value 0 miss 0; \
+1 s1 answer 177 denied; 0 s0+f take 288 272 256 296 40 0; 2 s2 answer 180 notgrowing; 1 s1+f take 298 128 269 333 64 0; 2 \
+s2+f take 6 142 5 93 83 0; 0 s0 answer 125 value 0 miss 0; 1 s1 answer 178 value 0 miss 0; 3 s0+f take 356 404 345 435 90 \
+0; 3 s0 answer 134 done miss 0; 2 s2 answer 181 value 0 miss 0; 1 s1 answer 179 value 72 hit 0; 1 s1 answer 180 \
+notgrowing; 2 s2+f take 158 462 93 183 90 1; 0 s0+f answer 126 clean; 2 s2 answer 182 value 0 miss 0; 3 s0+f answer 135 \
+clean; 2 s2 answer 183 done hit 0; 0 s0 answer 127 done miss 0; 2 s2+f take 125 349 93 183 90 1; 0 s0+f take 417 143 345 \
+435 90 0; 0 s0 answer 128 value 0 miss 0; 1 s1+f take 310 475 269 333 64 0; 0 s0+f take 418 189 345 435 90 0; 2 s2 answer \
+184 value 0 miss 0; 1 s1 answer 181 value 0 miss 0; 1 s2+f take 114 234 93 183 90 1; 0 s0 answer 129 value 0 miss 0; 0 \
+s0+f take 420 190 345 435 90 0; 0 s0 answer 130 value 0 miss 0; 1 s2 answer 182 done miss 0; 0 s0+f take 411 443 345 435 \
+90 0; 0 s0 answer 131 done miss 0; 1 s1 answer 183 outofspace; 3 s0+f take 353 401 345 435 90 0; 3 s0 answer 136 value 0 \
+miss 0; 0 s0+f take 413 445 345 435 90 0; 0 s0 answer 132 value 0 miss 0; 0 s0+f take 352 400 345 435 90 0; 0 s0 answer \
+133 value 0 miss 0; 0 s0+f take 364 380 345 435 90 0; 0 s0 answer 134 done miss 0; 2 s2 answer 185 denied; 0 s2+f take 172 \
+484 93 183 90 1; 3 s1 answer 137 denied; 3 s0+f answer 138 clean; 1 s1 answer 184 denied; 1 s1+f take 283 507 269 333 64 \
+0; 0 s2 answer 135 value 0 miss 0; 3 s2 answer 139 done; 0 s0+f take 419 191 345 435 90 0; 0 s0 answer 136 done miss 0; 0 \
+s0 answer 137 value 0 hit 0; 1 s1 answer 185 value 0 miss 0; 2 s2 answer 186 value 0 hit 0; 2 s2+f take 211 500 192 232 40 \
+0; 2 s2 answer 187 value 0 miss 0; 0 s0+f take 384 488 345 435 90 0; 0 s0 answer 138 value 0 miss 0; 1 s1+f take 277 353 \
+269 333 64 0; 3 s0 answer 140 value 0 miss 0; 2 s2+f answer 188 clean; 1 s1 answer 186 value 0 miss 0; 0 s0+f take 484 154 \
+448 538 90 1; 0 s0 answer 139 value 0 miss 0; 0 s0+f take 404 388 345 435 90 0; 0 s0 answer 140 value 0 miss 0; 2 s2+f \
+take 40 354 5 93 83 0; 3 s0+f take 393 409 345 435 90 0; 3 s0 answer 141 value 0 miss 0; 1 s1+f take 269 355 269 333 64 0; \
+2 s2 answer 189 done miss 0; 2 s2 answer 190 value 0 hit 0; 1 s1 answer 187 value 0 miss 0; 0 s1+f take 326 356 269 333 64 \
+0; 2 s2 answer 191 done; 3 s2 answer 142 clean; 0 s1 answer 141 value 0 miss 0; 0 s0+f take 374 470 345 435 90 0; 1 s1 \
+answer 188 value 8221203865238951870 hit 0; 2 s2+f take 175 487 93 183 90 1; 1 s1 answer 189 denied; 2 s2 answer 192 value \
+0 miss 0; 1 s1 answer 190 denied; 2 s2 answer 193 value 0 hit 0; 1 s1 answer 191 denied; 1 s1 answer 192 done; 1 s1+f take \
+300 357 269 333 64 0; 1 s1 answer 193 value 0 miss 0; 1 s1+f take 292 358 269 333 64 0; 2 s2+f take 199 359 192 232 40 0; \
+1 s1 answer 194 value 0 miss 0; 2 s2 answer 194 value 0 miss 0; 0 s0 answer 142 done miss 0; 0 s0+f take 518 42 448 538 90 \
+1; 0 s0 answer 143 done miss 0; 3 s0+f take 409 441 345 435 90 0; 3 s0 answer 143 done miss 0; 3 s0+f take 399 415 345 435 \
+90 0; 1 s1+f take 318 45 269 333 64 0; 3 s0 answer 144 done miss 0; 0 s0+f take 412 444 345 435 90 0; 0 s0 answer 144 done \
+miss 0; 3 s0+f take 425 433 345 435 90 0; 1 s1 answer 195 value 0 miss 0; 3 s0 answer 145 value 0 miss 0; 0 s1 answer 145 \
+denied; 2 s2+f take 174 486 93 183 90 1; 3 s0+f take 398 414 345 435 90 0; 1 s1 answer 196 denied; 1 s1+f take 297 46 269 \
+333 64 0; 2 s2 answer 195 value 0 miss 0; 2 s2+f take 220 328 192 232 40 0; 2 s2 answer 196 value 0 miss 0; 3 s0 answer \
+146 value 0 miss 0; 3 s0 answer 147 value 0 miss 0; 3 s0 answer 148 clean; 2 s0+f take 405 389 345 435 90 0; 0 s2+f take \
+206 329 192 232 40 0; 1 s1 answer 197 value 0 miss 0; 0 s2 answer 146 done miss 0; 1 s1 answer 198 done hit 0; 1 s1 answer \
+199 denied; 2 s0 answer 197 value 0 miss 0; 1 s1 answer 200 denied; 0 s0 answer 147 value 928 miss 0; 0 s0+f take 459 330 \
+448 538 90 1; 0 s0 answer 148 value 0 miss 0; 2 s2 answer 198 done; 1 s1 answer 201 denied; 2 s2 answer 199 value 198 hit \
+0; 0 s0+f take 391 495 345 435 90 0; 0 s0 answer 149 value 0 miss 0; 2 s2+f take 194 331 192 232 40 0; 3 s0+f take 421 284 \
+345 435 90 0; 3 s0 answer 149 value 0 miss 0; 0 s0+f take 461 286 448 538 90 1; 2 s2 answer 200 done miss 0; 1 s1 answer \
+202 denied; 2 s2+f take 196 368 192 232 40 0; 1 s1+f take 319 370 269 333 64 0; 2 s2 answer 201 value 0 miss 0; 0 s0 \
+answer 150 done miss 0; 0 s0+f answer 151 clean; 3 s0 answer 150 denied; 3 s0+f take 394 410 345 435 90 0; 2 s2+f take 205 \
+476 192 232 40 0; 3 s0 answer 151 value 0 miss 0; 0 s0+f take 469 372 448 538 90 1; 1 s1 answer 203 value 0 miss 0; 2 s2 \
+answer 202 value 0 miss 0; 0 s0 answer 152 done miss 0; 2 s2+f take 120 344 93 183 90 1; 1 s1 answer 204 denied; 0 s0+f \
+take 397 413 345 435 90 0; 0 s0 answer 153 value 0 miss 0; 1 s1+f take 315 373 269 333 64 0; 3 s0 answer 152 done; 1 s1 \
+answer 205 value 0 miss 0; 3 s0+f take 377 449 345 435 90 0; 1 s1 answer 206 denied; 1 s1 answer 207 value 0 hit 0; 3 s0 \
+answer 153 value 0 miss 0; 2 s2 answer 203 value 0 miss 0; 3 s0+f take 381 453 345 435 90 0; 1 s1+f take 327 392 269 333 \
+64 0; 1 s1 answer 208 value 0 miss 0; 1 s1+f take 308 395 269 333 64 0; 3 s0 answer 154 value 0 miss 0; 2 s0+f take 476 \
+303 448 538 90 1; 2 s0 answer 204 done miss 0; 3 s0+f take 402 386 345 435 90 0; 1 s1 answer 209 value 0 miss 0; 1 s1 \
+answer 210 outofspace; 3 s0 answer 155 value 0 miss 0; 0 s0+f take 403 387 345 435 90 0; 0 s0 answer 154 value 0 miss 0; 2 \
+s2+f take 202 272 192 232 40 0; 0 s0 answer 155 unmapped; 2 s2 answer 205 done miss 0; 3 s0+f take 429 437 345 435 90 0; 3 \
+s0 answer 156 value 0 miss 0; 3 s0+f take 431 439 345 435 90 0; 3 s0 answer 157 value 0 miss 0; 3 s0+f take 416 459 345 \
+435 90 0; 3 s0 answer 158 value 0 miss 0; 3 s0+f take 434 456 345 435 90 0; 3 s0 answer 159 value 0 miss 0; 0 s2 answer \
+156 value 0 miss 0; 2 s2+f take 204 457 192 232 40 0; 0 s0 answer 157 done; 0 s0 answer 158 value 0 miss 0; 1 s0 answer \
+211 done; 1 s1 answer 212 denied; 0 s0+f take 358 406 345 435 90 0; 0 s0 answer 159 value 0 miss 0; 3 s0+f take 470 232 \
+448 538 90 1; 1 s1+f take 305 378 269 333 64 0; 2 s2 answer 206 done miss 0; 2 s2 answer 207 unmapped; 2 s2+f take 155 381 \
+93 183 90 1; 1 s1 answer 213 value 0 miss 0; 2 s2 answer 208 value 0 miss 0; 1 s1+f take 320 504 269 333 64 0; 1 s1 answer \
+214 value 0 miss 0; 1 s1 answer 215 denied; 2 s2+f take 195 506 192 232 40 0; 2 s2 answer 209 value 0 miss 0; 2 s2+f take \
+198 511 192 232 40 0; 2 s2 answer 210 value 0 miss 0; 3 s0 answer 160 value 0 miss 0; 3 s0+f take 376 448 345 435 90 0; 3 \
+s0 answer 161 value 0 miss 0; 2 s2+f take 173 485 93 183 90 1; 3 s0+f take 390 494 345 435 90 0; 2 s2 answer 211 value 0 \
+miss 0; 2 s2 answer 212 unmapped; 2 s2+f take 152 508 93 183 90 1; 3 s0 answer 162 value 0 miss 0; 1 s0+f take 286 509 256 \
+296 40 0; 2 s2 answer 213 value 0 miss 0; 1 s0 answer 216 done miss 0; 2 s2+f take 192 469 192 232 40 0; 3 s0+f take 423 \
+447 345 435 90 0; 3 s0 answer 163 value 0 miss 0; 1 s1 answer 217 denied; 0 s0 answer 160 value 0 miss 0; 1 s1+f take 276 \
+347 269 333 64 0; 1 s1 answer 218 value 0 miss 0; 3 s0+f take 450 411 448 538 90 1; 2 s2 answer 214 value 0 miss 0; 1 s1+f \
+take 303 391 269 333 64 0; 3 s0 answer 164 value 0 miss 0; 1 s1 answer 219 value 0 miss 0; 2 s2+f take 167 435 93 183 90 \
+1; 0 s0+f take 463 436 448 538 90 1; 1 s1+f take 284 402 269 333 64 0; 0 s0 answer 161 done miss 0; 3 s0+f take 298 455 \
+297 345 24 0; 3 s0 answer 165 value 0 miss 0; 2 s2 answer 215 value 0 miss 0; 0 s0+f claim 0 6 6 for 495 read; 2 s2 answer \
+216 clean; 0 s0 out 6 clean; 1 s1 answer 220 value 0 miss 0; 0 s0+f give 6 6; 2 s2+f claim 1 7 15 for 153 read; 0 s0+f use \
+495 6 448 538 90 1; 0 s0 answer 162 value 0 miss 0; 2 s1 out 7 clean; 2 s1+f give 7 15; 1 s1+f claim 0 1 1 for 289 read; 2 \
+s2+f use 153 15 93 183 90 1; 2 s2 answer 217 value 0 miss 0; 3 s0+f claim 1 10 24 for 433 write; 2 s2 answer 218 unmapped; \
+3 s1 out 10 clean; 1 s0 out 1 clean; 3 s1+f give 10 24; 2 s2+f claim 0 2 2 for 208 write; 1 s0+f give 1 1; 3 s0+f use 433 \
+24 345 435 90 0; 3 s0 answer 166 done miss 0; 0 s0+f claim 0 3 3 for 474 read; 1 s1+f use 289 1 269 333 64 0; 1 s1 answer \
+221 value 0 miss 0; 1 s1 answer 222 denied; 1 s1+f claim 2 14 54 for 329 read; 0 s0 out 3 clean; 0 s0+f give 3 3; 0 s0+f \
+use 474 3 448 538 90 1; 0 s0 answer 163 value 0 miss 0; 0 s0 answer 164 denied; 1 s2 out 14 clean; 1 s2+f give 14 54; 3 \
+s0+f claim 0 5 5 for 407 write; 1 s1+f use 329 54 269 333 64 0; 3 s0 out 5 written; 3 s0+f give 5 5; 1 s1 answer 223 value \
+0 miss 0; 1 s1+f claim 2 41 129 for 316 read; 3 s0+f use 407 5 345 435 90 0; 3 s0 answer 167 done miss 0; 2 s0 out 2 \
+clean; 2 s0+f give 2 2; 2 s2+f use 208 2 192 232 40 0; 2 s2 answer 219 done miss 0; 0 s0+f claim 2 42 130 for 457 read; 0 \
+s2 out 42 clean; 0 s2+f give 42 130; 3 s0+f answer 168 clean; 0 s0+f use 457 130 448 538 90 1; 2 s2 answer 220 value 0 hit \
+0; 3 s2+f take 98 449 93 183 90 1; 3 s2 answer 169 done miss 0; 0 s0 answer 165 value 0 miss 0; 2 s2+f claim 2 2 27 for \
+226 write; 2 s2 out 2 clean; 2 s2+f give 2 27; 2 s2+f use 226 27 192 232 40 0; 2 s2 answer 221 done miss 0; 2 s1 answer \
+222 value 435 miss 0; 3 s0+f claim 2 7 28 for 354 write; 3 s2 out 7 written; 3 s2+f give 7 28; 1 s2 out 41 written; 1 s2+f \
+give 41 129; 1 s1+f use 316 129 269 333 64 0; 3 s0+f use 354 28 345 435 90 0; 2 s2 answer 223 denied; 1 s1 answer 224 \
+value 0 miss 0; 2 s2+f claim 2 32 144 for 217 write; 3 s0 answer 170 done miss 0; 1 s1 answer 225 denied; 3 s0 answer 171 \
+written; 1 s1+f claim 1 1 9 for 278 read; 3 s0+f claim 2 19 43 for 486 write; 1 s1 out 1 clean; 2 s2 out 32 written; 2 \
+s2+f give 32 144; 2 s2+f use 217 144 192 232 40 0; 1 s1+f give 1 9; 1 s1+f use 278 9 269 333 64 0; 2 s2 answer 224 done \
+miss 0; 3 s2 out 19 clean; 1 s1 answer 226 value 0 miss 0; 3 s2+f give 19 43; 2 s2+f claim 1 6 14 for 96 write; 2 s1 out 6 \
 clean; 2 s1+f give 6 14; 1 s1+f claim 2 11 51 for 279 read; 2 s2+f use 96 14 93 183 90 1; 3 s0+f use 486 43 448 538 90 1; \
-3 s0 answer 172 done; 2 s2 answer 225 done; 1 s2 out 11 written; 3 s0 answer 173 clean; 3 s0+f claim 1 2 10 for 428 write; \
-3 s1 out 2 clean; 1 s2+f give 11 51; 2 s2+f claim 2 10 50 for 112 read; 2 s2 out 10 clean; 3 s1+f give 2 10; 3 s0+f use \
-428 10 345 435 90 0; 3 s0 answer 174 done; 3 s0+f claim 2 36 148 for 491 read; 2 s2+f give 10 50; 1 s1+f use 279 51 269 \
-333 64 0; 1 s1 answer 227 value 0; 2 s2+f use 112 50 93 183 90 1; 2 s2 answer 226 value 0; 3 s2 out 36 clean; 3 s2+f give \
-36 148; 2 s2+f claim 2 46 134 for 230 read; 2 s2 out 46 clean; 3 s0+f use 491 148 448 538 90 1; 2 s2+f give 46 134; 3 s0 \
-answer 175 value 0; 3 s0 answer 176 value 0; 3 s0+f claim 2 52 156 for 427 read; 2 s2+f use 230 134 192 232 40 0; 2 s2 \
-answer 227 value 0; 3 s2 out 52 clean; 2 s1+f claim 2 35 147 for 306 read; 3 s2+f give 52 156; 2 s2 out 35 clean; 3 s0+f \
-use 427 156 345 435 90 0; 2 s2+f give 35 147; 2 s1+f use 306 147 269 333 64 0; 2 s1 answer 228 value 0; 3 s0 answer 177 \
-value 0; 3 s0+f claim 2 13 53 for 516 read; 2 s2+f claim 1 5 13 for 231 read; 2 s1 out 5 written; 2 s1+f give 5 13; 3 s2 \
-out 13 written; 3 s2+f give 13 53; 2 s2+f use 231 13 192 232 40 0; 3 s0+f use 516 53 448 538 90 1; 3 s0 answer 178 value \
-0; 2 s2 answer 229 value 0; 2 s2+f claim 2 26 138 for 200 read; 3 s0+f claim 0 4 4 for 460 read; 3 s0 out 4 written; 2 s2 \
-out 26 clean; 3 s0+f give 4 4; 3 s0+f use 460 4 448 538 90 1; 2 s2+f give 26 138; 2 s2+f use 200 138 192 232 40 0; 2 s2 \
-answer 230 value 0; 2 s2+f claim 2 25 137 for 216 write; 3 s0 answer 179 value 0; 2 s2 out 25 written; 3 s0+f claim 2 45 \
-133 for 479 read; 2 s2+f give 25 137; 2 s2+f use 216 137 192 232 40 0; 2 s2 answer 231 done; 2 s2 answer 232 overlap; 3 s2 \
-out 45 clean; 3 s2+f give 45 133; 2 s2 answer 233 overlap; 3 s0+f use 479 133 448 538 90 1; 3 s0 answer 180 value 0; 2 \
-s2+f claim 0 64 30 for 228 read; 2 s0 out 64 clean; 2 s0+f give 64 30; 2 s2+f use 228 30 192 232 40 0; 2 s2 answer 234 \
-value 0";
+3 s0 answer 172 done miss 0; 2 s2 answer 225 done miss 0; 1 s2 out 11 written; 3 s0 answer 173 clean; 3 s0+f claim 1 2 10 \
+for 428 write; 3 s1 out 2 clean; 1 s2+f give 11 51; 2 s2+f claim 2 10 50 for 112 read; 2 s2 out 10 clean; 3 s1+f give 2 \
+10; 3 s0+f use 428 10 345 435 90 0; 3 s0 answer 174 done miss 0; 3 s0+f claim 2 36 148 for 491 read; 2 s2+f give 10 50; 1 \
+s1+f use 279 51 269 333 64 0; 1 s1 answer 227 value 0 miss 0; 2 s2+f use 112 50 93 183 90 1; 2 s2 answer 226 value 0 miss \
+0; 3 s2 out 36 clean; 3 s2+f give 36 148; 2 s2+f claim 2 46 134 for 230 read; 2 s2 out 46 clean; 3 s0+f use 491 148 448 \
+538 90 1; 2 s2+f give 46 134; 3 s0 answer 175 value 0 miss 0; 3 s0 answer 176 value 0 hit 0; 3 s0+f claim 2 52 156 for 427 \
+read; 2 s2+f use 230 134 192 232 40 0; 2 s2 answer 227 value 0 miss 0; 3 s2 out 52 clean; 2 s1+f claim 2 35 147 for 306 \
+read; 3 s2+f give 52 156; 2 s2 out 35 clean; 3 s0+f use 427 156 345 435 90 0; 2 s2+f give 35 147; 2 s1+f use 306 147 269 \
+333 64 0; 2 s1 answer 228 value 0 miss 0; 3 s0 answer 177 value 0 miss 0; 3 s0+f claim 2 13 53 for 516 read; 2 s2+f claim \
+1 5 13 for 231 read; 2 s1 out 5 written; 2 s1+f give 5 13; 3 s2 out 13 written; 3 s2+f give 13 53; 2 s2+f use 231 13 192 \
+232 40 0; 3 s0+f use 516 53 448 538 90 1; 3 s0 answer 178 value 0 miss 0; 2 s2 answer 229 value 0 miss 0; 2 s2+f claim 2 \
+26 138 for 200 read; 3 s0+f claim 0 4 4 for 460 read; 3 s0 out 4 written; 2 s2 out 26 clean; 3 s0+f give 4 4; 3 s0+f use \
+460 4 448 538 90 1; 2 s2+f give 26 138; 2 s2+f use 200 138 192 232 40 0; 2 s2 answer 230 value 0 miss 0; 2 s2+f claim 2 25 \
+137 for 216 write; 3 s0 answer 179 value 0 miss 0; 2 s2 out 25 written; 3 s0+f claim 2 45 133 for 479 read; 2 s2+f give 25 \
+137; 2 s2+f use 216 137 192 232 40 0; 2 s2 answer 231 done miss 0; 2 s2 answer 232 overlap; 3 s2 out 45 clean; 3 s2+f give \
+45 133; 2 s2 answer 233 overlap; 3 s0+f use 479 133 448 538 90 1; 3 s0 answer 180 value 0 miss 0; 2 s2+f claim 0 64 30 for \
+228 read; 2 s0 out 64 clean; 2 s0+f give 64 30; 2 s2+f use 228 30 192 232 40 0; 2 s2 answer 234 value 0 miss 0";
