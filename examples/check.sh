@@ -1,15 +1,15 @@
 #!/bin/sh
 # Runs the built program on every example, and on words, inputs and outputs that it must not take, and compares its output, status
-# and message with what stands here.
+# and message with what stands here. Then it does the same with tools/from-lackey, which needs Python.
 #
 #     examples/check.sh [PROGRAM]
 #
 # Each NAME.trace is run with the word `order`, ends with status 0, says nothing and prints NAME.text, unless a line of `cases` has
 # it as a run of the same name; that file has the other runs too. To add an example, add its two files; to add another run, add a
-# line to `cases`.
+# line to `cases`, or to `conversions` where it is one of tools/from-lackey.
 #
 # PROGRAM is crates/superpager/out/superpager where it isn't given. `rt ci` at the top leaves it there, built of what it proved, also
-# where nothing was kept from an earlier run, and then these runs take a second. Where it isn't there, `rt run` proves and builds it.
+# where nothing was kept from an earlier run, and then these runs take a few seconds. Where it isn't there, `rt run` proves and builds it.
 #
 # The last line is `N passed, M failed`. The status is 1 where a run failed, or none was made.
 
@@ -54,7 +54,7 @@ compare() {
     status=$2
     expected=$3
     said=$4
-    text=$name.text
+    text=$5
     [ -e "$text" ] || text=/dev/null
     if [ -n "$said" ]; then printf '%s\n' "$said"; fi >"$made/expected"
     wrong=
@@ -71,20 +71,47 @@ compare() {
     fi
 }
 
-sed -e '/^#/d' -e '/^$/d' -e 's/ *| */|/g' cases >"$made/cases"
+# The lines of a table of runs.
+lines_of() {
+    sed -e '/^#/d' -e '/^$/d' -e 's/ *| */|/g' "$1"
+}
+
+lines_of cases >"$made/cases"
+lines_of conversions >"$made/conversions"
 
 while IFS='|' read -r name words input output status message; do
     eval "run \"\$input\" \"\$output\" $words"
-    compare "$name" $? "$status" "$message"
+    compare "$name" $? "$status" "$message" "$name.text"
 done <"$made/cases"
 
 for trace in *.trace; do
     name=${trace%.trace}
     if ! grep -q "^$name|" "$made/cases"; then
         run "$trace" told order
-        compare "$name" $? 0 ''
+        compare "$name" $? 0 '' "$name.text"
     fi
 done
+
+program=../tools/from-lackey
+
+# Runs the converter as `run` does. Its message becomes one line, without that of its usage.
+convert() {
+    run "$@"
+    status_of_run=$?
+    sed '/^usage: /d' "$made/message" | paste -s -d ' ' - >"$made/line"
+    mv "$made/line" "$made/message"
+    return "$status_of_run"
+}
+
+while IFS='|' read -r name words input output status message; do
+    eval "convert \"\$input\" \"\$output\" $words"
+    compare "$name" $? "$status" "$message" "$name.trace"
+done <"$made/conversions"
+
+# As many pages as these, each at the start of its 4 MiB, need more than a space.
+awk 'BEGIN { for (i = 100000; i < 102100; i++) printf " L %d000000,1\n", i }' >"$made/scattered"
+convert "$made/scattered" told
+compare scattered $? 1 'from-lackey: the 2100 touched pages have no room in a space of 1048576' scattered.trace
 
 printf '%s passed, %s failed\n' "$passed" "$failed"
 [ "$failed" = 0 ] && [ "$passed" != 0 ]
