@@ -1,7 +1,6 @@
 -- A region's pages give their frames up, the lowest first, until none is resident.
-use Rattle.std.proofs.Common.{◌≡◌, ◌≢◌, ℕ, zero, suc, ◌+◌, ◌<◌, ◌≤◌, Bool, true, false, cond, eqb, leb, ltb, ◌&&◌, List, ◌∷◌, length, is_some, None, refl, ap, sym, subst, ◌∙◌, inl, inr, arith}
+use Rattle.std.proofs.Common.{◌≡◌, ◌≢◌, ℕ, zero, suc, ◌+◌, ◌<◌, ◌≤◌, Bool, true, false, cond, eqb, leb, ltb, ◌&&◌, length, is_some, None, refl, ap, sym, subst, ◌∙◌, inl, inr, arith}
 use Rattle.std.specs.List.{range_with_len, count_by}
-use Rattle.std.proofs.lemmas.List.Sums.{sum_by-cons}
 use Rattle.std.proofs.lemmas.Bool.{cases_eq, cond-true, cond-false, and_parts, and_from, and_right, eq-eqb, ne_eqb, le-leb, leb-true, lt-ltb, ltb-true, false≢true}
 use Rattle.pager_model.specs.declared.entry.What.TheVariants.{Clear as ClearEntry}
 use Rattle.pager_model.specs.Flat.{space_of_call}
@@ -17,12 +16,10 @@ use Rattle.pager_core.specs.Flights.{IsReady}
 use Rattle.pager_core.specs.Steps.{Makes}
 use Rattle.pager_core.proofs.Answering.{in_phase, by_phase, Some-same}
 use Rattle.pager_core.proofs.Making.{Leads, Makes-going}
+use Rattle.pager_core.proofs.Lists.{count-cons}
 use Rattle.pager_core.proofs.GivenRanges.{give_range-none, give_range-lowest, entries-given}
 
 -- Counting over a range.
-
-count-cons : (p : ℕ → Bool) (n : ℕ) (ns : List ℕ) → count_by p (n ∷ ns) ≡ cond (p n) 1 0 + count_by p ns
-count-cons p n ns = sum_by-cons (λ k. cond (p k) 1 0) n ns
 
 -- tests that give the same but at a number before the range count the same
 count-same : (f g : ℕ → Bool) (page first len : ℕ) → page < first → ((p : ℕ) → p ≢ page → g p ≡ f p) → count_by g (range_with_len first len) ≡ count_by f (range_with_len first len)

@@ -23,12 +23,10 @@ use Rattle.tiles.proofs.Counting.{count_pages_most}
 use Rattle.pager_core.specs.Flights.{IsAtRest}
 use Rattle.pager_core.specs.Machines.{IsMachine}
 use Rattle.pager_core.specs.Running.{Running, HasEnded}
+use Rattle.pager_core.proofs.Lists.{count-cons}
 use Rattle.pager_core.specs.Sums.{AreFewer, tiles_in, promotions_in, demotions_in}
 
 -- Sums.
-
-count-cons : {X : Type 0} (p : X → Bool) (x : X) (xs : List X) → count_by p (x ∷ xs) ≡ cond (p x) 1 0 + count_by p xs
-count-cons p x xs = sum_by-cons (λ y. cond (p y) 1 0) x xs
 
 -- a count of what is mapped
 pub count_by-map : {X Y : Type 0} (p : Y → Bool) (f : X → Y) (xs : List X) → count_by p (map f xs) ≡ count_by (λ x. p (f x)) xs

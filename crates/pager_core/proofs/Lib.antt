@@ -5,12 +5,12 @@ pub mod Failing
 pub mod Evicting
 pub mod Refusing
 pub mod GivenRanges
+pub mod Lists
 pub mod Clearing
 pub mod Taking
 pub mod Claiming
 pub mod PagingOut
 pub mod Holding
-pub mod Lists
 pub mod Following
 pub mod GoingOn
 pub mod Turning

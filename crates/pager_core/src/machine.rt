@@ -43,6 +43,7 @@ pub struct Gathered<S: Store + Send + Drop> {
     pub history: Vec<Numbered>,
     /// The stores that were handed in, in their order.
     pub stores: Vec<S>,
+    /// The counts of the whole run.
     pub summary: Summary,
 }
 

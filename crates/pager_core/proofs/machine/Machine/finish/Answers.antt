@@ -55,9 +55,11 @@ returns-clause-summary g c =
     let moves = c.moves_of-promotions.ensures in
     let accesses = c.accesses_in-hits.ensures in
     let entries = ap entries_in c.as_slice-3.ensures.value in
+    let tiles : c.tiles_of-tiles.result ≡ tiles_in i.spaces.items 0 ∷ tiles_in i.spaces.items 1 ∷ tiles_in i.spaces.items 2 ∷ tiles_in i.spaces.items 3 ∷ [] =
+    c.tiles_of-tiles.ensures ∙ ap (λ l. tiles_in l 0 ∷ tiles_in l 1 ∷ tiles_in l 2 ∷ tiles_in l 3 ∷ []) c.as_slice.ensures.value in
     subst (λ (m : Running). (let s : Summary = record { tiles = c.tiles_of-tiles.result; promotions = c.moves_of-promotions.result.0; demotions = c.moves_of-promotions.result.1; preemptions = c.preempted-preemptions.result; hits = c.accesses_in-hits.result.0; misses = c.accesses_in-hits.result.1; free = c.counts-frames.result.free; reserved = c.counts-frames.result.reserved; used = c.counts-frames.result.used } in s) ≡ counts m.given (entries_in m.history)) c.self.view_is
     (counts_are _ i.spaces.items i.pool _ c.self.invariant.0 (subst HasEnded (sym c.self.view_is) c.requires) _ _ _ _ _ _ _ _ _
-    (c.tiles_of-tiles.ensures ∙ ap (λ l. tiles_in l 0 ∷ tiles_in l 1 ∷ tiles_in l 2 ∷ tiles_in l 3 ∷ []) c.as_slice.ensures.value)
+    tiles
     (ap (λ (p : ℕ × ℕ). p.0) moves ∙ ap promotions_in c.as_slice-2.ensures.value)
     (ap (λ (p : ℕ × ℕ). p.1) moves ∙ ap demotions_in c.as_slice-2.ensures.value)
     c.preempted-preemptions.ensures
