@@ -1,5 +1,5 @@
 -- What becomes of a space when the pages of a region give their frames up, and when the region then goes.
-use Rattle.std.proofs.Common.{◌≡◌, ◌≢◌, ℕ, Bool, ◌+◌, ◌<◌, ◌≤◌, true, false, ◌&&◌, ◌==◌, not, if◌then◌else◌, List, [], map, length, Option, Some, None, is_some, refl, sym, ap, inl, inr, ◌∙◌, arith, subst}
+use Rattle.std.proofs.Common.{◌≡◌, ◌≢◌, ℕ, Bool, ◌+◌, ◌<◌, ◌≤◌, true, false, ◌&&◌, ◌==◌, not, if◌then◌else◌, List, [], map, Option, Some, None, is_some, refl, sym, ap, inl, inr, ◌∙◌, arith, subst}
 use Rattle.std.proofs.lemmas.Bool.{cases_Bool, cases_eq, cases_lt, eq-eqb, ne_eqb, cond-true, cond-false, true≢false}
 use Rattle.std.proofs.lemmas.Bool.Decides.{nat_tests}
 use Rattle.std.proofs.lemmas.Option.{none-some, same_Some}
@@ -237,11 +237,13 @@ module _ (old : Kept) (number : ℕ) (regions : List Region) (t : Table) (pendin
   pub scanned_from : (from end page : ℕ) → first ≤ from → ((p : ℕ) → first ≤ p → p < from → frame_at old p ≡ None) → IsFirstResident t from end page
       → (r : Region) → is ≡ Some r → (r.first ≤ page) × ((q : ℕ) → r.first ≤ q → q < page → frame_in t q ≡ None)
   scanned_from from end page begun before found r at =
-      let same : r.first ≡ first = ap (λ (x : Region). x.first) (same_Some _ _ (sym at ∙ here)) ∙ range.first_is in
-      (omega (arith, same, begun, found.from_on), λ q low below. elim (cases_lt q from) [
-        | inl l ↦ none_before from before q (omega (arith, same, low)) l
-        | inr past ↦ found.lowest q past below
-      ])
+      let same : r.first ≡ first = ap (λ (x : Region). x.first) (same_Some _ _ (sym at ∙ here)) ∙ range.first_is in (
+        omega (arith, same, begun, found.from_on),
+        λ q low below. elim (cases_lt q from) [
+          | inl l ↦ none_before from before q (omega (arith, same, low)) l
+          | inr past ↦ found.lowest q past below
+        ],
+      )
 
   abbrev all_gone : Option ℕ → Option Region → Kept
   all_gone o region = kept number regions t o region paged store (map (still_tiles (mapping_in t)) images) promotions (counted_up demotions broken) broken

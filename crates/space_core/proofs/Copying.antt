@@ -187,7 +187,7 @@ module _ (old : Kept) (resting : IsResting old) where
         let after = outed st c page next in
         let is : (p : ℕ) → pages_of after p ≡ mapping_in new.table p = λ p.
         said_flag (p == page) false (st.flat.dirty p) (st.base p) (region_at st.flat.regions p) (st.flat.rights p)
-            ∙ ap (λ (o : Option Mapping). if p == page then option_map (with_flag false) o else o) (s.pages p) ∙ sym (cleans.mapping p) in
+        ∙ ap (λ (o : Option Mapping). if p == page then option_map (with_flag false) o else o) (s.pages p) ∙ sym (cleans.mapping p) in
         let this : (page == page) ≡ true = eq-eqb page page refl in
         one_stands old new st after page whole (clearing ∙ sym resting.none_clearing) (record { regions = refl; rights = λ p. refl; told = refl })
         (omega (arith, b.highest, is_saved.faults))

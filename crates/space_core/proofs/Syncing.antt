@@ -1,6 +1,6 @@
 -- What a sync and an evict are answered, and what they do, where a region has their page.
-use Rattle.std.proofs.Common.{◌≡◌, ◌≢◌, ℕ, Bool, true, false, ◌&&◌, ◌==◌, if◌then◌else◌, not, List, Option, Some, None, is_some, option_map, ◌<◌, refl, sym, ap, inl, inr, ◌∙◌, arith, subst}
-use Rattle.std.proofs.lemmas.Bool.{cases_eq, not-true, false≢true, eq-eqb, ne_eqb, cond-true, cond-false}
+use Rattle.std.proofs.Common.{◌≡◌, ◌≢◌, ℕ, Bool, true, false, ◌&&◌, ◌==◌, if◌then◌else◌, not, List, Option, Some, None, is_some, option_map, ◌<◌, refl, sym, ap, ◌∙◌, arith, subst}
+use Rattle.std.proofs.lemmas.Bool.{not-true, false≢true}
 use Rattle.std.proofs.lemmas.Option.{same_Some}
 use Rattle.pager_model.specs.declared.call.Call.{Call}
 use Rattle.pager_model.specs.declared.call.Call.TheVariants.{Load, Store, Sync, Evict}
@@ -21,7 +21,7 @@ use Rattle.space_core.specs.declared.space.OutFault.TheVariants.{Failed as OutFa
 use Rattle.space_core.specs.Beginning.{Begins, BeginsAnswered, BeginsEvicting, SameRegions, copied_reply}
 use Rattle.space_core.specs.Saving.{Saves, FailsToSave, LacksRoom, unwritten_by}
 use Rattle.space_core.specs.Standing.{Kept, answer_entry, StandsFor, IsResting, frame_at, dirty_at, copied_page, may_copy, is_unwired}
-use Rattle.space_core.specs.Tables.{mapping_in, frame_in, word_in, dirty_in}
+use Rattle.space_core.specs.Tables.{mapping_in, frame_in, word_in}
 use Rattle.space_core.specs.Translating.{CleansPage}
 use Rattle.store_core.specs.Stored.{Stored}
 use Rattle.space_core.proofs.TableLemmas.{dirty_in-absent, cleans_none}

@@ -1,6 +1,6 @@
 -- What becomes of a table of pages when a page gets a frame, loses it, has its words written, or is marked dirty or clean, and when a
 -- range gets rights.
-use Rattle.std.proofs.Common.{◌≡◌, ◌≢◌, ℕ, ◌+◌, ◌-◌, ◌<◌, ◌≤◌, true, false, ◌==◌, ◌&&◌, if◌then◌else◌, List, ◌++◌, Bool, Option, Some, None, is_some, length, replicate, take, drop, slice_index_or, slice_set, option_map, refl, sym, ap, inl, inr, ◌∙◌, arith, subst}
+use Rattle.std.proofs.Common.{◌≡◌, ◌≢◌, ℕ, ◌+◌, ◌-◌, ◌<◌, ◌≤◌, true, false, ◌==◌, if◌then◌else◌, List, ◌++◌, Bool, Option, Some, None, is_some, length, replicate, take, drop, slice_index_or, slice_set, option_map, refl, sym, ap, inl, inr, ◌∙◌, arith, subst}
 use Rattle.std.specs.Option.{option_and_then}
 use Rattle.std.proofs.lemmas.Bool.{cases_eq, cases_lt, cond-true, cond-false, eq-eqb, ne_eqb}
 use Rattle.std.proofs.lemmas.Bool.Decides.{nat_tests}
@@ -12,7 +12,7 @@ use Rattle.std.proofs.lemmas.Option.{none-some, same_Some}
 use Rattle.pager_model.specs.declared.region.Rights.{Rights}
 use Rattle.pager_model.specs.declared.tile.Mapping.{Mapping}
 use Rattle.pager_model.specs.Frame.{Framed}
-use Rattle.space_core.specs.Pages.{IsFrameAt, IsPaged, SameOwn, IsFresh, Maps, Refills, HasWords, Writes, Cleans, OwnsRights, Protects, Forgets}
+use Rattle.space_core.specs.Pages.{IsFrameAt, IsPaged, IsFresh, Maps, Refills, HasWords, Writes, Cleans, OwnsRights, Protects, Forgets}
 use Rattle.space_core.specs.Tables.{Table, mapping_in, frame_in, word_in, word_in_frame, own_in, flag_in, dirty_in}
 use Rattle.tiles.specs.Resident.{Resident, mapping_at, frames_in, with_flag, with_rights, Maps as MapsTo, Protects as ProtectsIn}
 

@@ -1,5 +1,5 @@
 -- What becomes of what a space and a state have in common of translations, as pages change and tiles are used.
-use Rattle.std.proofs.Common.{◌≡◌, ◌≢◌, ℕ, zero, suc, ◌+◌, ◌*◌, ◌^◌, ◌<◌, ◌≤◌, Bool, true, false, ◌&&◌, ◌==◌, not, nat_lt, min, if◌then◌else◌, List, [], ◌∷◌, filter, take, map, length, slice_index_or, slice_set, Option, Some, None, is_some, option_map, refl, sym, ap, inl, inr, ◌∙◌, ◌⊎◌, arith}
+use Rattle.std.proofs.Common.{◌≡◌, ℕ, zero, suc, ◌+◌, ◌*◌, ◌^◌, ◌<◌, ◌≤◌, Bool, true, false, ◌&&◌, ◌==◌, not, nat_lt, min, if◌then◌else◌, List, [], ◌∷◌, filter, take, map, length, slice_index_or, slice_set, Option, Some, None, is_some, option_map, refl, sym, ap, inl, inr, ◌∙◌, arith}
 use Rattle.std.specs.List.{list_all}
 use Rattle.std.proofs.lemmas.Bool.{cases_Bool, cases_eq, cases_lt, and_parts, cond-true, cond-false, eq-eqb, ne_eqb}
 use Rattle.std.proofs.lemmas.Bool.Decides.{nat_tests}
@@ -11,17 +11,17 @@ use Rattle.pager_model.specs.declared.region.Rights.{Rights}
 use Rattle.pager_model.specs.declared.tile.Mapping.{Mapping}
 use Rattle.pager_model.specs.declared.tile.Tile.{Tile}
 use Rattle.pager_model.specs.Extents.{extent_start}
-use Rattle.pager_model.specs.Images.{image_room, is_in_image, still_tiles, touched, touched_by, images_with}
+use Rattle.pager_model.specs.Images.{image_room, still_tiles, touched, touched_by, images_with}
 use Rattle.pager_model.specs.Regions.{region_at}
 use Rattle.pager_model.specs.SpaceStates.{SpaceState, last_count, pages_of}
 use Rattle.pager_model.specs.Tiles.{mapping_with, same_tile, tile_of, is_tile, promotions_between, demotions_between}
 use Rattle.space_core.specs.Keeping.{IsMapped}
 use Rattle.space_core.specs.Standing.{Kept, Translates, image_at, frame_at, dirty_at, rights_at, rights_by}
-use Rattle.space_core.specs.Tables.{Table, mapping_in, frame_in, own_in, dirty_in}
+use Rattle.space_core.specs.Tables.{Table, mapping_in, own_in}
 use Rattle.space_core.specs.Translating.{Retouches, Touches, counted_up}
 use Rattle.space_core.proofs.TableLemmas.{frame-absent, frame-mapped, dirty-mapped}
 use Rattle.tiles.specs.declared.moves.Moves.{Moves}
-use Rattle.tiles.specs.Resident.{AreMoves, with_flag, with_rights}
+use Rattle.tiles.specs.Resident.{AreMoves, with_flag}
 use Rattle.tiles.proofs.Cleared.{no_promotions, no_demotions}
 use Rattle.tiles.proofs.Extents.{first_of_extent}
 use Rattle.tiles.proofs.TileLaws.{tile_largest, largest_tile}

@@ -314,7 +314,9 @@ impl<S: Store + Send + Drop> Space<S> {
         ensures done { (p : ℕ) → first ≤ p → p < result → frame_at self.old p ≡ None }
         ensures counts { BeginsClear self.old self.new first length }
     {
-        if let Some(region) = self.clearing && region.first == first {
+        if let Some(region) = self.clearing
+            && region.first == first
+        {
             return self.scan;
         }
         self.broken = self.table.tiles_in(first, length);
@@ -636,7 +638,11 @@ fn keep_tiles(images: &mut [Image], table: &PageTable)
 }
 
 /// Room for the pages of a space, and an image for each processor.
-fn parts_of(alloc: Global, frames: u32, processors: u32) -> Result<(PageTable, Vec<Image>), NoMemory>
+fn parts_of(
+    alloc: Global,
+    frames: u32,
+    processors: u32,
+) -> Result<(PageTable, Vec<Image>), NoMemory>
     requires { frames ≤ 32768 }
     ensures { IfOk result (λ parts. IsFresh frames parts.0 × (parts.1.items ≡ replicate processors [])) }
 {

@@ -9,5 +9,5 @@ invariant-loop-image l =
     record {
       done : (k : ℕ) (d : List Tile) → k < l.image-index → get_or l.images k d ≡ still_tiles (mapping_in l.table) (get_or l.fn.images k []);
       rest : (k : ℕ) (d : List Tile) → l.image-index ≤ k → get_or l.images k d ≡ get_or l.fn.images k d;
-      whole : length l.images ≡ length l.fn.images
+      whole : length l.images ≡ length l.fn.images;
     }

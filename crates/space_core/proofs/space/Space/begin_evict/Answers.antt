@@ -22,7 +22,7 @@ returns-then-matches g c =
     let found : region_at c.args.self.now.regions c.args.page ≡ Some c.in-Some.region = ap (λ (k : Kept). region_at k.regions c.args.page) (sym c.self.view_is) ∙ sym c.in-Some.ensures.value in
     elim c.match-matches.branch [
       | in-Wired w ↦ rw c.answered-then-matches.ensures (λ processor. begins_refused c.args.self.now processor (Evict c.args.self.now.number c.args.page) Denied c.requires.can c.requires.resting refl tt
-        (λ st s. ap (λ rs. evict_reply (region_at rs c.args.page) (st.flat.dirty c.args.page)) s.beside.regions ∙ evict_denied _ c.args.page c.in-Some.region found w.in-Wired.is (st.flat.dirty c.args.page)))
+          (λ st s. ap (λ rs. evict_reply (region_at rs c.args.page) (st.flat.dirty c.args.page)) s.beside.regions ∙ evict_denied _ c.args.page c.in-Some.region found w.in-Wired.is (st.flat.dirty c.args.page)))
       | in_default-matches w ↦ absurd (true≢false (sym c.if-matches.true ∙ w.matches-is))
     ]
 

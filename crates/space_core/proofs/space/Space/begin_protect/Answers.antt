@@ -27,7 +27,7 @@ returns-then-page-length g c =
     let found : region_at c.args.self.now.regions c.args.page ≡ Some c.in-Some.region = ap (λ (k : Kept). region_at k.regions c.args.page) (sym c.self.view_is) ∙ sym c.in-Some.ensures.value in
     rw c.answered-then-page-length.ensures (λ processor. begins_refused c.args.self.now processor (Protect c.args.self.now.number c.args.page c.args.length c.args.rights) Unmapped c.requires.can c.requires.resting refl tt
     (λ st s. cond-false _ _ _ (ap (λ rs. range_in c.args.page c.args.length (region_at rs c.args.page)) s.beside.regions ∙ ap (range_in c.args.page c.args.length) found
-      ∙ lt-leb (c.args.page + c.args.length) (end_of c.in-Some.region) (omega arith))))
+    ∙ lt-leb (c.args.page + c.args.length) (end_of c.in-Some.region) (omega arith))))
 
 pub invariant_of-self : goal.invariant_of-self
 invariant_of-self g c =

@@ -1,4 +1,4 @@
-use Rattle.std.proofs.Common.{◌∙◌, ap, sym, refl}
+use Rattle.std.proofs.Common.{◌∙◌, ap, sym}
 use Rattle.space_core.specs.Standing.{Kept}
 use Rattle.space_core.proofs.SameView.{same_regions}
 use Rattle.space_core.proofs.GivingUp.{evicts, evicting_only, evicting_unbehind}

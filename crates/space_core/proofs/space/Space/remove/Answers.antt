@@ -1,4 +1,4 @@
-use Rattle.std.proofs.Common.{◌∙◌, ◌&&◌, not, ap, refl}
+use Rattle.std.proofs.Common.{◌∙◌, ◌&&◌, not, ap}
 use Rattle.space_core.specs.Standing.{Kept, is_page}
 use Rattle.space_core.proofs.SameView.{same_regions}
 use Rattle.space_core.proofs.GivingUp.{removes, clean_only}
