@@ -30,7 +30,7 @@ fn a_page_takes_the_lowest_frame_that_a_broken_reservation_gave_back(
     // The second eighth of the frames is free then, or the second eighth of the first eighth.
     for (trace, frame) in [(FIRST_EIGHTH, 64), (EACH_EIGHTH, 8)] {
         let mut source = source_of(alloc, trace, 0)?;
-        let mut sink = sink_of(alloc, 200, 0)?;
+        let mut sink = sink_of(alloc, 400, 0)?;
         let stores = stores_of(alloc, 1, &[], &[])?;
         let outcome = run(&rt, alloc, &ORDER, &mut source, &mut sink, stores);
         assert_eq!(rt; outcome.status, DONE);
