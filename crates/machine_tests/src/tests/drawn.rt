@@ -26,6 +26,7 @@ pub static FIRST: [Run; 10] = [
             0; 0 s1 answer 516 value 0 miss 0; 2 s1+f claim 1 0 511 for 4 write; 2 s1 out 0 clean; 2 s1+f give 0 511; 2 \
             s1+f use 4 511 0 8 8 0; 2 s1 answer 4 done miss 0; 0 s1+f clear 0 8; 0 s1 answer 517 done; 0 s0 answer 518 \
             done; 2 s0 answer 5 overlap; 2 s1 answer 6 unmapped",
+        counts: "tiles 7 7 7 0; promotions 63; demotions 0; preemptions 0; images 0 514; frames 1 0 511",
     },
     Run {
         name: "drawn from 104",
@@ -46,6 +47,7 @@ pub static FIRST: [Run; 10] = [
             clean; 0 s0 answer 517 done hit 0; 0 s0 answer 518 value 28 hit 0; 0 s0+f answer 519 written; 0 s0 answer 520 \
             unmapped; 0 s0 answer 521 unmapped; 0 s0+f take 512 508 512 514 2 0; 0 s0 answer 522 value 28 miss 0; 0 s0 \
             answer 523 unmapped",
+        counts: "tiles 3 0 0 0; promotions 63; demotions 14; preemptions 0; images 3 515; frames 509 0 3",
     },
     Run {
         name: "drawn from 187",
@@ -64,6 +66,7 @@ pub static FIRST: [Run; 10] = [
             f drop 510; 1 s1 answer 0 denied; 1 s0+f take 512 510 512 1048576 2 0; 1 s0 failed 512 read 1; 0 f drop 509; 0 \
             s1 answer 516 denied; 1 s0+f give 512 510; 0 s1 answer 517 clean; 1 s0 answer 1 storefault 0 1; 1 s0+f answer \
             2 clean; 1 s0 answer 3 clean; 1 s0+f clear 512 2; 1 s0 answer 4 done",
+        counts: "tiles 5 7 7 0; promotions 63; demotions 0; preemptions 0; images 0 512; frames 3 0 509",
     },
     Run {
         name: "drawn from 213",
@@ -82,6 +85,7 @@ pub static FIRST: [Run; 10] = [
             f refused 511 0 1; 0 s1 answer 516 noframes 511 0 1; 1 s0+f use 513 511 512 515 3 0; 1 s0 answer 1 done miss \
             0; 1 s0+f claim 0 513 511 for 512 read; 1 s0+f unclaim 511; 1 s0 answer 2 nomemory; 1 s1+f claim 0 513 511 for \
             6 write; 1 s0+f unclaim 511; 1 s1 answer 3 nomemory; 1 s0 answer 4 unmapped",
+        counts: "tiles 8 7 7 0; promotions 63; demotions 0; preemptions 0; images 0 513; frames 0 0 512",
     },
     Run {
         name: "drawn from 306",
@@ -103,6 +107,7 @@ pub static FIRST: [Run; 10] = [
             525 0; 1 s0 answer 0 storefault 0 3; 1 s1 answer 1 done; 1 s0 answer 2 unmapped; 1 s0+f take 512 0 512 520 8 \
             1; 1 s0 answer 3 done miss 0; 1 s2+f claim 0 1 1 for 0 write; 1 s0 out 1 clean; 1 s0+f give 1 1; 1 s2+f use 0 \
             1 0 1048576 3 0; 1 s2 failed 0 read 1; 1 s2+f give 0 1; 1 s2 answer 4 storefault 2 1",
+        counts: "tiles 7 7 7 0; promotions 64; demotions 1; preemptions 0; images 0 513; frames 1 0 511",
     },
     Run {
         name: "drawn from 333",
@@ -122,6 +127,7 @@ pub static FIRST: [Run; 10] = [
             505 for 0 write; 0 s0 answer 578 unmapped; 2 s0 out 505 clean; 3 s1+f use 0 504 0 3 3 1; 2 s0+f give 505 505; \
             3 s1 answer 1 value 0 miss 0; 0 s0 answer 579 unmapped; 0 s0 answer 580 unmapped; 2 f drop 505; 2 s1 answer 2 \
             done miss 0; 2 s0 answer 3 outofspace; 2 s1 answer 4 done hit 0; 3 s0 answer 2 done miss 0",
+        counts: "tiles 7 63 0 0; promotions 64; demotions 1; preemptions 0; images 1 516; frames 1 0 511",
     },
     Run {
         name: "drawn from 347",
@@ -145,6 +151,7 @@ pub static FIRST: [Run; 10] = [
             failed 511 write 1; 1 s0+f unclaim 511; 0 s2+f use 1 510 0 3 3 1; 2 s0+f claim 0 511 511 for 520 read; 0 s2 \
             answer 522 value 0 miss 0; 1 s2 answer 1 storefault 0 1; 1 s2 answer 2 done miss 0; 2 s0 failed 511 write 2; 2 \
             s0+f unclaim 511; 2 s0 answer 3 storefault 0 2; 0 s0 answer 523 value 43 hit 0; 1 s0 answer 3 overlap",
+        counts: "tiles 8 7 7 0; promotions 63; demotions 0; preemptions 0; images 1 518; frames 0 0 512",
     },
     Run {
         name: "drawn from 531",
@@ -166,6 +173,7 @@ pub static FIRST: [Run; 10] = [
             2 done; 3 s2+f take 0 511 0 1 1 0; 3 s2 answer 3 done miss 0; 0 s2 answer 519 value 86 miss 0; 0 s0+f claim 2 \
             0 511 for 512 read; 3 s2 answer 4 done hit 0; 0 s2+f unclaim 511; 0 s0 answer 520 nomemory; 3 s2 answer 5 \
             nomemory; 3 s1 answer 6 clean; 3 s0 answer 7 denied",
+        counts: "tiles 8 7 7 0; promotions 63; demotions 0; preemptions 0; images 1 514; frames 0 0 512",
     },
     Run {
         name: "drawn from 539",
@@ -185,6 +193,7 @@ pub static FIRST: [Run; 10] = [
             2 s0 answer 3 value 0 hit 0; 0 s0 answer 515 done miss 0; 2 s0 answer 4 written; 0 s0 answer 516 unmapped; 0 \
             s0+f answer 517 clean; 0 s0+f take 512 0 512 514 2 0; 0 s0 answer 518 value 15 miss 0; 2 s0 answer 5 unmapped; \
             2 s0 answer 6 done miss 0; 2 s0+f clear 512 2; 2 s0 answer 7 done; 2 s0 answer 8 unmapped",
+        counts: "tiles 7 7 7 0; promotions 64; demotions 1; preemptions 0; images 1 516; frames 1 0 511",
     },
     Run {
         name: "drawn from 609",
@@ -205,6 +214,7 @@ pub static FIRST: [Run; 10] = [
             miss 0; 1 s0+f claim 1 1 510 for 514 write; 1 s1 out 1 written; 0 f refused 511 1 0; 0 s0 answer 516 noframes \
             511 1 0; 1 s1+f give 1 510; 0 s1 answer 517 notgrowing; 1 s0+f use 514 510 514 515 1 1; 1 s0 answer 1 done \
             miss 0",
+        counts: "tiles 8 7 7 0; promotions 63; demotions 0; preemptions 0; images 0 514; frames 0 0 512",
     },
 ];
 
@@ -228,6 +238,7 @@ pub static SECOND: [Run; 10] = [
             515 511 for 512 read; 1 s0+f unclaim 511; 1 s0 answer 0 nomemory; 1 s0 answer 1 value 0 miss 2; 2 s0 answer 2 \
             denied; 2 s0+f clear 512 3; 2 s0 answer 3 done; 2 s0 answer 4 unmapped; 0 s0+f claim 0 515 511 for 522 read; 0 \
             s0+f unclaim 511; 0 s0 answer 516 nomemory; 0 s0 answer 517 done; 0 s0 answer 518 nomemory",
+        counts: "tiles 8 7 7 0; promotions 63; demotions 0; preemptions 0; images 0 514; frames 0 0 512",
     },
     Run {
         name: "drawn from 734",
@@ -247,6 +258,7 @@ pub static SECOND: [Run; 10] = [
             claim 0 511 511 for 0 read; 1 s0 answer 0 done; 2 s1+f clear 0 1; 3 s0 out 511 written; 3 s0+f give 511 511; 2 \
             s1 answer 1 done; 1 s1 answer 1 unmapped; 2 s0 answer 2 denied; 2 s0 answer 3 denied; 3 f drop 511; 3 s1 \
             answer 0 unmapped; 2 s0 answer 4 denied; 2 s1 answer 5 unmapped",
+        counts: "tiles 7 7 7 0; promotions 63; demotions 0; preemptions 0; images 1 513; frames 1 0 511",
     },
     Run {
         name: "drawn from 749",
@@ -266,6 +278,7 @@ pub static SECOND: [Run; 10] = [
             0 511 511 for 0 write; 0 s0+f use 512 510 512 513 1 1; 0 s0 answer 518 value 0 miss 0; 2 s0 out 511 clean; 2 \
             s0+f give 511 511; 1 s2 answer 1 done; 0 s0 answer 519 denied; 1 s0 answer 2 done; 1 s1 answer 3 done; 2 f \
             drop 511; 2 s2 answer 1 denied; 2 s0+f take 513 511 513 1048576 1 0; 2 s0 answer 2 done miss 0",
+        counts: "tiles 16 14 6 0; promotions 63; demotions 1; preemptions 0; images 0 514; frames 0 0 512",
     },
     Run {
         name: "drawn from 776",
@@ -285,6 +298,7 @@ pub static SECOND: [Run; 10] = [
             515 511 512 1048576 8 0; 2 s0 answer 0 value 0 miss 0; 2 s0+f claim 1 2 509 for 512 write; 2 s1+f unclaim 509; \
             1 s0+f clear 512 8; 1 s0 answer 1 done; 1 s2 answer 2 done hit 0; 1 s2 answer 3 nomemory; 2 s0 answer 1 \
             nomemory; 1 s1 answer 4 clean; 2 s0 answer 2 done; 1 s2 answer 5 done",
+        counts: "tiles 7 7 7 0; promotions 63; demotions 0; preemptions 0; images 1 512; frames 1 0 511",
     },
     Run {
         name: "drawn from 798",
@@ -307,6 +321,7 @@ pub static SECOND: [Run; 10] = [
             s1+f unclaim 510; 2 f drop 511; 0 s0 answer 520 storefault 1 1; 2 s1 answer 0 value 10 miss 0; 2 s1 answer 1 \
             value 10 hit 0; 2 s1 answer 2 done hit 0; 2 s0 answer 3 unmapped; 2 s0 answer 4 denied; 2 s1 answer 5 clean; 2 \
             s1 answer 6 done hit 0",
+        counts: "tiles 7 7 7 0; promotions 63; demotions 0; preemptions 0; images 3 515; frames 1 0 511",
     },
     Run {
         name: "drawn from 879",
@@ -327,6 +342,7 @@ pub static SECOND: [Run; 10] = [
             clean; 0 s2 answer 516 done miss 0; 1 s2 answer 3 done; 0 s2 answer 517 denied; 0 s1 answer 518 clean; 0 s0+f \
             clear 512 1; 0 s0 answer 519 done; 1 s0 answer 4 unmapped; 1 s0 answer 5 unmapped; 0 s2 answer 520 outofspace; \
             0 s1 answer 521 denied; 0 s0 answer 522 unmapped",
+        counts: "tiles 8 7 7 0; promotions 63; demotions 0; preemptions 0; images 0 513; frames 0 0 512",
     },
     Run {
         name: "drawn from 883",
@@ -346,6 +362,7 @@ pub static SECOND: [Run; 10] = [
             done miss 0; 0 s0 answer 516 denied; 3 s0+f claim 0 511 511 for 514 write; 3 s0 out 511 clean; 3 s0+f give 511 \
             511; 3 s0+f use 514 511 512 515 3 1; 3 s0 answer 1 done miss 0; 3 s0+f clear 512 3; 3 s0 answer 2 done; 3 s0 \
             answer 3 unmapped; 3 s0 answer 4 unmapped; 3 s0 answer 5 written",
+        counts: "tiles 7 7 7 0; promotions 64; demotions 1; preemptions 0; images 1 516; frames 1 0 511",
     },
     Run {
         name: "drawn from 891",
@@ -366,6 +383,7 @@ pub static SECOND: [Run; 10] = [
             0 read 1; 0 s1+f give 0 0; 0 s1 answer 517 storefault 1 1; 2 s0 answer 0 done; 1 s0 answer 0 done; 1 s1 answer \
             1 outofspace; 2 s0+f clear 512 8; 2 s0 answer 1 done; 2 s1+f take 0 0 0 2 2 1; 2 s1 answer 2 value 0 miss 0; 2 \
             s0 answer 3 unmapped; 3 f got 1; 3 f drop 1; 3 s1 answer 0 done miss 0",
+        counts: "tiles 1 0 0 0; promotions 64; demotions 15; preemptions 0; images 0 514; frames 511 0 1",
     },
     Run {
         name: "drawn from 926",
@@ -385,6 +403,7 @@ pub static SECOND: [Run; 10] = [
             s0 out 0 written; 2 s1 answer 0 value 0 miss 0; 1 s0+f give 0 0; 0 s0 out 1 clean; 0 s0+f give 1 1; 0 f drop \
             1; 0 s1 answer 515 done miss 0; 0 s0 answer 516 unmapped; 1 f drop 0; 1 s1 answer 0 value 19 miss 0; 1 s1 \
             answer 1 done; 1 s0 answer 2 denied; 1 s1 answer 3 written; 2 s0 answer 1 done; 2 s0 answer 2 denied",
+        counts: "tiles 6 7 7 0; promotions 63; demotions 0; preemptions 0; images 0 516; frames 2 0 510",
     },
     Run {
         name: "drawn from 939",
@@ -405,6 +424,7 @@ pub static SECOND: [Run; 10] = [
             use 514 511 512 515 3 0; 0 s0 answer 515 done miss 0; 1 s0 answer 2 unmapped; 0 s0 answer 516 value 55 hit 0; \
             1 s0+f claim 0 514 511 for 512 write; 1 s0 failed 514 write 2; 1 s0+f unclaim 511; 1 s0 answer 3 storefault 0 \
             2; 1 s0 answer 4 value 55 miss 0; 0 s0+f clear 512 3; 0 s0 answer 517 done",
+        counts: "tiles 7 7 7 0; promotions 63; demotions 0; preemptions 0; images 1 514; frames 1 0 511",
     },
 ];
 
@@ -432,6 +452,7 @@ pub static THIRD: [Run; 10] = [
             refused 511 0 1; 0 s0 answer 518 noframes 511 0 1; 0 s0 answer 519 done; 0 s0 answer 520 clean; 0 f refused \
             511 0 1; 0 s1 answer 521 noframes 511 0 1; 0 f refused 511 0 1; 0 s1 answer 522 noframes 511 0 1; 1 f got 511; \
             1 f drop 511; 1 s0 answer 5 denied; 1 s1 answer 6 denied",
+        counts: "tiles 7 7 7 0; promotions 63; demotions 0; preemptions 0; images 0 513; frames 1 0 511",
     },
     Run {
         name: "drawn from 1107",
@@ -452,6 +473,7 @@ pub static THIRD: [Run; 10] = [
             s0 answer 516 done; 0 s0 answer 517 unmapped; 0 s0+f claim 0 512 511 for 519 read; 0 s0+f unclaim 511; 0 s0 \
             answer 518 nomemory; 3 s0 answer 0 denied; 3 s0 answer 1 denied; 3 s0 answer 2 outofspace; 3 s0 answer 3 value \
             0 miss 0; 3 s0 answer 4 done",
+        counts: "tiles 8 7 7 0; promotions 63; demotions 0; preemptions 0; images 0 515; frames 0 0 512",
     },
     Run {
         name: "drawn from 1174",
@@ -472,6 +494,7 @@ pub static THIRD: [Run; 10] = [
             s0 answer 4 done; 0 s0 answer 516 done; 0 s0+f claim 0 512 510 for 517 read; 0 s0 failed 512 write 1; 0 s0+f \
             unclaim 510; 0 s0 answer 517 storefault 0 1; 0 s0 answer 518 denied; 0 s0 answer 519 value 60 miss 0; 0 s0 \
             answer 520 done miss 0",
+        counts: "tiles 16 14 6 0; promotions 63; demotions 1; preemptions 0; images 0 517; frames 0 0 512",
     },
     Run {
         name: "drawn from 1177",
@@ -491,6 +514,7 @@ pub static THIRD: [Run; 10] = [
             written; 0 s1+f give 0 509; 0 s1+f use 5 509 0 8 8 0; 0 s1 answer 514 done miss 0; 0 s1+f claim 0 515 510 for \
             0 read; 0 s0 out 515 written; 0 s0+f give 515 510; 0 s1+f use 0 510 0 8 8 0; 0 s1 failed 0 read 1; 0 s1+f give \
             0 510; 0 s1 answer 515 storefault 1 1",
+        counts: "tiles 7 7 7 0; promotions 63; demotions 0; preemptions 0; images 0 513; frames 1 0 511",
     },
     Run {
         name: "drawn from 1180",
@@ -511,6 +535,7 @@ pub static THIRD: [Run; 10] = [
             s2 answer 1 storefault 1 1; 1 s1 answer 0 value 18 miss 0; 1 s1 answer 1 value 98 miss 0; 1 s1 answer 2 value \
             98 hit 0; 1 s2+f claim 1 7 510 for 0 read; 1 s1 out 7 written; 1 s1+f give 7 510; 1 s2+f use 0 510 0 8 8 1; 1 \
             s2 answer 3 value 0 miss 0",
+        counts: "tiles 8 7 7 0; promotions 63; demotions 0; preemptions 0; images 1 515; frames 0 0 512",
     },
     Run {
         name: "drawn from 1240",
@@ -531,6 +556,7 @@ pub static THIRD: [Run; 10] = [
             510 0 6 3 0; 1 s1 failed 0 read 1; 3 s0+f clear 512 8; 3 s0 answer 4 done; 1 s1+f give 0 510; 1 s1 answer 0 \
             storefault 1 1; 3 s1+f take 6 510 6 9 3 1; 3 s1 answer 5 done miss 0; 1 s1+f clear 0 3; 1 s1 answer 1 done; 1 \
             s1 answer 2 unmapped",
+        counts: "tiles 8 7 7 0; promotions 63; demotions 0; preemptions 0; images 0 515; frames 0 0 512",
     },
     Run {
         name: "drawn from 1388",
@@ -550,6 +576,7 @@ pub static THIRD: [Run; 10] = [
             refused 511 1 0; 0 s2+f clear 0 2; 2 s1 answer 3 noframes 511 1 0; 0 s2 answer 515 done; 1 f got 511; 3 s2 \
             answer 0 unmapped; 1 s1+f use 1 511 0 8 8 0; 1 s1 answer 0 done miss 0; 2 s0 answer 4 overlap; 2 s0 answer 5 \
             notgrowing; 2 s0 answer 6 denied; 3 s1 answer 1 done",
+        counts: "tiles 16 14 6 0; promotions 63; demotions 1; preemptions 0; images 0 514; frames 0 0 512",
     },
     Run {
         name: "drawn from 1392",
@@ -569,6 +596,7 @@ pub static THIRD: [Run; 10] = [
             s1+f clear 0 8; 2 s0 out 505 clean; 0 s1 answer 580 done; 1 f drop 504; 1 s1 answer 0 unmapped; 2 s0+f give \
             505 505; 2 f drop 505; 0 s0 answer 581 unmapped; 2 s1 answer 0 unmapped; 2 s0 answer 1 unmapped; 2 s1 answer 2 \
             unmapped; 2 s1 answer 3 unmapped; 2 s0 answer 4 unmapped",
+        counts: "tiles 6 63 0 0; promotions 64; demotions 1; preemptions 0; images 0 512; frames 2 0 510",
     },
     Run {
         name: "drawn from 1409",
@@ -588,6 +616,7 @@ pub static THIRD: [Run; 10] = [
             s2 failed 4 read 1; 1 s0 answer 0 storefault 0 1; 0 s2+f give 4 509; 0 s2 answer 517 storefault 2 1; 0 s2 \
             answer 518 overlap; 1 s2+f take 0 509 0 1048576 8 0; 0 s0 answer 519 value 0 hit 2; 1 s2 answer 1 value 0 miss \
             0; 1 s0 answer 2 notgrowing; 1 s0 answer 3 denied",
+        counts: "tiles 7 7 7 0; promotions 63; demotions 0; preemptions 0; images 1 513; frames 1 0 511",
     },
     Run {
         name: "drawn from 1414",
@@ -608,6 +637,7 @@ pub static THIRD: [Run; 10] = [
             noframes 511 0 1; 0 f refused 511 0 1; 0 s1 answer 522 noframes 511 0 1; 1 f got 511; 1 s0+f use 521 511 521 \
             522 1 0; 1 s0 failed 521 read 1; 1 s0+f give 521 511; 1 s0 answer 0 storefault 0 1; 1 s2+f take 0 511 0 \
             1048576 1 0; 1 s2 failed 0 read 1; 1 s2+f give 0 511; 1 s2 answer 1 storefault 2 1",
+        counts: "tiles 7 7 7 0; promotions 63; demotions 0; preemptions 0; images 0 512; frames 1 0 511",
     },
 ];
 
@@ -637,6 +667,7 @@ pub static FOURTH: [Run; 10] = [
             storefault 0 1; 2 s0+f take 512 510 512 514 2 0; 2 s0 answer 1 done miss 0; 2 s1+f take 0 511 0 3 3 0; 2 s1 \
             answer 2 done miss 0; 2 s1 answer 3 value 0 miss 0; 3 s0 answer 2 done miss 0; 3 s2+f claim 0 512 510 for 0 \
             read; 3 s0 failed 512 write 2; 3 s0+f unclaim 510; 3 s2 answer 3 storefault 0 2; 3 s0 answer 4 unmapped",
+        counts: "tiles 8 7 7 0; promotions 63; demotions 0; preemptions 0; images 0 518; frames 0 0 512",
     },
     Run {
         name: "drawn from 1639",
@@ -660,6 +691,7 @@ pub static FOURTH: [Run; 10] = [
             s0+f claim 1 1 509 for 513 write; 0 s1+f unclaim 509; 0 s0 answer 521 nomemory; 0 s1 answer 522 value 9 miss \
             0; 0 s0+f claim 1 1 509 for 513 read; 0 s1+f unclaim 509; 0 s0 answer 523 nomemory; 0 s0+f claim 1 1 509 for \
             513 write; 0 s1+f unclaim 509; 0 s0 answer 524 nomemory",
+        counts: "tiles 8 7 7 0; promotions 63; demotions 0; preemptions 0; images 1 513; frames 0 0 512",
     },
     Run {
         name: "drawn from 1690",
@@ -681,6 +713,7 @@ pub static FOURTH: [Run; 10] = [
             storefault 1 1; 1 s1+f take 2 504 0 1048576 3 0; 1 s1 answer 3 done miss 0; 0 s2 answer 582 notgrowing; 1 s0 \
             answer 4 unmapped; 1 s1 answer 5 done; 1 s2+f take 0 511 0 3 3 0; 1 s2 answer 6 value 0 miss 0; 1 s0 answer 7 \
             clean",
+        counts: "tiles 8 63 0 0; promotions 64; demotions 1; preemptions 1; images 0 514; frames 0 0 512",
     },
     Run {
         name: "drawn from 1694",
@@ -700,6 +733,7 @@ pub static FOURTH: [Run; 10] = [
             answer 0 unmapped; 1 s0 answer 3 unmapped; 1 s0+f claim 0 0 0 for 512 read; 1 s0 out 0 written; 1 s0+f give 0 \
             0; 1 s0+f use 512 0 512 513 1 0; 1 s0 answer 4 value 0 miss 0; 2 s0 answer 1 value 0 miss 0; 2 s0+f clear 512 \
             1; 2 s0 answer 2 done; 2 s0 answer 3 unmapped; 2 s0 answer 4 unmapped; 2 s0 answer 5 unmapped",
+        counts: "tiles 7 7 7 0; promotions 64; demotions 1; preemptions 0; images 0 514; frames 1 0 511",
     },
     Run {
         name: "drawn from 1767",
@@ -720,6 +754,7 @@ pub static FOURTH: [Run; 10] = [
             unmapped; 2 s1+f use 13 505 7 15 8 0; 2 s1 answer 2 done miss 0; 1 s0 answer 1 unmapped; 2 s0 answer 3 done \
             miss 0; 2 s0 answer 4 unmapped; 0 f drop 504; 0 s1 answer 580 unmapped; 0 s1 answer 581 done miss 0; 0 s1 \
             answer 582 unmapped; 0 s0 answer 583 written",
+        counts: "tiles 7 63 0 0; promotions 65; demotions 2; preemptions 0; images 0 515; frames 1 0 511",
     },
     Run {
         name: "drawn from 1799",
@@ -740,6 +775,7 @@ pub static FOURTH: [Run; 10] = [
             s0+f claim 0 513 511 for 512 write; 1 s0 failed 513 write 1; 1 s0+f unclaim 511; 1 s0 answer 3 storefault 0 1; \
             1 s0+f claim 0 513 511 for 512 write; 1 s0 failed 513 write 2; 1 s0+f unclaim 511; 1 s0 answer 4 storefault 0 \
             2",
+        counts: "tiles 16 14 6 0; promotions 63; demotions 1; preemptions 0; images 3 514; frames 0 0 512",
     },
     Run {
         name: "drawn from 1860",
@@ -761,6 +797,7 @@ pub static FOURTH: [Run; 10] = [
             nomemory; 2 s1 answer 2 done miss 0; 2 s1 answer 3 done hit 0; 0 s0+f give 509 509; 0 f drop 509; 0 s1 answer \
             517 value 49 miss 0; 0 s1 answer 518 value 49 hit 0; 0 s0 answer 519 denied; 3 s0+f take 513 509 512 520 8 0; \
             3 s0 answer 2 value 0 miss 0",
+        counts: "tiles 7 7 7 0; promotions 63; demotions 0; preemptions 0; images 2 517; frames 1 0 511",
     },
     Run {
         name: "drawn from 1928",
@@ -780,6 +817,7 @@ pub static FOURTH: [Run; 10] = [
             unmapped; 1 s0 answer 2 done; 0 s0+f take 512 510 512 514 2 0; 0 s0 answer 516 done miss 0; 0 s0+f take 513 \
             511 512 514 2 0; 0 s0 answer 517 value 0 miss 0; 1 s0 answer 3 done; 1 s0 answer 4 clean; 1 s0 answer 5 done; \
             1 s0 answer 6 done; 1 s0 failed 512 write 1; 1 s0 answer 7 storefault 0 1",
+        counts: "tiles 8 7 7 0; promotions 63; demotions 0; preemptions 0; images 0 514; frames 0 0 512",
     },
     Run {
         name: "drawn from 1932",
@@ -799,6 +837,7 @@ pub static FOURTH: [Run; 10] = [
             s0+f answer 516 written; 2 s0 answer 0 overlap; 0 s0+f take 514 509 512 515 3 0; 0 s0 failed 514 read 1; 0 \
             s0+f give 514 509; 0 s0 answer 517 storefault 0 1; 0 s0 failed 511 write 2; 0 s0 answer 518 storefault 0 2; 0 \
             s0+f answer 519 written; 1 s0 answer 2 done",
+        counts: "tiles 6 7 7 0; promotions 63; demotions 0; preemptions 0; images 1 514; frames 2 0 510",
     },
     Run {
         name: "drawn from 1999",
@@ -817,5 +856,6 @@ pub static FOURTH: [Run; 10] = [
             1; 0 s1+f use 0 1 0 1 1 1; 1 s0 out 2 clean; 0 s1 answer 516 value 0 miss 0; 1 s0+f give 2 2; 1 f drop 2; 0 \
             s0+f take 512 2 512 514 2 1; 1 s1 answer 1 value 0 miss 0; 0 s0 answer 517 value 0 miss 0; 1 s1 answer 2 value \
             0 hit 0; 0 s0 answer 518 clean; 1 s0 answer 3 value 0 miss 0; 0 s0+f clear 0 512; 0 s0 answer 519 done",
+        counts: "tiles 2 0 0 0; promotions 65; demotions 16; preemptions 0; images 1 517; frames 510 0 2",
     },
 ];

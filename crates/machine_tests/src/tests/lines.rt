@@ -1,6 +1,6 @@
-//! The lines of a history, as the recorded histories have them: without its number, which is proved to be its place.
+//! The lines of a history, as the recorded histories have them: without its number, which is proved to be its place; and of its counts.
 use itoa::Buffer;
-use pager_model::{Answered, Entry, Need, Numbered, Reply, Want, What};
+use pager_model::{Answered, Entry, Need, Numbered, Reply, Summary, Want, What};
 use std::alloc::{AllocError, Global};
 use std::process::Abort;
 
@@ -198,6 +198,17 @@ pub(super) fn assert_recorded(
     }
     assert_eq!(rt; recorded.next(), None);
     Ok(())
+}
+
+/// The lines of the counts.
+pub(super) fn counts_of(alloc: Global, summary: &Summary) -> Result<String, AllocError> {
+    let [pages, small, middle, large] = summary.tiles;
+    let (promotions, demotions) = (summary.promotions, summary.demotions);
+    let (preemptions, hits, misses) = (summary.preemptions, summary.hits, summary.misses);
+    let (free, reserved, used) = (summary.free, summary.reserved, summary.used);
+    format!(in alloc;
+        "tiles {pages} {small} {middle} {large}; promotions {promotions}; demotions {demotions}; preemptions {preemptions}; images {hits} {misses}; frames {free} {reserved} {used}"
+    )
 }
 
 /// The FNV-1a hash of bytes, on from that of the bytes before.

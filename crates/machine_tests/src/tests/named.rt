@@ -14,6 +14,7 @@ pub static NAMED: [Run; 11] = [
         writes: &[],
         full: false,
         history: "",
+        counts: "tiles 0 0 0 0; promotions 0; demotions 0; preemptions 0; images 0 0; frames 512 0 0",
     },
     Run {
         name: "the oldest page is paged out",
@@ -27,6 +28,7 @@ pub static NAMED: [Run; 11] = [
         history: "\
             0 s1 answer 513 done; 0 s1+f claim 0 0 0 for 0 read; 0 s0 out 0 written; 0 s0+f give 0 0; 0 s1+f use 0 0 0 8 8 \
             0; 0 s1 answer 514 value 0 miss 0",
+        counts: "tiles 8 7 7 0; promotions 64; demotions 1; preemptions 0; images 0 513; frames 0 0 512",
     },
     Run {
         name: "the write of the oldest page fails",
@@ -41,6 +43,7 @@ pub static NAMED: [Run; 11] = [
             0 s1 answer 513 done; 0 s1+f claim 0 0 0 for 0 read; 0 s0 failed 0 write 1; 0 s0+f unclaim 0; 0 s1 answer 514 \
             storefault 0 1; 0 s1+f claim 0 0 0 for 0 read; 0 s0 out 0 written; 0 s0+f give 0 0; 0 s1+f use 0 0 0 8 8 0; 0 \
             s1 answer 515 value 0 miss 0",
+        counts: "tiles 8 7 7 0; promotions 64; demotions 1; preemptions 0; images 0 513; frames 0 0 512",
     },
     Run {
         name: "there is no memory to write the oldest page",
@@ -54,6 +57,7 @@ pub static NAMED: [Run; 11] = [
         history: "\
             0 s1 answer 513 done; 0 s1+f claim 0 0 0 for 0 read; 0 s0+f unclaim 0; 0 s1 answer 514 nomemory; 0 s0 answer \
             515 value 5 hit 0",
+        counts: "tiles 8 7 7 0; promotions 63; demotions 0; preemptions 0; images 1 512; frames 0 0 512",
     },
     Run {
         name: "a claimed page is unmapped",
@@ -67,6 +71,7 @@ pub static NAMED: [Run; 11] = [
         history: "\
             1 s1 answer 0 done; 1 s1+f claim 0 0 0 for 0 read; 0 s0+f clear 0 512; 0 s0 answer 513 done; 1 f got 0; 1 s1+f \
             use 0 0 0 8 8 0; 1 s1 answer 1 value 0 miss 0",
+        counts: "tiles 1 0 0 0; promotions 64; demotions 1; preemptions 0; images 0 513; frames 504 7 1",
     },
     Run {
         name: "a claimed page is evicted",
@@ -80,6 +85,7 @@ pub static NAMED: [Run; 11] = [
         history: "\
             1 s1 answer 0 done; 1 s1+f claim 0 0 0 for 0 read; 0 s0+f answer 513 clean; 1 f got 0; 1 s1+f use 0 0 0 8 8 0; \
             1 s1 answer 1 value 0 miss 0",
+        counts: "tiles 8 7 7 0; promotions 64; demotions 1; preemptions 0; images 0 513; frames 0 0 512",
     },
     Run {
         name: "the page is resident when its claimer comes back",
@@ -94,6 +100,7 @@ pub static NAMED: [Run; 11] = [
             1 s1 answer 0 done; 1 s1+f claim 0 0 0 for 0 read; 2 s1+f claim 0 1 1 for 0 read; 2 s0 out 1 clean; 2 s0+f \
             give 1 1; 2 s1+f use 0 1 0 8 8 0; 2 s1 answer 0 value 0 miss 0; 1 s0 out 0 clean; 1 s0+f give 0 0; 1 f drop 0; \
             1 s1 answer 1 value 0 miss 0",
+        counts: "tiles 7 7 7 0; promotions 64; demotions 1; preemptions 0; images 0 514; frames 1 0 511",
     },
     Run {
         name: "the region is gone when the claimer comes back",
@@ -107,6 +114,7 @@ pub static NAMED: [Run; 11] = [
         history: "\
             1 s1 answer 0 done; 1 s1+f claim 0 0 0 for 0 read; 0 s1+f clear 0 8; 0 s1 answer 513 done; 1 s0 out 0 clean; 1 \
             s0+f give 0 0; 1 f drop 0; 1 s1 answer 1 unmapped",
+        counts: "tiles 7 7 7 0; promotions 64; demotions 1; preemptions 0; images 0 512; frames 1 0 511",
     },
     Run {
         name: "the right to write is gone when the claimer comes back",
@@ -120,6 +128,7 @@ pub static NAMED: [Run; 11] = [
         history: "\
             1 s1 answer 0 done; 1 s1+f claim 0 0 0 for 0 write; 0 s1 answer 513 done; 1 s0 out 0 clean; 1 s0+f give 0 0; 1 \
             f drop 0; 1 s1 answer 1 denied",
+        counts: "tiles 7 7 7 0; promotions 64; demotions 1; preemptions 0; images 0 512; frames 1 0 511",
     },
     Run {
         name: "every frame is wired",
@@ -131,6 +140,7 @@ pub static NAMED: [Run; 11] = [
         writes: &[],
         full: false,
         history: "0 s0 answer 513 done; 0 f refused 512 0 0; 0 s0 answer 514 noframes 512 0 0; 0 s0 answer 515 denied",
+        counts: "tiles 0 0 0 1; promotions 64; demotions 0; preemptions 0; images 0 512; frames 0 0 512",
     },
     Run {
         name: "a translation that is changed leaves the images of both processors",
@@ -152,5 +162,6 @@ pub static NAMED: [Run; 11] = [
             answer 8 value 0 miss 1; 1 s0 answer 0 value 0 miss 1; 1 s0 answer 1 value 0 hit 1; 0 s0+f answer 9 clean; 0 \
             s0+f take 1 1 0 8 8 0; 0 s0 answer 10 value 0 miss 1; 1 s0 answer 2 value 0 miss 1; 0 s0 answer 11 done hit 0; \
             1 s0 answer 3 value 0 miss 0; 1 s0 answer 4 value 0 hit 0",
+        counts: "tiles 8 0 0 0; promotions 2; demotions 2; preemptions 0; images 3 12; frames 504 0 8",
     },
 ];

@@ -511,3 +511,7 @@ read; 3 s2+f give 52 156; 2 s2 out 35 clean; 3 s0+f use 427 156 345 435 90 0; 2 
 137; 2 s2+f use 216 137 192 232 40 0; 2 s2 answer 231 done miss 0; 2 s2 answer 232 overlap; 3 s2 out 45 clean; 3 s2+f give \
 45 133; 2 s2 answer 233 overlap; 3 s0+f use 479 133 448 538 90 1; 3 s0 answer 180 value 0 miss 0; 2 s2+f claim 0 64 30 for \
 228 read; 2 s0 out 64 clean; 2 s0+f give 64 30; 2 s2+f use 228 30 192 232 40 0; 2 s2 answer 234 value 0 miss 0";
+
+/// The counts of that run.
+pub const COUNTS: &str =
+    "tiles 504 1 0 0; promotions 1; demotions 0; preemptions 26; images 54 584; frames 0 0 512";

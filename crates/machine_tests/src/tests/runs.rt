@@ -1,13 +1,13 @@
-//! Machines with few frames left, over stores that may fail: their histories, entry by entry, are the recorded ones.
+//! Machines with few frames left, over stores that may fail: their histories, entry by entry, and their counts are the recorded ones.
 ghost use Rattle.std.specs.Prelude.{◌<◌, IfOk};
 ghost use Rattle.std.specs.List.{All};
 
 use super::drawn::{FIRST, FOURTH, SECOND, THIRD};
 use super::full::Full;
-use super::lines::{assert_recorded, hash_of};
+use super::lines::{assert_recorded, counts_of, hash_of};
 use super::named::NAMED;
 use super::{put_lines, read_text};
-use pager_model::{Numbered, Trace};
+use pager_model::{Numbered, Summary, Trace};
 use replay_core::replay_schedule;
 use std::alloc::{AllocError, Global};
 use std::process::Abort;
@@ -25,7 +25,7 @@ pub struct Fill {
     pub hash: u64,
 }
 
-/// A run: its trace, its turns, where its stores fail, and its history.
+/// A run: its trace, its turns, where its stores fail, its history, and its counts.
 pub struct Run {
     pub name: &'static str,
     /// The first line of the trace.
@@ -43,6 +43,8 @@ pub struct Run {
     pub full: bool,
     /// The history's lines behind those of the calls that use frames.
     pub history: &'static str,
+    /// The lines of the counts.
+    pub counts: &'static str,
 }
 
 /// Adds a load of each page behind the first one.
@@ -107,26 +109,26 @@ fn full_stores(alloc: Global, spaces: u32) -> Result<Vec<Full>, AllocError> {
     Ok(stores)
 }
 
-/// The history of a run over these stores.
+/// The history of a run over these stores, and its counts.
 fn history_over<S: Store + Send + Drop>(
     alloc: Global,
     trace: &Trace,
     stores: Vec<S>,
     turns: &[u32],
-) -> Result<Vec<Numbered>, Fail>
+) -> Result<(Vec<Numbered>, Summary), Fail>
     requires known { All (λ c. c < trace.now.processors) turns.now }
 {
     if stores.len() < trace.spaces() as usize {
         return Err(Fail::from("too few stores"));
     }
     match replay_schedule(alloc, trace, stores, turns) {
-        Ok(gathered) => Ok(gathered.history),
+        Ok(gathered) => Ok((gathered.history, gathered.summary)),
         Err(_) => Err(Fail::from("no memory for the machine")),
     }
 }
 
-/// The history of a run.
-fn history_of(alloc: Global, run: &Run) -> Result<Vec<Numbered>, Fail> {
+/// The history of a run, and its counts.
+fn history_of(alloc: Global, run: &Run) -> Result<(Vec<Numbered>, Summary), Fail> {
     let text = text_of(alloc, run)?;
     let trace = read_text(alloc, text.as_str())?;
     let spaces = trace.spaces();
@@ -138,15 +140,21 @@ fn history_of(alloc: Global, run: &Run) -> Result<Vec<Numbered>, Fail> {
     }
 }
 
-/// Asserts that the runs' histories are the recorded ones.
+/// Asserts that the runs' histories and counts are the recorded ones.
 fn assert_runs(rt: &impl Abort, alloc: Global, runs: &[Run]) -> Result<(), Fail> {
     for run in runs {
-        let history = history_of(alloc, run)?;
+        let (history, summary) = history_of(alloc, run)?;
         let Some((first, rest)) = history.split_at_checked(run.fill.entries) else {
             return Err(Fail::from("too few entries"));
         };
         assert_eq!(rt; hash_of(alloc, first)?, run.fill.hash, "{}", run.name);
         assert_recorded(rt, alloc, rest, run.history)?;
+        assert_eq!(rt;
+            counts_of(alloc, &summary)?.as_str(),
+            run.counts,
+            "{}",
+            run.name
+        );
     }
     Ok(())
 }

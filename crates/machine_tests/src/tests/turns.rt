@@ -2,8 +2,8 @@
 //! recorded.
 ghost use Rattle.std.specs.Prelude.{◌≡◌, ◌<◌, IfOk, length};
 
-use super::lines::assert_recorded;
-use super::recorded::{HISTORY, TRACE};
+use super::lines::{assert_recorded, counts_of};
+use super::recorded::{COUNTS, HISTORY, TRACE};
 use super::trace_of;
 use pager_core::{Machine, Turn};
 use pager_model::Trace;
@@ -89,6 +89,8 @@ fn turns_in_any_order_make_the_recorded_history(rt: HostRuntime) -> Result<(), F
     };
     assert_eq!(rt; counts, wanted);
     assert!(rt; machine.ended());
-    assert_recorded(&rt, alloc, &machine.finish().history, HISTORY)?;
+    let gathered = machine.finish();
+    assert_recorded(&rt, alloc, &gathered.history, HISTORY)?;
+    assert_eq!(rt; counts_of(alloc, &gathered.summary)?.as_str(), COUNTS);
     Ok(())
 }

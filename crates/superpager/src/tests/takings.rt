@@ -1,4 +1,4 @@
-//! Which frame a page takes where a reservation was broken for it, as the history tells, and which counts a run tells.
+//! Which frame a page takes where a reservation was broken for it, as the history tells, and the counts of such a run.
 use super::{ORDER, run, sink_of, source_of, stores_of};
 use crate::run::DONE;
 use pager_model::{Numbered, Summary, What};
@@ -30,7 +30,7 @@ fn a_page_takes_the_lowest_frame_that_a_broken_reservation_gave_back(
     // The second eighth of the frames is free then, or the second eighth of the first eighth.
     for (trace, frame) in [(FIRST_EIGHTH, 64), (EACH_EIGHTH, 8)] {
         let mut source = source_of(alloc, trace, 0)?;
-        let mut sink = sink_of(alloc, 200, 0)?;
+        let mut sink = sink_of(alloc, 400, 0)?;
         let stores = stores_of(alloc, 1, &[], &[])?;
         let outcome = run(&rt, alloc, &ORDER, &mut source, &mut sink, stores);
         assert_eq!(rt; outcome.status, DONE);
@@ -40,7 +40,7 @@ fn a_page_takes_the_lowest_frame_that_a_broken_reservation_gave_back(
 }
 
 #[test]
-fn a_run_tells_counts_of_frames_and_of_preemptions_alone(rt: HostRuntime) -> Result<(), Fail> {
+fn a_broken_reservation_is_counted(rt: HostRuntime) -> Result<(), Fail> {
     let alloc = rt.alloc();
     let trace = read_trace(alloc, &mut source_of(alloc, FIRST_EIGHTH, 0)?)?;
     let stores = stores_of(alloc, 1, &[], &[])?;
@@ -49,12 +49,12 @@ fn a_run_tells_counts_of_frames_and_of_preemptions_alone(rt: HostRuntime) -> Res
         return Err(Fail::from("no memory for the run"));
     };
     let told = Summary {
-        tiles: [0; 4],
+        tiles: [2, 0, 0, 0],
         promotions: 0,
         demotions: 0,
         preemptions: 1,
         hits: 0,
-        misses: 0,
+        misses: 2,
         free: 384,
         reserved: 126,
         used: 2,
