@@ -12,3 +12,4 @@ pub mod Clearing
 pub mod Sparing
 pub mod CopyLaws
 pub mod Translating
+pub mod TranslationLaws

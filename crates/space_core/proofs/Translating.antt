@@ -53,7 +53,7 @@ all_taken test (suc n) (t ∷ ts) h =
     let parts = and_parts _ _ h in ap (λ b. b && list_all test (take n ts)) parts.0 ∙ all_taken test n ts parts.1
 
 -- what was a tile of these pages still is one
-still_again : (pages : ℕ → Option Mapping) (ts : List Tile) → still_tiles pages (still_tiles pages ts) ≡ still_tiles pages ts
+pub still_again : (pages : ℕ → Option Mapping) (ts : List Tile) → still_tiles pages (still_tiles pages ts) ≡ still_tiles pages ts
 still_again pages ts = filter-all (is_tile pages) (still_tiles pages ts) (all_filtered (is_tile pages) ts)
 
 -- a tile of these pages, where there is one
@@ -68,7 +68,7 @@ touched_kept pages (Some t) ts is kept =
     filter-all (is_tile pages) (touched t ts) (all_taken (is_tile pages) image_room (t ∷ filter (λ u. not (same_tile t u)) ts) (ap (λ b. b && list_all (is_tile pages) (filter (λ u. not (same_tile t u)) ts)) is ∙ others))
 
 -- one processor used a tile, or none
-touched_if : (pages : ℕ → Option Mapping) (here : Bool) (o : Option Tile) (ts : List Tile) → IsUsed pages o → still_tiles pages ts ≡ ts → still_tiles pages (touched_by (if here then o else None) ts) ≡ touched_by (if here then o else None) ts
+pub touched_if : (pages : ℕ → Option Mapping) (here : Bool) (o : Option Tile) (ts : List Tile) → IsUsed pages o → still_tiles pages ts ≡ ts → still_tiles pages (touched_by (if here then o else None) ts) ≡ touched_by (if here then o else None) ts
 touched_if pages true o ts is kept = touched_kept pages o ts is kept
 touched_if pages false o ts is kept = kept
 
@@ -88,7 +88,7 @@ tile_is pages page t at =
     is_that t None = false
     is_that t (Some u) = same_tile t u
 
-used_at : (pages : ℕ → Option Mapping) (page : ℕ) (o : Option Tile) → tile_of pages page ≡ o → IsUsed pages o
+pub used_at : (pages : ℕ → Option Mapping) (page : ℕ) (o : Option Tile) → tile_of pages page ≡ o → IsUsed pages o
 used_at pages page None at = tt
 used_at pages page (Some t) at = tile_is pages page t at
 

@@ -1,6 +1,6 @@
 //! Laws of the calls of a space: each is a function that does nothing, whose contract says the law.
 
-ghost use Rattle.std.specs.Prelude.{◌≡◌, ◌≢◌, ◌⊎◌, ◌∷◌, ◌++◌, [], ℕ, List, true, false, Some};
+ghost use Rattle.std.specs.Prelude.{◌≡◌, ◌≢◌, ◌⊎◌, ◌↔◌, ◌∷◌, ◌++◌, [], ℕ, List, true, false, Some};
 ghost use Rattle.pager_model.specs.declared.call.Call.{Call as MemoryCall};
 ghost use Rattle.pager_model.specs.declared.call.Call.TheVariants.{Map, Unmap, Protect};
 ghost use Rattle.pager_model.specs.declared.entry.Entry.{Entry};
@@ -9,15 +9,19 @@ ghost use Rattle.pager_model.specs.declared.region.Kind.{Kind};
 ghost use Rattle.pager_model.specs.declared.region.Region.{Region};
 ghost use Rattle.pager_model.specs.declared.region.Rights.{Rights};
 ghost use Rattle.pager_model.specs.declared.reply.Answered.{Answered};
+ghost use Rattle.pager_model.specs.declared.reply.Reply.{Reply};
+ghost use Rattle.pager_model.specs.declared.tile.Tile.{Tile};
 ghost use Rattle.pager_model.specs.Flat.{Flat, after_call, space_of_call};
+ghost use Rattle.pager_model.specs.Images.{still_tiles};
 ghost use Rattle.pager_model.specs.Legal.{IsLegal, space_at};
 ghost use Rattle.pager_model.specs.Regions.{in_range, region_at};
 ghost use Rattle.pager_model.specs.Settings.{Given};
-ghost use Rattle.pager_model.specs.SpaceStates.{SpaceState, SpaceAllows, IsResident, space_after};
+ghost use Rattle.pager_model.specs.SpaceStates.{SpaceState, SpaceAllows, IsResident, ReplyAllowed, pages_of, served_page, space_after};
 ghost use Rattle.pager_model.specs.Laws.{EqualsItsCopy, WasCleared};
 ghost use Rattle.space_core.specs.Copies.{LosesItsCopy, IsWithoutService};
 ghost use Rattle.space_core.specs.NewPages.{IsNew, done};
 ghost use Rattle.space_core.specs.Standing.{answer_entry};
+ghost use Rattle.space_core.specs.Translating.{HasHit, retiled};
 
 /// An unmap leaves no word, no right and no frame of its region's pages to the next map.
 pub fn an_unmap_leaves_nothing_to_the_next_map()
@@ -81,4 +85,29 @@ pub fn an_answer_without_service_changes_nothing()
         → e.what ≡ Answer number call a
         → IsWithoutService a.reply
         → (space_after st e).base ≡ st.base }
+{}
+
+/// After every legal history each image has tiles of the resident pages as they are, and nothing else.
+pub fn an_image_has_tiles_alone()
+    ensures { (g : Given) (history : List Entry) (s c : ℕ)
+        → IsLegal g history
+        → still_tiles (pages_of (space_at g history s)) ((space_at g history s).images c) ≡ (space_at g history s).images c }
+{}
+
+/// A hit is told only of a page whose tile, as it was before the access, stood in its processor's image.
+pub fn a_hit_is_of_the_tile_before()
+    ensures { (st : SpaceState) (e : Entry) (number : ℕ) (call : MemoryCall) (a : Answered)
+        → SpaceAllows st e
+        → e.what ≡ Answer number call a
+        → a.hit ≡ true
+        → HasHit st e.processor (served_page call a.reply) }
+{}
+
+/// Tiles and images are seen in hits and sizes alone: what became a tile or was broken, and what the images have, moves no word and changes no
+/// reply.
+pub fn a_promotion_changes_no_answer()
+    ensures words { (st : SpaceState) (e : Entry) (images : ℕ → List Tile) (promotions demotions : ℕ)
+        → (space_after (retiled st images promotions demotions) e).flat ≡ (space_after st e).flat }
+    ensures replies { (st : SpaceState) (images : ℕ → List Tile) (promotions demotions c : ℕ) (call : MemoryCall) (reply : Reply)
+        → ReplyAllowed st c call reply ↔ ReplyAllowed (retiled st images promotions demotions) c call reply }
 {}
