@@ -7,8 +7,10 @@ use Rattle.pager_model.specs.declared.entry.What.TheVariants.{Answer, Take, Rest
 use Rattle.pager_model.specs.declared.reply.Reply.TheVariants.{Unmapped, Done}
 use Rattle.pager_model.specs.declared.region.Kind.TheVariants.{Fixed}
 use Rattle.pager_model.specs.declared.region.Rights.TheVariants.{Write}
+use Rattle.pager_model.specs.Flat.{empty_space}
 use Rattle.pager_model.specs.Legal.{state_of_space, progress_in, entries_in}
 use Rattle.pager_model.specs.Order.{at_rest}
+use Rattle.pager_model.specs.SpaceStates.{SpaceState, Anyone}
 use Rattle.journal_core.specs.Journals.{JournalName, AuthorState, PassState}
 
 -- the answer to a load of a processor's space, in which no region has the page
@@ -57,11 +59,16 @@ watched = record { frames = 8; marks = 0 ∷ 2 ∷ []; told = false ∷ []; faul
 abbrev pub rest : Entry
 rest = record { processor = 1; space = None; frames = true; what = Rest false }
 
--- after so many such answers, which leave the space as it was at the start
+-- the space has no region, and anyone may make its next entry
+pub record IsEmptySpace (st : SpaceState) : Type 0 where
+  pub flat : st.flat ≡ empty_space
+  pub next : st.next ≡ Anyone
+
+-- after so many such answers, which leave the space without a region
 pub record Filled (journal : JournalName) (processor n : ℕ) (author : AuthorState) (pass : PassState) : Type 0 where
   pub author_of : author.journal ≡ journal
   pub part : author.part ≡ processor
-  pub space : state_of_space journal.setting processor author.entries ≡ state_of_space journal.setting processor []
+  pub space : IsEmptySpace (state_of_space journal.setting processor author.entries)
   pub pass_of : pass.journal ≡ journal
   pub own : pass.processor ≡ processor
   pub room : pass.room ≡ 100
