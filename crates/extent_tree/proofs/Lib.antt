@@ -1,6 +1,7 @@
 pub mod Changes
 pub mod Counting
 pub mod Places
+pub mod Rooms
 pub mod Rows
 pub mod Splits
 pub mod Starts

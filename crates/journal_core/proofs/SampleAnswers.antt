@@ -1,5 +1,6 @@
 -- One answer more in the tests' history.
-use Rattle.std.proofs.Common.{◌≡◌, ℕ, ◌+◌, Bool, true, cond, List, [], ◌∷◌, ◌++◌, ◌&&◌, Some, None, refl, sym, ap, subst, ◌∙◌, eq-eqb, true≢false, false≢true}
+use Rattle.std.proofs.Common.{◌≡◌, ℕ, ◌+◌, Bool, true, cond, List, [], ◌∷◌, ◌++◌, ◌&&◌, Some, None, refl, sym, ap, subst, ◌∙◌, eq-eqb, true≢false}
+use Rattle.std.proofs.lemmas.Bool.{false≢true}
 use Rattle.std.proofs.lemmas.List.{map-append, length_push}
 use Rattle.std.proofs.lemmas.List.Sums.{fold-append}
 use Rattle.pager_model.specs.declared.entry.Entry.{Entry}

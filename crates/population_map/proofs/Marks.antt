@@ -4,31 +4,13 @@ use Rattle.std.specs.List.{range_with_len, count_by}
 use Rattle.std.specs.Int.{bit_at}
 use Rattle.std.proofs.lemmas.Bool.{or_cases, or_left, or_right, false≢true, eqb-true, eq-eqb}
 use Rattle.extent_tree.specs.Rows.{Arena, row, is_split, SplitsAreRowsBelow}
-use Rattle.extent_tree.specs.Counts.{is_over, splits_with}
-use Rattle.extent_tree.proofs.Counting.{extents-by_pages}
+use Rattle.extent_tree.proofs.Rooms.{coarser}
 use Rattle.extent_tree.proofs.Rows.{row_alike}
 use Rattle.population_map.specs.declared.mark.Mark.{Mark}
 use Rattle.population_map.specs.Bits.{HasBit, HasAllBits}
 use Rattle.population_map.specs.Kept.{AreMarks}
 use Rattle.population_map.specs.Populations.{mark_of, id_of, is_placed, is_populated, unmarked, SomePopulated, AllPopulated}
 use Rattle.population_map.proofs.Masks.{no_bit}
-
--- pages of one extent are of one larger extent
-pub coarser : (a b p q : ℕ) → a ≤ b → b ≤ 3 → p / 8 ^ a ≡ q / 8 ^ a → p / 8 ^ b ≡ q / 8 ^ b
-coarser zero zero p q le small same = same
-coarser zero (suc b) p q le small same =
-    let one : p ≡ q = omega (arith, same) in ap (λ n. n / 8 ^ suc b) one
-coarser (suc zero) (suc zero) p q le small same = same
-coarser (suc zero) (suc (suc zero)) p q le small same = omega (arith, same)
-coarser (suc zero) (suc (suc (suc zero))) p q le small same = omega (arith, same)
-coarser (suc (suc zero)) (suc (suc zero)) p q le small same = same
-coarser (suc (suc zero)) (suc (suc (suc zero))) p q le small same = omega (arith, same)
-coarser (suc (suc (suc zero))) (suc (suc (suc zero))) p q le small same = same
-coarser (suc a) zero p q le small same = absurd (omega arith)
-coarser (suc (suc a)) (suc zero) p q le small same = absurd (omega arith)
-coarser (suc (suc (suc a))) (suc (suc zero)) p q le small same = absurd (omega arith)
-coarser (suc (suc (suc (suc a)))) b p q le small same = absurd (omega arith)
-coarser a (suc (suc (suc (suc b)))) p q le small same = absurd (omega arith)
 
 pub mark_alike : (m : Arena Mark) (size p q : ℕ) → size ≤ 3 → p / 8 ^ size ≡ q / 8 ^ size → mark_of m size p ≡ mark_of m size q
 unfolding mark_of
@@ -158,24 +140,3 @@ rows_placed m marks size page small has = elim (marks.in_use size page small has
     | inr full ↦ let q = full_page m marks size page small full in (q.0, q.1, marks.placed q.0 q.2)
   ]
 ]
-
--- each row of a tree has a page that passes a test
-pub record RowsIn (m : Arena Mark) (test : ℕ → Bool) : Type 0 where
-  pub splits : SplitsAreRowsBelow m
-  pub pages : (size page : ℕ) → size ≤ 3 → is_some (row m size page) ≡ true → (q : ℕ) × (q / 8 ^ size ≡ page / 8 ^ size) × (test q ≡ true)
-
-pub room_for : (m : Arena Mark) (test : ℕ → Bool) (size page : ℕ) → RowsIn m test → test page ≡ true → splits_with m size page ≤ 3 * count_by test (range_with_len 0 (512 * m.roots))
-room_for m test size page rows passes = extents-by_pages _ test m.roots has_page
-  where
-    and_right : (a b : Bool) → (a && b) ≡ true → b ≡ true
-    and_right true b both = both
-    and_right false b both = absurd (false≢true both)
-
-    has_page : (whole other : ℕ) → 0 < whole → whole ≤ 3 → (is_split m whole other || is_over whole other size page) ≡ true → (q : ℕ) × (q / 8 ^ whole ≡ other / 8 ^ whole) × (test q ≡ true)
-    has_page whole other low small is = elim (or_cases (is_split m whole other) (is_over whole other size page) is) [
-      | inl split ↦
-          let below = rows.splits.below whole other small split in
-          let q = rows.pages below.0 below.1 (omega (arith, below.2)) below.4 in
-          (q.0, coarser below.0 whole q.0 below.1 (omega (arith, below.2)) small q.1 ∙ below.3, q.2)
-      | inr over ↦ (page, sym (eqb-true _ _ (and_right (nat_lt size whole) _ over)), passes)
-    ]

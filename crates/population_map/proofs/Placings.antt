@@ -7,6 +7,7 @@ use Rattle.extent_tree.specs.declared.spot.Spot.{Spot}
 use Rattle.extent_tree.specs.Rows.{Arena, row, spot_of, is_split, ChangesOnly, SplitsAreRowsBelow}
 use Rattle.extent_tree.specs.Counts.{splits_with}
 use Rattle.extent_tree.proofs.Counting.{count_block, count_none, count_same}
+use Rattle.extent_tree.proofs.Rooms.{coarser, room_for}
 use Rattle.extent_tree.proofs.Rows.{split_alike}
 use Rattle.pager_model.specs.Extents.{IsExtent}
 use Rattle.population_map.specs.declared.mark.Mark.{Mark}
@@ -14,7 +15,7 @@ use Rattle.population_map.specs.Bits.{HasBit}
 use Rattle.population_map.specs.Kept.{AreMarks}
 use Rattle.population_map.specs.Populations.{mark_of, id_of, is_placed, is_populated, placed_pages, unmarked, IsInNone, PlacesOnly, EmptiesOnly, SomePopulated, AllPopulated, page_at}
 use Rattle.population_map.proofs.Masks.{no_bit}
-use Rattle.population_map.proofs.Marks.{coarser, mark_alike, id_alike, placed_by, placed_size, rows_placed, room_for, row_if_id, some_page, full_page, all_pages, pages_all, bits_over, bit_of_page, page_of_bit}
+use Rattle.population_map.proofs.Marks.{mark_alike, id_alike, placed_by, placed_size, rows_placed, row_if_id, some_page, full_page, all_pages, pages_all, bits_over, bit_of_page, page_of_bit}
 use Rattle.population_map.proofs.Ways.{placed_alike}
 
 some_or_none : {X : Type 0} (o : Option X) → (o ≡ None) ⊎ (is_some o ≡ true)

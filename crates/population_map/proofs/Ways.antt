@@ -3,12 +3,13 @@ use Rattle.std.proofs.Common.{◌≡◌, ◌≢◌, ℕ, zero, suc, ◌/◌, ◌
 use Rattle.std.specs.Int.{bit_at}
 use Rattle.std.proofs.lemmas.Bool.{cases_eq, cases_Bool, false≢true, eqb-true, eq-eqb}
 use Rattle.extent_tree.specs.Rows.{Arena, row, ChangesOnly, SplitsAreRowsBelow}
+use Rattle.extent_tree.proofs.Rooms.{RowsIn, coarser}
 use Rattle.population_map.specs.declared.mark.Mark.{Mark}
 use Rattle.population_map.specs.Bits.{HasBit, HasAllBits, WithBit}
 use Rattle.population_map.specs.Kept.{AreMarks, IsCarried, WritesWay, kept}
 use Rattle.population_map.specs.Populations.{mark_of, id_of, is_placed, is_populated, unmarked, PopulatesOnly}
 use Rattle.population_map.proofs.Masks.{has_bit, no_bit}
-use Rattle.population_map.proofs.Marks.{RowsIn, coarser, mark_alike, bits_over, row_if_bit}
+use Rattle.population_map.proofs.Marks.{mark_alike, bits_over, row_if_bit}
 
 -- ---- three marks are written
 

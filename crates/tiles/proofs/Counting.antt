@@ -11,6 +11,10 @@ use Rattle.pager_model.specs.Tiles.{count_pages}
 pub count : (ℕ → Bool) → ℕ → ℕ → ℕ
 count f from many = count_by f (range_with_len from many)
 
+pub count-is : (f : ℕ → Bool) (from many : ℕ) → count_by f (range_with_len from many) ≡ count f from many
+unfolding count
+count-is f from many = refl
+
 -- 1 where a test passes
 abbrev pub one_if : Bool → ℕ
 one_if b = cond b 1 0

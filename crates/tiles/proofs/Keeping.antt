@@ -1,18 +1,23 @@
 -- What becomes of the kept pages when what is kept of one is written, a page is put in, or one is taken out.
-use Rattle.std.proofs.Common.{◌≡◌, ◌≢◌, ℕ, ◌<◌, ◌≤◌, Bool, true, false, if◌then◌else◌, eqb, List, Option, Some, None, option_map, length, replicate, slice_index_or, slice_set, refl, sym, ap, inl, inr, ◌∙◌, arith}
-use Rattle.std.proofs.lemmas.Bool.{cases_eq, cases_lt}
+use Rattle.std.proofs.Common.{◌≡◌, ◌≢◌, ℕ, zero, suc, ◌*◌, ◌<◌, ◌≤◌, Bool, true, false, if◌then◌else◌, eqb, List, Option, Some, None, option_map, is_some, length, replicate, slice_index_or, slice_set, refl, sym, ap, inl, inr, ◌∙◌, arith}
+use Rattle.std.proofs.lemmas.Bool.{cases_eq, cases_lt, false≢true}
 use Rattle.std.proofs.lemmas.Bool.Decides.{nat_tests}
-use Rattle.std.proofs.lemmas.List.{get_or-set_other, get_or-set_same, length-set, get_or_past, get_or-replicate, length-replicate}
+use Rattle.std.proofs.lemmas.List.{get_or-set_other, get_or-set_same, length-set, get_or_past, length-replicate}
 use Rattle.std.proofs.lemmas.Option.{none-some, same_Some}
+use Rattle.extent_tree.specs.Counts.{splits_with}
+use Rattle.extent_tree.specs.Rows.{Arena, row, ChangesOnly, SplitsAreRowsBelow}
+use Rattle.extent_tree.proofs.Rows.{row_known}
 use Rattle.pager_model.specs.declared.tile.Mapping.{Mapping}
 use Rattle.tiles.specs.declared.pages.Place.{Place}
-use Rattle.tiles.specs.Resident.{Resident, mapping_in, mapping_of_number, mapping_at, frames_in, frame_of_page, Maps}
+use Rattle.tiles.specs.Resident.{Resident, number_at, mapping_in, mapping_of_number, mapping_at, frames_in, frame_of_page, Maps}
 use Rattle.tiles.specs.Kept.{size_in_place, size_of_number, size_kept, place_of_number, said_by, sized, Sizes, ArePages, SizesBut, SameSizes}
 use Rattle.tiles.specs.Beside.{SamePages}
+use Rattle.tiles.proofs.Numbering.{room_for_one}
 
--- the number of a page's frame
-abbrev pub number_at : Resident → ℕ → Option ℕ
-number_at r p = slice_index_or r.numbers p None
+-- the number of a page's frame is its row
+pub number_at-is : (r : Resident) (p : ℕ) → number_at r p ≡ row r.numbers 0 p
+unfolding number_at
+number_at-is r p = refl
 
 pub mapping_at-is : (r : Resident) (p : ℕ) → mapping_at r p ≡ mapping_of_number r.places (number_at r p)
 unfolding mapping_at
@@ -37,8 +42,12 @@ place_there r kept p n h = cases_place (slice_index_or r.places n None) (kept.fo
 pub number_within : (r : Resident) → ArePages r → (p n : ℕ) → number_at r p ≡ Some n → n < length r.places
 number_within r kept p n h = let at = place_there r kept p n h in within r.places n at.0 at.1
 
+-- and the page has a row
+pub numbered : (r : Resident) (p n : ℕ) → number_at r p ≡ Some n → is_some (row r.numbers 0 p) ≡ true
+numbered r p n h = ap is_some (sym (number_at-is r p) ∙ h)
+
 pub page_within : (r : Resident) → ArePages r → (p n : ℕ) → number_at r p ≡ Some n → p < 1048576
-page_within r kept p n h = omega (arith, within r.numbers p n h, kept.numbers)
+page_within r kept p n h = omega (arith, row_known r.numbers 0 p (numbered r p n h), kept.roots)
 
 -- the page isn't resident
 pub mapping-absent : (r : Resident) (p : ℕ) → number_at r p ≡ None → mapping_at r p ≡ None
@@ -84,16 +93,16 @@ size-other places k v None h = refl
 size-other places k v (Some n) h = ap size_in_place (get_or-set_other places k n v None (λ e. h (ap Some e)))
 
 -- A page's number and what is kept at a number are written, where no other page has that number.
-module _ (r : Resident) (kept : ArePages r) (page k : ℕ) (given : Option ℕ) (v : Option Place) (in_space : page < 1048576) (known : k < length r.places) (others : (p : ℕ) → p ≢ page → number_at r p ≢ Some k)
+module _ (r : Resident) (kept : ArePages r) (page k : ℕ) (given : Option ℕ) (v : Option Place) (t : Arena ℕ) (changes : ChangesOnly r.numbers t 0 page given) (splits : SplitsAreRowsBelow t) (known : k < length r.places) (others : (p : ℕ) → p ≢ page → number_at r p ≢ Some k)
     (own : (n : ℕ) → given ≡ Some n → n ≡ k) (there : given ≢ None → v ≢ None) where
   abbrev pub moved : Resident
-  moved = record { numbers = slice_set r.numbers page given; places = slice_set r.places k v }
+  moved = record { numbers = t; places = slice_set r.places k v }
 
   number-own : number_at moved page ≡ given
-  number-own = get_or-set_same r.numbers page given None (omega (arith, kept.numbers))
+  number-own = number_at-is moved page ∙ changes.changed page refl
 
   number-other : (p : ℕ) → p ≢ page → number_at moved p ≡ number_at r p
-  number-other p n = get_or-set_other r.numbers page p given None n
+  number-other p n = number_at-is moved p ∙ (changes.others 0 p (omega arith) (λ _ same. n (omega (arith, same))) ∙ sym (number_at-is r p))
 
   pub moved_other : (p : ℕ) → p ≢ page → mapping_at moved p ≡ mapping_at r p
   moved_other p n =
@@ -119,7 +128,10 @@ module _ (r : Resident) (kept : ArePages r) (page k : ℕ) (given : Option ℕ) 
 
   pub moved_kept : ArePages moved
   moved_kept = record {
-    numbers = length-set r.numbers page given ∙ kept.numbers;
+    splits = splits;
+    of_pages = λ size p low small. changes.others size p small (λ e _. absurd (omega (arith, e))) ∙ kept.of_pages size p low small;
+    roots = changes.roots ∙ kept.roots;
+    room = omega (arith, changes.room, kept.room, length-set r.places k v);
     few = omega (arith, length-set r.places k v, kept.few);
     found = λ p n h. elim (cases_eq p page) [
       | inl e ↦
@@ -151,42 +163,54 @@ others_apart : (r : Resident) → ArePages r → (page k : ℕ) → number_at r 
 others_apart r kept page k h p n e = n (kept.apart p page k e h)
 
 -- A page that isn't resident is put in.
-module _ (r : Resident) (kept : ArePages r) (page : ℕ) (m : Mapping) (in_space : page < 1048576) (known : m.frame < length r.places) (others : (p : ℕ) → frame_of_page r p ≢ Some m.frame) where
+module _ (r : Resident) (kept : ArePages r) (page : ℕ) (m : Mapping) (known : m.frame < length r.places) (others : (p : ℕ) → frame_of_page r p ≢ Some m.frame) where
   abbrev pub put_place : Place
   put_place = record { region = m.region; rights = m.rights; dirty = m.dirty; size = 0 }
 
   apart : (p : ℕ) → p ≢ page → number_at r p ≢ Some m.frame
   apart p n e = others p (frame-number r kept p ∙ e)
 
-  abbrev pub put : Resident
-  put = record { numbers = slice_set r.numbers page (Some m.frame); places = slice_set r.places m.frame (Some put_place) }
+  -- there is room for the nodes over the page
+  pub put_room : splits_with r.numbers 0 page ≤ r.numbers.room
+  put_room = room_for_one r.numbers (number_at r) (length r.places) page m.frame kept.splits rows kept.room known apart within kept.apart
+    where
+      rows : (size p : ℕ) → size ≤ 3 → is_some (row r.numbers size p) ≡ true → (size ≡ 0) × (number_at r p ≢ None)
+      rows zero p small has = (refl, λ none. false≢true (sym (ap is_some (sym (number_at-is r p) ∙ none)) ∙ has))
+      rows (suc size) p small has = absurd (false≢true (sym (ap is_some (kept.of_pages (suc size) p (omega arith) small)) ∙ has))
 
-  pub put_kept : ArePages put
-  put_kept = moved_kept r kept page m.frame (Some m.frame) (Some put_place) in_space known apart (λ n h. sym (same_Some m.frame n h)) (λ _ none. none-some put_place (sym none))
+      within : (p n : ℕ) → number_at r p ≡ Some n → n < length r.places
+      within p n h = number_within r kept p n h
 
-  pub put_maps : Maps page (Some m) r put
-  put_maps =
-      moved_maps r kept page m.frame (Some m.frame) (Some put_place) in_space known apart (λ n h. sym (same_Some m.frame n h)) (λ _ none. none-some put_place (sym none))
-      (Some m) (ap (mapping_in m.frame) (get_or-set_same r.places m.frame (Some put_place) None known))
+  module _ (t : Arena ℕ) (changes : ChangesOnly r.numbers t 0 page (Some m.frame)) (splits : SplitsAreRowsBelow t) where
+    abbrev pub put : Resident
+    put = record { numbers = t; places = slice_set r.places m.frame (Some put_place) }
 
-  pub put_sizes : SizesBut page r put
-  put_sizes = moved_size r kept page m.frame (Some m.frame) (Some put_place) in_space known apart (λ n h. sym (same_Some m.frame n h)) (λ _ none. none-some put_place (sym none))
+    pub put_kept : ArePages put
+    put_kept = moved_kept r kept page m.frame (Some m.frame) (Some put_place) t changes splits known apart (λ n h. sym (same_Some m.frame n h)) (λ _ none. none-some put_place (sym none))
+
+    pub put_maps : Maps page (Some m) r put
+    put_maps =
+        moved_maps r kept page m.frame (Some m.frame) (Some put_place) t changes splits known apart (λ n h. sym (same_Some m.frame n h)) (λ _ none. none-some put_place (sym none))
+        (Some m) (ap (mapping_in m.frame) (get_or-set_same r.places m.frame (Some put_place) None known))
+
+    pub put_sizes : SizesBut page r put
+    put_sizes = moved_size r kept page m.frame (Some m.frame) (Some put_place) t changes splits known apart (λ n h. sym (same_Some m.frame n h)) (λ _ none. none-some put_place (sym none))
 
 -- A resident page is taken out.
-module _ (r : Resident) (kept : ArePages r) (page k : ℕ) (has : number_at r page ≡ Some k) where
+module _ (r : Resident) (kept : ArePages r) (page k : ℕ) (has : number_at r page ≡ Some k) (t : Arena ℕ) (changes : ChangesOnly r.numbers t 0 page None) (splits : SplitsAreRowsBelow t) where
   abbrev pub taken : Resident
-  taken = record { numbers = slice_set r.numbers page None; places = slice_set r.places k None }
+  taken = record { numbers = t; places = slice_set r.places k None }
 
   pub taken_kept : ArePages taken
   taken_kept =
-      moved_kept r kept page k None None (page_within r kept page k has) (number_within r kept page k has) (others_apart r kept page k has) (λ n h. absurd (none-some n h)) (λ h. absurd (h refl))
+      moved_kept r kept page k None None t changes splits (number_within r kept page k has) (others_apart r kept page k has) (λ n h. absurd (none-some n h)) (λ h. absurd (h refl))
 
   pub taken_maps : Maps page None r taken
   taken_maps =
-      moved_maps r kept page k None None (page_within r kept page k has) (number_within r kept page k has) (others_apart r kept page k has) (λ n h. absurd (none-some n h)) (λ h. absurd (h refl)) None refl
+      moved_maps r kept page k None None t changes splits (number_within r kept page k has) (others_apart r kept page k has) (λ n h. absurd (none-some n h)) (λ h. absurd (h refl)) None refl
 
   pub taken_sizes : SizesBut page r taken
-  taken_sizes = moved_size r kept page k None None (page_within r kept page k has) (number_within r kept page k has) (others_apart r kept page k has) (λ n h. absurd (none-some n h)) (λ h. absurd (h refl))
+  taken_sizes = moved_size r kept page k None None t changes splits (number_within r kept page k has) (others_apart r kept page k has) (λ n h. absurd (none-some n h)) (λ h. absurd (h refl))
 
 -- where this is said of a page already, nothing changes
 pub maps_same : (r : Resident) (page : ℕ) (m : Option Mapping) → mapping_at r page ≡ m → Maps page m r r
@@ -252,8 +276,12 @@ module _ (r : Resident) (kept : ArePages r) (page k : ℕ) (place : Place) (has 
   at_written = get_or-set_same r.places k (Some place) None (number_within r kept page k has)
 
   pub written_kept : ArePages written
+  unfolding number_at
   written_kept = record {
-    numbers = kept.numbers;
+    splits = kept.splits;
+    of_pages = kept.of_pages;
+    roots = kept.roots;
+    room = omega (arith, kept.room, length-set r.places k (Some place));
     few = omega (arith, length-set r.places k (Some place), kept.few);
     found = λ p n h. elim (cases_eq n k) [
       | inl e ↦ λ none. none-some place (sym none ∙ ap (λ (i : ℕ). slice_index_or (slice_set r.places k (Some place)) i None) e ∙ at_written)
@@ -268,7 +296,7 @@ module _ (r : Resident) (kept : ArePages r) (page k : ℕ) (place : Place) (has 
       (record { frame = k; region = there.0.region; rights = there.0.rights; dirty = there.0.dirty }, mapping-found r page k (Some there.0) has there.1, refl)
 
   pub written_maps : Maps page (option_map (said_by place) (mapping_at r page)) r written
-  unfolding old_mapping
+  unfolding old_mapping number_at
   written_maps = record {
     frames = length-set r.places k (Some place);
     at = λ p. elim (cases_eq p page) [
@@ -284,6 +312,7 @@ module _ (r : Resident) (kept : ArePages r) (page k : ℕ) (place : Place) (has 
   }
 
   pub written_sizes : Sizes page place.size r written
+  unfolding number_at
   written_sizes p = elim (cases_eq p page) [
     | inl e ↦
         let t : eqb p page ≡ true = grind (arith, nat_tests) in
@@ -296,21 +325,20 @@ module _ (r : Resident) (kept : ArePages r) (page k : ℕ) (place : Place) (has 
   ]
 
 -- nothing is resident
-empty_place : {X : Type 0} (n p : ℕ) → ◌≡◌ {A = Option X} (slice_index_or (replicate n None) p None) None
-empty_place {X} n p =
-    elim (cases_lt p n) [ inl l ↦ get_or-replicate n p None None l | inr past ↦ get_or_past (replicate n None) p None (omega (arith, length-replicate {A = Option X} n None)) ]
-
-module _ (r : Resident) (pages frames : ℕ) (numbers : r.numbers ≡ replicate pages None) (places : r.places ≡ replicate frames None) where
+module _ (r : Resident) (frames : ℕ) (empty : (size p : ℕ) → row r.numbers size p ≡ None) (places : r.places ≡ replicate frames None) where
   pub fresh_number : (p : ℕ) → number_at r p ≡ None
-  fresh_number p = ap (λ (ns : List (Option ℕ)). slice_index_or ns p None) numbers ∙ empty_place pages p
+  fresh_number p = number_at-is r p ∙ empty 0 p
 
   pub fresh_frames : frames_in r ≡ frames
   fresh_frames = ap length places ∙ length-replicate {A = Option Place} frames None
 
-  pub fresh_kept : pages ≡ 1048576 → frames ≤ 32768 → ArePages r
-  fresh_kept all few = record {
-    numbers = ap length numbers ∙ length-replicate {A = Option ℕ} pages None ∙ all;
-    few = omega (arith, ap length places, length-replicate {A = Option Place} frames None);
+  pub fresh_kept : SplitsAreRowsBelow r.numbers → r.numbers.roots ≡ 2048 → r.numbers.room ≡ 3 * frames → frames ≤ 32768 → ArePages r
+  fresh_kept splits roots room few = record {
+    splits = splits;
+    of_pages = λ size p _ _. empty size p;
+    roots = roots;
+    room = omega (arith, room, fresh_frames);
+    few = omega (arith, fresh_frames);
     found = λ p n h. absurd (none-some n (sym (fresh_number p) ∙ h));
     apart = λ p q n h _. absurd (none-some n (sym (fresh_number p) ∙ h));
   }

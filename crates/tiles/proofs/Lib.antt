@@ -6,6 +6,7 @@ pub mod Eligible
 pub mod Extents
 pub mod Keeping
 pub mod Largest
+pub mod Numbering
 pub mod Promoting
 pub mod Settling
 pub mod TileLaws

@@ -1,9 +1,10 @@
 -- What is kept of the resident pages.
-use Rattle.std.specs.Prelude.{ℕ, ◌≡◌, ◌≢◌, ◌≤◌, ◌==◌, if◌then◌else◌, List, length, slice_index_or, Option, Some, None}
+use Rattle.std.specs.Prelude.{ℕ, ◌≡◌, ◌≢◌, ◌*◌, ◌<◌, ◌≤◌, ◌==◌, if◌then◌else◌, List, length, slice_index_or, Option, Some, None}
+use Rattle.extent_tree.specs.Rows.{row, SplitsAreRowsBelow}
 use Rattle.pager_model.specs.declared.tile.Mapping.{Mapping}
 use Rattle.pager_model.specs.Tiles.{size_at}
 use Rattle.tiles.specs.declared.pages.Place.{Place}
-use Rattle.tiles.specs.Resident.{Resident, mapping_at}
+use Rattle.tiles.specs.Resident.{Resident, number_at, mapping_at}
 
 abbrev pub size_in_place : Option Place → ℕ
 size_in_place None = 0
@@ -15,7 +16,7 @@ size_of_number places (Some number) = size_in_place (slice_index_or places numbe
 
 -- the size that is kept of a page's tile, and 0 where the page isn't resident
 unfoldable pub size_kept : Resident → ℕ → ℕ
-size_kept pages page = size_of_number pages.places (slice_index_or pages.numbers page None)
+size_kept pages page = size_of_number pages.places (number_at pages page)
 
 -- what is kept of a page, where it is resident
 abbrev pub place_of_number : List (Option Place) → Option ℕ → Option Place
@@ -35,12 +36,16 @@ sized (Some m) size = size
 abbrev pub Sizes : ℕ → ℕ → Resident → Resident → Type 0
 Sizes page size old new = (p : ℕ) → size_kept new p ≡ (if p == page then sized (mapping_at old page) size else size_kept old p)
 
--- The number of a resident page names a place where it is kept what is said of it, and no two pages have one number.
+-- The number of a resident page names a place where it is kept what is said of it, and no two pages have one number. Each row is a
+-- page's, under one of 2,048 roots, and there is room for three nodes for each number.
 pub record ArePages (pages : Resident) : Type 0 where
-  pub numbers : length pages.numbers ≡ 1048576
+  pub splits : SplitsAreRowsBelow pages.numbers
+  pub of_pages : (size page : ℕ) → 0 < size → size ≤ 3 → row pages.numbers size page ≡ None
+  pub roots : pages.numbers.roots ≡ 2048
+  pub room : pages.numbers.room ≡ 3 * length pages.places
   pub few : length pages.places ≤ 32768
-  pub found : (p number : ℕ) → slice_index_or pages.numbers p None ≡ Some number → slice_index_or pages.places number None ≢ None
-  pub apart : (p q number : ℕ) → slice_index_or pages.numbers p None ≡ Some number → slice_index_or pages.numbers q None ≡ Some number → p ≡ q
+  pub found : (p number : ℕ) → number_at pages p ≡ Some number → slice_index_or pages.places number None ≢ None
+  pub apart : (p q number : ℕ) → number_at pages p ≡ Some number → number_at pages q ≡ Some number → p ≡ q
 
 -- the sizes that are kept are those of the tiles
 abbrev pub AreSizes : Resident → Type 0

@@ -1,5 +1,6 @@
 -- The resident pages of a space. Contracts look at them only through the mapping of a page, where it is resident.
 use Rattle.std.specs.Prelude.{ℕ, ◌≡◌, Bool, ◌&&◌, ◌==◌, nat_lt, if◌then◌else◌, List, slice_index_or, length, option_map, Option, Some, None}
+use Rattle.extent_tree.specs.Rows.{Arena, row}
 use Rattle.pager_model.specs.declared.region.Rights.{Rights}
 use Rattle.pager_model.specs.declared.tile.Mapping.{Mapping}
 use Rattle.pager_model.specs.Regions.{in_range}
@@ -8,8 +9,8 @@ use Rattle.tiles.specs.declared.moves.Moves.{Moves}
 use Rattle.tiles.specs.declared.pages.Place.{Place}
 
 pub record Resident : Type 0 where
-  -- of each page the number of its frame, where it is resident
-  pub numbers : List (Option ℕ)
+  -- the numbers of frames: each is the row of the page that has the frame
+  pub numbers : Arena ℕ
   -- of each number what is said of the page that has the frame
   pub places : List (Option Place)
 
@@ -21,9 +22,13 @@ abbrev pub mapping_of_number : List (Option Place) → Option ℕ → Option Map
 mapping_of_number places None = None
 mapping_of_number places (Some number) = mapping_in number (slice_index_or places number None)
 
+-- the number of a page's frame, where it is resident
+unfoldable pub number_at : Resident → ℕ → Option ℕ
+number_at pages page = row pages.numbers 0 page
+
 -- what is said of a page, where it is resident
 unfoldable pub mapping_at : Resident → ℕ → Option Mapping
-mapping_at pages page = mapping_of_number pages.places (slice_index_or pages.numbers page None)
+mapping_at pages page = mapping_of_number pages.places (number_at pages page)
 
 -- how many frames there are
 abbrev pub frames_in : Resident → ℕ

@@ -1,13 +1,19 @@
 //! The resident pages of a space, and what is kept of each.
 
-ghost use Rattle.std.specs.Prelude.{◌≡◌, ◌≢◌, ◌<◌, ◌≤◌, ℕ, None, Some, IfOk, IfSome, option_map, replicate, slice_index_or};
-ghost use Rattle.tiles.specs.Resident.{mapping_at, frames_in, frame_of_page, Maps, with_flag, with_rights};
+ghost use Rattle.std.specs.Prelude.{◌≡◌, ◌≢◌, ◌<◌, ◌≤◌, ℕ, None, Some, IfOk, IfSome, option_map, replicate};
+ghost use Rattle.tiles.specs.Resident.{number_at, mapping_at, frames_in, frame_of_page, Maps, with_flag, with_rights};
 ghost use Rattle.tiles.specs.Kept.{size_kept, place_of_number, said_by, Sizes, SizesBut, SameSizes};
 ghost use Rattle.tiles.specs.Beside.{SamePages};
 
-use pager_model::{Mapping, NoMemory, PAGES, Rights, Size};
+use crate::numbers;
+use extent_tree::ExtentTree;
+use pager_model::{Mapping, NoMemory, Rights, Size};
 use std::alloc::Global;
-use std::marker::Model;
+use std::marker::{Brand, Model};
+use std::sync::ledger::Blank;
+
+/// The extents of 512 pages of a space.
+const ROOTS: u32 = 2048;
 
 /// What is kept of a resident page, at its frame's number.
 #[derive(Clone, Copy, Debug)]
@@ -21,10 +27,13 @@ pub struct Place {
 }
 
 /// The resident pages of a space.
+///
+/// There is room for three nodes of the tree for each frame, since each node is of an extent with a resident page. `create` takes it,
+/// and nodes are written as they are first used.
 #[derive(Drop)]
 pub(crate) struct Pages {
-    /// For each page the number of its frame, where it is resident.
-    numbers: Vec<Option<u16>>,
+    /// The number of each resident page's frame, as the row of the page.
+    numbers: ExtentTree<u16>,
     /// For each number what is said of the page that has the frame.
     places: Vec<Option<Place>>,
 }
@@ -35,9 +44,9 @@ impl Model for Pages {
 
     ghost Value = { Resident };
 
-    ghost view = { λ p. record { numbers = p.numbers.items; places = p.places.items } };
+    ghost view = { λ p. record { numbers = p.numbers; places = p.places.items } };
 
-    ghost invariant = { λ p. ArePages (record { numbers = p.numbers.items; places = p.places.items }) };
+    ghost invariant = { λ p. ArePages (record { numbers = p.numbers; places = p.places.items }) };
 }
 
 /// The size of a level.
@@ -57,23 +66,23 @@ impl Pages {
         ensures sizes { IfOk result (λ pages. (p : ℕ) → size_kept pages p ≡ 0) }
     {
         Ok(Pages {
-            numbers: empty_places(alloc, PAGES)?,
+            numbers: ExtentTree::create(alloc, ROOTS, 3 * frames)?,
             places: empty_places(alloc, frames)?,
         })
     }
 
     /// The number of a page's frame, where it is resident.
     fn number(&self, page: u32) -> Option<u16>
-        ensures number { result ≡ slice_index_or self.now.numbers page None }
+        ensures number { result ≡ number_at self.now page }
         ensures known { IfSome result (λ number. (page < 1048576) × (number < frames_in self.now)) }
         ensures small { IfSome result (λ number. number < 32768) }
     {
-        *self.numbers.get(page as usize)?
+        numbers::find::<Brand>(&self.numbers, page, Blank::new(1))
     }
 
     /// What is kept of a page, where it is resident.
     fn place(&self, page: u32) -> Option<Place>
-        ensures { result ≡ place_of_number self.now.places (slice_index_or self.now.numbers page None) }
+        ensures { result ≡ place_of_number self.now.places (number_at self.now page) }
     {
         let number = self.number(page)?;
         self.places[number as usize]
@@ -120,7 +129,12 @@ impl Pages {
             dirty: mapping.dirty,
             size: size_of(0),
         });
-        self.numbers[page as usize] = Some(mapping.frame as u16);
+        numbers::put::<Brand>(
+            &mut self.numbers,
+            page,
+            mapping.frame as u16,
+            Blank::new(1),
+        );
     }
 
     /// A page is resident no more.
@@ -129,7 +143,7 @@ impl Pages {
         ensures sizes { SizesBut page self.old self.new }
     {
         if let Some(number) = self.number(page) {
-            self.numbers[page as usize] = None;
+            numbers::remove::<Brand>(&mut self.numbers, page, Blank::new(1));
             self.places[number as usize] = None;
         }
     }
@@ -176,7 +190,7 @@ impl Pages {
 }
 
 /// So many places with nothing in them.
-fn empty_places<T: Drop>(alloc: Global, count: u32) -> Result<Vec<Option<T>>, NoMemory>
+fn empty_places(alloc: Global, count: u32) -> Result<Vec<Option<Place>>, NoMemory>
     ensures { IfOk result (λ places. places.items ≡ replicate count None) }
 {
     let mut places = Vec::with_capacity(alloc, count as usize)?;

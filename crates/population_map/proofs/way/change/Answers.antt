@@ -2,11 +2,12 @@ use Rattle.std.proofs.Common.{◌≡◌, ◌*◌, ◌/◌, ◌%◌, ◌≤◌, �
 use Rattle.std.specs.List.{range_with_len, count_by}
 use Rattle.extent_tree.specs.Rows.{Arena, row, ChangesOnly}
 use Rattle.extent_tree.specs.Counts.{splits_with}
+use Rattle.extent_tree.proofs.Rooms.{RowsIn, room_for}
 use Rattle.population_map.specs.declared.mark.Mark.{Mark}
 use Rattle.population_map.specs.Kept.{AreMarks, IsCarried, kept}
 use Rattle.population_map.specs.Bits.{WithBit}
 use Rattle.population_map.specs.Populations.{is_placed, placed_pages}
-use Rattle.population_map.proofs.Marks.{RowsIn, rows_placed, room_for}
+use Rattle.population_map.proofs.Marks.{rows_placed}
 use Rattle.population_map.proofs.Ways.{Asks, ChangesPage, way_written, rows_in_after, marks_after, populates, may_go}
 use Rattle.population_map.proofs.way.change.Goals as goal
 use Rattle.population_map.proofs.way.change.Goals.{After-size_of, After-write, After-write-2, After-write-3}

@@ -1,18 +1,16 @@
-use Rattle.std.proofs.Common.{refl}
 use Rattle.tiles.proofs.Keeping.{fresh_kept, fresh_frames, fresh_number, mapping-absent, size-absent}
 use Rattle.tiles.proofs.pages.Pages.create.Goals as goal
 
 pub invariant_of-result : goal.invariant_of-result
 invariant_of-result c =
-    fresh_kept _ 1048576 c.args.frames c.in_ok-empty_places.ensures c.in_ok-empty_places-2.ensures refl c.requires
+    let made = c.in_ok-create.ensures in
+    fresh_kept _ c.args.frames made.empty c.in_ok-empty_places.ensures made.splits made.roots made.room c.requires
 
 pub returns-clause-none : goal.returns-clause-none
-returns-clause-none c p =
-    mapping-absent _ p (fresh_number _ 1048576 c.args.frames c.in_ok-empty_places.ensures c.in_ok-empty_places-2.ensures p)
+returns-clause-none c p = mapping-absent _ p (fresh_number _ c.args.frames c.in_ok-create.ensures.empty c.in_ok-empty_places.ensures p)
 
 pub returns-clause-sizes : goal.returns-clause-sizes
-returns-clause-sizes c p =
-    size-absent _ p (fresh_number _ 1048576 c.args.frames c.in_ok-empty_places.ensures c.in_ok-empty_places-2.ensures p)
+returns-clause-sizes c p = size-absent _ p (fresh_number _ c.args.frames c.in_ok-create.ensures.empty c.in_ok-empty_places.ensures p)
 
 pub returns-clause-frames : goal.returns-clause-frames
-returns-clause-frames c = fresh_frames _ 1048576 c.args.frames c.in_ok-empty_places.ensures c.in_ok-empty_places-2.ensures
+returns-clause-frames c = fresh_frames _ c.args.frames c.in_ok-create.ensures.empty c.in_ok-empty_places.ensures

@@ -1,9 +1,9 @@
-use Rattle.std.proofs.Common.{◌≡◌, sym, ℕ, ◌<◌, Option, None, Some, arith}
+use Rattle.std.proofs.Common.{◌≡◌, ◌∙◌, sym, ℕ, ◌<◌, Option, None, Some, arith}
 use Rattle.std.specs.Option.{IfSome}
 use Rattle.tiles.specs.Kept.{ArePages}
-use Rattle.tiles.specs.Resident.{Resident, frames_in}
+use Rattle.tiles.specs.Resident.{Resident, number_at, frames_in}
 use Rattle.tiles.specs.contracts.pages.Pages.{the_view}
-use Rattle.tiles.proofs.Keeping.{number_at, number_within, page_within}
+use Rattle.tiles.proofs.Keeping.{number_at-is, number_within, page_within}
 use Rattle.tiles.proofs.pages.Pages.number.Goals as goal
 
 known : (r : Resident) → ArePages r → (page : ℕ) (o : Option ℕ) → number_at r page ≡ o → IfSome o (λ number. (page < 1048576) × (number < frames_in r))
@@ -14,12 +14,12 @@ small : (r : Resident) → ArePages r → (page : ℕ) (o : Option ℕ) → numb
 small r kept page None h = tt
 small r kept page (Some n) h = let k = number_within r kept page n h in omega (arith, kept.few)
 
+pub returns-clause-number : goal.returns-clause-number
+returns-clause-number c = rw (← c.self.view_is) (c.find.ensures ∙ sym (number_at-is (the_view c.self.inside) c.args.page))
+
 pub returns-clause-small : goal.returns-clause-small
-returns-clause-small c =
-    let read = rw c.deref.ensures.value at c.in_ok-get.ensures.lookup.3.1 None in
-    small (the_view c.self.inside) c.self.invariant c.args.page _ (sym read)
+returns-clause-small c = small (the_view c.self.inside) c.self.invariant c.args.page _ (number_at-is (the_view c.self.inside) c.args.page ∙ sym c.find.ensures)
 
 pub returns-clause-known : goal.returns-clause-known
 returns-clause-known c =
-    let read = rw c.deref.ensures.value at c.in_ok-get.ensures.lookup.3.1 None in
-    rw (← c.self.view_is) (known (the_view c.self.inside) c.self.invariant c.args.page _ (sym read))
+    rw (← c.self.view_is) (known (the_view c.self.inside) c.self.invariant c.args.page _ (number_at-is (the_view c.self.inside) c.args.page ∙ sym c.find.ensures))

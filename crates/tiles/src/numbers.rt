@@ -1,0 +1,50 @@
+//! The calls of the tree of the pages' numbers, each with a counter of steps of its own that begins at 0.
+
+ghost use Rattle.std.specs.Prelude.{◌≡◌, ◌*◌, ◌<◌, ◌≤◌, true, None, Some, is_some};
+ghost use Rattle.extent_tree.specs.Counts.{splits_with};
+ghost use Rattle.extent_tree.specs.Rows.{ChangesOnly, SplitsAreRowsBelow, row};
+
+use crate::pages::size_of;
+use extent_tree::ExtentTree;
+use pager_model::Steps;
+use std::sync::ledger::{Blank, Ledger};
+
+/// The number of a page, where it has one.
+pub(crate) fn find<L: Ledger>(numbers: &ExtentTree<u16>, page: u32, blank: Blank) -> Option<u16>
+    requires name { blank.name ≡ L.name }
+    requires parts { blank.parts ≡ L.parts }
+    requires share { 0 < blank.parts }
+    ensures { result ≡ row numbers.now 0 page }
+{
+    let (book, share) = blank.open::<L>();
+    numbers
+        .at(size_of(0), page, &mut Steps::begin(book, share))
+        .value()
+}
+
+/// A page has this number.
+pub(crate) fn put<L: Ledger>(numbers: &mut ExtentTree<u16>, page: u32, number: u16, blank: Blank)
+    requires name { blank.name ≡ L.name }
+    requires parts { blank.parts ≡ L.parts }
+    requires share { 0 < blank.parts }
+    requires page { page < 512 * numbers.old.roots }
+    requires room { splits_with numbers.old 0 page ≤ numbers.old.room }
+    ensures row { ChangesOnly numbers.old numbers.new 0 page (Some number) }
+    ensures splits { SplitsAreRowsBelow numbers.new }
+{
+    let (book, share) = blank.open::<L>();
+    numbers.put(size_of(0), page, number, &mut Steps::begin(book, share));
+}
+
+/// A page that has a number has none any more.
+pub(crate) fn remove<L: Ledger>(numbers: &mut ExtentTree<u16>, page: u32, blank: Blank)
+    requires name { blank.name ≡ L.name }
+    requires parts { blank.parts ≡ L.parts }
+    requires share { 0 < blank.parts }
+    requires number { is_some (row numbers.old 0 page) ≡ true }
+    ensures row { ChangesOnly numbers.old numbers.new 0 page None }
+    ensures splits { SplitsAreRowsBelow numbers.new }
+{
+    let (book, share) = blank.open::<L>();
+    numbers.remove(size_of(0), page, &mut Steps::begin(book, share));
+}
