@@ -15,7 +15,7 @@ use Rattle.tiles.specs.Blocks.{ProtectsInBlock, OutsideSame, AreMovesOf, is_grow
 use Rattle.tiles.specs.Resident.{Resident, mapping_at, frames_in, with_rights, Protects, AreMoves, begins_large}
 use Rattle.tiles.proofs.Counting.{count, one_if, count-zero, count-suc, count-more, count-apart, count-none, count-same, count_pages-is, count_pages_most}
 use Rattle.tiles.proofs.Extents.{StartsBelow, starts_below}
-use Rattle.tiles.proofs.Largest.{size_small, none_size, tile_begins}
+use Rattle.tiles.proofs.Largest.{size_small, none_size, tile_absent, tile_begins}
 use Rattle.tiles.proofs.Promoting.{size_local, promoted_test, promoted_none, promotions_add, demotions_add}
 use Rattle.tiles.proofs.Settling.{eqb_yes, eqb_no}
 
@@ -332,6 +332,16 @@ sizes_other pages to counts so_far none = record {
   long = so_far.long;
   at = λ size low.
       omega (arith, so_far.at size low, count-more (begins_tile pages size) 0 to to (omega arith), ap one_if (begins_by pages size to None none));
+  few = λ size low. omega (arith, so_far.few size low);
+}
+
+-- no page of a block is resident
+pub sizes_bare : (pages : ℕ → Option Mapping) (to : ℕ) (counts : List ℕ) → CountsSizes pages to counts → to % 512 ≡ 0 → ((p : ℕ) → p / 512 ≡ to / 512 → pages p ≡ None) → CountsSizes pages (to + 512) counts
+sizes_bare pages to counts so_far begins none = record {
+  long = so_far.long;
+  at = λ size low.
+      let nothing = count-none (begins_tile pages size) to 512 (λ n from before. begins_by pages size n None (sym (ap (begun_in n) (tile_absent pages n (none n (omega arith)))))) in
+      omega (arith, so_far.at size low, count-apart (begins_tile pages size) 0 to 512 to (omega arith), nothing);
   few = λ size low. omega (arith, so_far.few size low);
 }
 

@@ -1,12 +1,12 @@
 -- What becomes of the kept pages when what is kept of one is written, a page is put in, or one is taken out.
-use Rattle.std.proofs.Common.{◌≡◌, ◌≢◌, ℕ, zero, suc, ◌*◌, ◌<◌, ◌≤◌, Bool, true, false, if◌then◌else◌, eqb, List, Option, Some, None, option_map, is_some, length, replicate, slice_index_or, slice_set, refl, sym, ap, inl, inr, ◌∙◌, arith}
+use Rattle.std.proofs.Common.{◌≡◌, ◌≢◌, ℕ, zero, suc, ◌*◌, ◌/◌, ◌<◌, ◌≤◌, Bool, true, false, if◌then◌else◌, eqb, List, Option, Some, None, option_map, is_some, length, replicate, slice_index_or, slice_set, refl, sym, ap, inl, inr, ◌∙◌, arith}
 use Rattle.std.proofs.lemmas.Bool.{cases_eq, cases_lt, false≢true}
 use Rattle.std.proofs.lemmas.Bool.Decides.{nat_tests}
 use Rattle.std.proofs.lemmas.List.{get_or-set_other, get_or-set_same, length-set, get_or_past, length-replicate}
 use Rattle.std.proofs.lemmas.Option.{none-some, same_Some}
 use Rattle.extent_tree.specs.Counts.{splits_with}
-use Rattle.extent_tree.specs.Rows.{Arena, row, ChangesOnly, SplitsAreRowsBelow}
-use Rattle.extent_tree.proofs.Rows.{row_known}
+use Rattle.extent_tree.specs.Rows.{Arena, row, is_split, ChangesOnly, SplitsAreRowsBelow}
+use Rattle.extent_tree.proofs.Rows.{row_known, split_alike}
 use Rattle.pager_model.specs.declared.tile.Mapping.{Mapping}
 use Rattle.tiles.specs.declared.pages.Place.{Place}
 use Rattle.tiles.specs.Resident.{Resident, number_at, mapping_in, mapping_of_number, mapping_at, frames_in, frame_of_page, Maps}
@@ -342,3 +342,13 @@ module _ (r : Resident) (frames : ℕ) (empty : (size p : ℕ) → row r.numbers
     found = λ p n h. absurd (none-some n (sym (fresh_number p) ∙ h));
     apart = λ p q n h _. absurd (none-some n (sym (fresh_number p) ∙ h));
   }
+
+-- No page of an extent that is not split has a number.
+pub none_round : (pages : Resident) → ArePages pages → (page other : ℕ) → is_split pages.numbers 3 page ≡ false → other / 512 ≡ page / 512 → mapping_at pages other ≡ None
+none_round pages kept page other bare same =
+    mapping-absent pages other (nothing (number_at pages other) refl)
+  where
+    nothing : (o : Option ℕ) → number_at pages other ≡ o → o ≡ None
+    nothing None is = refl
+    nothing (Some n) is =
+        absurd (false≢true (sym bare ∙ sym (split_alike pages.numbers 3 other page (omega arith) same) ∙ kept.splits.above 3 0 other (omega arith) (omega arith) (ap is_some (sym (number_at-is pages other) ∙ is))))

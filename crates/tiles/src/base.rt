@@ -287,10 +287,16 @@ impl Base {
         ensures { result ≡ tiles_of_size (mapping_at self.now) 0 ∷ tiles_of_size (mapping_at self.now) 1 ∷ tiles_of_size (mapping_at self.now) 2 ∷ tiles_of_size (mapping_at self.now) 3 ∷ [] }
     {
         let mut counts = [0; 4];
-        for page in 0..PAGES {
+        let mut page = 0;
+        while page < PAGES {
+            if page % BLOCK == 0 && !self.pages.has_any_round(page) {
+                page += BLOCK;
+                continue;
+            }
             if let Some(level) = self.begun(page) {
                 counts[level as usize] += 1;
             }
+            page += 1;
         }
         counts
     }

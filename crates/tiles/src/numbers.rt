@@ -2,7 +2,7 @@
 
 ghost use Rattle.std.specs.Prelude.{◌≡◌, ◌*◌, ◌<◌, ◌≤◌, true, None, Some, is_some};
 ghost use Rattle.extent_tree.specs.Counts.{splits_with};
-ghost use Rattle.extent_tree.specs.Rows.{ChangesOnly, SplitsAreRowsBelow, row};
+ghost use Rattle.extent_tree.specs.Rows.{ChangesOnly, SplitsAreRowsBelow, is_split, row};
 
 use crate::pages::size_of;
 use extent_tree::ExtentTree;
@@ -20,6 +20,19 @@ pub(crate) fn find<L: Ledger>(numbers: &ExtentTree<u16>, page: u32, blank: Blank
     numbers
         .at(size_of(0), page, &mut Steps::begin(book, share))
         .value()
+}
+
+/// Whether a page of the extent of 512 round a page has a number.
+pub(crate) fn has_any<L: Ledger>(numbers: &ExtentTree<u16>, page: u32, blank: Blank) -> bool
+    requires name { blank.name ≡ L.name }
+    requires parts { blank.parts ≡ L.parts }
+    requires share { 0 < blank.parts }
+    ensures { result ≡ is_split numbers.now 3 page }
+{
+    let (book, share) = blank.open::<L>();
+    numbers
+        .at(size_of(3), page, &mut Steps::begin(book, share))
+        .is_split()
 }
 
 /// A page has this number.

@@ -1,6 +1,6 @@
 //! The resident pages of a space, and what is kept of each.
 
-ghost use Rattle.std.specs.Prelude.{◌≡◌, ◌≢◌, ◌<◌, ◌≤◌, ℕ, None, Some, IfOk, IfSome, option_map, replicate};
+ghost use Rattle.std.specs.Prelude.{◌≡◌, ◌≢◌, ◌/◌, ◌<◌, ◌≤◌, ℕ, false, None, Some, IfOk, IfSome, option_map, replicate};
 ghost use Rattle.tiles.specs.Resident.{number_at, mapping_at, frames_in, frame_of_page, Maps, with_flag, with_rights};
 ghost use Rattle.tiles.specs.Kept.{size_kept, place_of_number, said_by, Sizes, SizesBut, SameSizes};
 ghost use Rattle.tiles.specs.Beside.{SamePages};
@@ -78,6 +78,13 @@ impl Pages {
         ensures small { IfSome result (λ number. number < 32768) }
     {
         numbers::find::<Brand>(&self.numbers, page, Blank::new(1))
+    }
+
+    /// Whether a page of the extent of 512 round a page is resident.
+    pub(crate) fn has_any_round(&self, page: u32) -> bool
+        ensures { result ≡ false → (other : ℕ) → other / 512 ≡ page / 512 → mapping_at self.now other ≡ None }
+    {
+        numbers::has_any::<Brand>(&self.numbers, page, Blank::new(1))
     }
 
     /// What is kept of a page, where it is resident.
