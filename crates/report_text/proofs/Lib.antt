@@ -1,3 +1,3 @@
-pub mod Sending
-pub mod Noting
+pub mod SentBytes
+pub mod NotedAnswers
 pub mod Lines

@@ -21,7 +21,7 @@ use Rattle.pager_model.specs.SpaceStates.{SpaceState, SpaceAllows, WhatAllowed, 
 use Rattle.pager_model.specs.Tiles.{tile_of}
 use Rattle.pager_model.proofs.Histories.{space_at-named, space_at-other, IsLegal-keeps}
 use Rattle.space_core.specs.Translating.{HasHit, retiled}
-use Rattle.space_core.proofs.Translating.{IsUsed, still_again, touched_if, used_at}
+use Rattle.space_core.proofs.Translations.{IsUsed, still_again, touched_if, used_at}
 
 -- Images.
 

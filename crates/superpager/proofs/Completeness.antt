@@ -8,8 +8,8 @@ use Rattle.superpager.specs.Runs.{IsRunnable, IsRefused, status_of}
 use Rattle.trace_reader.specs.declared.fault.TraceFault.{TraceFault}
 use Rattle.trace_reader.specs.declared.fault.TraceFault.TheVariants.{ReadFault, TooLong, Line, NoEnd, TooManyCalls, TooFewStores, NoMemory}
 use Rattle.trace_reader.specs.Refusals.{refusal_of, IsCause}
-use Rattle.trace_reader.proofs.Again.{not_refused}
-use Rattle.trace_reader.proofs.Back.{one_plan}
+use Rattle.trace_reader.proofs.CutTexts.{not_refused}
+use Rattle.trace_reader.proofs.UniqueTexts.{one_plan}
 
 -- a trace that was read and has more spaces than there are stores is refused so
 pub refused_stores : (left after : Option (List ℕ)) (trace : Plan) (stores : ℕ) (refusal : Option TraceFault) → IfSome left (λ bytes. IsTextOf bytes trace × (after ≡ Some [])) → (stores < trace.spaces) × (refusal ≡ Some (TooFewStores stores trace.spaces)) → IfSome left (λ bytes. IsSomeAnd refusal (IsRefused stores bytes))

@@ -16,8 +16,8 @@ use Rattle.tiles.specs.Resident.{Resident, mapping_at, frames_in, with_rights, P
 use Rattle.tiles.proofs.Counting.{count, one_if, count-zero, count-suc, count-more, count-apart, count-none, count-same, count_pages-is, count_pages_most}
 use Rattle.tiles.proofs.Extents.{StartsBelow, starts_below}
 use Rattle.tiles.proofs.Largest.{size_small, none_size, tile_absent, tile_begins}
-use Rattle.tiles.proofs.Promoting.{size_local, promoted_test, promoted_none, promotions_add, demotions_add}
-use Rattle.tiles.proofs.Settling.{eqb_yes, eqb_no}
+use Rattle.tiles.proofs.MoveCounts.{size_local, promoted_test, promoted_none, promotions_add, demotions_add}
+use Rattle.tiles.proofs.SettledSizes.{eqb_yes, eqb_no}
 
 -- ---- the pages that get rights
 

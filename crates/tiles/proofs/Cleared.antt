@@ -12,11 +12,11 @@ use Rattle.tiles.specs.Beside.{whole}
 use Rattle.tiles.specs.Blocks.{is_grown_at}
 use Rattle.tiles.specs.Cleared.{Clears}
 use Rattle.tiles.specs.Resident.{begins_large, large_tiles_in}
-use Rattle.tiles.proofs.Changing.{promotions_same}
+use Rattle.tiles.proofs.SizeChanges.{promotions_same}
 use Rattle.tiles.proofs.Counting.{count_pages_none}
 use Rattle.tiles.proofs.Eligible.{whole_has, whole_local, page_in}
 use Rattle.tiles.proofs.Largest.{size_small, size_absent, size_is, whole_within, whole_beyond}
-use Rattle.tiles.proofs.Promoting.{promoted_test, promoted_none}
+use Rattle.tiles.proofs.MoveCounts.{promoted_test, promoted_none}
 
 module _ (first len region : ℕ) (old new : ℕ → Option Mapping) (clears : Clears first len region old new) where
   new_inside : (p : ℕ) → in_range first len p ≡ true → new p ≡ None

@@ -1,12 +1,12 @@
 pub mod Blocks
-pub mod Changing
+pub mod SizeChanges
 pub mod Cleared
 pub mod Counting
 pub mod Eligible
 pub mod Extents
-pub mod Keeping
+pub mod KeptPages
 pub mod Largest
 pub mod Numbering
-pub mod Promoting
-pub mod Settling
+pub mod MoveCounts
+pub mod SettledSizes
 pub mod TileLaws

@@ -136,12 +136,7 @@ impl Pages {
             dirty: mapping.dirty,
             size: size_of(0),
         });
-        numbers::put::<Brand>(
-            &mut self.numbers,
-            page,
-            mapping.frame as u16,
-            Blank::new(1),
-        );
+        numbers::put::<Brand>(&mut self.numbers, page, mapping.frame as u16, Blank::new(1));
     }
 
     /// A page is resident no more.

@@ -22,7 +22,7 @@ use Rattle.trace_reader.specs.declared.line.Head.{Head}
 use Rattle.trace_reader.specs.Forms.{Place, Word, OneOf, Number, number_in, fits, leftmost, line_fault, first_form, map_form, grow_form, unmap_form, protect_form, load_form, store_form, sync_form, evict_form, call_forms}
 use Rattle.trace_reader.specs.Heads.{IsInRange}
 use Rattle.trace_reader.specs.Refusals.{lines_of, words_of, end_refusal, at_line, calls_refusal, forms_behind, refusal_of_lines, refusal_of}
-use Rattle.trace_reader.proofs.Again.{calls_text, calls_text-cons}
+use Rattle.trace_reader.proofs.CutTexts.{calls_text, calls_text-cons}
 use Rattle.trace_reader.proofs.Numbers.{number_in_takes, version_text}
 use Rattle.trace_reader.proofs.Refusals.{short_enough, too_long, forms_again, is_text}
 

@@ -4,6 +4,6 @@ pub mod Forms
 pub mod Lines
 pub mod Refusals
 pub mod SourceBytes
-pub mod Again
+pub mod CutTexts
 pub mod Fillings
-pub mod Back
+pub mod UniqueTexts

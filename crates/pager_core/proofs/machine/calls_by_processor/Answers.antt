@@ -1,4 +1,4 @@
-use Rattle.pager_core.proofs.Starting.{calls-push}
+use Rattle.pager_core.proofs.StartMachines.{calls-push}
 use Rattle.pager_core.proofs.machine.calls_by_processor.Goals as goal
 
 pub loop-processor-preserved : goal.loop-processor-preserved

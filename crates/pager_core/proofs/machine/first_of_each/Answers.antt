@@ -1,7 +1,7 @@
 use Rattle.std.proofs.Common.{map, ap, ◌∙◌, arith}
 use Rattle.pager_core.specs.Running.{calls_at, flight_of}
 use Rattle.pager_core.proofs.Lists.{map_range-push}
-use Rattle.pager_core.proofs.Turned.{calls_read}
+use Rattle.pager_core.proofs.WholeTurns.{calls_read}
 use Rattle.pager_core.proofs.machine.first_of_each.Goals as goal
 
 pub loop-processor-preserved : goal.loop-processor-preserved

@@ -1,6 +1,6 @@
 use Rattle.std.proofs.Common.{◌≡◌}
 use Rattle.pager_core.specs.Rows.{row_of}
-use Rattle.pager_core.proofs.Passing.{HasPassed}
+use Rattle.pager_core.proofs.SilentSteps.{HasPassed}
 use Rattle.pager_core.proofs.machine.next_entry.Given as goal
 
 abbrev pub invariant-loop-entry : goal.invariant-loop-entry

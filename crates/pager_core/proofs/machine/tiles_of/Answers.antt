@@ -1,7 +1,7 @@
 use Rattle.std.proofs.Common.{sym, subst}
 use Rattle.space_core.specs.Tables.{mapping_in}
 use Rattle.pager_core.specs.Sums.{AreFewer}
-use Rattle.pager_core.proofs.Counting.{own_fewer, some_fewer}
+use Rattle.pager_core.proofs.RunCounts.{own_fewer, some_fewer}
 use Rattle.pager_core.proofs.machine.tiles_of.Goals as goal
 
 pub added-tiles-requires-clause-few : goal.added-tiles-requires-clause-few

@@ -5,7 +5,7 @@ use Rattle.pager_model.specs.declared.entry.Entry.{Entry}
 use Rattle.pager_model.specs.Legal.{entries_in}
 use Rattle.report_text.specs.declared.report.Answer.{Answer}
 use Rattle.report_text.specs.Reports.{HasRoomFor, Notes, room_of}
-use Rattle.report_text.proofs.Noting.{HasRoomFor-set, Notes-answer, Notes-empty, Notes-silent, silent, has_room, entries-more, entries-around}
+use Rattle.report_text.proofs.NotedAnswers.{HasRoomFor-set, Notes-answer, Notes-empty, Notes-silent, silent, has_room, entries-more, entries-around}
 use Rattle.report_text.proofs.report.note_answers.Goals as goal
 use Rattle.report_text.proofs.report.note_answers.Goals.{in-Answer, in_default}
 

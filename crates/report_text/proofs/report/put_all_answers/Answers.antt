@@ -8,7 +8,7 @@ use Rattle.pager_model.specs.PrintedText.{answers_of}
 use Rattle.report_text.specs.declared.report.Answer.{Answer}
 use Rattle.report_text.specs.Reports.{Notes, answer_text}
 use Rattle.report_text.specs.Writing.{Sent, outgoing}
-use Rattle.report_text.proofs.Sending.{sent_next, next_failed}
+use Rattle.report_text.proofs.SentBytes.{sent_next, next_failed}
 use Rattle.report_text.proofs.report.put_all_answers.Goals as goal
 
 -- the processor of this place

@@ -1,6 +1,6 @@
 use Rattle.std.proofs.Common.{[]}
 use Rattle.report_text.specs.Reports.{answer_text}
-use Rattle.report_text.proofs.Sending.{sent_next, next_failed}
+use Rattle.report_text.proofs.SentBytes.{sent_next, next_failed}
 use Rattle.report_text.proofs.report.put_answers.Goals as goal
 
 pub returns-in_err-put_line : goal.returns-in_err-put_line

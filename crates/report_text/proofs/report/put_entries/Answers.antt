@@ -1,6 +1,6 @@
 use Rattle.std.proofs.Common.{[]}
 use Rattle.pager_model.specs.PrintedText.{history_line}
-use Rattle.report_text.proofs.Sending.{sent_next, next_failed}
+use Rattle.report_text.proofs.SentBytes.{sent_next, next_failed}
 use Rattle.report_text.proofs.report.put_entries.Goals as goal
 
 pub returns-in_err-put_line : goal.returns-in_err-put_line

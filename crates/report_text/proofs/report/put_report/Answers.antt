@@ -4,7 +4,7 @@ use Rattle.pager_model.specs.Legal.{entries_in}
 use Rattle.pager_model.specs.PrintedText.{answers_text, history_text, summary_text}
 use Rattle.report_text.specs.Parts.{has_history}
 use Rattle.report_text.specs.Writing.{Puts, Sent, SentPart, outgoing}
-use Rattle.report_text.proofs.Sending.{puts_failed, puts_then, sent_sent, sent_part}
+use Rattle.report_text.proofs.SentBytes.{puts_failed, puts_then, sent_sent, sent_part}
 use Rattle.report_text.proofs.report.put_report.Goals as goal
 
 pub returns-in_err-put_all_answers-clause-puts : goal.returns-in_err-put_all_answers-clause-puts

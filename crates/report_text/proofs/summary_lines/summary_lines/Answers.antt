@@ -2,7 +2,7 @@ use Rattle.std.proofs.Common.{ℕ, ◌≡◌, List, [], ◌∷◌, codes, ap, �
 use Rattle.pager_model.specs.PrintedText.{count_line}
 use Rattle.pager_model.specs.TraceText.{line_of_words}
 use Rattle.report_text.specs.Lines.{line_text}
-use Rattle.report_text.proofs.Sending.{joined}
+use Rattle.report_text.proofs.SentBytes.{joined}
 use Rattle.report_text.proofs.summary_lines.summary_lines.Goals as goal
 
 pub returns : goal.returns

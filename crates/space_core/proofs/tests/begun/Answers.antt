@@ -1,5 +1,5 @@
 use Rattle.std.proofs.Common.{false, arith}
-use Rattle.space_core.proofs.Sparing.{all_spare}
+use Rattle.space_core.proofs.SpareFrames.{all_spare}
 use Rattle.space_core.proofs.tests.begun.Goals as goal
 
 pub returns-in-Ok-clause-spare : goal.returns-in-Ok-clause-spare

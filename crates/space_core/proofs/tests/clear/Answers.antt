@@ -1,4 +1,4 @@
-use Rattle.space_core.proofs.Sparing.{clears_one_more, range_again, may_unmap, spare_unmapped}
+use Rattle.space_core.proofs.SpareFrames.{clears_one_more, range_again, may_unmap, spare_unmapped}
 use Rattle.space_core.proofs.tests.clear.Goals as goal
 
 pub unmap-requires-clause-cleared : goal.unmap-requires-clause-cleared

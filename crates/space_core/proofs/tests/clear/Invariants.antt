@@ -1,5 +1,5 @@
 use Rattle.space_core.specs.Beginning.{IsRange}
-use Rattle.space_core.proofs.Sparing.{ClearsBut}
+use Rattle.space_core.proofs.SpareFrames.{ClearsBut}
 use Rattle.space_core.proofs.tests.clear.Given as goal
 
 abbrev pub invariant-loop : goal.invariant-loop

@@ -2,8 +2,8 @@ use Rattle.std.proofs.Common.{◌≡◌, ℕ, length, sym, ap, ◌∙◌, arith,
 use Rattle.std.proofs.lemmas.Bool.{cases_eq}
 use Rattle.std.proofs.lemmas.Option.{none-some, same_Some}
 use Rattle.space_core.specs.Standing.{Kept, StandsFor, frame_at}
-use Rattle.space_core.proofs.Refusing.{same_base}
-use Rattle.space_core.proofs.Sparing.{popped, rest_spare, still_spare, kept_others}
+use Rattle.space_core.proofs.Refusals.{same_base}
+use Rattle.space_core.proofs.SpareFrames.{popped, rest_spare, still_spare, kept_others}
 use Rattle.space_core.proofs.tests.serve.Goals as goal
 
 pub place-requires-clause-known : goal.place-requires-clause-known

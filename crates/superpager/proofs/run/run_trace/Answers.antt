@@ -2,7 +2,7 @@ use Rattle.std.proofs.Common.{ℕ, List, Vec, map, ap, subst}
 use Rattle.std.specs.declared.alloc.Global.{Global}
 use Rattle.pager_model.specs.declared.entry.Numbered.{Numbered}
 use Rattle.report_text.specs.Written.{WroteAll, WrotePart}
-use Rattle.superpager.proofs.Printing.{run_text-gathered}
+use Rattle.superpager.proofs.PrintedRuns.{run_text-gathered}
 use Rattle.superpager.proofs.run.run_trace.Goals as goal
 
 pub returns-in-Ok-replay-clause-wrote : goal.returns-in-Ok-replay-clause-wrote

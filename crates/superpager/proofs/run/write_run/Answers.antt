@@ -2,7 +2,7 @@ use Rattle.std.proofs.Common.{List, subst, sym, arith}
 use Rattle.pager_model.specs.declared.entry.Numbered.{Numbered}
 use Rattle.pager_model.specs.Legal.{entries_in}
 use Rattle.report_text.specs.Reports.{HasRoomFor}
-use Rattle.report_text.proofs.Noting.{room_for_shown}
+use Rattle.report_text.proofs.NotedAnswers.{room_for_shown}
 use Rattle.superpager.proofs.run.write_run.Goals as goal
 use Rattle.superpager.proofs.run.write_run.Goals.{in-Ok, in-Err}
 

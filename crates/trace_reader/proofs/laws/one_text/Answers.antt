@@ -1,4 +1,4 @@
-use Rattle.trace_reader.proofs.Back.{one_plan}
+use Rattle.trace_reader.proofs.UniqueTexts.{one_plan}
 use Rattle.trace_reader.proofs.laws.one_text.Goals as goal
 
 pub returns : goal.returns

@@ -1,4 +1,4 @@
-use Rattle.pager_core.proofs.Answering.{late_answered}
+use Rattle.pager_core.proofs.AnswerSteps.{late_answered}
 use Rattle.pager_core.proofs.flight.Flight.answer_late.Goals as goal
 
 pub returns-clause-entry : goal.returns-clause-entry

@@ -1,6 +1,6 @@
 use Rattle.std.proofs.Common.{◌≡◌, ◌∙◌, ap, sym}
 use Rattle.pager_core.specs.Rows.{is_store}
-use Rattle.pager_core.proofs.Claiming.{is_no_store, victim_claimed}
+use Rattle.pager_core.proofs.ClaimSteps.{is_no_store, victim_claimed}
 use Rattle.pager_core.proofs.flight.Flight.claim.Goals as goal
 use Rattle.pager_core.proofs.flight.Flight.claim.Goals.{in-Store, in_default}
 

@@ -1,5 +1,5 @@
 use Rattle.std.proofs.Common.{◌∙◌}
-use Rattle.pager_core.proofs.Clearing.{on_clear, IsClearing-next, fewer_resident, range_cleared}
+use Rattle.pager_core.proofs.ClearSteps.{on_clear, IsClearing-next, fewer_resident, range_cleared}
 use Rattle.pager_core.proofs.flight.Flight.clear.Goals as goal
 
 pub loop-page-smaller : goal.loop-page-smaller

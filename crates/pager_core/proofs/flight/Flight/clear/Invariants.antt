@@ -2,7 +2,7 @@ use Rattle.std.proofs.Common.{is_some}
 use Rattle.std.specs.List.{range_with_len, count_by}
 use Rattle.space_core.specs.Standing.{frame_at}
 use Rattle.pager_core.proofs.flight.Flight.clear.Given as goal
-use Rattle.pager_core.proofs.Clearing.{IsClearing}
+use Rattle.pager_core.proofs.ClearSteps.{IsClearing}
 
 -- so far some pages of the range gave their frames up, the lowest first
 abbrev pub invariant-loop-page : goal.invariant-loop-page

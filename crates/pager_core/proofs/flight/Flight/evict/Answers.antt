@@ -1,4 +1,4 @@
-use Rattle.pager_core.proofs.Evicting.{page_evicted}
+use Rattle.pager_core.proofs.EvictSteps.{page_evicted}
 use Rattle.pager_core.proofs.flight.Flight.evict.Goals as goal
 
 pub returns-clause-entry : goal.returns-clause-entry

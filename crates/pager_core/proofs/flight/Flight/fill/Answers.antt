@@ -1,6 +1,6 @@
 use Rattle.std.proofs.Common.{arith}
-use Rattle.pager_core.proofs.Answering.{fill_answered}
-use Rattle.pager_core.proofs.Failing.{fill_failed}
+use Rattle.pager_core.proofs.AnswerSteps.{fill_answered}
+use Rattle.pager_core.proofs.FaultSteps.{fill_failed}
 use Rattle.pager_core.proofs.flight.Flight.fill.Goals as goal
 
 pub returns-in-Ok-clause-entry : goal.returns-in-Ok-clause-entry

@@ -1,4 +1,4 @@
-use Rattle.pager_core.proofs.PagingOut.{frame_handed}
+use Rattle.pager_core.proofs.VictimPages.{frame_handed}
 use Rattle.pager_core.proofs.flight.Flight.hand.Goals as goal
 
 pub returns-clause-entry : goal.returns-clause-entry

@@ -1,4 +1,4 @@
-use Rattle.pager_core.proofs.Refusing.{refused}
+use Rattle.pager_core.proofs.RefusedCalls.{refused}
 use Rattle.pager_core.proofs.flight.Flight.refuse.Goals as goal
 
 pub returns-clause-entry : goal.returns-clause-entry

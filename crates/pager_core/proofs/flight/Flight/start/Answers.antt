@@ -1,6 +1,6 @@
-use Rattle.pager_core.proofs.Answering.{start_answered}
-use Rattle.pager_core.proofs.Evicting.{begin_evicting}
-use Rattle.pager_core.proofs.Failing.{begin_failed}
+use Rattle.pager_core.proofs.AnswerSteps.{start_answered}
+use Rattle.pager_core.proofs.EvictSteps.{begin_evicting}
+use Rattle.pager_core.proofs.FaultSteps.{begin_failed}
 use Rattle.pager_core.proofs.flight.Flight.start.Goals as goal
 
 pub returns-in-Answered-clause-entry : goal.returns-in-Answered-clause-entry

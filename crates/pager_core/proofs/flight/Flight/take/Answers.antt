@@ -1,7 +1,7 @@
 use Rattle.std.proofs.Common.{sym, subst, ◌∙◌}
 use Rattle.space_core.specs.Beginning.{Places}
 use Rattle.pager_core.specs.Steps.{AreAgreed, Makes}
-use Rattle.pager_core.proofs.Taking.{unused_elsewhere, frame_taken}
+use Rattle.pager_core.proofs.TakenFrames.{unused_elsewhere, frame_taken}
 use Rattle.pager_core.proofs.flight.Flight.take.Goals as goal
 
 pub place-requires-clause-other : goal.place-requires-clause-other

@@ -1,5 +1,5 @@
 use Rattle.std.proofs.Common.{◌≡◌, ◌∙◌, ap, sym}
-use Rattle.pager_core.proofs.Claiming.{unclaimed, claim_ended}
+use Rattle.pager_core.proofs.ClaimSteps.{unclaimed, claim_ended}
 use Rattle.pager_core.proofs.flight.Flight.unclaim.Goals as goal
 use Rattle.pager_core.proofs.flight.Flight.unclaim.Goals.{in-Some, in-None}
 

@@ -1,4 +1,4 @@
-use Rattle.pager_core.proofs.Failing.{frame_unfilled}
+use Rattle.pager_core.proofs.FaultSteps.{frame_unfilled}
 use Rattle.pager_core.proofs.flight.Flight.unfill.Goals as goal
 
 pub returns-clause-entry : goal.returns-clause-entry

@@ -1,4 +1,4 @@
-use Rattle.pager_core.proofs.Answering.{unmap_answered}
+use Rattle.pager_core.proofs.AnswerSteps.{unmap_answered}
 use Rattle.pager_core.proofs.flight.Flight.unmap.Goals as goal
 
 pub returns-clause-entry : goal.returns-clause-entry

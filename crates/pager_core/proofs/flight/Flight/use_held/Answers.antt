@@ -1,6 +1,6 @@
 use Rattle.std.proofs.Common.{◌<◌, ◌∙◌, Some, subst, sym, ap}
 use Rattle.space_core.specs.Beginning.{Places}
-use Rattle.pager_core.proofs.Holding.{wants_still, taken_known, taken_elsewhere, held_used}
+use Rattle.pager_core.proofs.HeldFrames.{wants_still, taken_known, taken_elsewhere, held_used}
 use Rattle.pager_core.proofs.flight.Flight.use_held.Goals as goal
 
 pub place-requires-clause-known : goal.place-requires-clause-known

@@ -1,5 +1,5 @@
 use Rattle.std.proofs.Common.{Err, ap}
-use Rattle.pager_core.proofs.PagingOut.{page_written, write_failed, write_lacks_memory}
+use Rattle.pager_core.proofs.VictimPages.{page_written, write_failed, write_lacks_memory}
 use Rattle.pager_core.proofs.flight.Flight.write.Goals as goal
 
 pub returns-in-Ok-clause-entry : goal.returns-in-Ok-clause-entry

@@ -1,8 +1,8 @@
 use Rattle.std.proofs.Common.{map, sym, ap, ◌∙◌}
 use Rattle.pager_model.specs.Flat.{space_of_call}
 use Rattle.pager_core.specs.Running.{calls_at, progress_by_flight, progress_of_actor}
-use Rattle.pager_core.proofs.GoingOn.{made_going}
-use Rattle.pager_core.proofs.Turned.{flight_read}
+use Rattle.pager_core.proofs.NextFlights.{made_going}
+use Rattle.pager_core.proofs.WholeTurns.{flight_read}
 use Rattle.pager_core.proofs.machine.Machine.answered.Goals as goal
 
 pub returns-in-Some-clause-made : goal.returns-in-Some-clause-made

@@ -5,8 +5,8 @@ use Rattle.pager_model.specs.Legal.{entries_in}
 use Rattle.space_core.specs.Standing.{Kept}
 use Rattle.pager_core.specs.Running.{Running, HasEnded, IsWholeRun, StoresEnd}
 use Rattle.pager_core.specs.Sums.{tiles_in, promotions_in, demotions_in}
-use Rattle.pager_core.proofs.Counting.{promotions_small, demotions_small, counts_are}
-use Rattle.pager_core.proofs.Ending.{IsWholeRun-ended}
+use Rattle.pager_core.proofs.RunCounts.{promotions_small, demotions_small, counts_are}
+use Rattle.pager_core.proofs.WholeRuns.{IsWholeRun-ended}
 use Rattle.pager_core.proofs.Stores.{in_order, StoresEnd-ended, unused-ended}
 use Rattle.pager_core.proofs.machine.Machine.finish.Given.{Over}
 use Rattle.pager_core.proofs.machine.Machine.finish.Goals as goal

@@ -3,9 +3,9 @@ use Rattle.std.proofs.Math.ListN.{set, length-set, length-map}
 use Rattle.pager_model.specs.Legal.{space_at, entries_in}
 use Rattle.pager_core.specs.Running.{Running}
 use Rattle.pager_core.proofs.Laws.{KeepsLaws-legal, KeepsLaws-machine}
-use Rattle.pager_core.proofs.Readying.{is_under, number-few, OwnsBy-machine, entries-below, known-machine, space_within}
-use Rattle.pager_core.proofs.Turned.{flight_read, finds, calls_read, Turns-of, IsMachine-turned, IsLawful-turned, OneMore-turned}
-use Rattle.pager_core.proofs.Turning.{Turns}
+use Rattle.pager_core.proofs.ReadyFlights.{is_under, number-few, OwnsBy-machine, entries-below, known-machine, space_within}
+use Rattle.pager_core.proofs.WholeTurns.{flight_read, finds, calls_read, Turns-of, IsMachine-turned, IsLawful-turned, OneMore-turned}
+use Rattle.pager_core.proofs.MachineTurns.{Turns}
 use Rattle.pager_core.proofs.machine.Machine.turn.Given.{Over}
 use Rattle.pager_core.proofs.machine.Machine.turn.Goals as goal
 

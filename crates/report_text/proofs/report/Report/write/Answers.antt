@@ -1,7 +1,7 @@
 use Rattle.std.proofs.Common.{◌≡◌, length, ap, sym, ◌∙◌}
 use Rattle.report_text.specs.Writing.{outgoing}
-use Rattle.report_text.proofs.Noting.{length-room_of}
-use Rattle.report_text.proofs.Sending.{all_out}
+use Rattle.report_text.proofs.NotedAnswers.{length-room_of}
+use Rattle.report_text.proofs.SentBytes.{all_out}
 use Rattle.report_text.proofs.report.Report.write.Goals as goal
 
 pub returns-clause-whole : goal.returns-clause-whole

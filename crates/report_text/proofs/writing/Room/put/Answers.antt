@@ -1,5 +1,5 @@
 use Rattle.std.proofs.Common.{[]}
-use Rattle.report_text.proofs.Sending.{puts_then, put_whole}
+use Rattle.report_text.proofs.SentBytes.{puts_then, put_whole}
 use Rattle.report_text.proofs.writing.Room.put.Goals as goal
 
 pub returns-then-not-fits-2 : goal.returns-then-not-fits-2

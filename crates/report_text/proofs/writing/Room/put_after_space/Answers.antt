@@ -1,6 +1,6 @@
 use Rattle.std.proofs.Common.{◌∷◌, []}
 use Rattle.report_text.specs.Lines.{word_text}
-use Rattle.report_text.proofs.Sending.{puts_then}
+use Rattle.report_text.proofs.SentBytes.{puts_then}
 use Rattle.report_text.proofs.writing.Room.put_after_space.Goals as goal
 
 pub returns : goal.returns

@@ -5,7 +5,7 @@ use Rattle.report_text.specs.declared.line.Word.TheVariants.{Name}
 use Rattle.report_text.specs.Lines.{word_text}
 use Rattle.report_text.specs.Writing.{Sent, outgoing}
 use Rattle.report_text.proofs.Lines.{after_space, line-joined}
-use Rattle.report_text.proofs.Sending.{puts_then, sent_next, next_failed}
+use Rattle.report_text.proofs.SentBytes.{puts_then, sent_next, next_failed}
 use Rattle.report_text.proofs.writing.Room.put_line.Goals as goal
 
 abbrev none : Word

@@ -1,6 +1,6 @@
 use Rattle.std.proofs.Common.{ℕ, codes, decimal, subst}
 use Rattle.report_text.specs.Writing.{Puts, outgoing}
-use Rattle.report_text.proofs.Sending.{puts_then}
+use Rattle.report_text.proofs.SentBytes.{puts_then}
 use Rattle.report_text.proofs.writing.Room.put_space.Goals as goal
 
 pub returns : goal.returns

@@ -1,6 +1,6 @@
 use Rattle.std.proofs.Common.{[], ◌∷◌, codes, false, Some}
 use Rattle.pager_model.specs.PrintedText.{part_word}
-use Rattle.report_text.proofs.Sending.{puts_failed, puts_then}
+use Rattle.report_text.proofs.SentBytes.{puts_failed, puts_then}
 use Rattle.report_text.proofs.writing.Room.put_word.Goals as goal
 
 pub returns-in_err-put_space-in-SpaceAndFrames : goal.returns-in_err-put_space-in-SpaceAndFrames

@@ -1,4 +1,4 @@
-use Rattle.space_core.proofs.Clearing.{range_in_space}
+use Rattle.space_core.proofs.ClearedRegions.{range_in_space}
 use Rattle.space_core.proofs.space.Space.begin_clearing.Goals as goal
 
 pub tiles_in-self-inside-requires : goal.tiles_in-self-inside-requires

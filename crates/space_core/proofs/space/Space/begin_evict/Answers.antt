@@ -5,9 +5,9 @@ use Rattle.pager_model.specs.declared.reply.Reply.TheVariants.{Denied, Unmapped}
 use Rattle.pager_model.specs.Flat.{evict_reply}
 use Rattle.pager_model.specs.Regions.{region_at}
 use Rattle.space_core.specs.Standing.{Kept, is_unwired, frame_at}
-use Rattle.space_core.proofs.Refusing.{begins_refused}
+use Rattle.space_core.proofs.Refusals.{begins_refused}
 use Rattle.space_core.proofs.SameView.{same_regions}
-use Rattle.space_core.proofs.Syncing.{evicts_absent, begins_unwritten, begins_evicting, evict_denied, unwired_at}
+use Rattle.space_core.proofs.CopyCalls.{evicts_absent, begins_unwritten, begins_evicting, evict_denied, unwired_at}
 use Rattle.space_core.proofs.space.Space.begin_evict.Goals as goal
 use Rattle.space_core.proofs.space.Space.begin_evict.Goals.{in-Wired, in_default-matches}
 

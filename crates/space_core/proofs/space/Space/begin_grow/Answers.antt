@@ -2,8 +2,8 @@ use Rattle.std.proofs.Common.{◌∙◌, ap, sym}
 use Rattle.pager_model.specs.declared.call.Call.TheVariants.{Grow}
 use Rattle.pager_model.specs.Regions.{grow_reply}
 use Rattle.space_core.specs.Standing.{Kept}
-use Rattle.space_core.proofs.Refusing.{begins_refused, grow_refused}
-use Rattle.space_core.proofs.Changing.{grows_region, grow_own, grow_mapped, grow_found, changed_kept}
+use Rattle.space_core.proofs.Refusals.{begins_refused, grow_refused}
+use Rattle.space_core.proofs.RegionChanges.{grows_region, grow_own, grow_mapped, grow_found, changed_kept}
 use Rattle.space_core.proofs.space.Space.begin_grow.Goals as goal
 use Rattle.space_core.proofs.space.Space.begin_grow.Goals.{in-Ok, in-Err}
 

@@ -2,8 +2,8 @@ use Rattle.std.proofs.Common.{◌∙◌, ap, sym}
 use Rattle.pager_model.specs.declared.call.Call.TheVariants.{Map}
 use Rattle.pager_model.specs.Regions.{map_reply}
 use Rattle.space_core.specs.Standing.{Kept}
-use Rattle.space_core.proofs.Refusing.{begins_refused, map_refused}
-use Rattle.space_core.proofs.Changing.{maps, map_own, map_mapped, changed_kept}
+use Rattle.space_core.proofs.Refusals.{begins_refused, map_refused}
+use Rattle.space_core.proofs.RegionChanges.{maps, map_own, map_mapped, changed_kept}
 use Rattle.space_core.proofs.space.Space.begin_map.Goals as goal
 use Rattle.space_core.proofs.space.Space.begin_map.Goals.{in-Ok, in-Err}
 

@@ -3,8 +3,8 @@ use Rattle.pager_model.specs.declared.call.Call.TheVariants.{Sync}
 use Rattle.pager_model.specs.declared.reply.Reply.TheVariants.{Unmapped}
 use Rattle.pager_model.specs.Flat.{sync_reply}
 use Rattle.pager_model.specs.Regions.{region_at}
-use Rattle.space_core.proofs.Refusing.{begins_refused}
-use Rattle.space_core.proofs.Syncing.{syncs, begins_unwritten}
+use Rattle.space_core.proofs.Refusals.{begins_refused}
+use Rattle.space_core.proofs.CopyCalls.{syncs, begins_unwritten}
 use Rattle.space_core.proofs.space.Space.begin_sync.Goals as goal
 
 pub returns-then-is_none : goal.returns-then-is_none

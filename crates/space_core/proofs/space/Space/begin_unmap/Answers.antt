@@ -3,8 +3,8 @@ use Rattle.pager_model.specs.declared.call.Call.TheVariants.{Unmap}
 use Rattle.pager_model.specs.declared.reply.Reply.TheVariants.{Unmapped}
 use Rattle.pager_model.specs.Regions.{region_at, unmap_reply_at}
 use Rattle.space_core.specs.Standing.{Kept}
-use Rattle.space_core.proofs.Refusing.{begins_refused}
-use Rattle.space_core.proofs.Changing.{begins_clearing}
+use Rattle.space_core.proofs.Refusals.{begins_refused}
+use Rattle.space_core.proofs.RegionChanges.{begins_clearing}
 use Rattle.space_core.proofs.space.Space.begin_unmap.Goals as goal
 use Rattle.space_core.proofs.space.Space.begin_unmap.Goals.{in-Some, in-None}
 

@@ -1,8 +1,8 @@
 use Rattle.std.proofs.Common.{◌∙◌, refl, sym}
 use Rattle.std.proofs.lemmas.Bool.{true≢false}
-use Rattle.space_core.proofs.Serving.{cleaned_kept}
+use Rattle.space_core.proofs.ServedPages.{cleaned_kept}
 use Rattle.space_core.proofs.TableLemmas.{cleans_none}
-use Rattle.space_core.proofs.Translating.{retouched_by}
+use Rattle.space_core.proofs.Translations.{retouched_by}
 use Rattle.space_core.proofs.space.Space.clean.Goals as goal
 
 pub invariant_of-self : goal.invariant_of-self

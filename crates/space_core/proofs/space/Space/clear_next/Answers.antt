@@ -1,7 +1,7 @@
 use Rattle.std.proofs.Common.{◌+◌, arith}
-use Rattle.space_core.proofs.Clearing.{clears_page, clears_range, scanned_from}
-use Rattle.space_core.proofs.Serving.{scanned_kept}
-use Rattle.space_core.proofs.Translating.{saturated}
+use Rattle.space_core.proofs.ClearedRegions.{clears_page, clears_range, scanned_from}
+use Rattle.space_core.proofs.ServedPages.{scanned_kept}
+use Rattle.space_core.proofs.Translations.{saturated}
 use Rattle.space_core.proofs.space.Space.clear_next.Goals as goal
 
 pub overflow_add-end : goal.overflow_add-end

@@ -1,4 +1,4 @@
-use Rattle.space_core.proofs.Serving.{begins_empty}
+use Rattle.space_core.proofs.ServedPages.{begins_empty}
 use Rattle.space_core.proofs.space.Space.create.Goals as goal
 
 pub returns-in-Ok-clause-stands : goal.returns-in-Ok-clause-stands

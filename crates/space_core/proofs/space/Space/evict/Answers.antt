@@ -1,7 +1,7 @@
 use Rattle.std.proofs.Common.{◌∙◌, ap, sym}
 use Rattle.space_core.specs.Standing.{Kept}
 use Rattle.space_core.proofs.SameView.{same_regions}
-use Rattle.space_core.proofs.GivingUp.{evicts, evicting_only, evicting_unbehind}
+use Rattle.space_core.proofs.GivenPages.{evicts, evicting_only, evicting_unbehind}
 use Rattle.space_core.proofs.space.Space.evict.Goals as goal
 
 pub returns : goal.returns

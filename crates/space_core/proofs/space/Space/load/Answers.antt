@@ -1,4 +1,4 @@
-use Rattle.space_core.proofs.Serving.{loads}
+use Rattle.space_core.proofs.ServedPages.{loads}
 use Rattle.space_core.proofs.space.Space.load.Goals as goal
 
 pub returns : goal.returns

@@ -1,7 +1,7 @@
 use Rattle.std.proofs.Common.{◌≡◌, sym, refl, Some}
 use Rattle.pager_model.specs.Regions.{region_at}
-use Rattle.space_core.proofs.Serving.{places, placed_kept}
-use Rattle.space_core.proofs.Translating.{retouched_by}
+use Rattle.space_core.proofs.ServedPages.{places, placed_kept}
+use Rattle.space_core.proofs.Translations.{retouched_by}
 use Rattle.space_core.proofs.space.Space.place.Goals as goal
 
 pub invariant_of-self : goal.invariant_of-self

@@ -1,8 +1,8 @@
 use Rattle.std.proofs.Common.{◌≡◌, ◌∙◌, ap, refl, Some}
 use Rattle.space_core.specs.Standing.{Kept}
-use Rattle.space_core.proofs.Filling.{reads_in, fails_to_read}
+use Rattle.space_core.proofs.FilledPages.{reads_in, fails_to_read}
 use Rattle.space_core.proofs.SameView.{same_regions}
-use Rattle.space_core.proofs.Serving.{same_kept, kept_again, refilled_mapped}
+use Rattle.space_core.proofs.ServedPages.{same_kept, kept_again, refilled_mapped}
 use Rattle.space_core.proofs.TableLemmas.{frame-same, dirty-same}
 use Rattle.space_core.proofs.space.Space.read_in.Goals as goal
 

@@ -1,7 +1,7 @@
 use Rattle.std.proofs.Common.{◌≡◌, ◌∙◌, ap, sym, Some, None}
 use Rattle.pager_model.specs.Regions.{region_at}
 use Rattle.space_core.specs.Standing.{Kept}
-use Rattle.space_core.proofs.Refusing.{begins_denied, begins_unmapped}
+use Rattle.space_core.proofs.Refusals.{begins_denied, begins_unmapped}
 use Rattle.space_core.proofs.space.Space.refusal.Goals as goal
 
 pub returns-in_default-clause-some : goal.returns-in_default-clause-some

@@ -1,7 +1,7 @@
 use Rattle.std.proofs.Common.{◌∙◌, ◌&&◌, not, ap}
 use Rattle.space_core.specs.Standing.{Kept, is_page}
 use Rattle.space_core.proofs.SameView.{same_regions}
-use Rattle.space_core.proofs.GivingUp.{removes, clean_only}
+use Rattle.space_core.proofs.GivenPages.{removes, clean_only}
 use Rattle.space_core.proofs.space.Space.remove.Goals as goal
 
 pub returns : goal.returns

@@ -2,9 +2,9 @@ use Rattle.std.proofs.Common.{◌∙◌, refl, sym, map, inl, inr}
 use Rattle.pager_model.specs.Images.{still_tiles}
 use Rattle.space_core.specs.Tables.{mapping_in}
 use Rattle.space_core.specs.Translating.{counted_up}
-use Rattle.space_core.proofs.Serving.{stores, stored_kept, same_stored}
+use Rattle.space_core.proofs.ServedPages.{stores, stored_kept, same_stored}
 use Rattle.space_core.proofs.TableLemmas.{writes_frame}
-use Rattle.space_core.proofs.Translating.{retouched_by}
+use Rattle.space_core.proofs.Translations.{retouched_by}
 use Rattle.space_core.proofs.space.Space.store.Goals as goal
 use Rattle.space_core.proofs.space.Space.store.Goals.{then-not-was_dirty, else-not-was_dirty}
 

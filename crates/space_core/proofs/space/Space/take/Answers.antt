@@ -1,6 +1,6 @@
 use Rattle.std.proofs.Common.{refl}
-use Rattle.space_core.proofs.Serving.{gone_kept}
-use Rattle.space_core.proofs.Translating.{retouched_by}
+use Rattle.space_core.proofs.ServedPages.{gone_kept}
+use Rattle.space_core.proofs.Translations.{retouched_by}
 use Rattle.space_core.proofs.space.Space.take.Goals as goal
 
 pub invariant_of-self : goal.invariant_of-self

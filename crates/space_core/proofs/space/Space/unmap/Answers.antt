@@ -1,9 +1,9 @@
 use Rattle.std.proofs.Common.{◌≡◌, ◌∙◌, ap, sym, Some, None, arith, refl}
 use Rattle.std.proofs.lemmas.Option.{same_Some}
 use Rattle.space_core.specs.Standing.{Kept}
-use Rattle.space_core.proofs.Clearing.{unmaps, unmap_own, unmap_mapped}
-use Rattle.space_core.proofs.Changing.{changed_kept}
-use Rattle.space_core.proofs.Finding.{found_page}
+use Rattle.space_core.proofs.ClearedRegions.{unmaps, unmap_own, unmap_mapped}
+use Rattle.space_core.proofs.RegionChanges.{changed_kept}
+use Rattle.space_core.proofs.RegionSearch.{found_page}
 use Rattle.space_core.proofs.space.Space.unmap.Goals as goal
 
 pub forget_rights-requires : goal.forget_rights-requires

@@ -1,5 +1,5 @@
 use Rattle.std.proofs.Common.{sym, arith}
-use Rattle.space_core.proofs.Finding.{found_page, next_above}
+use Rattle.space_core.proofs.RegionSearch.{found_page, next_above}
 use Rattle.space_core.proofs.space.Space.wants.Goals as goal
 
 pub want_in-requires-clause-has_first : goal.want_in-requires-clause-has_first

@@ -1,5 +1,5 @@
 use Rattle.std.proofs.Common.{rules}
-use Rattle.space_core.proofs.Copying.{writes_out, fails_to_write}
+use Rattle.space_core.proofs.SavedCopies.{writes_out, fails_to_write}
 use Rattle.space_core.proofs.space.Space.write_out.Goals as goal
 
 pub returns-clause-written : goal.returns-clause-written

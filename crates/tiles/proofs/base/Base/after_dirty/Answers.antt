@@ -1,6 +1,6 @@
 use Rattle.std.proofs.Common.{◌∙◌, refl, option_map}
 use Rattle.tiles.specs.Resident.{mapping_at, with_flag}
-use Rattle.tiles.proofs.Promoting.{kept_but, same_sizes_but, moves_one, moves_same}
+use Rattle.tiles.proofs.MoveCounts.{kept_but, same_sizes_but, moves_one, moves_same}
 use Rattle.tiles.proofs.base.Base.after_dirty.Goals as goal
 
 pub returns-then-not-has_other_flag-clause-moves : goal.returns-then-not-has_other_flag-clause-moves

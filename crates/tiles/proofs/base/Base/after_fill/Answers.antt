@@ -1,7 +1,7 @@
 use Rattle.std.proofs.Common.{◌∙◌, sym, Some}
 use Rattle.tiles.specs.Resident.{mapping_at}
 use Rattle.tiles.proofs.Largest.{size_absent}
-use Rattle.tiles.proofs.Promoting.{kept_but, moves_one}
+use Rattle.tiles.proofs.MoveCounts.{kept_but, moves_one}
 use Rattle.tiles.proofs.base.Base.after_fill.Goals as goal
 
 pub invariant_of-self : goal.invariant_of-self

@@ -2,7 +2,7 @@ use Rattle.std.proofs.Common.{◌≡◌, ◌<◌, ◌∙◌, ap, ℕ, true, not,
 use Rattle.std.specs.Option.{IfSome}
 use Rattle.pager_model.specs.declared.tile.Mapping.{Mapping}
 use Rattle.tiles.specs.Resident.{mapping_at}
-use Rattle.tiles.proofs.Promoting.{kept_but, moves_one, moves_same}
+use Rattle.tiles.proofs.MoveCounts.{kept_but, moves_one, moves_same}
 use Rattle.tiles.proofs.base.Base.after_remove.Goals as goal
 
 in_space : (o : Option Mapping) (page : ℕ) (known : Mapping → Type 0) → is_some o ≡ true → IfSome o (λ m. (page < 1048576) × known m) → page < 1048576

@@ -1,6 +1,6 @@
 use Rattle.std.proofs.Common.{◌+◌, refl, arith}
 use Rattle.tiles.proofs.Blocks.{blocks_none, blocks_more, blocks_all, moves_more, moves_fit, blocks_past}
-use Rattle.tiles.proofs.Promoting.{moves_same}
+use Rattle.tiles.proofs.MoveCounts.{moves_same}
 use Rattle.tiles.proofs.base.Base.after_rights.Goals as goal
 
 pub loop-block-init : goal.loop-block-init

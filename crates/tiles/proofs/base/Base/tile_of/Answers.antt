@@ -1,7 +1,7 @@
 use Rattle.std.proofs.Common.{◌∙◌, sym, arith}
 use Rattle.tiles.specs.Resident.{mapping_at}
 use Rattle.tiles.proofs.Largest.{tile_absent, tile_found, offset_within}
-use Rattle.tiles.proofs.Settling.{power_positive}
+use Rattle.tiles.proofs.SettledSizes.{power_positive}
 use Rattle.tiles.proofs.base.Base.tile_of.Goals as goal
 
 pub returns-in_err-mapping : goal.returns-in_err-mapping

@@ -1,4 +1,4 @@
-use Rattle.tiles.proofs.Keeping.{fresh_kept, fresh_frames, fresh_number, mapping-absent, size-absent}
+use Rattle.tiles.proofs.KeptPages.{fresh_kept, fresh_frames, fresh_number, mapping-absent, size-absent}
 use Rattle.tiles.proofs.pages.Pages.create.Goals as goal
 
 pub invariant_of-result : goal.invariant_of-result

@@ -1,5 +1,5 @@
 use Rattle.std.proofs.Common.{arith}
-use Rattle.tiles.proofs.Settling.{power_positive}
+use Rattle.tiles.proofs.SettledSizes.{power_positive}
 use Rattle.tiles.proofs.pages.Pages.goes_on.Goals as goal
 
 pub nonzero_div-first : goal.nonzero_div-first

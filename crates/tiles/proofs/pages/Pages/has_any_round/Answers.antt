@@ -1,6 +1,6 @@
 use Rattle.std.proofs.Common.{◌∙◌, sym}
 use Rattle.tiles.specs.contracts.pages.Pages.{the_view}
-use Rattle.tiles.proofs.Keeping.{none_round}
+use Rattle.tiles.proofs.KeptPages.{none_round}
 use Rattle.tiles.proofs.pages.Pages.has_any_round.Goals as goal
 
 pub returns : goal.returns

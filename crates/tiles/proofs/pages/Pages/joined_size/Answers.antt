@@ -3,7 +3,7 @@ use Rattle.std.proofs.lemmas.Bool.{cases_eq}
 use Rattle.tiles.specs.Beside.{whole}
 use Rattle.tiles.specs.Resident.{mapping_at}
 use Rattle.tiles.proofs.Largest.{size_is}
-use Rattle.tiles.proofs.Settling.{larger_none}
+use Rattle.tiles.proofs.SettledSizes.{larger_none}
 use Rattle.tiles.proofs.pages.Pages.joined_size.Goals as goal
 
 pub returns-then-not-joins : goal.returns-then-not-joins

@@ -2,7 +2,7 @@ use Rattle.std.proofs.Common.{◌≡◌, ℕ, ◌+◌, ◌-◌, ◌*◌, ◌%◌
 use Rattle.std.proofs.lemmas.Bool.{cases_eq}
 use Rattle.pager_model.specs.Tiles.{moved_by}
 use Rattle.tiles.specs.Beside.{GoesOnAt}
-use Rattle.tiles.proofs.Settling.{power_positive, power_small, joins_no_head, joins_no_frame, joins_no_part, joins_all, part_at}
+use Rattle.tiles.proofs.SettledSizes.{power_positive, power_small, joins_no_head, joins_no_frame, joins_no_part, joins_all, part_at}
 use Rattle.tiles.proofs.pages.Pages.joins.Goals as goal
 
 pub nonzero_rem-first : goal.nonzero_rem-first

@@ -1,7 +1,7 @@
 use Rattle.std.proofs.Common.{◌≡◌, ◌∙◌, sym, ap, Some, None, slice_index_or}
 use Rattle.tiles.specs.Kept.{place_of_number}
 use Rattle.tiles.specs.Resident.{number_at}
-use Rattle.tiles.proofs.Keeping.{mapping-absent, mapping-found}
+use Rattle.tiles.proofs.KeptPages.{mapping-absent, mapping-found}
 use Rattle.tiles.proofs.pages.Pages.mapping.Goals as goal
 
 pub returns-in_err-number-clause-mapping : goal.returns-in_err-number-clause-mapping

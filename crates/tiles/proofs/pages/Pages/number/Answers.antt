@@ -3,7 +3,7 @@ use Rattle.std.specs.Option.{IfSome}
 use Rattle.tiles.specs.Kept.{ArePages}
 use Rattle.tiles.specs.Resident.{Resident, number_at, frames_in}
 use Rattle.tiles.specs.contracts.pages.Pages.{the_view}
-use Rattle.tiles.proofs.Keeping.{number_at-is, number_within, page_within}
+use Rattle.tiles.proofs.KeptPages.{number_at-is, number_within, page_within}
 use Rattle.tiles.proofs.pages.Pages.number.Goals as goal
 
 known : (r : Resident) → ArePages r → (page : ℕ) (o : Option ℕ) → number_at r page ≡ o → IfSome o (λ number. (page < 1048576) × (number < frames_in r))

@@ -1,5 +1,5 @@
 use Rattle.std.proofs.Common.{arith}
-use Rattle.tiles.proofs.Keeping.{put_room, put_kept, put_maps, put_sizes}
+use Rattle.tiles.proofs.KeptPages.{put_room, put_kept, put_maps, put_sizes}
 use Rattle.tiles.proofs.pages.Pages.put.Goals as goal
 
 pub overflow_cast-mapping : goal.overflow_cast-mapping
@@ -14,17 +14,17 @@ put-requires-clause-room c = put_room _ c.self.invariant c.args.page c.args.mapp
 pub invariant_of-self : goal.invariant_of-self
 invariant_of-self c =
     rw c.size_of.ensures
-        (put_kept _ c.self.invariant c.args.page c.args.mapping (rw (← c.self.view_is) at c.requires.known) (rw (← c.self.view_is) at c.requires.other)
-        c.put.new.numbers c.put.ensures.row c.put.ensures.splits)
+    (put_kept _ c.self.invariant c.args.page c.args.mapping (rw (← c.self.view_is) at c.requires.known) (rw (← c.self.view_is) at c.requires.other)
+    c.put.new.numbers c.put.ensures.row c.put.ensures.splits)
 
 pub returns-clause-maps : goal.returns-clause-maps
 returns-clause-maps c =
     rw (← c.self.view_is, c.size_of.ensures)
-        (put_maps _ c.self.invariant c.args.page c.args.mapping (rw (← c.self.view_is) at c.requires.known) (rw (← c.self.view_is) at c.requires.other)
-        c.put.new.numbers c.put.ensures.row c.put.ensures.splits)
+    (put_maps _ c.self.invariant c.args.page c.args.mapping (rw (← c.self.view_is) at c.requires.known) (rw (← c.self.view_is) at c.requires.other)
+    c.put.new.numbers c.put.ensures.row c.put.ensures.splits)
 
 pub returns-clause-sizes : goal.returns-clause-sizes
 returns-clause-sizes c =
     rw (← c.self.view_is, c.size_of.ensures)
-        (put_sizes _ c.self.invariant c.args.page c.args.mapping (rw (← c.self.view_is) at c.requires.known) (rw (← c.self.view_is) at c.requires.other)
-        c.put.new.numbers c.put.ensures.row c.put.ensures.splits)
+    (put_sizes _ c.self.invariant c.args.page c.args.mapping (rw (← c.self.view_is) at c.requires.known) (rw (← c.self.view_is) at c.requires.other)
+    c.put.new.numbers c.put.ensures.row c.put.ensures.splits)

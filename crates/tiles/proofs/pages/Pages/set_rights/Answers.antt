@@ -3,7 +3,7 @@ use Rattle.pager_model.specs.declared.tile.Mapping.{Mapping}
 use Rattle.tiles.specs.declared.pages.Place.{Place}
 use Rattle.tiles.specs.Kept.{said_by, sized}
 use Rattle.tiles.specs.Resident.{with_rights, Maps, mapping_at}
-use Rattle.tiles.proofs.Keeping.{keeps_place, keeps_none, maps_same, same_if_sizes}
+use Rattle.tiles.proofs.KeptPages.{keeps_place, keeps_none, maps_same, same_if_sizes}
 use Rattle.tiles.proofs.pages.Pages.set_rights.Goals as goal
 
 pub returns-in-Some-clause-maps : goal.returns-in-Some-clause-maps

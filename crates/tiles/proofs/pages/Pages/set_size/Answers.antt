@@ -2,7 +2,7 @@ use Rattle.std.proofs.Common.{◌∙◌, sym, ap, option_map}
 use Rattle.tiles.specs.declared.pages.Place.{Place}
 use Rattle.tiles.specs.Kept.{said_by, sized}
 use Rattle.tiles.specs.Resident.{mapping_at}
-use Rattle.tiles.proofs.Keeping.{keeps_place, keeps_none, same_if_maps, sizes_same}
+use Rattle.tiles.proofs.KeptPages.{keeps_place, keeps_none, same_if_maps, sizes_same}
 use Rattle.tiles.proofs.pages.Pages.set_size.Goals as goal
 
 pub returns-in-Some-clause-same : goal.returns-in-Some-clause-same

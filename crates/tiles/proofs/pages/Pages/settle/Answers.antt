@@ -2,7 +2,7 @@ use Rattle.std.proofs.Common.{◌≡◌, ◌∙◌, ap, subst, ℕ, arith, max}
 use Rattle.pager_model.specs.Tiles.{size_at}
 use Rattle.tiles.specs.Beside.{Spreads}
 use Rattle.tiles.specs.Resident.{mapping_at}
-use Rattle.tiles.proofs.Settling.{over_max, spread_sizes}
+use Rattle.tiles.proofs.SettledSizes.{over_max, spread_sizes}
 use Rattle.tiles.proofs.pages.Pages.settle.Goals as goal
 
 pub returns-clause-sizes : goal.returns-clause-sizes

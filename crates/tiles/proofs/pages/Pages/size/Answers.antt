@@ -1,5 +1,5 @@
 use Rattle.std.proofs.Common.{◌∙◌, sym}
-use Rattle.tiles.proofs.Keeping.{keeps_place, keeps_none}
+use Rattle.tiles.proofs.KeptPages.{keeps_place, keeps_none}
 use Rattle.tiles.proofs.pages.Pages.size.Goals as goal
 
 pub returns-in-Some : goal.returns-in-Some

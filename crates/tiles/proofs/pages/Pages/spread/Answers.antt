@@ -1,5 +1,5 @@
 use Rattle.std.proofs.Common.{ap, ◌-◌, ◌%◌, arith}
-use Rattle.tiles.proofs.Settling.{power_positive, set_all}
+use Rattle.tiles.proofs.SettledSizes.{power_positive, set_all}
 use Rattle.tiles.proofs.pages.Pages.spread.Goals as goal
 
 pub nonzero_rem-first : goal.nonzero_rem-first

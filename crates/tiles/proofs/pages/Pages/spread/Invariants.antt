@@ -1,5 +1,5 @@
 use Rattle.tiles.specs.Beside.{SamePages}
-use Rattle.tiles.proofs.Settling.{SetTo}
+use Rattle.tiles.proofs.SettledSizes.{SetTo}
 use Rattle.tiles.proofs.pages.Pages.spread.Given as goal
 
 -- the sizes of the pages so far are set

@@ -1,6 +1,6 @@
 use Rattle.std.proofs.Common.{◌∙◌, sym, ap, option_map}
 use Rattle.tiles.specs.Kept.{said_by, sized}
-use Rattle.tiles.proofs.Keeping.{written_kept, written_maps, written_sizes, maps_same, sizes_same, mapping-absent, size-absent}
+use Rattle.tiles.proofs.KeptPages.{written_kept, written_maps, written_sizes, maps_same, sizes_same, mapping-absent, size-absent}
 use Rattle.tiles.proofs.pages.Pages.write.Goals as goal
 
 pub invariant_of-self : goal.invariant_of-self

@@ -22,9 +22,9 @@ use Rattle.pager_core.specs.Machines.{IsMachine}
 use Rattle.pager_core.specs.Rows.{row_of, space_under}
 use Rattle.pager_core.specs.Running.{Running, calls_at, flight_at, progress_by_flight, IsKeptByOther}
 use Rattle.pager_core.specs.Steps.{AreAgreed, Makes}
-use Rattle.pager_core.proofs.GoingOn.{under_some, keeps_under, anywhere, lands}
+use Rattle.pager_core.proofs.NextFlights.{under_some, keeps_under, anywhere, lands}
 use Rattle.pager_core.proofs.Lists.{within}
-use Rattle.pager_core.proofs.Turning.{Turns, marked, all_left-turn}
+use Rattle.pager_core.proofs.MachineTurns.{Turns, marked, all_left-turn}
 
 -- each entry on the frames is counted once
 fold-entries : (es : List Entry) (st : FrameState) → (fold frames_after st es).entries ≡ st.entries + length es

@@ -23,7 +23,7 @@ use Rattle.pager_core.specs.declared.flight.Phase.TheVariants.{Frame, Fill}
 use Rattle.pager_core.specs.Flights.{IsReady, WantsFrame}
 use Rattle.pager_core.specs.Rows.{row_of, page_or_zero}
 use Rattle.pager_core.specs.Steps.{Makes, AreAgreed, after_named}
-use Rattle.pager_core.proofs.Answering.{in_phase, by_phase, Some-same}
+use Rattle.pager_core.proofs.AnswerSteps.{in_phase, by_phase, Some-same}
 
 -- the place of a page is a used place
 place_is_used : (st : FrameState) (space page frame : ℕ) → frame_of st space page ≡ Some frame → is_some (used_at st frame) ≡ true

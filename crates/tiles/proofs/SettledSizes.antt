@@ -10,7 +10,7 @@ use Rattle.pager_model.specs.Tiles.{moved_by, size_at}
 use Rattle.tiles.specs.Beside.{whole, size_beside, GoesOnAt, AreKeptBut, SamePages, Spreads}
 use Rattle.tiles.specs.Kept.{size_kept, sized, AreSizes}
 use Rattle.tiles.specs.Resident.{Resident, mapping_at}
-use Rattle.tiles.proofs.Changing.{IsOver, whole_other, size_settled, size_stays}
+use Rattle.tiles.proofs.SizeChanges.{IsOver, whole_other, size_settled, size_stays}
 use Rattle.tiles.proofs.Eligible.{HasExtent, GoesOn, whole_has, has_whole, whole_alike, eight_join, whole_parts, page_whole, smaller}
 use Rattle.tiles.proofs.Extents.{starts_below, in_extent, of_extent}
 use Rattle.tiles.proofs.Largest.{size_absent, within_size, whole_within}

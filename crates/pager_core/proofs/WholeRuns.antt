@@ -11,7 +11,7 @@ use Rattle.frame_pool.proofs.LegalHistories.{IsPartition-legal, NothingHeld-lega
 use Rattle.space_core.specs.Standing.{Kept}
 use Rattle.pager_core.specs.Machines.{IsMachine}
 use Rattle.pager_core.specs.Running.{Running, calls_at, progress_by_flight, HasEnded, IsWholeRun}
-use Rattle.pager_core.proofs.Turning.{mark-zero, marked}
+use Rattle.pager_core.proofs.MachineTurns.{mark-zero, marked}
 
 module _ (run : Running) (spaces : List Kept) (pool : FrameState) (capacity : ℕ) (machine : IsMachine run spaces pool capacity) (ended : HasEnded run) where
   mark_none : (c : ℕ) → mark_of run.given c ≡ 0

@@ -23,8 +23,8 @@ use Rattle.pager_core.specs.declared.flight.Phase.TheVariants.{Short, Fault, Lac
 use Rattle.pager_core.specs.Flights.{IsReady}
 use Rattle.pager_core.specs.Rows.{row_of, faulted}
 use Rattle.pager_core.specs.Steps.{Makes, Refuses}
-use Rattle.pager_core.proofs.Answering.{in_phase, by_phase, Makes-answer, Some-same, is_access_by_page, is_access_of}
-use Rattle.pager_core.proofs.Unchanged.{unchanged_stands}
+use Rattle.pager_core.proofs.AnswerSteps.{in_phase, by_phase, Makes-answer, Some-same, is_access_by_page, is_access_of}
+use Rattle.pager_core.proofs.UnchangedSpaces.{unchanged_stands}
 
 -- What such an answer does: nothing.
 

@@ -14,7 +14,7 @@ use Rattle.pager_core.specs.declared.flight.Flight.{Flight}
 use Rattle.pager_core.specs.declared.flight.Phase.TheVariants.{Start, Evict, Ended}
 use Rattle.pager_core.specs.Flights.{IsReady}
 use Rattle.pager_core.specs.Steps.{AreAgreed, Makes, Passes}
-use Rattle.pager_core.proofs.Answering.{in_phase, by_phase, Some-same, ending, Makes-ending}
+use Rattle.pager_core.proofs.AnswerSteps.{in_phase, by_phase, Some-same, ending, Makes-ending}
 
 -- Start: the page is equal to its copy, and gives its frame up next
 Passes-evicting : (f : Flight) (page : ℕ) (written : Bool) (was now : Kept) (st : SpaceState) → IsReady (in_phase f Start) was st → BeginsEvicting was now f.call page written → Passes (in_phase f Start) (in_phase f (Evict page)) was now st

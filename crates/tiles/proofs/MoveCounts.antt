@@ -10,12 +10,12 @@ use Rattle.tiles.specs.Beside.{AreKeptBut, SamePages, whole}
 use Rattle.tiles.specs.Blocks.{OutsideSame, is_grown_at}
 use Rattle.tiles.specs.Kept.{AreSizes, SizesBut, SameSizes}
 use Rattle.tiles.specs.Resident.{Resident, mapping_at, Maps, AreMoves}
-use Rattle.tiles.proofs.Changing.{others_back, promotions_one, promotions_same}
+use Rattle.tiles.proofs.SizeChanges.{others_back, promotions_one, promotions_same}
 use Rattle.tiles.proofs.Counting.{one_if, count_pages-is, count-sum}
 use Rattle.tiles.proofs.Eligible.{whole_local}
 use Rattle.tiles.proofs.Extents.{up, StartsBelow, starts_below}
 use Rattle.tiles.proofs.Largest.{size_small, size_is, whole_within, whole_beyond, none_size, tile_begins}
-use Rattle.tiles.proofs.Settling.{eqb_no}
+use Rattle.tiles.proofs.SettledSizes.{eqb_no}
 
 -- ---- one page
 

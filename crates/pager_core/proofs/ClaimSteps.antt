@@ -21,9 +21,9 @@ use Rattle.pager_core.specs.declared.flight.Phase.TheVariants.{Frame, Out, Uncla
 use Rattle.pager_core.specs.Flights.{Fits, HasVictim, IsAtRest, IsLawfulAt, IsReady, LeftBy}
 use Rattle.pager_core.specs.Rows.{row_of, access_of, faulted, is_between, is_store, own_if, page_or_zero, victim_of}
 use Rattle.pager_core.specs.Steps.{AreAgreed, Makes, after_named, answer_made}
-use Rattle.pager_core.proofs.Answering.{in_phase, by_phase, is_access_by_page, Some-same}
-use Rattle.pager_core.proofs.Taking.{HasNothing-wanting, after_own}
-use Rattle.pager_core.proofs.Unchanged.{unchanged_stands}
+use Rattle.pager_core.proofs.AnswerSteps.{in_phase, by_phase, is_access_by_page, Some-same}
+use Rattle.pager_core.proofs.TakenFrames.{HasNothing-wanting, after_own}
+use Rattle.pager_core.proofs.UnchangedSpaces.{unchanged_stands}
 
 -- a flight that goes on in this space or another leaves it ready where it goes on there, and else at rest
 pub LeftBy-own_if : (own space : ℕ) (f : Flight) (kept : Kept) (st : SpaceState) → Fits f → IsAtRest kept st → (space ≡ own → (own ≡ kept.number) × IsReady f kept st) → LeftBy (own_if own space) f kept st

@@ -18,8 +18,8 @@ use Rattle.space_core.specs.Translating.{Retouches}
 use Rattle.store_core.specs.Stored.{Stored, copy_at}
 use Rattle.space_core.proofs.SameView.{SameWhole, SameRest, SameAt, SameStateAt, one_stands}
 use Rattle.space_core.proofs.TableLemmas.{maps_frame, maps_dirty}
-use Rattle.space_core.proofs.Translating.{Follows, retouches, said_gone, said_out}
-use Rattle.space_core.proofs.Syncing.{evict_asked, evict_outs, allowed_copied, copied_lawful}
+use Rattle.space_core.proofs.Translations.{Follows, retouches, said_gone, said_out}
+use Rattle.space_core.proofs.CopyCalls.{evict_asked, evict_outs, allowed_copied, copied_lawful}
 
 -- Which page may be pending or on its way out: this one alone.
 pub record IsOnly (kept : Kept) (page : ℕ) : Type 0 where

@@ -26,10 +26,10 @@ use Rattle.pager_core.specs.declared.flight.Phase.TheVariants.{Start}
 use Rattle.pager_core.specs.Machines.{CanFly, IsNew, all_left, IsFlying, IsMachine}
 use Rattle.pager_core.specs.Rows.{row_of, is_between}
 use Rattle.pager_core.specs.Running.{Running, calls_at, flight_at, flight_of, first_flights, progress_by_flight, setting_over, entries_left, left_at, IsLawful}
-use Rattle.pager_core.proofs.Following.{differs, same_number}
+use Rattle.pager_core.proofs.LegalSteps.{differs, same_number}
 use Rattle.pager_core.proofs.Lists.{within, sum_by-same, map_range-push}
 use Rattle.pager_core.proofs.Stores.{marks-start}
-use Rattle.pager_core.proofs.Turning.{mark-zero}
+use Rattle.pager_core.proofs.MachineTurns.{mark-zero}
 
 -- What is made one by one.
 

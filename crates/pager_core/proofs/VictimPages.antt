@@ -14,9 +14,9 @@ use Rattle.pager_core.specs.declared.flight.Phase.TheVariants.{Write, Hand, Uncl
 use Rattle.pager_core.specs.Flights.{Fits, HasVictim, IsAtRest, IsReady, LeftBy}
 use Rattle.pager_core.specs.Rows.{access_of, own_if, victim_of}
 use Rattle.pager_core.specs.Steps.{AreAgreed, Makes, Passes}
-use Rattle.pager_core.proofs.Answering.{in_phase, by_phase, Some-same}
-use Rattle.pager_core.proofs.Claiming.{LeftBy-own_if}
-use Rattle.pager_core.proofs.Taking.{after_own}
+use Rattle.pager_core.proofs.AnswerSteps.{in_phase, by_phase, Some-same}
+use Rattle.pager_core.proofs.ClaimSteps.{LeftBy-own_if}
+use Rattle.pager_core.proofs.TakenFrames.{after_own}
 
 -- a victim is its own page
 is_own_victim : (v : Claimed) → is_victim (victim_of v) v.space v.page ≡ true

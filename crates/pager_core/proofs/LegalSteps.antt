@@ -21,7 +21,7 @@ use Rattle.pager_core.specs.declared.flight.Flight.{Flight}
 use Rattle.pager_core.specs.declared.flight.Phase.TheVariants.{Out as OutPhase}
 use Rattle.pager_core.specs.Rows.{at, row_of, row_in, access_of, victim_of}
 use Rattle.pager_core.specs.Steps.{Makes, after_named, after_frames}
-use Rattle.pager_core.proofs.GoingOn.{idle_by}
+use Rattle.pager_core.proofs.NextFlights.{idle_by}
 
 -- two facts of the value of an option
 both_some : {P Q R : ℕ → Type 0} (o : Option ℕ) → ((s : ℕ) → P s → Q s → R s) → IfSome o P → IfSome o Q → IfSome o R

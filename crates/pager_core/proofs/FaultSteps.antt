@@ -14,8 +14,8 @@ use Rattle.pager_core.specs.declared.flight.Phase.TheVariants.{Start, Fill, Unfi
 use Rattle.pager_core.specs.Flights.{IsReady}
 use Rattle.pager_core.specs.Rows.{access_of, faulted, page_or_zero}
 use Rattle.pager_core.specs.Steps.{AreAgreed, Makes}
-use Rattle.pager_core.proofs.Answering.{in_phase, by_phase, Some-same, is_access_by_page, copies_none, allowed-same}
-use Rattle.pager_core.proofs.Making.{Leads, Makes-going}
+use Rattle.pager_core.proofs.AnswerSteps.{in_phase, by_phase, Some-same, is_access_by_page, copies_none, allowed-same}
+use Rattle.pager_core.proofs.EntrySteps.{Leads, Makes-going}
 
 -- Start: the write of a sync's or an evict's page failed
 Leads-failing : (f : Flight) (page count : ℕ) → copied_page f.call ≡ Some page → Leads f Start (Fault (space_of_call f.call) count) (space_of_call f.call) false (Failed page true count)

@@ -23,7 +23,7 @@ use Rattle.space_core.specs.Standing.{Kept, StandsFor, image_at, rights_by, word
 use Rattle.space_core.specs.Tables.{Table, mapping_in, frame_in, word_in, own_in, dirty_in, flag_in}
 use Rattle.space_core.specs.Translating.{Retouches, Touches}
 use Rattle.space_core.proofs.TableLemmas.{dirty_in-is, dirty_in-absent, frame-absent, maps_frame, maps_dirty, cleans_frame, cleans_dirty, writes_frame, writes_dirty}
-use Rattle.space_core.proofs.Translating.{Still, stays_used, retouches_used, retouches, pages_from, said_flag}
+use Rattle.space_core.proofs.Translations.{Still, stays_used, retouches_used, retouches, pages_from, said_flag}
 use Rattle.store_core.specs.Stored.{Stored, zero_words, TellsZero}
 use Rattle.tiles.specs.Resident.{with_flag}
 

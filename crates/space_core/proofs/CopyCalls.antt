@@ -25,9 +25,9 @@ use Rattle.space_core.specs.Tables.{mapping_in, frame_in, word_in}
 use Rattle.space_core.specs.Translating.{CleansPage}
 use Rattle.store_core.specs.Stored.{Stored}
 use Rattle.space_core.proofs.TableLemmas.{dirty_in-absent, cleans_none}
-use Rattle.space_core.proofs.Translating.{Still}
+use Rattle.space_core.proofs.Translations.{Still}
 use Rattle.space_core.proofs.SameView.{next_stands}
-use Rattle.space_core.proofs.Copying.{with_flat, cleaned_resting, cleaned_same, cleaned_out, fails_to_write, leaves_unwritten, none_in, IsSaved, saved, copied_aside, store_frames, store_resting, store_still}
+use Rattle.space_core.proofs.SavedCopies.{with_flat, cleaned_resting, cleaned_same, cleaned_out, fails_to_write, leaves_unwritten, none_in, IsSaved, saved, copied_aside, store_frames, store_resting, store_still}
 
 -- a page with a region is written where it is dirty
 sync_asked : (o : Option Region) (dirty : Bool) → is_some o ≡ true → sync_reply o dirty ≡ copied_reply dirty

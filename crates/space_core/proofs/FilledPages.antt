@@ -9,9 +9,9 @@ use Rattle.space_core.specs.Standing.{Kept, StandsFor, IsCopied, frame_at, dirty
 use Rattle.space_core.specs.Tables.{mapping_in}
 use Rattle.store_core.specs.Stored.{copy_at, SameCopies}
 use Rattle.space_core.proofs.SameView.{BesideAt, SameWhole, SameAt, settled_from, one_stands, raised_stands, rises_told, within_faults}
-use Rattle.space_core.proofs.Serving.{resident_from}
+use Rattle.space_core.proofs.ServedPages.{resident_from}
 use Rattle.space_core.proofs.TableLemmas.{frame-same, dirty-same}
-use Rattle.space_core.proofs.Translating.{Still, same_translates, stays}
+use Rattle.space_core.proofs.Translations.{Still, same_translates, stays}
 
 -- The pending page may have any words after a read, and all else is seen the same.
 module _ (old new : Kept) (page : ℕ) (same : SameRegions old new) (clearing : new.clearing ≡ old.clearing) (paged : new.paged ≡ old.paged)

@@ -15,10 +15,10 @@ use Rattle.pager_core.specs.Machines.{IsMachine}
 use Rattle.pager_core.specs.Rows.{row_of, space_under}
 use Rattle.pager_core.specs.Running.{Running, calls_at, flight_at, flight_of, IsKeptByOther, entries_left, left_at, WentOn, OneMore, IsLawful}
 use Rattle.pager_core.specs.Steps.{AreAgreed, Makes}
-use Rattle.pager_core.proofs.GoingOn.{Lands-on}
+use Rattle.pager_core.proofs.NextFlights.{Lands-on}
 use Rattle.pager_core.proofs.Lists.{within}
-use Rattle.pager_core.proofs.Readying.{space_within, IsReady-machine, AreAgreed-machine, image-machine, room_left}
-use Rattle.pager_core.proofs.Turning.{Turns, run_after, left_own, IsMachine-turn}
+use Rattle.pager_core.proofs.ReadyFlights.{space_within, IsReady-machine, AreAgreed-machine, image-machine, room_left}
+use Rattle.pager_core.proofs.MachineTurns.{Turns, run_after, left_own, IsMachine-turn}
 
 -- what an index gives
 

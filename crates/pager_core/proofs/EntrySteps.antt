@@ -14,7 +14,7 @@ use Rattle.pager_core.specs.declared.flight.Phase.{Phase}
 use Rattle.pager_core.specs.Flights.{IsReady, LeftBy, PhaseFits, PhaseStands}
 use Rattle.pager_core.specs.Rows.{row_of, is_between, space_under}
 use Rattle.pager_core.specs.Steps.{Makes, after_frames, after_named, answer_made, reply_said}
-use Rattle.pager_core.proofs.Answering.{in_phase}
+use Rattle.pager_core.proofs.AnswerSteps.{in_phase}
 
 -- an entry of a flight's processor on a space, which names the frames or not
 abbrev pub entry_on : Flight → ℕ → Bool → What → Entry

@@ -22,8 +22,8 @@ use Rattle.pager_core.specs.declared.flight.Phase.TheVariants.{Use, Fill}
 use Rattle.pager_core.specs.Flights.{IsReady, WantsFrame}
 use Rattle.pager_core.specs.Rows.{row_of, access_of, page_or_zero}
 use Rattle.pager_core.specs.Steps.{AreAgreed, Makes}
-use Rattle.pager_core.proofs.Answering.{in_phase, by_phase, Some-same}
-use Rattle.pager_core.proofs.Taking.{IsReady-placed, after_own}
+use Rattle.pager_core.proofs.AnswerSteps.{in_phase, by_phase, Some-same}
+use Rattle.pager_core.proofs.TakenFrames.{IsReady-placed, after_own}
 
 -- what stands where a held frame is used: the page of the call's own space lacks a frame
 pub wants_still : (f : Flight) (page : ℕ) (want : Want) (v : Claimed) (kept : Kept) (st : SpaceState) → f.phase ≡ Use page want v → IsReady f kept st → (space_of_call f.call ≡ kept.number) × WantsFrame f.call kept page want

@@ -23,10 +23,10 @@ use Rattle.space_core.specs.Standing.{Kept, answer_entry, rights_by, is_settled,
 use Rattle.space_core.specs.Tables.{Table, mapping_in, frame_in, own_in}
 use Rattle.space_core.specs.Translating.{Retouches}
 use Rattle.store_core.specs.Stored.{Stored}
-use Rattle.space_core.proofs.Finding.{in_bounds, bounds_in, none_in, found_has, found_from, found_same, found_with, found_grown, grown}
-use Rattle.space_core.proofs.Serving.{kept, AreMapped, mapped_again}
+use Rattle.space_core.proofs.RegionSearch.{in_bounds, bounds_in, none_in, found_has, found_from, found_same, found_with, found_grown, grown}
+use Rattle.space_core.proofs.ServedPages.{kept, AreMapped, mapped_again}
 use Rattle.space_core.proofs.TableLemmas.{protects_frame, protects_dirty}
-use Rattle.space_core.proofs.Translating.{stays, retouches, pages_from}
+use Rattle.space_core.proofs.Translations.{stays, retouches, pages_from}
 use Rattle.tiles.specs.Resident.{with_rights}
 
 -- an unmap of a region that is there

@@ -23,10 +23,10 @@ use Rattle.space_core.specs.Standing.{Kept, StandsBut, IsCopy, IsCopied, answer_
 use Rattle.space_core.specs.Tables.{Table, mapping_in, frame_in, own_in, dirty_in}
 use Rattle.space_core.specs.Translating.{BeginsClear, counted_up}
 use Rattle.store_core.specs.Stored.{Stored, copy_at, zero_words, DropsCopies}
-use Rattle.space_core.proofs.Finding.{in_bounds, bounds_in, found_has, found_from, found_same, found_page, found_without}
-use Rattle.space_core.proofs.Serving.{kept, AreMapped, zero_at}
+use Rattle.space_core.proofs.RegionSearch.{in_bounds, bounds_in, found_has, found_from, found_same, found_page, found_without}
+use Rattle.space_core.proofs.ServedPages.{kept, AreMapped, zero_at}
 use Rattle.space_core.proofs.TableLemmas.{dirty_in-absent, frame-same, dirty-same, frame-mapped, mapping-absent, maps_frame}
-use Rattle.space_core.proofs.Translating.{same_translates, stays, translates_cleared, pages_from, said_gone, said_region}
+use Rattle.space_core.proofs.Translations.{same_translates, stays, translates_cleared, pages_from, said_gone, said_region}
 use Rattle.tiles.specs.Cleared.{Clears}
 use Rattle.tiles.specs.Resident.{large_tiles_in}
 use Rattle.tiles.proofs.Cleared.{promotions_cleared, demotions_cleared}

@@ -14,8 +14,8 @@ use Rattle.pager_core.specs.declared.flight.Flight.{Flight}
 use Rattle.pager_core.specs.declared.flight.Phase.TheVariants.{Clear, Gone}
 use Rattle.pager_core.specs.Flights.{IsReady}
 use Rattle.pager_core.specs.Steps.{Makes}
-use Rattle.pager_core.proofs.Answering.{in_phase, by_phase, Some-same}
-use Rattle.pager_core.proofs.Making.{Leads, Makes-going}
+use Rattle.pager_core.proofs.AnswerSteps.{in_phase, by_phase, Some-same}
+use Rattle.pager_core.proofs.EntrySteps.{Leads, Makes-going}
 use Rattle.pager_core.proofs.Lists.{count-cons}
 use Rattle.pager_core.proofs.GivenRanges.{give_range-none, give_range-lowest, entries-given}
 

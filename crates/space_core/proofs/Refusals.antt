@@ -18,7 +18,7 @@ use Rattle.space_core.specs.Beginning.{BeginsAnswered}
 use Rattle.space_core.specs.Standing.{Kept, answer_entry, StandsFor, IsResting, IsCopy, CanBegin, rights_at, rights_by}
 use Rattle.space_core.specs.Pages.{permits}
 use Rattle.space_core.specs.Tables.{mapping_in, own_in}
-use Rattle.space_core.proofs.Translating.{stays, said_same}
+use Rattle.space_core.proofs.Translations.{stays, said_same}
 use Rattle.store_core.specs.Stored.{copy_at}
 
 -- what a space shows of flat memory is the same

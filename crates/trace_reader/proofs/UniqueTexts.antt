@@ -14,7 +14,7 @@ use Rattle.pager_model.specs.declared.region.Rights.TheVariants.{NoAccess, Read,
 use Rattle.pager_model.specs.Plans.{Plan}
 use Rattle.pager_model.specs.TraceText.{kind_word, rights_word, call_words, line_words, text_of, IsCall, IsLine, HasText}
 use Rattle.trace_reader.specs.Refusals.{lines_of, words_of}
-use Rattle.trace_reader.proofs.Again.{calls_text, call_again, call_words_again, call_is_not_end, first_again, first_words_again}
+use Rattle.trace_reader.proofs.CutTexts.{calls_text, call_again, call_words_again, call_is_not_end, first_again, first_words_again}
 use Rattle.trace_reader.proofs.Numbers.{decimal_value}
 
 -- the number at a place, the kind and the rights
