@@ -1,4 +1,4 @@
 pub mod Words
 pub mod Completeness
 mod OneForm
-mod Printing
+mod PrintedRuns
