@@ -18,7 +18,10 @@ const SPACE: u32 = 3;
 const PAGE: u64 = 8192;
 
 fn map(page: u32, length: u32, kind: Kind, rights: Rights) -> Call
-    ensures { result ≡ Call.Map SPACE page length kind rights }
+    requires page { page < 1048576 }
+    requires length { (1 ≤ length) × (length ≤ 1048576) }
+    ensures call { result ≡ Call.Map SPACE page length kind rights }
+    ensures can { CanBegin result }
 {
     Call::Map {
         space: SPACE,
@@ -30,7 +33,10 @@ fn map(page: u32, length: u32, kind: Kind, rights: Rights) -> Call
 }
 
 fn grow(page: u32, by: u32) -> Call
-    ensures { result ≡ Call.Grow SPACE page by }
+    requires page { page < 1048576 }
+    requires by { (1 ≤ by) × (by ≤ 1048576) }
+    ensures call { result ≡ Call.Grow SPACE page by }
+    ensures can { CanBegin result }
 {
     Call::Grow {
         space: SPACE,
@@ -40,13 +46,18 @@ fn grow(page: u32, by: u32) -> Call
 }
 
 fn unmap(page: u32) -> Call
-    ensures { result ≡ Call.Unmap SPACE page }
+    requires { page < 1048576 }
+    ensures call { result ≡ Call.Unmap SPACE page }
+    ensures can { CanBegin result }
 {
     Call::Unmap { space: SPACE, page }
 }
 
 fn protect(page: u32, length: u32, rights: Rights) -> Call
-    ensures { result ≡ Call.Protect SPACE page length rights }
+    requires page { page < 1048576 }
+    requires length { (1 ≤ length) × (length ≤ 1048576) }
+    ensures call { result ≡ Call.Protect SPACE page length rights }
+    ensures can { CanBegin result }
 {
     Call::Protect {
         space: SPACE,
@@ -57,7 +68,8 @@ fn protect(page: u32, length: u32, rights: Rights) -> Call
 }
 
 fn load(page: u16) -> Call
-    ensures { result ≡ Call.Load SPACE (page * 8192) }
+    ensures call { result ≡ Call.Load SPACE (page * 8192) }
+    ensures can { CanBegin result }
 {
     Call::Load {
         space: SPACE,
@@ -66,7 +78,8 @@ fn load(page: u16) -> Call
 }
 
 fn store(page: u16, word: u64) -> Call
-    ensures { result ≡ Call.Store SPACE (page * 8192) word }
+    ensures call { result ≡ Call.Store SPACE (page * 8192) word }
+    ensures can { CanBegin result }
 {
     Call::Store {
         space: SPACE,
