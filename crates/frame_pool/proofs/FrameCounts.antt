@@ -11,8 +11,8 @@ use Rattle.pager_model.specs.declared.reservation.Reservation.{Reservation}
 use Rattle.pager_model.specs.Agreement.{has_frame, is_frame, roles}
 use Rattle.pager_model.specs.FrameStates.{FrameState, layout_of, used_at, free_count, used_count, places_in, reserved_count, held_count}
 use Rattle.pager_model.specs.Layouts.{is_free}
+use Rattle.pager_model.proofs.CountLemmas.{count-one_more}
 use Rattle.pager_model.proofs.Ranges.{range_with_len-more}
-use Rattle.reservations.proofs.CountLemmas.{count-one_more}
 use Rattle.frame_pool.specs.Laid.{IsSound}
 use Rattle.frame_pool.proofs.Partition.{IsPartition-sound, count-nowhere}
 

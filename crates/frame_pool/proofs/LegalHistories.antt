@@ -20,9 +20,10 @@ use Rattle.pager_model.specs.Legal.{IsLegal, MayFollow, AllWhole, space_at, fram
 use Rattle.pager_model.specs.Order.{Progress, between, at_rest, progress_after, progress_by, victim_in, is_holding}
 use Rattle.pager_model.specs.Regions.{in_range}
 use Rattle.pager_model.specs.Settings.{Given, mark_of}
-use Rattle.pager_model.specs.SpaceStates.{SpaceState, base_after, base_after_answer}
+use Rattle.pager_model.specs.SpaceStates.{SpaceState, base_after}
 use Rattle.pager_model.proofs.Histories.{space_at-named, space_at-other, frames_at-named, frames_at-other, progress_at-own, progress_at-other, IsLegal-keeps}
-use Rattle.pager_model.proofs.Starting.{HasNothing-start}
+use Rattle.pager_model.proofs.SpaceEntries.{base-unnamed}
+use Rattle.pager_model.proofs.StartFrames.{HasNothing-start}
 use Rattle.frame_pool.specs.Laid.{IsSound}
 use Rattle.frame_pool.proofs.Owners.{Keeps, Keeps-owns, Keeps-same, Keeps-then, Keeps-counted, HasNothing-counted, Keeps-take, Keeps-give_page, holds-given, Keeps-give_each, Keeps-claimed, Keeps-unclaimed, claims-claimed, nothing-unclaimed, Keeps-dropped, nothing-dropped}
 use Rattle.frame_pool.proofs.OrderedOwners.{owns-answer, owns-take, owns-clear, owns-out, owns-failure, owns-refusal, owns-rest, owns-give, owns-claim, owns-got, owns-use, owns-drop, owns-unclaim, nothing-between}
@@ -38,17 +39,6 @@ pub record IsKept (g : Given) (history : List Entry) : Type 0 where
   pub owns : (c : ℕ) (p : Progress) → progress_at g history c ≡ Some p → OwnsBy (frames_at g history) c p.doing
 
 -- Entries that don't name the frames.
-
--- an answer leaves every page its frame
-pub base-answer : (base : ℕ → Option ℕ) (call : Call) (p : ℕ) → base_after_answer base false call p ≡ base p
-base-answer base (Map space page len kind rights) p = refl
-base-answer base (Grow space page by) p = refl
-base-answer base (Unmap space page) p = refl
-base-answer base (Protect space page len rights) p = refl
-base-answer base (Load space address) p = refl
-base-answer base (Store space address word) p = refl
-base-answer base (Sync space page) p = refl
-base-answer base (Evict space page) p = refl
 
 -- what such an entry is
 alone : (P : What → Type 0) (space : Option ℕ) (what : What) → IsOn space false what → ((number : ℕ) (call : Call) (answered : Answered) → P (Answer number call answered)) → ((page : ℕ) (written : Bool) → P (Out page written)) → ((page : ℕ) (writing : Bool) (count : ℕ) → P (Failed page writing count)) → P what
@@ -70,7 +60,7 @@ alone P space (Rest short) names a o f = absurd (false≢true names.1)
 -- it leaves every page its frame
 base-alone : (base : ℕ → Option ℕ) (space : Option ℕ) (what : What) → IsOn space false what → (p : ℕ) → base_after base false what p ≡ base p
 base-alone base space what names p =
-    alone (λ w. base_after base false w p ≡ base p) space what names (λ number call answered. base-answer base call p) (λ page written. refl) (λ page writing count. refl)
+    alone (λ w. base_after base false w p ≡ base p) space what names (λ number call answered. base-unnamed base call p) (λ page written. refl) (λ page writing count. refl)
 
 -- and its processor its frame
 owns-alone : (st : FrameState) (c : ℕ) (space : Option ℕ) (what : What) → IsOn space false what → (p q : Progress) → progress_after p space what ≡ Some q → OwnsBy st c p.doing → OwnsBy st c q.doing

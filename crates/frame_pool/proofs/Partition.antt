@@ -1,16 +1,13 @@
 -- Where the state of the frames is sound, each frame is in one role.
-use Rattle.std.proofs.Common.{◌≡◌, ℕ, zero, suc, ◌<◌, Bool, true, false, cond, List, [], ◌∷◌, get_or, count_by, Option, Some, None, inl, inr, refl, sym, ap, ◌∙◌, arith}
+use Rattle.std.proofs.Common.{◌≡◌, ℕ, zero, suc, ◌<◌, Bool, true, false, List, [], ◌∷◌, get_or, count_by, Option, Some, None, inl, inr, refl, sym, ap, ◌∙◌, arith}
 use Rattle.std.proofs.lemmas.Bool.{false≢true, false_from_ne_true, eq-eqb, eqb-true}
 use Rattle.std.proofs.lemmas.List.Sums.{sum_by-cons}
 use Rattle.pager_model.specs.Agreement.{IsPartition, has_frame, is_frame, roles}
 use Rattle.pager_model.specs.FrameStates.{FrameState, layout_of, held_by}
 use Rattle.pager_model.specs.Layouts.{record_at, is_free}
+use Rattle.pager_model.proofs.CountLemmas.{weight}
 use Rattle.frame_pool.specs.Laid.{IsSound, IsIn}
 use Rattle.frame_pool.proofs.StateSoundness.{is_used-layout_of}
-
--- what an element adds to a count
-abbrev weight : Bool → ℕ
-weight b = cond b 1 0
 
 -- where no element passes, none is counted
 pub count-nowhere : {X : Type 0} (p : X → Bool) (xs : List X) (d : X) → ((i : ℕ) → p (get_or xs i d) ≡ true → ⊥) → count_by p xs ≡ 0

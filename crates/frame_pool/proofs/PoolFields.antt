@@ -16,7 +16,7 @@ use Rattle.pager_model.specs.Agreement.{has_frame}
 use Rattle.pager_model.specs.FrameStates.{FrameState, start_frames, layout_of, used_at, held_by, claim_in, frame_of, HasNothing, taking, Taking, take_frame, counted, layout_given, held_given, given, give_page, given_in, with_claim, claimed, dropped_in, is_evictable}
 use Rattle.pager_model.specs.Layouts.{Layout, start_layout, placing, put_back, record_at}
 use Rattle.pager_model.specs.Records.{is_used}
-use Rattle.pager_model.proofs.Starting.{get_or-nothing}
+use Rattle.pager_model.proofs.Lists.{get_or-alike}
 use Rattle.frame_pool.specs.declared.pool.Pool.TheInside.{Inside}
 use Rattle.frame_pool.specs.Laid.{IsLaid, IsSound}
 use Rattle.frame_pool.specs.Placed.{IsPageAt, PlacesPage}
@@ -129,7 +129,7 @@ AreHere-start n = λ f known.
     let at : get_or (all_frames n) f None ≡ Some (zero_frame f) =
     get_or_map_within (λ g. Some g) _ f (zero_frame 0) None within
     ∙ ap (λ g. Some g) (get_or-map-range_with_len zero_frame 0 n f f (zero_frame 0) below (omega arith)) in
-    ap number_in at ∙ ap (λ o. cond (is_some o) None (Some f)) (sym (get_or-nothing n f))
+    ap number_in at ∙ ap (λ o. cond (is_some o) None (Some f)) (sym (get_or-alike n f None))
 
 pub IsPool-start : (n processors : ℕ) → n ≤ 32768 → processors ≤ 17 → IsPool (all_frames n) (start_layout n) (start_frames n processors)
 IsPool-start n processors few few_processors =

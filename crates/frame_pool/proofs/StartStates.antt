@@ -7,7 +7,7 @@ use Rattle.pager_model.specs.declared.reservation.Used.{Used}
 use Rattle.pager_model.specs.Ages.{list_at}
 use Rattle.pager_model.specs.FrameStates.{start_frames, claim_in}
 use Rattle.pager_model.specs.Layouts.{start_layout, list_of}
-use Rattle.pager_model.proofs.Starting.{get_or-nothing}
+use Rattle.pager_model.proofs.Lists.{get_or-alike}
 use Rattle.reservation_lists.specs.Kept.{no_members}
 use Rattle.reservations.proofs.CountLemmas.{is_used-replicate}
 use Rattle.reservations.proofs.FrameIds.{no_frame}
@@ -19,12 +19,12 @@ pub IsLaid-start : (frames : ℕ) → IsLaid (start_layout frames)
 IsLaid-start frames = record {
   records_long = length-replicate frames None ∙ sym (length-replicate frames true);
   used_long = length-replicate frames false ∙ sym (length-replicate frames true);
-  placed = λ id r is. absurd (none-some r (sym (get_or-nothing frames id) ∙ is));
-  apart = λ f id other has _. absurd (no_frame f _ (get_or-nothing frames id) has);
-  not_free = λ f id _ has. no_frame f _ (get_or-nothing frames id) has;
+  placed = λ id r is. absurd (none-some r (sym (get_or-alike frames id None) ∙ is));
+  apart = λ f id other has _. absurd (no_frame f _ (get_or-alike frames id None) has);
+  not_free = λ f id _ has. no_frame f _ (get_or-alike frames id None) has;
   places = λ f used. absurd (false≢true (sym (is_used-replicate frames f) ∙ used));
-  some_used = λ id r is. absurd (none-some r (sym (get_or-nothing frames id) ∙ is));
-  one_cover = λ id other space page r q is _ _ _. absurd (none-some r (sym (get_or-nothing frames id) ∙ is));
+  some_used = λ id r is. absurd (none-some r (sym (get_or-alike frames id None) ∙ is));
+  one_cover = λ id other space page r q is _ _ _. absurd (none-some r (sym (get_or-alike frames id None) ∙ is));
 }
 
 -- no reservation, no member
@@ -54,10 +54,10 @@ IsSound-start frames processors = record {
   processors_known = length-replicate processors None;
   laid = subst (λ used. IsLaid (record { free = replicate frames true; records = replicate frames None; used = used })) (sym (nothing_used frames)) (IsLaid-start frames);
   accounted = λ f known. inl (inl (get_or-replicate frames f true false known));
-  held_apart = λ c f holds. absurd (none-some f (sym (get_or-nothing processors c) ∙ holds));
-  held_once = λ c other f holds _. absurd (none-some f (sym (get_or-nothing processors c) ∙ holds));
-  ages_past = λ f u is. absurd (none-some u (sym (get_or-nothing frames f) ∙ is));
-  ages_differ = λ f other u v is _ _. absurd (none-some u (sym (get_or-nothing frames f) ∙ is));
-  claims_once = λ f other c claims _. absurd (none-some c (sym (ap claim_in (get_or-nothing frames f)) ∙ claims));
-  claims_known = λ f c claims. absurd (none-some c (sym (ap claim_in (get_or-nothing frames f)) ∙ claims));
+  held_apart = λ c f holds. absurd (none-some f (sym (get_or-alike processors c None) ∙ holds));
+  held_once = λ c other f holds _. absurd (none-some f (sym (get_or-alike processors c None) ∙ holds));
+  ages_past = λ f u is. absurd (none-some u (sym (get_or-alike frames f None) ∙ is));
+  ages_differ = λ f other u v is _ _. absurd (none-some u (sym (get_or-alike frames f None) ∙ is));
+  claims_once = λ f other c claims _. absurd (none-some c (sym (ap claim_in (get_or-alike frames f None)) ∙ claims));
+  claims_known = λ f c claims. absurd (none-some c (sym (ap claim_in (get_or-alike frames f None)) ∙ claims));
 }

@@ -2,6 +2,7 @@
 use Rattle.std.proofs.Common.{◌≡◌, ℕ, ◌+◌, ◌<◌, Bool, true, false, eqb, ◌&&◌, is_some, List, [], ◌∷◌, length, Some, None, refl, ap, sym, subst, ◌∙◌, inl, inr, arith}
 use Rattle.std.specs.List.{find}
 use Rattle.std.proofs.lemmas.Bool.{cases_Bool, cond-true, cond-false, and_from, eq-eqb, false≢true}
+use Rattle.std.proofs.lemmas.Option.{same_Some}
 use Rattle.pager_model.specs.declared.call.Call.{Call}
 use Rattle.pager_model.specs.declared.call.Call.TheVariants.{Unmap, Load, Store}
 use Rattle.pager_model.specs.declared.entry.Entry.{Entry}
@@ -30,9 +31,6 @@ in_phase f phase = record { processor = f.processor; number = f.number; call = f
 -- what holds of the flight in the phase that it is in holds of it
 pub by_phase : (f : Flight) (phase : Phase) → f.phase ≡ phase → (P : Flight → Type 0) → P (in_phase f phase) → P f
 by_phase f phase is P holds = subst (λ p. P (in_phase f p)) (sym is) holds
-
-pub Some-same : {A : Type 0} (a b : A) → Some a ≡ Some b → a ≡ b
-Some-same a b e = cc
 
 -- a flight's answer, which names the frames or not
 abbrev pub ending : Flight → Answered → Bool → Entry
@@ -92,7 +90,7 @@ module _ (f : Flight) (a : Answered) (was now : Kept) (st : SpaceState) where
 -- Start: the call is answered at once
 Makes-begin : (f : Flight) (a : Answered) (was now : Kept) (st : SpaceState) → IsReady (in_phase f Start) was st → BeginsAnswered was now f.processor f.call a → (frames : FrameState) → Makes (in_phase f Start) (in_phase f (Ended a.reply)) was now st frames frames (answer_entry f.processor f.number f.call a)
 Makes-begin f a was now st ready begins =
-    Makes-answer (in_phase f Start) a was now st ready.fits.can (Some-same _ _ ready.under) begins.same_number begins.same_frames begins.same_processors begins.resting
+    Makes-answer (in_phase f Start) a was now st ready.fits.can (same_Some _ _ ready.under) begins.same_number begins.same_frames begins.same_processors begins.resting
     (subst (λ next. MayGoOn next f.processor (Answer f.number f.call a)) (sym ready.next) tt)
     (begins.answers.allowed st ready.stands f.number) (begins.answers.stands st ready.stands f.number)
     refl begins.alone (omega arith)
@@ -106,7 +104,7 @@ start_answered f a was now phase begins st frames =
 find_does : {X : Type 0} (p : X → Bool) (xs : List X) (x : X) → find p xs ≡ Some x → p x ≡ true
 find_does p [] x is = cc
 find_does p (y ∷ xs) x is = elim (cases_Bool (p y)) [
-  | inl does ↦ ap p (Some-same x y (sym is ∙ cond-true (p y) (Some y) (find p xs) does)) ∙ does
+  | inl does ↦ ap p (same_Some x y (sym is ∙ cond-true (p y) (Some y) (find p xs) does)) ∙ does
   | inr fails ↦ find_does p xs x (sym (cond-false (p y) (Some y) (find p xs) fails) ∙ is)
 ]
 
@@ -121,10 +119,10 @@ Makes-unmap f s page first len a was now st call ready unmapped =
     let r = is.region in
     let same : page ≡ is.page = (let both : Unmap s page ≡ Unmap is.space is.page = sym call ∙ is.is_unmap in cc) in
     let at : region_at was.regions page ≡ Some r = ap (region_at was.regions) same ∙ is.at in
-    let own : f.call ≡ Unmap was.number page = call ∙ ap (λ n. Unmap n page) (sym (ap space_of_call call) ∙ Some-same _ _ ready.under) in
+    let own : f.call ≡ Unmap was.number page = call ∙ ap (λ n. Unmap n page) (sym (ap space_of_call call) ∙ same_Some _ _ ready.under) in
     let within : in_range first len page ≡ true = sym (ap (λ n. in_range n r.length page) is.first_is ∙ ap (λ n. in_range first n page) is.length_is) ∙ region_at-has was.regions page r at in
     let next : st.next ≡ Unmaps f.processor r.first r.length = ready.next ∙ sym (ap (λ n. Unmaps f.processor n r.length) is.first_is ∙ ap (Unmaps f.processor first) is.length_is) in
-    Makes-answer (in_phase f (Gone first len)) a was now st ready.fits.can (Some-same _ _ ready.under) unmapped.same_number unmapped.same_frames unmapped.same_processors unmapped.resting
+    Makes-answer (in_phase f (Gone first len)) a was now st ready.fits.can (same_Some _ _ ready.under) unmapped.same_number unmapped.same_frames unmapped.same_processors unmapped.resting
     (subst (λ next. MayGoOn next f.processor (Answer f.number f.call a)) (sym ready.next)
     (refl, subst (λ k. IsUnmapOf first len k a.reply) (sym own) (subst (IsUnmapOf first len (Unmap was.number page)) (sym unmapped.done) within)))
     (subst (λ k. WhatAllowed st false f.processor (Answer f.number k a)) (sym own) (unmapped.allowed st ready.stands f.processor f.number r at next))
@@ -178,7 +176,7 @@ alone_plain call reply is alone = absurd (false≢true is)
 -- Late: the access is answered, as it would be if it began now
 Makes-late : (f : Flight) (a : Answered) (was now : Kept) (st : SpaceState) → IsReady (in_phase f Late) was st → BeginsAnswered was now f.processor f.call a → (frames : FrameState) → Makes (in_phase f Late) (in_phase f (Ended a.reply)) was now st frames frames (answer_entry f.processor f.number f.call a)
 Makes-late f a was now st ready begins =
-    Makes-answer (in_phase f Late) a was now st ready.fits.can (Some-same _ _ ready.under) begins.same_number begins.same_frames begins.same_processors begins.resting
+    Makes-answer (in_phase f Late) a was now st ready.fits.can (same_Some _ _ ready.under) begins.same_number begins.same_frames begins.same_processors begins.resting
     (subst (λ next. MayGoOn next f.processor (Answer f.number f.call a)) (sym ready.next) tt)
     (begins.answers.allowed st ready.stands f.number) (begins.answers.stands st ready.stands f.number)
     refl (and_from _ _ (is_access_of f.call f.claimed ready.fits.phase) (alone_plain f.call a.reply ready.fits.phase begins.alone)) (omega arith)
@@ -191,7 +189,7 @@ late_answered f a was now phase begins st frames =
 -- Fill: the access is served
 Makes-fill : (f : Flight) (page frame : ℕ) (a : Answered) (was mid now : Kept) (st : SpaceState) → IsReady (in_phase f (Fill page frame)) was st → ReadsIn was mid → Finishes mid now f.processor f.call a → (frames : FrameState) → Makes (in_phase f (Fill page frame)) (in_phase f (Ended a.reply)) was now st frames frames (answer_entry f.processor f.number f.call a)
 Makes-fill f page frame a was mid now st ready reads finishes =
-    Makes-answer (in_phase f (Fill page frame)) a was now st ready.fits.can (Some-same _ _ ready.under) (finishes.same.same.number ∙ reads.same.same.number) (finishes.same.same.frames ∙ reads.same.same.frames) (finishes.same.same.processors ∙ reads.same.same.processors) finishes.resting
+    Makes-answer (in_phase f (Fill page frame)) a was now st ready.fits.can (same_Some _ _ ready.under) (finishes.same.same.number ∙ reads.same.same.number) (finishes.same.same.frames ∙ reads.same.same.frames) (finishes.same.same.processors ∙ reads.same.same.processors) finishes.resting
     (subst (λ next. MayGoOn next f.processor (Answer f.number f.call a)) (sym ready.next) refl)
     (finishes.answers.allowed st (reads.stands st ready.stands) f.number) (finishes.answers.stands st (reads.stands st ready.stands) f.number)
     refl (and_from _ _ (is_access_of f.call f.claimed (is_access_by_page f.call page ready.found.lawful.page_is)) finishes.served) (omega arith)

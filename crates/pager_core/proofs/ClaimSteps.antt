@@ -1,6 +1,7 @@
 -- A frame is claimed for an access whose page lacks one, and the claim is given up.
 use Rattle.std.proofs.Common.{◌≡◌, ℕ, ◌<◌, Bool, true, false, cond, eqb, is_some, Option, Some, None, refl, ap, sym, subst, ◌∙◌, inl, inr, arith}
 use Rattle.std.proofs.lemmas.Bool.{cases_eq, cond-true, cond-false, and_from, and_parts, eq-eqb, ne_eqb, false≢true}
+use Rattle.std.proofs.lemmas.Option.{same_Some}
 use Rattle.frame_pool.specs.declared.pool.Victim.{Victim as Claimed}
 use Rattle.pager_model.specs.Agreement.{ClaimsOrHolds, OwnsBy}
 use Rattle.pager_model.specs.declared.call.Call.{Call}
@@ -14,14 +15,14 @@ use Rattle.pager_model.specs.Order.{Progress, ForAccess, Claiming, faulted_for, 
 use Rattle.pager_model.specs.Regions.{region_at}
 use Rattle.pager_model.specs.SpaceStates.{SpaceState, MayGoOn, IsNeeded, access_page, has_right, space_after}
 use Rattle.frame_pool.proofs.PagePlaces.{frame_in-found}
-use Rattle.space_core.specs.Standing.{Kept, StandsFor, frame_at, is_allowed, is_in, copied_page, rights_at}
+use Rattle.space_core.specs.Standing.{Kept, StandsFor, frame_at, is_allowed, is_in, rights_at}
 use Rattle.pager_core.specs.declared.flight.Flight.{Flight}
 use Rattle.pager_core.specs.declared.flight.Phase.{Phase}
 use Rattle.pager_core.specs.declared.flight.Phase.TheVariants.{Frame, Out, Unclaim, Fault, Lack}
 use Rattle.pager_core.specs.Flights.{Fits, HasVictim, IsAtRest, IsLawfulAt, IsReady, LeftBy}
 use Rattle.pager_core.specs.Rows.{row_of, access_of, faulted, is_between, is_store, own_if, page_or_zero, victim_of}
 use Rattle.pager_core.specs.Steps.{AreAgreed, Makes, after_named, answer_made}
-use Rattle.pager_core.proofs.AnswerSteps.{in_phase, by_phase, is_access_by_page, Some-same}
+use Rattle.pager_core.proofs.AnswerSteps.{in_phase, by_phase, is_access_by_page, copies_none}
 use Rattle.pager_core.proofs.TakenFrames.{HasNothing-wanting, after_own}
 use Rattle.pager_core.proofs.UnchangedSpaces.{unchanged_stands}
 
@@ -42,8 +43,8 @@ needed kept st call page stands page_is allowed absent =
     )
   where
     allowed_at : (k : Call) → access_page k ≡ Some page → is_allowed kept k ≡ true → (is_some (region_at kept.regions page) ≡ true) × (has_right (is_store k) (rights_at kept page) ≡ true)
-    allowed_at (Load space address) is may = subst (λ p. (is_some (region_at kept.regions p) ≡ true) × (has_right false (rights_at kept p) ≡ true)) (Some-same _ _ is) (and_parts _ _ may)
-    allowed_at (Store space address word) is may = subst (λ p. (is_some (region_at kept.regions p) ≡ true) × (has_right true (rights_at kept p) ≡ true)) (Some-same _ _ is) (and_parts _ _ may)
+    allowed_at (Load space address) is may = subst (λ p. (is_some (region_at kept.regions p) ≡ true) × (has_right false (rights_at kept p) ≡ true)) (same_Some _ _ is) (and_parts _ _ may)
+    allowed_at (Store space address word) is may = subst (λ p. (is_some (region_at kept.regions p) ≡ true) × (has_right true (rights_at kept p) ≡ true)) (same_Some _ _ is) (and_parts _ _ may)
     allowed_at (Map space p len kind rights) is may = absurd (false≢true may)
     allowed_at (Grow space p by) is may = absurd (false≢true may)
     allowed_at (Unmap space p) is may = absurd (false≢true may)
@@ -104,7 +105,7 @@ module _ (f : Flight) (page : ℕ) (want : Want) (v : Claimed) (kept : Kept) (st
       lawful = ready.found.lacks.lawful
 
       on : space_of_call f.call ≡ kept.number
-      on = Some-same _ _ ready.under
+      on = same_Some _ _ ready.under
 
       fits : Fits (in_phase (claiming f) (Out v))
       fits = record { can = ready.fits.can; phase = is_access_by_page f.call page lawful.page_is }
@@ -130,17 +131,6 @@ claims_resident kept st c v agree on at owns = elim owns.frame [
       absurd ((agree.sound.held_apart c v.frame holds).1 (inr (agree.sound.laid.places v.frame place.used)))
   | inr claims ↦ claims.0
 ]
-
--- an access writes no copy by itself
-copies_none : (call : Call) → is_access call ≡ true → copied_page call ≡ None
-copies_none (Load space address) is = refl
-copies_none (Store space address word) is = refl
-copies_none (Map space page len kind rights) is = absurd (false≢true is)
-copies_none (Grow space page by) is = absurd (false≢true is)
-copies_none (Unmap space page) is = absurd (false≢true is)
-copies_none (Protect space page len rights) is = absurd (false≢true is)
-copies_none (Sync space page) is = absurd (false≢true is)
-copies_none (Evict space page) is = absurd (false≢true is)
 
 abbrev pub unclaim_entry : ℕ → ℕ → ℕ → Entry
 unclaim_entry c space frame = record { processor = c; space = Some space; frames = true; what = UnclaimEntry frame }
@@ -203,7 +193,7 @@ module _ (f : Flight) (v : Claimed) (frame : ℕ) (kept : Kept) (st : SpaceState
       has = ready.found.has
 
       on : v.space ≡ kept.number
-      on = Some-same _ _ ready.under
+      on = same_Some _ _ ready.under
 
       is : frame ≡ v.frame
       is = agree.sound.claims_once frame v.frame f.processor claims (claims_resident kept before f.processor v agree on has.place (claims_by fault owns))

@@ -1,55 +1,25 @@
 -- A region's pages give their frames up, the lowest first, until none is resident.
-use Rattle.std.proofs.Common.{◌≡◌, ◌≢◌, ℕ, zero, suc, ◌+◌, ◌<◌, ◌≤◌, Bool, true, false, cond, eqb, leb, ltb, ◌&&◌, length, is_some, None, refl, ap, sym, subst, ◌∙◌, inl, inr, arith}
+use Rattle.std.proofs.Common.{◌≡◌, ◌≢◌, ℕ, ◌+◌, ◌<◌, ◌≤◌, true, false, cond, eqb, leb, ltb, ◌&&◌, length, is_some, None, refl, ap, sym, subst, ◌∙◌, inl, inr, arith}
 use Rattle.std.specs.List.{range_with_len, count_by}
 use Rattle.std.proofs.lemmas.Bool.{cases_eq, cond-true, cond-false, and_parts, and_from, and_right, eq-eqb, ne_eqb, le-leb, leb-true, lt-ltb, ltb-true, false≢true}
+use Rattle.std.proofs.lemmas.Option.{same_Some}
 use Rattle.pager_model.specs.declared.entry.What.TheVariants.{Clear as ClearEntry}
 use Rattle.pager_model.specs.Flat.{space_of_call}
 use Rattle.pager_model.specs.FrameStates.{FrameState, frame_of, counted, give_page, give_range}
 use Rattle.pager_model.specs.Layouts.{covering}
 use Rattle.pager_model.specs.Regions.{region_at}
 use Rattle.pager_model.specs.SpaceStates.{SpaceState, IsRegionOf}
+use Rattle.pager_model.proofs.CountLemmas.{count-one_more}
+use Rattle.pager_model.proofs.FrameEntries.{given_in-entries}
 use Rattle.space_core.specs.Beginning.{IsUnmapping, ClearsOne, ClearsNone}
 use Rattle.space_core.specs.Standing.{Kept, IsResting, StandsBeside, StandsFor, StandsBut, frame_at, is_in, is_clearing, clear_entry}
 use Rattle.pager_core.specs.declared.flight.Flight.{Flight}
 use Rattle.pager_core.specs.declared.flight.Phase.TheVariants.{Clear, Gone}
 use Rattle.pager_core.specs.Flights.{IsReady}
 use Rattle.pager_core.specs.Steps.{Makes}
-use Rattle.pager_core.proofs.AnswerSteps.{in_phase, by_phase, Some-same}
+use Rattle.pager_core.proofs.AnswerSteps.{in_phase, by_phase}
 use Rattle.pager_core.proofs.EntrySteps.{Leads, Makes-going}
-use Rattle.pager_core.proofs.Lists.{count-cons}
-use Rattle.pager_core.proofs.GivenRanges.{give_range-none, give_range-lowest, entries-given}
-
--- Counting over a range.
-
--- tests that give the same but at a number before the range count the same
-count-same : (f g : ℕ → Bool) (page first len : ℕ) → page < first → ((p : ℕ) → p ≢ page → g p ≡ f p) → count_by g (range_with_len first len) ≡ count_by f (range_with_len first len)
-count-same f g page first zero past same = refl
-count-same f g page first (suc len) past same =
-    let here : g first ≡ f first = same first (λ e. omega (arith, past, e)) in
-    let rest = count-same f g page (first + 1) len (omega (arith, past)) same in
-    count-cons g first (range_with_len (first + 1) len)
-    ∙ ap (λ b. cond b 1 0 + count_by g (range_with_len (first + 1) len)) here ∙ ap (λ n. cond (f first) 1 0 + n) rest
-    ∙ sym (count-cons f first (range_with_len (first + 1) len))
-
--- a test that fails at one number of the range more counts fewer
-count-fewer : (f g : ℕ → Bool) (page first len : ℕ) → first ≤ page → page < first + len → ((p : ℕ) → p ≢ page → g p ≡ f p) → f page ≡ true → g page ≡ false → count_by g (range_with_len first len) < count_by f (range_with_len first len)
-count-fewer f g page first zero low high same was now = absurd (omega arith)
-count-fewer f g page first (suc len) low high same was now =
-    elim (cases_eq page first) [
-      | inl at ↦
-          let one : f first ≡ true = ap f (sym at) ∙ was in
-          let none : g first ≡ false = ap g (sym at) ∙ now in
-          let rest = count-same f g page (first + 1) len (omega (arith, at)) same in
-          let before : count_by f (range_with_len first (suc len)) ≡ 1 + count_by f (range_with_len (first + 1) len) = count-cons f first (range_with_len (first + 1) len) ∙ ap (λ b. cond b 1 0 + count_by f (range_with_len (first + 1) len)) one in
-          let after : count_by g (range_with_len first (suc len)) ≡ 0 + count_by g (range_with_len (first + 1) len) = count-cons g first (range_with_len (first + 1) len) ∙ ap (λ b. cond b 1 0 + count_by g (range_with_len (first + 1) len)) none in
-          omega (arith, before, after, rest)
-      | inr other ↦
-          let rest = count-fewer f g page (first + 1) len (omega (arith, low, other)) (omega (arith, high)) same was now in
-          let before : count_by f (range_with_len first (suc len)) ≡ cond (f first) 1 0 + count_by f (range_with_len (first + 1) len) = count-cons f first (range_with_len (first + 1) len) in
-          let after : count_by g (range_with_len first (suc len)) ≡ cond (f first) 1 0 + count_by g (range_with_len (first + 1) len) =
-          count-cons g first (range_with_len (first + 1) len) ∙ ap (λ b. cond b 1 0 + count_by g (range_with_len (first + 1) len)) (same first (λ e. other (sym e))) in
-          omega (arith, before, after, rest)
-    ]
+use Rattle.pager_core.proofs.GivenRanges.{give_range-none, give_range-lowest}
 
 -- One page after another.
 
@@ -87,7 +57,7 @@ module _ (was kept now : Kept) (before pool after : FrameState) (first len page 
         (λ p over under. sym (so_far.agrees p) ∙ below p over under) (ap is_some (sym (so_far.agrees page) ∙ clears.gave.had))
         (λ p over under. ap (λ (t : FrameState). frame_of t was.number p) (sym given_own) ∙ sym (agrees p) ∙ up_to p over under)
         ∙ so_far.leads;
-    same_entries = ap (λ (t : FrameState). t.entries) given ∙ entries-given pool page (covering own page pool.records) ∙ so_far.same_entries;
+    same_entries = ap (λ (t : FrameState). t.entries) given ∙ given_in-entries pool page (covering own page pool.records) ∙ so_far.same_entries;
   }
     where
       parts : (leb first page ≡ true) × (ltb page (first + len) ≡ true)
@@ -121,8 +91,9 @@ module _ (was kept now : Kept) (before pool after : FrameState) (first len page 
 pub fewer_resident : (kept now : Kept) (first len page frame : ℕ) → ClearsOne kept now first len page frame → count_by (λ p. is_some (frame_at now p)) (range_with_len first len) < count_by (λ p. is_some (frame_at kept p)) (range_with_len first len)
 fewer_resident kept now first len page frame clears =
     let parts = and_parts (leb first page) (ltb page (first + len)) clears.within in
-    count-fewer (λ p. is_some (frame_at kept p)) (λ p. is_some (frame_at now p)) page first len (leb-true first page parts.0) (ltb-true page (first + len) parts.1)
-    (λ p other. ap is_some (clears.gave.same_others p other)) (ap is_some clears.gave.had) (ap is_some clears.gave.gone)
+    let one_more = count-one_more (λ p. is_some (frame_at now p)) (λ p. is_some (frame_at kept p)) page (ap is_some clears.gave.gone) (ap is_some clears.gave.had)
+    (λ p other. ap is_some (clears.gave.same_others p other)) first len (leb-true first page parts.0) (ltb-true page (first + len) parts.1) in
+    omega (arith, one_more)
 
 -- in a space at rest nothing is open
 StandsBut-rest : (kept : Kept) (st : SpaceState) (first len : ℕ) → IsResting kept → StandsFor kept st → StandsBut first len kept st
@@ -157,7 +128,7 @@ StandsBut-rest kept st first len resting stands = record {
 -- the flight's space is the call's
 pub on_clear : (f : Flight) (first len : ℕ) (was : Kept) (st : SpaceState) → f.phase ≡ Clear first len → IsReady f was st → space_of_call f.call ≡ was.number
 on_clear f first len was st phase =
-    by_phase f (Clear first len) phase (λ g. IsReady g was st → space_of_call f.call ≡ was.number) (λ ready. Some-same _ _ ready.under)
+    by_phase f (Clear first len) phase (λ g. IsReady g was st → space_of_call f.call ≡ was.number) (λ ready. same_Some _ _ ready.under)
 
 -- Clear: the pages of the region gave their frames up
 Leads-clear : (f : Flight) (first len : ℕ) → Leads f (Clear first len) (Gone first len) (space_of_call f.call) true (ClearEntry first len)
@@ -199,7 +170,7 @@ module _ (f : Flight) (first len : ℕ) (was kept now : Kept) (before pool : Fra
       ∙ ap (λ s. give_range before s first len) (sym on)))
     where
       on : space_of_call f.call ≡ was.number
-      on = Some-same _ _ ready.under
+      on = same_Some _ _ ready.under
 
       same_regions : now.regions ≡ was.regions
       same_regions = clears.same.same.regions ∙ so_far.same_regions

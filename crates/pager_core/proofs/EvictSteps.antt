@@ -1,5 +1,6 @@
 -- A call evicts its page.
 use Rattle.std.proofs.Common.{◌≡◌, ℕ, Bool, true, false, Some, refl, ap, sym, subst, ◌∙◌, arith}
+use Rattle.std.proofs.lemmas.Option.{same_Some}
 use Rattle.pager_model.specs.declared.call.Call.TheVariants.{Evict as EvictCall}
 use Rattle.pager_model.specs.declared.entry.Entry.{Entry}
 use Rattle.pager_model.specs.declared.entry.What.TheVariants.{Answer}
@@ -14,7 +15,7 @@ use Rattle.pager_core.specs.declared.flight.Flight.{Flight}
 use Rattle.pager_core.specs.declared.flight.Phase.TheVariants.{Start, Evict, Ended}
 use Rattle.pager_core.specs.Flights.{IsReady}
 use Rattle.pager_core.specs.Steps.{AreAgreed, Makes, Passes}
-use Rattle.pager_core.proofs.AnswerSteps.{in_phase, by_phase, Some-same, ending, Makes-ending}
+use Rattle.pager_core.proofs.AnswerSteps.{in_phase, by_phase, ending, Makes-ending}
 
 -- Start: the page is equal to its copy, and gives its frame up next
 Passes-evicting : (f : Flight) (page : ℕ) (written : Bool) (was now : Kept) (st : SpaceState) → IsReady (in_phase f Start) was st → BeginsEvicting was now f.call page written → Passes (in_phase f Start) (in_phase f (Evict page)) was now st
@@ -31,7 +32,7 @@ Passes-evicting f page written was now st ready begins = record {
     stands = begins.stands st ready.stands;
     next = ready.next;
     found = record {
-      is_evict = begins.is_evict.1 ∙ ap (λ s. EvictCall s page) (sym (ap space_of_call begins.is_evict.1) ∙ Some-same _ _ on_now);
+      is_evict = begins.is_evict.1 ∙ ap (λ s. EvictCall s page) (sym (ap space_of_call begins.is_evict.1) ∙ same_Some _ _ on_now);
       evicting = begins.evicting;
     };
   };
@@ -60,7 +61,7 @@ module _ (f : Flight) (page frame : ℕ) (a : Answered) (was now : Kept) (st : S
       → Makes (in_phase f (Evict page)) (in_phase f (Ended a.reply)) was now st before (counted (give_page before (space_of_call f.call) page)) (ending f a true)
   Makes-evict ready agree evicts =
       let own : f.call ≡ EvictCall was.number page = ready.found.is_evict in
-      let on : space_of_call f.call ≡ was.number = Some-same _ _ ready.under in
+      let on : space_of_call f.call ≡ was.number = same_Some _ _ ready.under in
       Makes-ending (in_phase f (Evict page)) a was now st true ready.fits.can on evicts.gave.same.number evicts.gave.same.frames evicts.gave.same.processors evicts.resting
       (subst (λ next. MayGoOn next f.processor (Answer f.number f.call a)) (sym ready.next) tt)
       (subst (λ k. WhatAllowed st true f.processor (Answer f.number k a)) (sym own) (evicts.allowed st ready.stands f.processor f.number))

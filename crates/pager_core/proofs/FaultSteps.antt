@@ -2,6 +2,7 @@
 -- read in gives its frame up.
 use Rattle.std.proofs.Common.{◌≡◌, ℕ, true, false, is_some, Some, None, refl, ap, sym, subst, ◌∙◌, inl, inr, arith}
 use Rattle.std.proofs.lemmas.Bool.{cond-true, and_from, eq-eqb, false≢true}
+use Rattle.std.proofs.lemmas.Option.{same_Some}
 use Rattle.pager_model.specs.declared.entry.What.TheVariants.{Failed, Give}
 use Rattle.pager_model.specs.Flat.{space_of_call}
 use Rattle.pager_model.specs.FrameStates.{FrameState, counted, frame_of, give_page}
@@ -14,7 +15,7 @@ use Rattle.pager_core.specs.declared.flight.Phase.TheVariants.{Start, Fill, Unfi
 use Rattle.pager_core.specs.Flights.{IsReady}
 use Rattle.pager_core.specs.Rows.{access_of, faulted, page_or_zero}
 use Rattle.pager_core.specs.Steps.{AreAgreed, Makes}
-use Rattle.pager_core.proofs.AnswerSteps.{in_phase, by_phase, Some-same, is_access_by_page, copies_none, allowed-same}
+use Rattle.pager_core.proofs.AnswerSteps.{in_phase, by_phase, is_access_by_page, copies_none, allowed-same}
 use Rattle.pager_core.proofs.EntrySteps.{Leads, Makes-going}
 
 -- Start: the write of a sync's or an evict's page failed
@@ -35,10 +36,10 @@ Leads-failing f page count copies = record {
 Makes-failing : (f : Flight) (page count : ℕ) (was now : Kept) (st : SpaceState) → IsReady (in_phase f Start) was st → BeginsFailing was now f.call page count → (frames : FrameState) → Makes (in_phase f Start) (in_phase f (Fault (space_of_call f.call) count)) was now st frames frames (failed_entry f.processor (space_of_call f.call) page true count)
 Makes-failing f page count was now st ready begins frames =
     Makes-going f Start (Fault (space_of_call f.call) count) (space_of_call f.call) false (Failed page true count) was now st ready (Leads-failing f page count begins.must.is)
-    (Some-same _ _ ready.under) begins.fails.same.same.number begins.fails.same.same.frames begins.fails.same.same.processors
+    (same_Some _ _ ready.under) begins.fails.same.same.number begins.fails.same.same.frames begins.fails.same.same.processors
     (begins.fails.allowed st ready.stands f.processor) (begins.fails.stands st ready.stands f.processor)
     (inl (refl, ap is_some begins.must.is))
-    (record { resting = begins.fails.resting; must = λ p copies. subst (MustWrite now f.call) (Some-same _ _ (sym begins.must.is ∙ copies)) begins.must })
+    (record { resting = begins.fails.resting; must = λ p copies. subst (MustWrite now f.call) (same_Some _ _ (sym begins.must.is ∙ copies)) begins.must })
     frames frames (λ named. absurd (false≢true named)) refl
 
 pub begin_failed : (f : Flight) (page count : ℕ) (was now : Kept) → f.phase ≡ Start → BeginsFailing was now f.call page count → (st : SpaceState) (frames : FrameState) → IsReady f was st → Makes f (in_phase f (Fault (space_of_call f.call) count)) was now st frames frames (failed_entry f.processor (space_of_call f.call) page true count)
@@ -66,7 +67,7 @@ Makes-unfilled : (f : Flight) (page frame count : ℕ) (was now : Kept) (st : Sp
 Makes-unfilled f page frame count was now st ready fails frames =
     let has = ready.found in
     Makes-going f (Fill page frame) (Unfill page frame count) (space_of_call f.call) false (Failed page false count) was now st ready (Leads-unfilled f page frame count has.lawful.page_is)
-    (Some-same _ _ ready.under) fails.same.same.number fails.same.same.frames fails.same.same.processors
+    (same_Some _ _ ready.under) fails.same.same.number fails.same.same.frames fails.same.same.processors
     (fails.allowed st ready.stands f.processor) (fails.stands st ready.stands f.processor)
     tt
     (record {
@@ -121,10 +122,10 @@ module _ (f : Flight) (page own count given : ℕ) (was now : Kept) (st : SpaceS
       refl)
     where
       on : space_of_call f.call ≡ was.number
-      on = Some-same _ _ ready.under
+      on = same_Some _ _ ready.under
 
       same : given ≡ own
-      same = Some-same _ _ (sym removes.gave.had ∙ ready.found.has.resident)
+      same = same_Some _ _ (sym removes.gave.had ∙ ready.found.has.resident)
 
       access : is_access f.call ≡ true
       access = is_access_by_page f.call page ready.found.has.lawful.page_is

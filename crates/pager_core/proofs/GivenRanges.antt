@@ -1,14 +1,8 @@
 -- What it does to the frames that the pages of a range give theirs up.
-use Rattle.std.proofs.Common.{◌≡◌, ℕ, zero, suc, ◌+◌, ◌<◌, ◌≤◌, true, cond, fold, is_some, Option, Some, None, refl, ap, sym, ◌∙◌, inl, inr, arith}
+use Rattle.std.proofs.Common.{◌≡◌, ℕ, zero, suc, ◌+◌, ◌<◌, ◌≤◌, true, cond, fold, is_some, None, refl, ap, sym, ◌∙◌, inl, inr, arith}
 use Rattle.std.specs.List.{range_with_len}
 use Rattle.std.proofs.lemmas.Bool.{cases_eq}
-use Rattle.pager_model.specs.declared.reservation.Reservation.{Reservation}
-use Rattle.pager_model.specs.FrameStates.{FrameState, frame_of, given_in, give_page, give_if_used, give_range}
-
--- a page that gives its frame up counts no entry
-pub entries-given : (st : FrameState) (page : ℕ) (o : Option Reservation) → (given_in st page o).entries ≡ st.entries
-entries-given st page None = refl
-entries-given st page (Some r) = refl
+use Rattle.pager_model.specs.FrameStates.{FrameState, frame_of, give_page, give_if_used, give_range}
 
 -- a page without a place gives none up
 give_skips : (space : ℕ) (st : FrameState) (page : ℕ) → frame_of st space page ≡ None → give_if_used space st page ≡ st

@@ -2,6 +2,7 @@
 use Rattle.std.proofs.Common.{◌≡◌, ℕ, ◌<◌, true, length, Some, None, refl, ap, sym, subst, ◌∙◌, arith}
 use Rattle.std.specs.Option.{IsSomeAnd}
 use Rattle.std.proofs.lemmas.Bool.{and_from, eq-eqb, false≢true}
+use Rattle.std.proofs.lemmas.Option.{same_Some}
 use Rattle.frame_pool.specs.declared.pool.Victim.{Victim as Claimed}
 use Rattle.frame_pool.specs.Laid.{IsSound}
 use Rattle.frame_pool.proofs.PagePlaces.{frame_in-found}
@@ -22,13 +23,13 @@ use Rattle.pager_core.specs.declared.flight.Phase.TheVariants.{Use, Fill}
 use Rattle.pager_core.specs.Flights.{IsReady, WantsFrame}
 use Rattle.pager_core.specs.Rows.{row_of, access_of, page_or_zero}
 use Rattle.pager_core.specs.Steps.{AreAgreed, Makes}
-use Rattle.pager_core.proofs.AnswerSteps.{in_phase, by_phase, Some-same}
+use Rattle.pager_core.proofs.AnswerSteps.{in_phase, by_phase}
 use Rattle.pager_core.proofs.TakenFrames.{IsReady-placed, after_own}
 
 -- what stands where a held frame is used: the page of the call's own space lacks a frame
 pub wants_still : (f : Flight) (page : ℕ) (want : Want) (v : Claimed) (kept : Kept) (st : SpaceState) → f.phase ≡ Use page want v → IsReady f kept st → (space_of_call f.call ≡ kept.number) × WantsFrame f.call kept page want
 wants_still f page want v kept st phase =
-    by_phase f (Use page want v) phase (λ g. IsReady g kept st → (space_of_call g.call ≡ kept.number) × WantsFrame g.call kept page want) (λ ready. (Some-same _ _ ready.under, ready.found))
+    by_phase f (Use page want v) phase (λ g. IsReady g kept st → (space_of_call g.call ≡ kept.number) × WantsFrame g.call kept page want) (λ ready. (same_Some _ _ ready.under, ready.found))
 
 -- A frame that is taken for a page without one, once a held frame is free, is a known one that no page has.
 module _ (kept : Kept) (st : FrameState) (c space page : ℕ) (want : Want) (t : Taking) (agree : AreAgreed kept st) (on : space ≡ kept.number) (absent : frame_at kept page ≡ None) (takes : take_frame (dropped st c) space page want ≡ Some t) where
@@ -85,7 +86,7 @@ module _ (f : Flight) (page : ℕ) (want : Want) (v : Claimed) (was now : Kept) 
   }
     where
       on : space_of_call f.call ≡ was.number
-      on = Some-same _ _ ready.under
+      on = same_Some _ _ ready.under
 
       -- the space is left as a taking leaves it
       next : IsReady (in_phase f (Fill page t.frame)) now (space_after st (use_entry f.processor (space_of_call f.call) page t.frame want))

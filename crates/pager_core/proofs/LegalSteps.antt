@@ -1,7 +1,6 @@
 -- The entry of a step may follow the history, and what it leads to.
 use Rattle.std.proofs.Common.{◌≡◌, ◌≢◌, ℕ, ◌+◌, ◌<◌, ◌≤◌, Bool, true, false, ◌&&◌, cond, eqb, List, [], ◌∷◌, ◌++◌, length, Option, Some, None, IfSome, refl, ap, sym, subst, ◌∙◌, arith}
-use Rattle.std.proofs.lemmas.Bool.{false≢true}
-use Rattle.std.proofs.lemmas.Bool.Decides.{nat_tests}
+use Rattle.std.proofs.lemmas.Bool.{false≢true, ne_eqb}
 use Rattle.std.proofs.lemmas.Option.{none-some, same_Some}
 use Rattle.frame_pool.specs.declared.pool.Victim.{Victim as Claimed}
 use Rattle.pager_model.specs.declared.entry.Entry.{Entry}
@@ -33,15 +32,9 @@ at_named : (P : ℕ → Type 0) (o : Option ℕ) (n s : ℕ) → n ≡ s → IfS
 at_named P None n s at named holds = tt
 at_named P (Some t) n s at named holds = subst P (sym (named ∙ at)) holds
 
-pub differs : (t s : ℕ) → (t ≡ s → ⊥) → eqb t s ≡ false
-differs t s other = grind (arith, nat_tests)
-
-pub same_number : (t s : ℕ) → t ≡ s → eqb t s ≡ true
-same_number t s is = grind (arith, nat_tests)
-
 unnamed : (o : Option ℕ) (n s : ℕ) → IfSome o (λ t. t ≡ n) → s ≢ n → is_space o s ≡ false
 unnamed None n s own other = refl
-unnamed (Some t) n s own other = differs t s (λ is. other (sym is ∙ own))
+unnamed (Some t) n s own other = ne_eqb t s (λ is. other (sym is ∙ own))
 
 -- what an entry leads to, where it may name the space or the frames
 pub space_at-after : (g : Given) (h : List Entry) (e : Entry) (s : ℕ) → space_at g (h ++ e ∷ []) s ≡ after_named s (space_at g h s) e
@@ -57,7 +50,7 @@ frames_at-after g h e =
 -- A space that isn't known has no entries, and so no resident page.
 unnamed_past : (o : Option ℕ) (n s : ℕ) → IfSome o (λ t. t < n) → n ≤ s → is_space o s ≡ false
 unnamed_past None n s below past = refl
-unnamed_past (Some t) n s below past = differs t s (λ is. absurd (omega (arith, below, past, is)))
+unnamed_past (Some t) n s below past = ne_eqb t s (λ is. absurd (omega (arith, below, past, is)))
 
 pub base-unknown : (g : Given) (h : List Entry) → IsLegal g h → (s page : ℕ) → length g.told ≤ s → (space_at g h s).base page ≡ None
 base-unknown g h legal = IsLegal-keeps g (λ h. (s page : ℕ) → length g.told ≤ s → (space_at g h s).base page ≡ None)

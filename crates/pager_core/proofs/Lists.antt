@@ -1,6 +1,6 @@
 -- Lists with one element changed, and sums with one term lowered.
 use Rattle.std.proofs.Common.{◌≡◌, ◌≢◌, ℕ, zero, suc, ◌+◌, ◌<◌, ◌≤◌, Bool, cond, List, [], ◌∷◌, ◌++◌, ◌⊎◌, length, map, get_or, slice_get, Option, Some, None, refl, ap, sym, subst, ◌∙◌, inl, inr, arith}
-use Rattle.std.specs.List.{range_with_len, sum_by, count_by}
+use Rattle.std.specs.List.{enumerate_from, range_with_len, sum_by, count_by}
 use Rattle.std.proofs.lemmas.Bool.{cases_eq, cases_lt}
 use Rattle.std.proofs.lemmas.List.{get_or_past}
 use Rattle.std.proofs.lemmas.List.FromFn.{map-range_with_len_more}
@@ -52,7 +52,12 @@ sum_by-lower f g c a (suc n) from below lower same =
           omega (arith, cons_g, cons_f, first, rest)
     ]
 
--- one element more
+-- One element more.
+
+-- of numbered elements
+pub enumerate-push : {X : Type 0} (n : ℕ) (xs : List X) (x : X) → enumerate_from n (xs ++ x ∷ []) ≡ enumerate_from n xs ++ (n + length xs, x) ∷ []
+enumerate-push n [] x = ap (λ k. (k, x) ∷ []) (let e : n ≡ n + 0 = omega arith in e)
+enumerate-push n (y ∷ xs) x = ap (λ l. (n, y) ∷ l) (enumerate-push (n + 1) xs x ∙ ap (λ k. enumerate_from (n + 1) xs ++ (k, x) ∷ []) (let e : n + 1 + length xs ≡ n + suc (length xs) = omega arith in e))
 
 pub slice_get-push : {X : Type 0} (xs : List X) (y : X) (i : ℕ) (x : X) → slice_get (xs ++ y ∷ []) i ≡ Some x → (slice_get xs i ≡ Some x) ⊎ ((i ≡ length xs) × (y ≡ x))
 slice_get-push [] y zero x at = inr (refl, (let e : Some y ≡ Some x = at in cc))

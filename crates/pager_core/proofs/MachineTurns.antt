@@ -1,7 +1,7 @@
 -- A machine after a turn.
-use Rattle.std.proofs.Common.{◌≡◌, ◌≢◌, ℕ, suc, ◌+◌, ◌-◌, ◌*◌, ◌<◌, ◌≤◌, true, List, [], ◌∷◌, ◌++◌, length, take, replicate, get_or, slice_get, Option, Some, None, option_to_list, filter_map, refl, ap, sym, subst, ◌∙◌, inl, inr, arith, ◌⊎◌}
+use Rattle.std.proofs.Common.{◌≡◌, ◌≢◌, ℕ, ◌+◌, ◌-◌, ◌*◌, ◌<◌, ◌≤◌, true, List, [], ◌∷◌, ◌++◌, length, take, replicate, get_or, slice_get, Option, Some, None, option_to_list, filter_map, refl, ap, sym, subst, ◌∙◌, inl, inr, arith, ◌⊎◌}
 use Rattle.std.specs.List.{enumerate_from, range_with_len}
-use Rattle.std.proofs.lemmas.Bool.{cases_eq, cases_lt}
+use Rattle.std.proofs.lemmas.Bool.{cases_eq, cases_lt, eq-eqb, ne_eqb}
 use Rattle.std.proofs.lemmas.List.{append-nil, map_push, take_more, length_push, get_or-set_same, get_or-set_other, get_or-replicate, get_or_past}
 use Rattle.std.proofs.lemmas.List.Elements.{filter_map-append}
 use Rattle.std.proofs.lemmas.Option.{none-some, same_Some, slice_get_within, get_or_from_slice_get}
@@ -30,8 +30,8 @@ use Rattle.pager_core.specs.Machines.{CanFly, all_left, IsFlying, IsSpaceOf, IsM
 use Rattle.pager_core.specs.Rows.{row_of, row_in, is_between, space_under}
 use Rattle.pager_core.specs.Running.{Running, calls_at, flight_at, progress_by_flight, progress_of_actor, kept_by, IsKeptByOther, entries_left, left_at, IsNumbered, IsLawful}
 use Rattle.pager_core.specs.Steps.{Makes, after_named, answer_made}
-use Rattle.pager_core.proofs.Lists.{slice_get-set_same, slice_get-set_other, within, sum_by-lower}
-use Rattle.pager_core.proofs.LegalSteps.{MayFollow-step, space_at-elsewhere, space_at-here, frames_at-step, differs, same_number, base-unknown, victim_resident}
+use Rattle.pager_core.proofs.Lists.{slice_get-set_same, slice_get-set_other, enumerate-push, within, sum_by-lower}
+use Rattle.pager_core.proofs.LegalSteps.{MayFollow-step, space_at-elsewhere, space_at-here, frames_at-step, base-unknown, victim_resident}
 use Rattle.pager_core.proofs.NextFlights.{Lands, made_going, under_cases, keeps_under, ended_by}
 
 -- one entry more of the actor, after which this is its flight
@@ -61,10 +61,6 @@ numbered-push history number e numbered is =
     ∙ ap (λ l. l ++ number ∷ []) numbered
     ∙ ap (λ (k : ℕ). range_with_len 0 (length history) ++ k ∷ []) is
     ∙ sym (ap (range_with_len 0) (length_push history n) ∙ range_with_len-more (length history))
-
-enumerate-push : {X : Type 0} (n : ℕ) (xs : List X) (x : X) → enumerate_from n (xs ++ x ∷ []) ≡ enumerate_from n xs ++ (n + length xs, x) ∷ []
-enumerate-push n [] x = ap (λ k. (k, x) ∷ []) (let e : n ≡ n + 0 = omega arith in e)
-enumerate-push n (y ∷ xs) x = ap (λ l. (n, y) ∷ l) (enumerate-push (n + 1) xs x ∙ ap (λ k. enumerate_from (n + 1) xs ++ (k, x) ∷ []) (let e : n + 1 + length xs ≡ n + suc (length xs) = omega arith in e))
 
 -- the answers of the history with one entry more
 answers-push : (h : List Entry) (e : Entry) → answers_in (h ++ e ∷ []) ≡ answers_in h ++ option_to_list (answer_in e.what)
@@ -183,7 +179,7 @@ module _ (run : Running) (spaces : List Kept) (pool after : FrameState) (capacit
 
   progress_own : M → T → progress_at run.given (h ++ e ∷ []) c ≡ Some (progress_of_actor new c)
   progress_own machine turns =
-      progress_at-own run.given h e c (same_number e.processor c (own_entry machine turns))
+      progress_at-own run.given h e c (eq-eqb e.processor c (own_entry machine turns))
       ∙ ap (λ p. progress_by p e) (progress_was machine turns)
       ∙ turns.makes.in_order
       ∙ ap Some (sym turns.lands.progress)
@@ -191,7 +187,7 @@ module _ (run : Running) (spaces : List Kept) (pool after : FrameState) (capacit
 
   progress_other : M → T → (d : ℕ) → d < length run.calls → d ≢ c → progress_at run.given (h ++ e ∷ []) d ≡ Some (progress_of_actor new d)
   progress_other machine turns d below other =
-      progress_at-other run.given h e d (differs e.processor d (λ is. other (sym is ∙ own_entry machine turns)))
+      progress_at-other run.given h e d (ne_eqb e.processor d (λ is. other (sym is ∙ own_entry machine turns)))
       ∙ machine.lawful.progress d below
       ∙ ap (λ x. Some (progress_by_flight (calls_at run.calls d) x)) (sym (flight_other d other))
 
@@ -199,7 +195,7 @@ module _ (run : Running) (spaces : List Kept) (pool after : FrameState) (capacit
   answers_own machine turns =
       let flies = flying machine turns in
       let same = turns.makes.same_call in
-      ap answers_in (filter-push_in (is_of c) h e (same_number e.processor c (own_entry machine turns)))
+      ap answers_in (filter-push_in (is_of c) h e (eq-eqb e.processor c (own_entry machine turns)))
       ∙ answers-step (calls_at run.calls c) f f' (row_of f').reply (entries_of c h) e flies.going same.number same.call flies.of_call refl turns.makes.answer
       (machine.lawful.answers c (processor_in machine turns) ∙ ap (λ x. enumerate_from 0 (take (progress_by_flight (calls_at run.calls c) x).made (calls_at run.calls c))) turns.flies)
       ∙ ap (λ (p : Progress). enumerate_from 0 (take p.made (calls_at run.calls c))) (sym turns.lands.progress)
@@ -207,7 +203,7 @@ module _ (run : Running) (spaces : List Kept) (pool after : FrameState) (capacit
 
   answers_other : M → T → (d : ℕ) → d < length run.calls → d ≢ c → answers_in (entries_of d (h ++ e ∷ [])) ≡ enumerate_from 0 (take (progress_of_actor new d).made (calls_at run.calls d))
   answers_other machine turns d below other =
-      ap answers_in (filter-push_out (is_of d) h e (differs e.processor d (λ is. other (sym is ∙ own_entry machine turns))))
+      ap answers_in (filter-push_out (is_of d) h e (ne_eqb e.processor d (λ is. other (sym is ∙ own_entry machine turns))))
       ∙ machine.lawful.answers d below
       ∙ ap (λ x. enumerate_from 0 (take (progress_by_flight (calls_at run.calls d) x).made (calls_at run.calls d))) (sym (flight_other d other))
 

@@ -12,7 +12,7 @@ use Rattle.pager_model.specs.Flat.{space_of_call}
 use Rattle.pager_model.specs.FrameStates.{FrameState, start_frames, frames_after, frame_of}
 use Rattle.pager_model.specs.Legal.{space_at, frames_at, entries_in}
 use Rattle.pager_model.specs.Settings.{Given}
-use Rattle.pager_model.proofs.Counting.{frames_after-entries}
+use Rattle.pager_model.proofs.FrameEntries.{frames_after-entries}
 use Rattle.frame_pool.specs.Laid.{IsSound}
 use Rattle.frame_pool.proofs.LegalHistories.{IsKept-legal, OwnsBy-legal}
 use Rattle.space_core.specs.Standing.{Kept}

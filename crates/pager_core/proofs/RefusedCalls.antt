@@ -1,7 +1,8 @@
 -- A call that can't be served is answered so: no frame could be had, a store failed, or there was no memory.
-use Rattle.std.proofs.Common.{◌≡◌, ℕ, ◌<◌, Bool, true, false, ◌&&◌, is_some, Option, Some, None, option_map, refl, ap, sym, subst, ◌∙◌, inl, inr, arith}
+use Rattle.std.proofs.Common.{◌≡◌, ℕ, ◌<◌, Bool, true, false, is_some, Option, Some, None, option_map, refl, ap, sym, subst, ◌∙◌, inl, inr, arith}
 use Rattle.std.specs.Option.{IsSome}
-use Rattle.std.proofs.lemmas.Bool.{cond-true, cond-false, and_from, and_parts, eq-eqb, not-true, false≢true, true≢false}
+use Rattle.std.proofs.lemmas.Bool.{cond-true, cond-false, and_from, and_parts, eq-eqb, not-true, false≢true}
+use Rattle.std.proofs.lemmas.Option.{same_Some}
 use Rattle.pager_model.specs.declared.call.Call.{Call}
 use Rattle.pager_model.specs.declared.call.Call.TheVariants.{Load, Store, Sync, Evict}
 use Rattle.pager_model.specs.declared.entry.What.TheVariants.{Answer}
@@ -15,7 +16,8 @@ use Rattle.pager_model.specs.FrameStates.{FrameState}
 use Rattle.pager_model.specs.Images.{is_in_image}
 use Rattle.pager_model.specs.Order.{is_access, may_answer}
 use Rattle.pager_model.specs.Regions.{is_wired, region_at}
-use Rattle.pager_model.specs.SpaceStates.{SpaceState, LacksItsPage, MayFail, MayGoOn, ReplyAllowed, answered_flat, base_after_answer, frees_its_page, said_at, served_page, tile_at, pages_of, pages_after}
+use Rattle.pager_model.specs.SpaceStates.{SpaceState, LacksItsPage, MayFail, MayGoOn, ReplyAllowed, answered_flat, tile_at, pages_of, pages_after}
+use Rattle.pager_model.proofs.SpaceEntries.{base-unnamed, frees-unlawful, said-unlawful, served-unlawful}
 use Rattle.space_core.specs.Standing.{Kept, IsResting, MustWrite, StandsFor, answer_entry, copied_page, is_allowed, is_in, is_unwired, rights_at}
 use Rattle.pager_core.specs.declared.flight.Flight.{Flight}
 use Rattle.pager_core.specs.declared.flight.Phase.{Phase}
@@ -23,32 +25,10 @@ use Rattle.pager_core.specs.declared.flight.Phase.TheVariants.{Short, Fault, Lac
 use Rattle.pager_core.specs.Flights.{IsReady}
 use Rattle.pager_core.specs.Rows.{row_of, faulted}
 use Rattle.pager_core.specs.Steps.{Makes, Refuses}
-use Rattle.pager_core.proofs.AnswerSteps.{in_phase, by_phase, Makes-answer, Some-same, is_access_by_page, is_access_of}
+use Rattle.pager_core.proofs.AnswerSteps.{in_phase, by_phase, Makes-answer, is_access_by_page, is_access_of}
 use Rattle.pager_core.proofs.UnchangedSpaces.{unchanged_stands}
 
 -- What such an answer does: nothing.
-
--- an answer that isn't lawful says no word
-said-none : (p i : ℕ) (call : Call) (reply : Reply) (before : Option ℕ) → is_lawful reply ≡ false → said_at p i call reply before ≡ before
-said-none p i (Load space address) (Value word) before is = absurd (true≢false is)
-said-none p i (Store space address word) Done before is = absurd (true≢false is)
-said-none p i call reply before is = refl
-
--- one that doesn't name the frames moves no page
-base-unnamed : (base : ℕ → Option ℕ) (call : Call) (p : ℕ) → base_after_answer base false call p ≡ base p
-base-unnamed base (Evict space page) p = refl
-base-unnamed base call p = refl
-
--- and one that isn't lawful frees none
-frees-none : (st : SpaceState) (call : Call) (reply : Reply) → is_lawful reply ≡ false → false ≡ frees_its_page st call reply
-frees-none st (Evict space page) reply is = ap (λ b. b && is_some (st.base page)) (sym is)
-frees-none st call reply is = refl
-
--- nor does such an answer have a page
-served-none : (call : Call) (reply : Reply) → is_lawful reply ≡ false → served_page call reply ≡ None
-served-none (Load space address) (Value word) is = absurd (true≢false is)
-served-none (Store space address word) Done is = absurd (true≢false is)
-served-none call reply is = refl
 
 -- an answer with no more to it than its reply
 abbrev pub refusal : Reply → Answered
@@ -68,12 +48,12 @@ module _ (f : Flight) (phase : Phase) (reply : Reply) (kept : Kept) (st : SpaceS
       (subst (λ next. MayGoOn next f.processor (Answer f.number f.call (refusal reply))) (sym ready.next) goes_on)
       (record {
         reply = allowed;
-        parts = frees-none st f.call reply unlawful;
-        hit = ap (λ (o : Option ℕ). is_in_image (st.images f.processor) (tile_at (pages_of st) o)) (sym (served-none f.call reply unlawful));
-        size = ap (λ (o : Option ℕ). option_map (λ (t : Tile). t.extent.size) (tile_at (pages_after st false (Answer f.number f.call (refusal reply))) o)) (sym (served-none f.call reply unlawful));
+        parts = frees-unlawful st f.call reply unlawful;
+        hit = ap (λ (o : Option ℕ). is_in_image (st.images f.processor) (tile_at (pages_of st) o)) (sym (served-unlawful f.call reply unlawful));
+        size = ap (λ (o : Option ℕ). option_map (λ (t : Tile). t.extent.size) (tile_at (pages_after st false (Answer f.number f.call (refusal reply))) o)) (sym (served-unlawful f.call reply unlawful));
       })
-      (unchanged_stands kept st (answer_entry f.processor f.number f.call (refusal reply)) ready.stands same (base-unnamed st.base f.call) (λ p i. said-none p i f.call reply (st.tied p i) unlawful) refl
-      (ap (tile_at (pages_after st false (Answer f.number f.call (refusal reply)))) (served-none f.call reply unlawful)))
+      (unchanged_stands kept st (answer_entry f.processor f.number f.call (refusal reply)) ready.stands same (base-unnamed st.base f.call) (λ p i. said-unlawful p i f.call reply (st.tied p i) unlawful) refl
+      (ap (tile_at (pages_after st false (Answer f.number f.call (refusal reply)))) (served-unlawful f.call reply unlawful)))
       made may some
 
 -- No frame could be had.
@@ -102,7 +82,7 @@ Makes-no_frames : (f : Flight) (wired claimed held : ℕ) (kept : Kept) (st : Sp
 Makes-no_frames f wired claimed held kept st ready =
     let page = ready.found.0 in
     let lacks = ready.found.1 in
-    Makes-refusal f (Short wired claimed held) (NoFrames wired claimed held) kept st ready (Some-same _ _ ready.under) lacks.resting tt refl refl
+    Makes-refusal f (Short wired claimed held) (NoFrames wired claimed held) kept st ready (same_Some _ _ ready.under) lacks.resting tt refl refl
     (lawful-allowed kept st f.call ready.stands lacks.lawful.allowed, subst (LacksItsPage st.base) (sym lacks.lawful.page_is) (ready.stands.base page ∙ lacks.absent))
     refl
     (and_from _ _ (is_access_by_page f.call page lacks.lawful.page_is) (and_from _ _ (eq-eqb wired wired refl) (and_from _ _ (eq-eqb claimed claimed refl) (eq-eqb held held refl))))
@@ -159,12 +139,12 @@ Makes-fault f space count kept st ready =
       | inl own ↦ (MayFail-copying kept st f.call ready.stands found.resting own.1 found.must, may_fault-copying f.call f.claimed space count own.0 own.1)
       | inr access ↦ (MayFail-access st f.call access, may_fault-access f.call f.claimed space count access)
     ] in
-    Makes-refusal f (Fault space count) (StoreFault space count) kept st ready (Some-same _ _ ready.under) found.resting tt refl refl meets.0 refl meets.1 (omega arith)
+    Makes-refusal f (Fault space count) (StoreFault space count) kept st ready (same_Some _ _ ready.under) found.resting tt refl refl meets.0 refl meets.1 (omega arith)
 
 -- There was no memory.
 Makes-no_memory : (f : Flight) (space : ℕ) (kept : Kept) (st : SpaceState) → IsReady (in_phase f (Lack space)) kept st → (frames : FrameState) → Makes (in_phase f (Lack space)) (in_phase f (Ended NoMemory)) kept kept st frames frames (answer_entry f.processor f.number f.call (refusal NoMemory))
 Makes-no_memory f space kept st ready =
-    Makes-refusal f (Lack space) NoMemory kept st ready (Some-same _ _ ready.under) ready.found tt refl refl
+    Makes-refusal f (Lack space) NoMemory kept st ready (same_Some _ _ ready.under) ready.found tt refl refl
     (MayFail-access st f.call ready.fits.phase) refl (and_from _ _ (is_access_of f.call f.claimed ready.fits.phase) refl) (omega arith)
 
 -- A flight that can't be served answers so.

@@ -1,7 +1,7 @@
 -- A machine at the start of a trace.
 use Rattle.std.proofs.Common.{◌≡◌, ℕ, zero, suc, ◌+◌, ◌*◌, ◌<◌, ◌≤◌, Bool, true, false, cond, ◌==◌, not, List, [], ◌∷◌, ◌++◌, length, map, filter, replicate, get_or, slice_get, Option, Some, None, option_map, refl, ap, sym, subst, ◌∙◌, inl, inr, arith, take}
 use Rattle.std.specs.List.{range_with_len, sum_by, enumerate_from}
-use Rattle.std.proofs.lemmas.Bool.{cases_eq, cases_lt}
+use Rattle.std.proofs.lemmas.Bool.{cases_eq, cases_lt, eq-eqb, ne_eqb}
 use Rattle.std.proofs.lemmas.List.{map_push, get_or_past, length-take-le}
 use Rattle.std.proofs.lemmas.List.FromFn.{length-map-range_with_len, get_or-map-range_with_len}
 use Rattle.std.proofs.lemmas.List.Filters.{length-filter_both}
@@ -26,7 +26,6 @@ use Rattle.pager_core.specs.declared.flight.Phase.TheVariants.{Start}
 use Rattle.pager_core.specs.Machines.{CanFly, IsNew, all_left, IsFlying, IsMachine}
 use Rattle.pager_core.specs.Rows.{row_of, is_between}
 use Rattle.pager_core.specs.Running.{Running, calls_at, flight_at, flight_of, first_flights, progress_by_flight, setting_over, entries_left, left_at, IsLawful}
-use Rattle.pager_core.proofs.LegalSteps.{differs, same_number}
 use Rattle.pager_core.proofs.Lists.{within, sum_by-same, map_range-push}
 use Rattle.pager_core.proofs.Stores.{marks-start}
 use Rattle.pager_core.proofs.MachineTurns.{mark-zero}
@@ -68,12 +67,12 @@ length-calls c lines =
 -- a line's call is one more of its processor, and none more of another
 one_more : (line : Line) (lines : List Line) (c : ℕ) → line.processor ≡ c → length (calls_of c (line ∷ lines)) ≡ length (calls_of c lines) + 1
 one_more line lines c is =
-    ap (λ b. length (map (λ (l : Line). l.call) (cond b (line ∷ filter (λ (l : Line). l.processor == c) lines) (filter (λ (l : Line). l.processor == c) lines)))) (same_number line.processor c is)
+    ap (λ b. length (map (λ (l : Line). l.call) (cond b (line ∷ filter (λ (l : Line). l.processor == c) lines) (filter (λ (l : Line). l.processor == c) lines)))) (eq-eqb line.processor c is)
     ∙ (let e : suc (length (calls_of c lines)) ≡ length (calls_of c lines) + 1 = omega arith in e)
 
 none_more : (line : Line) (lines : List Line) (c : ℕ) → (line.processor ≡ c → ⊥) → length (calls_of c (line ∷ lines)) ≡ length (calls_of c lines)
 none_more line lines c other =
-    ap (λ b. length (map (λ (l : Line). l.call) (cond b (line ∷ filter (λ (l : Line). l.processor == c) lines) (filter (λ (l : Line). l.processor == c) lines)))) (differs line.processor c other)
+    ap (λ b. length (map (λ (l : Line). l.call) (cond b (line ∷ filter (λ (l : Line). l.processor == c) lines) (filter (λ (l : Line). l.processor == c) lines)))) (ne_eqb line.processor c other)
 
 -- how many calls some processors have together
 abbrev together : List Line → ℕ → ℕ → ℕ

@@ -1,29 +1,28 @@
 -- A page that isn't resident takes a frame.
-use Rattle.std.proofs.Common.{◌≡◌, ℕ, true, false, cond, eqb, ◌&&◌, is_some, Some, None, refl, ap, sym, subst, ◌∙◌, arith}
+use Rattle.std.proofs.Common.{◌≡◌, ℕ, true, false, cond, eqb, is_some, Some, None, refl, ap, sym, subst, ◌∙◌, arith}
 use Rattle.std.specs.Option.{IsSomeAnd}
 use Rattle.std.proofs.lemmas.Bool.{cond-true, eq-eqb, false≢true}
-use Rattle.pager_model.specs.declared.call.Call.{Call}
-use Rattle.pager_model.specs.declared.call.Call.TheVariants.{Map, Grow, Unmap, Protect, Load, Store, Sync, Evict}
+use Rattle.std.proofs.lemmas.Option.{same_Some}
 use Rattle.pager_model.specs.declared.entry.Entry.{Entry}
 use Rattle.pager_model.specs.declared.entry.Want.{Want}
 use Rattle.pager_model.specs.declared.entry.What.TheVariants.{Take}
 use Rattle.pager_model.specs.Entries.{is_space}
-use Rattle.pager_model.specs.Flat.{space_of_call, page_of, can_read, can_write}
+use Rattle.pager_model.specs.Flat.{space_of_call}
 use Rattle.pager_model.specs.FrameStates.{FrameState, Taking, layout_of, used_at, frame_of, take_frame, state_taken, counted, HasNothing}
 use Rattle.pager_model.specs.Agreement.{OwnsBy}
 use Rattle.pager_model.specs.Order.{Progress, Filling}
-use Rattle.pager_model.specs.Regions.{region_at, wanted}
+use Rattle.pager_model.specs.Regions.{wanted}
 use Rattle.pager_model.specs.SpaceStates.{SpaceState, Only, space_after, MayGoOn}
 use Rattle.frame_pool.proofs.PagePlaces.{frame_in-found}
 use Rattle.frame_pool.proofs.StateSoundness.{is_used-layout_of}
-use Rattle.space_core.specs.Beginning.{SameRegions, Places}
-use Rattle.space_core.specs.Standing.{Kept, StandsFor, CanBegin, frame_at, rights_at, take_entry, is_allowed}
+use Rattle.space_core.specs.Beginning.{Places}
+use Rattle.space_core.specs.Standing.{Kept, StandsFor, CanBegin, frame_at, take_entry}
 use Rattle.pager_core.specs.declared.flight.Flight.{Flight}
 use Rattle.pager_core.specs.declared.flight.Phase.TheVariants.{Frame, Fill}
 use Rattle.pager_core.specs.Flights.{IsReady, WantsFrame}
 use Rattle.pager_core.specs.Rows.{row_of, page_or_zero}
 use Rattle.pager_core.specs.Steps.{Makes, AreAgreed, after_named}
-use Rattle.pager_core.proofs.AnswerSteps.{in_phase, by_phase, Some-same}
+use Rattle.pager_core.proofs.AnswerSteps.{in_phase, by_phase, allowed-same}
 
 -- the place of a page is a used place
 place_is_used : (st : FrameState) (space page frame : ℕ) → frame_of st space page ≡ Some frame → is_some (used_at st frame) ≡ true
@@ -32,21 +31,6 @@ place_is_used st space page frame is = sym (is_used-layout_of st frame) ∙ (fra
 -- so where space and frames agree no page has an unused frame
 pub unused_elsewhere : (kept : Kept) (st : FrameState) (frame : ℕ) → AreAgreed kept st → is_some (used_at st frame) ≡ false → (p : ℕ) → frame_at kept p ≡ Some frame → ⊥
 unused_elsewhere kept st frame agree unused p is = false≢true (sym unused ∙ place_is_used st kept.number p frame (sym (agree.pages p) ∙ is))
-
--- what rights allow depends on the regions and the rights alone
-allowed-same : (was now : Kept) (call : Call) → SameRegions was now → is_allowed now call ≡ is_allowed was call
-allowed-same was now (Load space address) same =
-    ap (λ rs. is_some (region_at rs (page_of address)) && can_read (rights_at now (page_of address))) same.regions
-    ∙ ap (λ r. is_some (region_at was.regions (page_of address)) && can_read r) (same.rights (page_of address))
-allowed-same was now (Store space address word) same =
-    ap (λ rs. is_some (region_at rs (page_of address)) && can_write (rights_at now (page_of address))) same.regions
-    ∙ ap (λ r. is_some (region_at was.regions (page_of address)) && can_write r) (same.rights (page_of address))
-allowed-same was now (Map space page len kind rights) same = refl
-allowed-same was now (Grow space page by) same = refl
-allowed-same was now (Unmap space page) same = refl
-allowed-same was now (Protect space page len rights) same = refl
-allowed-same was now (Sync space page) same = refl
-allowed-same was now (Evict space page) same = refl
 
 -- the space that an entry names is an entry further
 pub after_own : (space number : ℕ) (st : SpaceState) (e : Entry) → e.space ≡ Some space → space ≡ number → after_named number st e ≡ space_after st e
@@ -105,7 +89,7 @@ module _ (f : Flight) (page : ℕ) (want : Want) (was now : Kept) (before : Fram
   }
     where
       on : space_of_call f.call ≡ was.number
-      on = Some-same _ _ ready.under
+      on = same_Some _ _ ready.under
 
       absent : frame_at was page ≡ None
       absent = ready.found.lacks.absent

@@ -1,6 +1,7 @@
 -- A victim's page is paged out, and gives its frame up.
 use Rattle.std.proofs.Common.{◌≡◌, ℕ, Bool, true, Some, None, refl, ap, sym, subst, ◌∙◌, arith}
 use Rattle.std.proofs.lemmas.Bool.{and_from, eq-eqb, false≢true}
+use Rattle.std.proofs.lemmas.Option.{same_Some}
 use Rattle.frame_pool.specs.declared.pool.Victim.{Victim as Claimed}
 use Rattle.pager_model.specs.declared.entry.What.TheVariants.{Out as OutEntry, Failed, Give}
 use Rattle.pager_model.specs.Flat.{space_of_call}
@@ -14,7 +15,7 @@ use Rattle.pager_core.specs.declared.flight.Phase.TheVariants.{Write, Hand, Uncl
 use Rattle.pager_core.specs.Flights.{Fits, HasVictim, IsAtRest, IsReady, LeftBy}
 use Rattle.pager_core.specs.Rows.{access_of, own_if, victim_of}
 use Rattle.pager_core.specs.Steps.{AreAgreed, Makes, Passes}
-use Rattle.pager_core.proofs.AnswerSteps.{in_phase, by_phase, Some-same}
+use Rattle.pager_core.proofs.AnswerSteps.{in_phase, by_phase}
 use Rattle.pager_core.proofs.ClaimSteps.{LeftBy-own_if}
 use Rattle.pager_core.proofs.TakenFrames.{after_own}
 
@@ -50,7 +51,7 @@ module _ (f : Flight) (v : Claimed) (was now : Kept) (st : SpaceState) where
   }
     where
       on : v.space ≡ was.number
-      on = Some-same _ _ ready.under
+      on = same_Some _ _ ready.under
 
       on_now : v.space ≡ now.number
       on_now = on ∙ sym out.same.same.number
@@ -86,7 +87,7 @@ module _ (f : Flight) (v : Claimed) (was now : Kept) (st : SpaceState) where
   }
     where
       on : v.space ≡ was.number
-      on = Some-same _ _ ready.under
+      on = same_Some _ _ ready.under
 
       on_now : v.space ≡ now.number
       on_now = on ∙ sym fails.same.same.number
@@ -122,7 +123,7 @@ module _ (f : Flight) (v : Claimed) (was now : Kept) (st : SpaceState) where
   }
     where
       on : v.space ≡ was.number
-      on = Some-same _ _ ready.under
+      on = same_Some _ _ ready.under
 
 pub page_written : (f : Flight) (v : Claimed) (written : Bool) (was now : Kept) → f.phase ≡ Write v → WritesOut was now v.page written → (st : SpaceState) (frames : FrameState) → IsReady f was st → Makes f (in_phase f (Hand v)) was now st frames frames (out_entry f.processor v.space v.page written)
 page_written f v written was now phase out st frames =
@@ -166,13 +167,13 @@ module _ (f : Flight) (v : Claimed) (frame : ℕ) (was now : Kept) (st : SpaceSt
   }
     where
       on : v.space ≡ was.number
-      on = Some-same _ _ ready.under
+      on = same_Some _ _ ready.under
 
       on_now : v.space ≡ now.number
       on_now = on ∙ sym removes.gave.same.number
 
       is : frame ≡ v.frame
-      is = Some-same _ _ (sym removes.gave.had ∙ ready.found.has.place)
+      is = same_Some _ _ (sym removes.gave.had ∙ ready.found.has.place)
 
       fits : Fits (in_phase f (Back v))
       fits = record { can = ready.fits.can; phase = ready.fits.phase }

@@ -1,5 +1,8 @@
 pub mod Histories
-pub mod Counting
-pub mod Starting
+pub mod FrameEntries
+pub mod SpaceEntries
+pub mod StartFrames
 pub mod Texts
+pub mod Lists
 pub mod Ranges
+pub mod CountLemmas

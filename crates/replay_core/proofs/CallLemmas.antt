@@ -1,5 +1,5 @@
 -- A processor makes one call to its end, while no other flight keeps a space.
-use Rattle.std.proofs.Common.{◌≡◌, ◌≢◌, ℕ, ◌+◌, ◌<◌, inl, inr, Bool, false, List, [], ◌∷◌, ◌++◌, length, Option, Some, None, refl, sym, ap, subst, ◌∙◌, arith}
+use Rattle.std.proofs.Common.{◌≡◌, ◌≢◌, ℕ, ◌+◌, ◌<◌, inl, inr, false, List, [], ◌∷◌, ◌++◌, length, Option, Some, None, refl, sym, ap, subst, ◌∙◌, arith}
 use Rattle.std.proofs.lemmas.List.{append-nil, append_assoc, map-append}
 use Rattle.std.proofs.lemmas.Option.{none-some, same_Some, slice_get_within}
 use Rattle.std.specs.List.{AllByRecursion, slice_get}
@@ -11,35 +11,13 @@ use Rattle.pager_model.specs.Legal.{entries_in}
 use Rattle.pager_model.specs.Order.{Progress, at_rest}
 use Rattle.pager_model.specs.Flat.{space_of_call}
 use Rattle.pager_core.specs.declared.flight.Flight.{Flight}
-use Rattle.pager_core.specs.declared.flight.Phase.{Phase}
-use Rattle.pager_core.specs.declared.flight.Phase.TheVariants.{Start, Evict, Clear, Gone, Frame, Short, Fill, Unfill, Out, Write, Hand, Unclaim, Back, Drop, Late, Use, Fault, Lack, Ended}
+use Rattle.pager_core.specs.declared.flight.Phase.TheVariants.{Start}
 use Rattle.pager_core.specs.declared.machine.Turn.{Turn}
 use Rattle.pager_core.specs.declared.machine.Turn.TheVariants.{Ended as HasEnded, Stepped, Waits}
-use Rattle.pager_core.specs.Rows.{row_of, row_in}
+use Rattle.pager_core.specs.Rows.{row_of}
 use Rattle.pager_core.specs.Running.{Running, calls_at, flight_at, flight_of, progress_of_actor, progress_by_flight, StillFlies, WentOn, OneMore, MustWait, IsLawful}
+use Rattle.pager_core.proofs.NextFlights.{made_going}
 use Rattle.replay_core.specs.Replays.{NoneKeeps, IsAbout, MadeCall}
-
--- A flight that isn't ended has made as many answers as its number says.
-pub made_in : (c n s : ℕ) (call : Call) (claimed : Bool) (phase : Phase) → (row_in c n s call claimed phase).reply ≡ None → (row_in c n s call claimed phase).progress.made ≡ n
-made_in c n s call claimed Start going = refl
-made_in c n s call claimed (Evict page) going = refl
-made_in c n s call claimed (Clear first len) going = refl
-made_in c n s call claimed (Gone first len) going = refl
-made_in c n s call claimed (Frame page want) going = refl
-made_in c n s call claimed (Short wired claims held) going = refl
-made_in c n s call claimed (Fill page frame) going = refl
-made_in c n s call claimed (Unfill page frame count) going = refl
-made_in c n s call claimed (Out v) going = refl
-made_in c n s call claimed (Write v) going = refl
-made_in c n s call claimed (Hand v) going = refl
-made_in c n s call claimed (Unclaim v fault) going = refl
-made_in c n s call claimed (Back v) going = refl
-made_in c n s call claimed (Drop v) going = refl
-made_in c n s call claimed Late going = refl
-made_in c n s call claimed (Use page want v) going = refl
-made_in c n s call claimed (Fault space count) going = refl
-made_in c n s call claimed (Lack space) going = refl
-made_in c n s call claimed (Ended reply) going = absurd (none-some reply (sym going))
 
 -- a new flight has its number, no reply, and keeps nothing
 pub record IsNew (f : Flight) (number : ℕ) : Type 0 where
@@ -96,7 +74,7 @@ InCall-start run actor number lawful about =
 made_still : (run : Running) (actor number : ℕ) → StillFlies run actor number → (progress_of_actor run actor).made ≡ number
 made_still run actor number still =
     ap (λ f. (progress_by_flight (calls_at run.calls actor) f).made) still.flies
-    ∙ made_in still.flight.processor still.flight.number (space_of_call still.flight.call) still.flight.call still.flight.claimed still.flight.phase still.going ∙ still.same_call
+    ∙ made_going still.flight.processor still.flight.number (space_of_call still.flight.call) still.flight.call still.flight.claimed still.flight.phase still.going ∙ still.same_call
 
 made_after : (c number : ℕ) (calls : List Call) (o : Option Flight) → flight_of c (number + 1) calls ≡ o → number < length calls → number < (progress_by_flight calls o).made
 made_after c number calls None none there = there

@@ -24,6 +24,7 @@ use Rattle.pager_model.specs.TraceText.{IsLine}
 use Rattle.pager_core.specs.declared.flight.Flight.{Flight}
 use Rattle.pager_core.specs.declared.flight.Phase.TheVariants.{Start}
 use Rattle.pager_core.specs.Running.{Running, calls_at, flight_at, flight_of, first_flights, progress_of_actor, progress_by_flight, setting_over, HasEnded, IsLawful}
+use Rattle.pager_core.proofs.Lists.{enumerate-push}
 use Rattle.store_core.specs.Stored.{Stored}
 use Rattle.replay_core.specs.Replays.{NoneKeeps, IsAbout, MadeCall}
 use Rattle.replay_core.proofs.CallLemmas.{IsNew-flight_of}
@@ -73,11 +74,6 @@ past : {X : Type 0} (xs : List X) (n : ℕ) → slice_get xs n ≡ None → leng
 past [] n none = omega arith
 past (x ∷ xs) zero none = absurd (none-some x (sym none))
 past (x ∷ xs) (suc n) none = omega (arith, past xs n none)
-
--- numbered elements, with one more
-enumerate-push : {X : Type 0} (n : ℕ) (xs : List X) (x : X) → enumerate_from n (xs ++ x ∷ []) ≡ enumerate_from n xs ++ (n + length xs, x) ∷ []
-enumerate-push n [] x = ap (λ k. (k, x) ∷ []) (let e : n ≡ n + 0 = omega arith in e)
-enumerate-push n (y ∷ xs) x = ap (λ l. (n, y) ∷ l) (enumerate-push (n + 1) xs x ∙ ap (λ k. enumerate_from (n + 1) xs ++ (k, x) ∷ []) (let e : n + 1 + length xs ≡ n + suc (length xs) = omega arith in e))
 
 -- Where a processor is between two calls.
 

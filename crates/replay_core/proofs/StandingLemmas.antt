@@ -1,6 +1,6 @@
 -- Where a processor is after a machine's history, and that its flight tells whether it can step.
-use Rattle.std.proofs.Common.{◌≡◌, ◌≢◌, ℕ, ◌+◌, ◌<◌, ◌==◌, inl, inr, Bool, true, false, cond, not, ◌&&◌, List, [], length, replicate, Option, Some, None, is_some, refl, sym, ap, subst, ◌∙◌, arith}
-use Rattle.std.proofs.lemmas.Bool.{cases_lt, false≢true}
+use Rattle.std.proofs.Common.{◌≡◌, ◌≢◌, ℕ, ◌+◌, ◌<◌, ◌==◌, inl, inr, Bool, true, false, not, ◌&&◌, List, [], length, replicate, Option, Some, None, is_some, refl, sym, ap, subst, ◌∙◌, arith}
+use Rattle.std.proofs.lemmas.Bool.{cases_lt, and_parts, eq-eqb, false_from_ne_true, false≢true}
 use Rattle.std.proofs.lemmas.Bool.Decides.{nat_tests}
 use Rattle.std.proofs.lemmas.List.{get_or-replicate, get_or_past, get_or_append_left, length-replicate}
 use Rattle.std.proofs.lemmas.List.FromFn.{length-range_with_len, get_or-range_with_len}
@@ -22,10 +22,10 @@ use Rattle.pager_core.specs.declared.flight.Phase.{Phase}
 use Rattle.pager_core.specs.declared.flight.Phase.TheVariants.{Start, Gone, Short, Fill, Unfill, Out, Hand, Unclaim, Back, Late, Fault, Lack, Ended}
 use Rattle.pager_core.specs.Rows.{row_of, row_in, own_if, faulted, is_between, space_under}
 use Rattle.pager_core.specs.Running.{Running, calls_at, flight_at, progress_of_actor, progress_by_flight, setting_over, kept_by, IsKeptByOther, IsOfCall, IsLawful}
+use Rattle.pager_core.proofs.NextFlights.{made_going, keeps_under}
 use Rattle.store_core.specs.Stored.{Stored}
 use Rattle.replay_core.specs.Orders.{Standing, keeps_in, under_in, standing_by, standing_at, is_that, is_kept_by, is_kept_by_other, has_left, can_go, can_step}
 use Rattle.replay_core.specs.Turns.{flies, IsStuck}
-use Rattle.replay_core.proofs.CallLemmas.{made_in}
 use Rattle.replay_core.proofs.RunLemmas.{IsRunOf, calls_known, length-calls}
 
 -- What a phase that an entry led to says of its place.
@@ -72,20 +72,6 @@ under_by_place c n s call claimed (Lack space) between going = refl
 under_by_place c n s call claimed (Ended reply) between going = absurd (none-some reply (sym going))
 under_by_place c n s call claimed phase between going = absurd (false≢true between)
 
-own_if-some : (own space t : ℕ) (b : Bool) → (space == own) ≡ b → cond b (Some own) None ≡ Some t → (space ≡ t) × (own ≡ t)
-own_if-some own space t true is same = (let e : own ≡ t = same_Some own t same in let f : space ≡ own = grind (arith, nat_tests) in (f ∙ e, e))
-own_if-some own space t false is same = absurd (none-some t same)
-
--- a flight that keeps a space makes its next step under it
-pub keeps_under : (c n s t : ℕ) (call : Call) (claimed : Bool) (phase : Phase) → (row_in c n s call claimed phase).keeps ≡ Some t → space_under (row_in c n s call claimed phase).needs ≡ Some t
-keeps_under c n s t call claimed Start is = absurd (none-some t is)
-keeps_under c n s t call claimed (Ended reply) is = absurd (none-some t is)
-keeps_under c n s t call claimed (Out v) is = ap Some (own_if-some s v.space t (v.space == s) refl is).0
-keeps_under c n s t call claimed (Back v) is = ap Some (own_if-some s v.space t (v.space == s) refl is).1
-keeps_under c n s t call claimed (Fault space count) is = ap Some (own_if-some s space t (space == s) refl is).1
-keeps_under c n s t call claimed (Lack space) is = ap Some (own_if-some s space t (space == s) refl is).1
-keeps_under c n s t call claimed phase is = is
-
 -- A test over the processors.
 
 any_of : (p : ℕ → Bool) (n d : ℕ) → d < n → p d ≡ true → list_any p (range_with_len 0 n) ≡ true
@@ -108,7 +94,7 @@ standing_of None = None
 standing_of (Some f) = Some (record { call = f.call; doing = (row_of f).progress.doing })
 
 made_by : (calls : List Call) (f : Flight) → IsOfCall calls f → (row_of f).progress.made ≡ f.number
-made_by calls f of = made_in f.processor f.number (space_of_call f.call) f.call f.claimed f.phase of.going
+made_by calls f of = made_going f.processor f.number (space_of_call f.call) f.call f.claimed f.phase of.going
 
 standing_call : (calls : List Call) (f : Flight) → IsOfCall calls f → standing_by calls (row_of f).progress ≡ standing_of (Some f)
 standing_call calls f of =
@@ -124,17 +110,6 @@ mark-own plan stores c known =
     ∙ get_or-replicate plan.processors c 0 0 known
 
 -- Tests.
-
-and_parts : (a b : Bool) → (a && b) ≡ true → (a ≡ true) × (b ≡ true)
-and_parts true b is = (refl, is)
-and_parts false b is = absurd (false≢true is)
-
-untrue : (b : Bool) → (b ≡ true → ⊥) → b ≡ false
-untrue true never = absurd (never refl)
-untrue false never = refl
-
-same_number : (n : ℕ) → (n == n) ≡ true
-same_number n = grind (arith, nat_tests)
 
 is_some_of : (o : Option Flight) → is_some (standing_of o) ≡ is_some o
 is_some_of None = refl
@@ -195,7 +170,7 @@ module _ (plan : Plan) (stores : List Stored) (run : Running) (is : IsRunOf plan
   test_from_kept c space kept =
       let known : kept.other < plan.processors = subst (λ n. kept.other < n) (length-calls plan run.calls is.calls) (known_flight run kept.other kept.flight is.lawful kept.flies) in
       let differs : (kept.other == c) ≡ false = (let apart = kept.differs in grind (arith, nat_tests)) in
-      let that : is_that space (kept_by (flight_at run.flights kept.other)) ≡ true = ap (λ o. is_that space (kept_by o)) kept.flies ∙ ap (is_that space) kept.keeps ∙ same_number space in
+      let that : is_that space (kept_by (flight_at run.flights kept.other)) ≡ true = ap (λ o. is_that space (kept_by o)) kept.flies ∙ ap (is_that space) kept.keeps ∙ eq-eqb space space refl in
       any_of (λ d. not (d == c) && is_kept_by space (standing_at plan (entries_in run.history) d)) plan.processors kept.other known
       (ap (λ b. not b && is_kept_by space (standing_at plan (entries_in run.history) kept.other)) differs ∙ kept_at space kept.other known ∙ that)
 
@@ -224,7 +199,7 @@ module _ (plan : Plan) (stores : List Stored) (run : Running) (is : IsRunOf plan
   can_flying c known free (Some f) flies =
       let space = under_in (space_of_call f.call) (row_of f).progress.doing in
       can_is c f known flies
-      ∙ ap not (untrue (is_kept_by_other plan (entries_in run.history) c space)
+      ∙ ap not (false_from_ne_true (is_kept_by_other plan (entries_in run.history) c space)
       (λ test. free (inr (space, record { flight = f; flies = flies; under = under_is c f flies; kept = kept_from_test c space test }))))
 
   pub can_step_free : (c : ℕ) → c < plan.processors → (IsStuck run c → ⊥) → can_step plan (entries_in run.history) c ≡ true

@@ -3,7 +3,6 @@ use Rattle.std.proofs.Common.{◌≡◌, ◌≢◌, ℕ, zero, suc, ◌+◌, ◌
 use Rattle.std.proofs.lemmas.Bool.{cases_eq, false≢true}
 use Rattle.std.proofs.lemmas.List.{append-nil, append_assoc, take-append-drop, take_more, map-append}
 use Rattle.std.proofs.lemmas.List.Elements.{filter-append}
-use Rattle.std.proofs.lemmas.List.Sums.{sum_by-cons}
 use Rattle.std.proofs.lemmas.Option.{none-some}
 use Rattle.std.specs.List.{AllByRecursion, range_with_len, sum_by, find}
 use Rattle.pager_model.specs.declared.entry.Numbered.{Numbered}
@@ -15,6 +14,7 @@ use Rattle.pager_core.specs.declared.machine.Turn.{Turn}
 use Rattle.pager_core.specs.declared.machine.Turn.TheVariants.{Ended as HasNone, Stepped, Waits}
 use Rattle.pager_core.specs.Machines.{all_left}
 use Rattle.pager_core.specs.Running.{Running, calls_at, flight_at, left_at, entries_left, MustWait, OneMore, HasEnded, IsLawful}
+use Rattle.pager_core.proofs.Lists.{sum_by-lower}
 use Rattle.store_core.specs.Stored.{Stored}
 use Rattle.replay_core.specs.Orders.{can_step, has_left, left_of}
 use Rattle.replay_core.specs.Turns.{flies, flying_in, IsStuck, FirstStepped}
@@ -165,32 +165,6 @@ some_of P (x ∷ xs) some = omega arith
 
 pub some_flying : (run : Running) → IsLawful run → (HasEnded run → ⊥) → 0 < length (flying_in run)
 some_flying run lawful going = some_of (IsStuck run) (flying_in run) (flying_can run lawful going)
-
--- Sums over numbers.
-
-sum_by-same : (f g : ℕ → ℕ) (a n : ℕ) → ((k : ℕ) → a ≤ k → g k ≡ f k) → sum_by g (range_with_len a n) ≡ sum_by f (range_with_len a n)
-sum_by-same f g a zero same = refl
-sum_by-same f g a (suc n) same =
-    let first = same a (omega arith) in
-    let rest = sum_by-same f g (a + 1) n (λ k above. same k (omega (arith, above))) in
-    sum_by-cons g a (range_with_len (a + 1) n) ∙ (let e : g a + sum_by g (range_with_len (a + 1) n) ≡ f a + sum_by f (range_with_len (a + 1) n) = omega (arith, first, rest) in e) ∙ sym (sum_by-cons f a (range_with_len (a + 1) n))
-
--- and with one term lower the sum is lower
-sum_by-lower : (f g : ℕ → ℕ) (c a n : ℕ) → a ≤ c → c < a + n → g c < f c → ((k : ℕ) → k ≢ c → g k ≡ f k) → sum_by g (range_with_len a n) < sum_by f (range_with_len a n)
-sum_by-lower f g c a zero from below lower same = absurd (omega (arith, from, below))
-sum_by-lower f g c a (suc n) from below lower same =
-    let cons_g = sum_by-cons g a (range_with_len (a + 1) n) in
-    let cons_f = sum_by-cons f a (range_with_len (a + 1) n) in
-    elim (cases_eq a c) [
-      | inl here ↦
-          let rest = sum_by-same f g (a + 1) n (λ k above. same k (omega (arith, above, here))) in
-          let first : g a < f a = subst (λ k. g k < f k) (sym here) lower in
-          omega (arith, cons_g, cons_f, rest, first)
-      | inr later ↦
-          let first = same a later in
-          let rest = sum_by-lower f g c (a + 1) n (omega (arith, from, later)) (omega (arith, below)) lower same in
-          omega (arith, cons_g, cons_f, first, rest)
-    ]
 
 -- The step of the first that can make one.
 

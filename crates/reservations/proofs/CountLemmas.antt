@@ -1,46 +1,16 @@
 -- Counting the used places of extents.
-use Rattle.std.proofs.Common.{◌≡◌, ◌≢◌, ◌<◌, ◌≤◌, ℕ, zero, suc, ◌+◌, ◌-◌, ◌*◌, ◌/◌, ◌%◌, ◌^◌, Bool, true, false, not, ◌&&◌, ◌||◌, cond, eqb, ltb, List, [], ◌∷◌, length, get_or, set, replicate, refl, ap, sym, subst, ◌∙◌, slice_index, arith, inl, inr, count_by}
+use Rattle.std.proofs.Common.{◌≡◌, ◌≢◌, ◌<◌, ◌≤◌, ℕ, zero, suc, ◌+◌, ◌-◌, ◌*◌, ◌/◌, ◌%◌, ◌^◌, Bool, true, false, not, ◌&&◌, ◌||◌, cond, eqb, ltb, List, [], ◌∷◌, length, get_or, set, replicate, refl, ap, sym, subst, ◌∙◌, arith, inl, inr, count_by}
 use Rattle.std.specs.List.{range_with_len, list_all, list_any}
-use Rattle.std.proofs.lemmas.List.{get_or-set_same, get_or-set_other, length-set, get_or-replicate, get_or_past, length-replicate, get_or_read}
+use Rattle.std.proofs.lemmas.List.{get_or-set_same, get_or-set_other, length-set, length-replicate, get_or_read}
 use Rattle.std.proofs.lemmas.List.Sums.{sum_by-cons, count_by-le-length}
 use Rattle.std.proofs.lemmas.List.FromFn.{length-range_with_len}
-use Rattle.std.proofs.lemmas.Bool.{cases_eq, cases_lt, ne_eqb, lt-ltb}
+use Rattle.std.proofs.lemmas.Bool.{cases_eq, ne_eqb, lt-ltb}
 use Rattle.std.proofs.lemmas.Bool.Decides.{nat_tests}
 use Rattle.std.proofs.lemmas.Nat.{div_below, div-mul-add, div-add-mod', mod_below}
 use Rattle.pager_model.specs.Records.{is_used, none_used}
+use Rattle.pager_model.proofs.CountLemmas.{count-agree, count-one_more, count-none}
+use Rattle.pager_model.proofs.Lists.{get_or-alike}
 use Rattle.reservations.specs.Counts.{used_in, AreCounts}
-
--- what a number adds to a count
-abbrev weight : Bool → ℕ
-weight b = cond b 1 0
-
--- two tests that agree from a on count the same
-pub count-agree : (p q : ℕ → Bool) (a n : ℕ) → ((g : ℕ) → a ≤ g → g < a + n → p g ≡ q g) → count_by p (range_with_len a n) ≡ count_by q (range_with_len a n)
-count-agree p q a zero agree = refl
-count-agree p q a (suc n) agree =
-    let head = ap weight (agree a (omega arith) (omega arith)) in
-    let rest = count-agree p q (a + 1) n (λ g low high. agree g (omega arith) (omega arith)) in
-    let by_p = sum_by-cons (λ x. cond (p x) 1 0) a (range_with_len (a + 1) n) in
-    let by_q = sum_by-cons (λ x. cond (q x) 1 0) a (range_with_len (a + 1) n) in
-    omega (arith, head, rest, by_p, by_q)
-
--- a test that one more number passes counts one more
-pub count-one_more : (p q : ℕ → Bool) (f : ℕ) → p f ≡ false → q f ≡ true → ((g : ℕ) → g ≢ f → p g ≡ q g) → (a n : ℕ) → a ≤ f → f < a + n → count_by q (range_with_len a n) ≡ count_by p (range_with_len a n) + 1
-count-one_more p q f fails passes agree a zero low high = absurd (omega arith)
-count-one_more p q f fails passes agree a (suc n) low high =
-    let by_p = sum_by-cons (λ x. cond (p x) 1 0) a (range_with_len (a + 1) n) in
-    let by_q = sum_by-cons (λ x. cond (q x) 1 0) a (range_with_len (a + 1) n) in
-    elim (cases_eq a f) [
-      | inl here ↦
-          let rest = count-agree p q (a + 1) n (λ g after _. agree g (λ same. absurd (omega arith))) in
-          let head_p : cond (p a) 1 0 ≡ 0 = ap weight (ap p here ∙ fails) in
-          let head_q : cond (q a) 1 0 ≡ 1 = ap weight (ap q here ∙ passes) in
-          omega (arith, head_p, head_q, rest, by_p, by_q)
-      | inr other ↦
-          let head = ap weight (agree a other) in
-          let rest = count-one_more p q f fails passes agree (a + 1) n (omega arith) (omega arith) in
-          omega (arith, head, rest, by_p, by_q)
-    ]
 
 -- nothing passes where the count is 0
 pub none-count : (p : ℕ → Bool) (xs : List ℕ) → list_all (λ x. not (p x)) xs ≡ eqb (count_by p xs) 0
@@ -129,27 +99,12 @@ module _ (used : List Bool) (w : ℕ) (counts : List ℕ) (f : ℕ) (width : 0 <
 
 -- at first no frame is used
 pub is_used-replicate : (n f : ℕ) → is_used (replicate n false) f ≡ false
-is_used-replicate n f = elim (cases_lt f n) [
-  | inl within ↦ get_or-replicate n f false false within
-  | inr past ↦ get_or_past (replicate n false) f false (omega (arith, length-replicate {A = Bool} n false))
-]
-
-count-none : (p : ℕ → Bool) (a n : ℕ) → ((g : ℕ) → p g ≡ false) → count_by p (range_with_len a n) ≡ 0
-count-none p a zero none = refl
-count-none p a (suc n) none =
-    let by_p = sum_by-cons (λ x. cond (p x) 1 0) a (range_with_len (a + 1) n) in
-    omega (arith, by_p, ap weight (none a), count-none p (a + 1) n none)
-
-get_or-zeros : (n i : ℕ) → slice_index (replicate n 0) i ≡ 0
-get_or-zeros n i = elim (cases_lt i n) [
-  | inl within ↦ get_or-replicate n i 0 0 within
-  | inr past ↦ get_or_past (replicate n 0) i 0 (omega (arith, length-replicate {A = ℕ} n 0))
-]
+is_used-replicate n f = get_or-alike n f false
 
 pub AreCounts-none : (n w : ℕ) → 0 < w → AreCounts (replicate n false) w (replicate (n / w + 1) 0)
 AreCounts-none n w width = record {
   long = rw (length-replicate, length-replicate) (omega (arith, div-add-mod' n w, mod_below n w width));
-  exact = λ i. get_or-zeros (n / w + 1) i ∙ sym (count-none (is_used (replicate n false)) (i * w) w (is_used-replicate n));
+  exact = λ i. get_or-alike (n / w + 1) i 0 ∙ sym (count-none (is_used (replicate n false)) (i * w) w (is_used-replicate n));
 }
 
 -- the count of an aligned extent is read at its number

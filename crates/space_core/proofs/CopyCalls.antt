@@ -3,7 +3,7 @@ use Rattle.std.proofs.Common.{◌≡◌, ◌≢◌, ℕ, Bool, true, false, ◌&
 use Rattle.std.proofs.lemmas.Bool.{not-true, false≢true}
 use Rattle.std.proofs.lemmas.Option.{same_Some}
 use Rattle.pager_model.specs.declared.call.Call.{Call}
-use Rattle.pager_model.specs.declared.call.Call.TheVariants.{Load, Store, Sync, Evict}
+use Rattle.pager_model.specs.declared.call.Call.TheVariants.{Sync, Evict}
 use Rattle.pager_model.specs.declared.entry.What.TheVariants.{Answer}
 use Rattle.pager_model.specs.declared.region.Kind.{Kind}
 use Rattle.pager_model.specs.declared.region.Kind.TheVariants.{Fixed, Growing, Wired}
@@ -14,7 +14,7 @@ use Rattle.pager_model.specs.Images.{is_in_image}
 use Rattle.pager_model.specs.Flat.{Flat, after_call, reply_of, is_lawful, out, sync_reply, evict_reply}
 use Rattle.pager_model.specs.Order.{is_answered_alone}
 use Rattle.pager_model.specs.Regions.{region_at, is_wired}
-use Rattle.pager_model.specs.SpaceStates.{SpaceState, MayFail, ReplyAllowed, HasItsPages, answered_flat, space_after, frees_its_page, pages_of, pages_after, served_page, tile_at}
+use Rattle.pager_model.specs.SpaceStates.{SpaceState, MayFail, ReplyAllowed, HasItsPages, answered_flat, space_after, frees_its_page, pages_of, pages_after, tile_at}
 use Rattle.pager_model.specs.SpaceStates.Next.{Anyone}
 use Rattle.space_core.specs.declared.space.OutFault.{OutFault}
 use Rattle.space_core.specs.declared.space.OutFault.TheVariants.{Failed as OutFailed, NoMemory as OutNoMemory}
@@ -127,12 +127,6 @@ lacking_stands k st (Evict space p) page is s c n =
     (λ q. record { dirty = refl; words = λ i. refl; copies = refl; tied = λ i. refl }) (λ q. refl) refl (λ q. refl) (record { images = refl; promotions = refl; demotions = refl }) s
 lacking_stands k st call page is s c n = cc
 
--- and it has no size
-lacking_unserved : (call : Call) → served_page call NoMemory ≡ None
-lacking_unserved (Load space address) = refl
-lacking_unserved (Store space address word) = refl
-lacking_unserved call = refl
-
 module _ (old new : Kept) (c page : ℕ) (resting : IsResting old) where
   lacking : (call : Call) → copied_page call ≡ Some page → may_copy call (region_at old.regions page) ≡ true → LacksRoom old new page → BeginsAnswered old new c call (record { reply = NoMemory; hit = false; size = None })
   lacking call is may lacks =
@@ -149,8 +143,8 @@ module _ (old new : Kept) (c page : ℕ) (resting : IsResting old) where
           allowed = λ st s n. record {
             reply = may_at st s;
             parts = frees_none st call;
-            hit = ap (λ o. is_in_image (st.images c) (tile_at (pages_of st) o)) (sym (lacking_unserved call));
-            size = ap (λ o. option_map (λ (t : Tile). t.extent.size) (tile_at (pages_after st false (Answer n call (record { reply = NoMemory; hit = false; size = None }))) o)) (sym (lacking_unserved call));
+            hit = ap (λ o. is_in_image (st.images c) (tile_at (pages_of st) o)) (sym (served-unlawful call NoMemory refl));
+            size = ap (λ o. option_map (λ (t : Tile). t.extent.size) (tile_at (pages_after st false (Answer n call (record { reply = NoMemory; hit = false; size = None }))) o)) (sym (served-unlawful call NoMemory refl));
           };
           stands = λ st s n. lacking_stands new st call page is (leaves.stands st s) c n;
         };

@@ -18,6 +18,7 @@ use Rattle.pager_model.specs.Regions.{in_range, region_at}
 use Rattle.pager_model.specs.Settings.{Given}
 use Rattle.pager_model.specs.SpaceStates.{SpaceState, Next, Anyone, Only, Unmaps, IsResident, IsUnmapOf, IsUnmapAnswer, MayGoOn, IsWord, HasItsPages, IsClearedAt, ReplyAllowed, AnswerAllowed, WhatAllowed, SpaceAllows, answered_flat, flat_after, base_after_answer, base_after, frees_its_page, space_after}
 use Rattle.pager_model.proofs.Histories.{space_at-named, space_at-other, IsLegal-keeps}
+use Rattle.pager_model.proofs.SpaceEntries.{base-unnamed, frees-unlawful}
 use Rattle.pager_model.specs.Laws.{EqualsItsCopy, WasCleared, KeepsCopies}
 use Rattle.space_core.specs.Copies.{LosesItsCopy, IsWithoutService}
 
@@ -113,8 +114,7 @@ answered_same f call reply is = absurd is
 
 -- and every page its frame
 same_base : (st : SpaceState) (frames : Bool) (call : Call) (reply : Reply) → is_lawful reply ≡ false → frames ≡ frees_its_page st call reply → (p : ℕ) → base_after_answer st.base frames call p ≡ st.base p
-same_base st frames (Evict space page) reply none parts p = rw (parts, none) refl
-same_base st frames call reply none parts p = refl
+same_base st frames call reply none parts p = ap (λ b. base_after_answer st.base b call p) (parts ∙ sym (frees-unlawful st call reply none)) ∙ base-unnamed st.base call p
 
 -- any other does what its call does, where the flat memory has its reply and its pages
 record IsServed (st : SpaceState) (c : ℕ) (call : Call) (reply : Reply) : Type 0 where

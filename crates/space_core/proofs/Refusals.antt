@@ -7,13 +7,14 @@ use Rattle.pager_model.specs.declared.call.Call.TheVariants.{Map, Grow, Unmap, P
 use Rattle.pager_model.specs.declared.entry.What.TheVariants.{Answer}
 use Rattle.pager_model.specs.declared.region.Region.{Region}
 use Rattle.pager_model.specs.declared.reply.Reply.{Reply}
-use Rattle.pager_model.specs.declared.reply.Reply.TheVariants.{Done, Value, Unmapped, Denied, Overlap, OutOfSpace, NotGrowing, RegionsFull, NoMemory}
+use Rattle.pager_model.specs.declared.reply.Reply.TheVariants.{Done, Unmapped, Denied, Overlap, OutOfSpace, NotGrowing, RegionsFull, NoMemory}
 use Rattle.pager_model.specs.declared.tile.Tile.{Tile}
 use Rattle.pager_model.specs.Images.{is_in_image, images_with}
 use Rattle.pager_model.specs.Flat.{Flat, reply_of, is_lawful, after_call, access_reply, page_of, can_read, can_write}
 use Rattle.pager_model.specs.Order.{is_plain, is_no_memory, is_unmapped, is_answered_alone}
 use Rattle.pager_model.specs.Regions.{has_page, region_at, range_in, without_region, unmap_reply_at, map_reply, grow_reply, grow_reply_at}
-use Rattle.pager_model.specs.SpaceStates.{SpaceState, answered_flat, ReplyAllowed, access_page, said_at, base_after_answer, frees_its_page, pages_of, pages_after, served_page, tile_at, space_after}
+use Rattle.pager_model.specs.SpaceStates.{SpaceState, answered_flat, ReplyAllowed, access_page, pages_of, pages_after, tile_at, space_after}
+use Rattle.pager_model.proofs.SpaceEntries.{base-unnamed, frees-unlawful, said-unlawful, served-unlawful}
 use Rattle.space_core.specs.Beginning.{BeginsAnswered}
 use Rattle.space_core.specs.Standing.{Kept, answer_entry, StandsFor, IsResting, IsCopy, CanBegin, rights_at, rights_by}
 use Rattle.space_core.specs.Pages.{permits}
@@ -100,10 +101,6 @@ allowed_refused st c call NotGrowing h e = (e, λ l. cc)
 allowed_refused st c call RegionsFull h e = (e, λ l. cc)
 allowed_refused st c call r h e = cc
 
-frees_nothing : (st : SpaceState) (call : Call) (r : Reply) → is_lawful r ≡ false → false ≡ frees_its_page st call r
-frees_nothing st (Evict space page) r h = rw h refl
-frees_nothing st call r h = refl
-
 plain_refusal : (r : Reply) → is_refusal r ≡ true → is_plain r ≡ true
 plain_refusal Unmapped h = refl
 plain_refusal Denied h = refl
@@ -128,28 +125,8 @@ alone_from (Store space address word) r can h a = plain_refusal r h
 alone_from (Sync space page) r can h a = ap (λ b. b || is_no_memory r) (plain_refusal r h)
 alone_from (Evict space page) r can h a = ap (λ b. b || is_no_memory r) (plain_refusal r h)
 
--- a refusal says no word
-said_refused : (p i : ℕ) (call : Call) (r : Reply) (tied : Option ℕ) → is_refusal r ≡ true → said_at p i call r tied ≡ tied
-said_refused p i (Load space address) (Value word) tied h = cc
-said_refused p i (Load space address) r tied h = refl
-said_refused p i (Store space address word) Done tied h = cc
-said_refused p i (Store space address word) r tied h = refl
-said_refused p i call r tied h = refl
-
 no_memory_refused : (r : Reply) → is_refusal r ≡ true → r ≢ NoMemory
 no_memory_refused r h e = true≢false (sym h ∙ ap is_refusal e)
-
-pub same_base : (base : ℕ → Option ℕ) (call : Call) (p : ℕ) → base_after_answer base false call p ≡ base p
-same_base base (Evict space page) p = refl
-same_base base call p = refl
-
--- and has no size
-unserved : (call : Call) (r : Reply) → is_refusal r ≡ true → served_page call r ≡ None
-unserved (Load space address) (Value word) h = cc
-unserved (Load space address) r h = refl
-unserved (Store space address word) Done h = cc
-unserved (Store space address word) r h = refl
-unserved call r h = refl
 
 pub begins_refused : (old : Kept) (c : ℕ) (call : Call) (r : Reply) → CanBegin call → IsResting old → is_refusal r ≡ true → IsAlone call r → ((st : SpaceState) → StandsFor old st → reply_of st.flat call ≡ r) → BeginsAnswered old old c call (record { reply = r; hit = false; size = None })
 begins_refused old c call r can resting refused alone asked =
@@ -162,16 +139,16 @@ begins_refused old c call r can resting refused alone asked =
       answers = record {
         allowed = λ st s number. record {
           reply = allowed_refused st c call r refused (asked st s);
-          parts = frees_nothing st call r (refusal-lawful r refused);
-          hit = ap (λ o. is_in_image (st.images c) (tile_at (pages_of st) o)) (sym (unserved call r refused));
-          size = ap (λ o. option_map (λ (t : Tile). t.extent.size) (tile_at (pages_after st false (Answer number call (record { reply = r; hit = false; size = None }))) o)) (sym (unserved call r refused));
+          parts = frees-unlawful st call r (refusal-lawful r refused);
+          hit = ap (λ o. is_in_image (st.images c) (tile_at (pages_of st) o)) (sym (served-unlawful call r (refusal-lawful r refused)));
+          size = ap (λ o. option_map (λ (t : Tile). t.extent.size) (tile_at (pages_after st false (Answer number call (record { reply = r; hit = false; size = None }))) o)) (sym (served-unlawful call r (refusal-lawful r refused)));
         };
         stands = λ st s number.
             let after = space_after st (answer_entry c number call (record { reply = r; hit = false; size = None })) in
             let e = answered_refused st.flat call r refused (asked st s) in
             let u = after_refusal st.flat call (ap is_lawful (asked st s) ∙ refusal-lawful r refused) in
             let is : (p : ℕ) → pages_of after p ≡ mapping_in old.table p = λ p.
-            said_same st after p (ap (λ f. f.regions) e ∙ u.regions) (ap (λ f. f.rights p) e ∙ u.rights p) (ap (λ f. f.dirty p) e ∙ u.dirty p) (same_base st.base call p) ∙ s.pages p in
+            said_same st after p (ap (λ f. f.regions) e ∙ u.regions) (ap (λ f. f.rights p) e ∙ u.rights p) (ap (λ f. f.dirty p) e ∙ u.dirty p) (base-unnamed st.base call p) ∙ s.pages p in
             record {
               beside = record {
                 regions = ap (λ f. f.regions) e ∙ u.regions ∙ s.beside.regions;
@@ -183,14 +160,14 @@ begins_refused old c call r can resting refused alone asked =
                   copies = λ p out staying. subst (λ (o : Option (ℕ → ℕ)). IsCopy o (copy_at old.store p)) (sym (ap (λ f. f.copies p) e ∙ u.copies p)) (w.copies p out staying);
                   copied = w.copied;
                 };
-                tied = λ p i word said. s.beside.tied p i word (sym (said_refused p i call r (st.tied p i) refused) ∙ said);
-                untied = λ p i pending. said_refused p i call r (st.tied p i) refused ∙ s.beside.untied p i pending;
+                tied = λ p i word said. s.beside.tied p i word (sym (said-unlawful p i call r (st.tied p i) (refusal-lawful r refused)) ∙ said);
+                untied = λ p i pending. said-unlawful p i call r (st.tied p i) (refusal-lawful r refused) ∙ s.beside.untied p i pending;
                 highest = s.beside.highest;
               };
-              base = λ p. same_base st.base call p ∙ s.base p;
+              base = λ p. base-unnamed st.base call p ∙ s.base p;
               pages = is;
               translates = stays old old st after c
-                  (record { images = ap (λ o. images_with (pages_of after) c (tile_at (pages_of after) o) st.images) (unserved call r refused); promotions = refl; demotions = refl })
+                  (record { images = ap (λ o. images_with (pages_of after) c (tile_at (pages_of after) o) st.images) (served-unlawful call r (refusal-lawful r refused)); promotions = refl; demotions = refl })
                   s.translates s.pages is (record { images = refl; promotions = refl; demotions = refl }) (λ p. refl);
             };
       };

@@ -12,6 +12,7 @@ use Rattle.std.proofs.lemmas.Option.{none-some, same_Some}
 use Rattle.pager_model.specs.declared.region.Rights.{Rights}
 use Rattle.pager_model.specs.declared.tile.Mapping.{Mapping}
 use Rattle.pager_model.specs.Frame.{Framed}
+use Rattle.pager_model.proofs.Lists.{get_or-alike}
 use Rattle.space_core.specs.Pages.{IsFrameAt, IsPaged, IsFresh, Maps, Refills, HasWords, Writes, Cleans, OwnsRights, Protects, Forgets}
 use Rattle.space_core.specs.Tables.{Table, mapping_in, frame_in, word_in, word_in_frame, own_in, flag_in, dirty_in}
 use Rattle.tiles.specs.Resident.{Resident, mapping_at, frames_in, with_flag, with_rights, Maps as MapsTo, Protects as ProtectsIn}
@@ -430,8 +431,7 @@ length-put_mid {X} a k xs ys e h =
 
 -- a table of empty places
 empty_place : {X : Type 0} (n p : ℕ) → ◌≡◌ {A = Option X} (slice_index_or (replicate n None) p None) None
-empty_place {X} n p =
-    elim (cases_lt p n) [ inl l ↦ get_or-replicate n p None None l | inr past ↦ get_or_past (replicate n None) p None (omega (arith, length-replicate {A = Option X} n None)) ]
+empty_place n p = get_or-alike n p None
 
 module _ (t : Table) (frames : ℕ) (count : frames_in t.pages ≡ frames) (none : (p : ℕ) → mapping_at t.pages p ≡ None) (own : t.own ≡ replicate 1048576 None) (places : t.frames ≡ replicate frames None) where
   none_resident : (p : ℕ) → frame_in t p ≡ None

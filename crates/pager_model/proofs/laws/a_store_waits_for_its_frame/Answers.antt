@@ -4,7 +4,7 @@ use Rattle.pager_model.specs.declared.reply.Reply.TheVariants.{Done, Unmapped}
 use Rattle.pager_model.specs.Examples.{answer, missed, map_eight, take_page_one, small_setting}
 use Rattle.pager_model.specs.Legal.{MayFollow}
 use Rattle.pager_model.specs.Order.{Idle, Filling}
-use Rattle.pager_model.proofs.Starting.{HasNothing-start}
+use Rattle.pager_model.proofs.StartFrames.{HasNothing-start}
 use Rattle.pager_model.proofs.laws.a_store_waits_for_its_frame.Goals as goal
 
 first : MayFollow small_setting [] (answer 0 map_eight Done)

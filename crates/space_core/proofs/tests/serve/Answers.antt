@@ -2,7 +2,7 @@ use Rattle.std.proofs.Common.{◌≡◌, ℕ, length, sym, ap, ◌∙◌, arith,
 use Rattle.std.proofs.lemmas.Bool.{cases_eq}
 use Rattle.std.proofs.lemmas.Option.{none-some, same_Some}
 use Rattle.space_core.specs.Standing.{Kept, StandsFor, frame_at}
-use Rattle.space_core.proofs.Refusals.{same_base}
+use Rattle.pager_model.proofs.SpaceEntries.{base-unnamed}
 use Rattle.space_core.proofs.SpareFrames.{popped, rest_spare, still_spare, kept_others}
 use Rattle.space_core.proofs.tests.serve.Goals as goal
 
@@ -22,7 +22,7 @@ returns-in-Answered-clause-spare c =
     let spare = c.requires.spare in
     let answered = c.in-Answered.ensures in
     let stands = answered.answers.stands spare.state spare.stands 0 in
-    still_spare _ _ _ _ answered.resting stands answered.same_frames answered.same_processors (λ p number has. sym (spare.stands.base p) ∙ sym (same_base spare.state.base c.args.call.now p) ∙ stands.base p ∙ has) spare
+    still_spare _ _ _ _ answered.resting stands answered.same_frames answered.same_processors (λ p number has. sym (spare.stands.base p) ∙ sym (base-unnamed spare.state.base c.args.call.now p) ∙ stands.base p ∙ has) spare
 
 pub returns-in-Ok-clause-spare : goal.returns-in-Ok-clause-spare
 returns-in-Ok-clause-spare c =

@@ -18,7 +18,8 @@ placed-entries st want (Some place) = refl
 taken-entries : (st : FrameState) (s page : ℕ) (want : Want) → (state_taken st (take_frame st s page want)).entries ≡ st.entries
 taken-entries st s page want = placed-entries st want (placing st.entries s page want (layout_of st))
 
-given_in-entries : (st : FrameState) (page : ℕ) (o : Option Reservation) → (given_in st page o).entries ≡ st.entries
+-- a page that gives its frame up counts none
+pub given_in-entries : (st : FrameState) (page : ℕ) (o : Option Reservation) → (given_in st page o).entries ≡ st.entries
 given_in-entries st page None = refl
 given_in-entries st page (Some r) = refl
 
