@@ -1,10 +1,12 @@
 -- The place of a member in a list in order: behind those that come before it.
-use Rattle.std.proofs.Common.{◌≡◌, ◌≢◌, ◌<◌, ℕ, ◌+◌, suc, true, false, not, cond, List, [], ◌∷◌, length, get_or, Option, Some, refl, ap, sym, ◌∙◌, arith, subst, inl, inr}
+use Rattle.std.proofs.Common.{◌≡◌, ◌≢◌, ◌<◌, ℕ, ◌+◌, ◌-◌, suc, true, false, not, cond, List, [], ◌∷◌, length, get_or, Option, Some, refl, ap, sym, ◌∙◌, arith, subst, inl, inr}
 use Rattle.std.proofs.Math.Numerals.{one-add}
 use Rattle.std.specs.List.{All, insert, remove, prefix_len, slice_get}
 use Rattle.std.specs.List.Sorted.{IsPartitionedBy}
 use Rattle.std.proofs.lemmas.Bool.{cases_eq, cond-true, cond-false}
 use Rattle.std.proofs.lemmas.List.Elements.{All-head, All-tail}
+use Rattle.std.proofs.lemmas.List.Sums.{prefix_len_is}
+use Rattle.std.proofs.lemmas.Option.{slice_get_within, get_or_from_slice_get}
 use Rattle.pager_model.specs.Ages.{Member, is_before, same_member, with_member, without_member}
 use Rattle.reservation_lists.specs.Kept.{IsInOrder}
 use Rattle.reservation_lists.proofs.StampOrder.{is_before-later, is_before-same, is_before-apart, Decides-same_member, same_member-before, same_member-after, IsInOrder-tail, all_behind, all_later}
@@ -20,6 +22,14 @@ IsPartitionedBy-before member ms ordered = λ i j d le below before.
       | inl same ↦ subst (λ k. is_before (get_or ms k d) member ≡ true) (sym same) before
       | inr other ↦ is_before-later (get_or ms i d) (get_or ms j d) member (ordered i j d (omega arith) below) before
     ]
+
+-- where the last comes before a member, all do
+pub place_at_end : (member last : Member) (ms : List Member) → IsInOrder ms → slice_get ms (length ms - 1) ≡ Some last → is_before last member ≡ true → place_in member ms ≡ length ms
+place_at_end member last ms ordered at before =
+    let within = slice_get_within ms (length ms - 1) last at in
+    let ends = subst (λ m. is_before m member ≡ true) (sym (get_or_from_slice_get ms (length ms - 1) last last at)) before in
+    prefix_len_is (λ m. is_before m member) ms (length ms) last (omega arith)
+    (λ k below. IsPartitionedBy-before member ms ordered k (length ms - 1) last (omega arith) within ends) (λ beyond. absurd (omega arith))
 
 -- a new member goes in at its place
 pub with_member_at_place : (new : Member) (ms : List Member) → All (λ m. m.frame ≢ new.frame) ms → with_member new ms ≡ insert ms (place_in new ms) new

@@ -46,7 +46,11 @@ fn place_of(list: &[Member], member: &Member) -> usize
     requires { IsInOrder list.now }
     ensures { result ≡ prefix_len (λ m. is_before m member.now) list.now }
 {
-    list.partition_point(|m| m.is_before(member))
+    match list.last() {
+        // Most members that go in have the youngest stamp, and stand at the end.
+        Some(last) if last.is_before(member) => list.len(),
+        _ => list.partition_point(|m| m.is_before(member)),
+    }
 }
 
 /// Puts a member in its place in the list, which is in order, has room for it and has no member of its frame.
