@@ -1,7 +1,7 @@
 -- What stays true of a list of members as one goes in or out.
-use Rattle.std.proofs.Common.{◌==◌, ◌||◌, suc, zero, ◌≡◌, ◌≢◌, ◌<◌, ◌≤◌, ℕ, ◌+◌, true, false, not, cond, eqb, List, [], ◌∷◌, length, get_or, map, refl, ap, sym, ◌∙◌, arith}
+use Rattle.std.proofs.Common.{◌==◌, ◌||◌, suc, zero, ◌≡◌, ◌≢◌, ◌<◌, ◌≤◌, ℕ, true, false, not, cond, eqb, List, [], ◌∷◌, length, get_or, map, refl, sym, ◌∙◌, arith}
 use Rattle.std.proofs.lemmas.List.{length-map}
-use Rattle.std.specs.List.{All, AllPairs, insert}
+use Rattle.std.specs.List.{All, AllPairs}
 use Rattle.std.proofs.lemmas.List.{get_or-map}
 use Rattle.std.proofs.lemmas.List.Elements.{All-cons, All-head, All-tail, All-filter, All-map}
 use Rattle.std.proofs.lemmas.List.Folds.{Any-from_list_any, list_any_at}

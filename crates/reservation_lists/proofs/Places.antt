@@ -1,5 +1,5 @@
 -- The place of a member in a list in order: behind those that come before it.
-use Rattle.std.proofs.Common.{◌≡◌, ◌≢◌, ◌<◌, ℕ, ◌+◌, ◌-◌, suc, true, false, not, cond, List, [], ◌∷◌, length, get_or, Option, Some, refl, ap, sym, ◌∙◌, arith, subst, inl, inr}
+use Rattle.std.proofs.Common.{◌≡◌, ◌≢◌, ℕ, ◌+◌, ◌-◌, true, false, not, cond, List, [], ◌∷◌, length, get_or, Some, refl, ap, sym, ◌∙◌, arith, subst, inl, inr}
 use Rattle.std.proofs.Math.Numerals.{one-add}
 use Rattle.std.specs.List.{All, insert, remove, prefix_len, slice_get}
 use Rattle.std.specs.List.Sorted.{IsPartitionedBy}
@@ -7,7 +7,7 @@ use Rattle.std.proofs.lemmas.Bool.{cases_eq, cond-true, cond-false}
 use Rattle.std.proofs.lemmas.List.Elements.{All-head, All-tail}
 use Rattle.std.proofs.lemmas.List.Sums.{prefix_len_is}
 use Rattle.std.proofs.lemmas.Option.{slice_get_within, get_or_from_slice_get}
-use Rattle.pager_model.specs.Ages.{Member, is_before, same_member, with_member, without_member}
+use Rattle.pager_model.specs.Ages.{Member, is_before, with_member, without_member}
 use Rattle.reservation_lists.specs.Kept.{IsInOrder}
 use Rattle.reservation_lists.proofs.StampOrder.{is_before-later, is_before-same, is_before-apart, Decides-same_member, same_member-before, same_member-after, IsInOrder-tail, all_behind, all_later}
 

@@ -30,7 +30,7 @@ is_before-apart a b other = grind (arith, nat_tests)
 pub Decides-same_member : (a b : Member) → Decides (same_member a b) (a ≡ b)
 Decides-same_member a b = (
   λ same. is_before-same a b (grind (arith, nat_tests)) (grind (arith, nat_tests)),
-  λ is. subst (λ m. same_member a m ≡ true) is (grind (arith, nat_tests))
+  λ is. subst (λ m. same_member a m ≡ true) is (grind (arith, nat_tests)),
 )
 
 -- a member is none that is before it or that it is before

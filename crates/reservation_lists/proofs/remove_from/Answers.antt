@@ -1,4 +1,4 @@
-use Rattle.std.proofs.Common.{Bor, ap, sym, ◌∙◌, ◌≡◌, ◌<◌, ◌≤◌, ℕ, Bool, List, length, get_or, Option, None, Some}
+use Rattle.std.proofs.Common.{Bor, ap, sym, ◌∙◌, ◌≡◌, ◌<◌, ◌≤◌, ℕ, List, length, get_or, Option, None, Some}
 use Rattle.std.specs.Bool.{Decides}
 use Rattle.std.specs.List.{slice_get}
 use Rattle.std.specs.Option.{MatchOption, option_eq}
