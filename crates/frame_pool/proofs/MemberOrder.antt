@@ -1,26 +1,10 @@
 -- Members go into a list in any order, and out again.
-use Rattle.std.proofs.Common.{◌≡◌, ◌≢◌, ℕ, true, false, not, cond, eqb, List, [], ◌∷◌, refl, sym, ap, ◌∙◌, arith}
+use Rattle.std.proofs.Common.{◌≡◌, ◌≢◌, true, false, not, cond, eqb, List, [], ◌∷◌, refl, sym, ap, ◌∙◌}
 use Rattle.std.specs.List.{All}
 use Rattle.std.proofs.lemmas.Bool.{false≢true, eq-eqb, ne_eqb, and_from, and_right, cond-true, cond-false}
-use Rattle.std.proofs.lemmas.Bool.Decides.{nat_tests}
 use Rattle.std.proofs.lemmas.List.Elements.{All-head, All-tail}
 use Rattle.pager_model.specs.Ages.{Member, is_before, same_member, with_member, without_member}
-
--- of two members at most one is before the other
-pub is_before-other : (a b : Member) → is_before a b ≡ true → is_before b a ≡ false
-is_before-other a b before = grind (arith, nat_tests)
-
--- what is before a member is before those that this one is before
-pub is_before-later : (a b c : Member) → is_before a b ≡ true → is_before b c ≡ true → is_before a c ≡ true
-is_before-later a b c before after = grind (arith, nat_tests)
-
--- members of which neither is before the other are one
-pub is_before-same : (a b : Member) → is_before a b ≡ false → is_before b a ≡ false → a ≡ b
-is_before-same a b not_before not_after =
-    let stamp : a.stamp ≡ b.stamp = grind (arith, nat_tests) in
-    let frame : a.frame ≡ b.frame = grind (arith, nat_tests) in
-    let member : ℕ → ℕ → Member = λ s f. record { stamp = s; frame = f } in
-    ap (λ s. member s a.frame) stamp ∙ ap (λ f. member b.stamp f) frame
+use Rattle.reservation_lists.proofs.StampOrder.{is_before-other, is_before-later, is_before-same}
 
 -- two members before a list stand in their order, whichever goes in first
 two_in_order : (a b : Member) (ms : List Member) → cond (is_before a b) (a ∷ (b ∷ ms)) (b ∷ (a ∷ ms)) ≡ cond (is_before b a) (b ∷ (a ∷ ms)) (a ∷ (b ∷ ms))

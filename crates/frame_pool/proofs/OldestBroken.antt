@@ -25,13 +25,14 @@ use Rattle.pager_model.proofs.Histories.{frames_at-named}
 use Rattle.reservations.specs.Kept.{ArePlaced}
 use Rattle.reservations.proofs.ExtentLemmas.{eight_pos}
 use Rattle.reservations.proofs.FrameIds.{has_frame_from, known_record}
+use Rattle.reservation_lists.proofs.StampOrder.{is_before-same}
 use Rattle.frame_pool.specs.Laid.{IsLaid}
 use Rattle.frame_pool.proofs.AgeLists.{with_listed-in, list_of-open, All-list_of, oldest_in-found}
 use Rattle.frame_pool.proofs.BreakYield.{Breaks-break}
 use Rattle.frame_pool.proofs.FoundExtents.{MayBreak-found, IsFound-largest_extent}
 use Rattle.frame_pool.proofs.LegalHistories.{IsKept-legal}
 use Rattle.frame_pool.proofs.LegalPrefixes.{IsLegal-at}
-use Rattle.frame_pool.proofs.MemberOrder.{is_before-same, with_member-here, with_member-behind}
+use Rattle.frame_pool.proofs.MemberOrder.{with_member-here, with_member-behind}
 use Rattle.frame_pool.proofs.PagePlaces.{covering-found}
 use Rattle.frame_pool.proofs.StateSoundness.{taking_from, IsSound-dropped}
 

@@ -1,8 +1,7 @@
 -- What stays true of a list of members as one goes in or out.
-use Rattle.std.proofs.Common.{◌==◌, ◌||◌, suc, zero, ◌≡◌, ◌≢◌, ◌<◌, ◌≤◌, ℕ, ◌+◌, true, false, not, cond, eqb, List, [], ◌∷◌, length, get_or, map, refl, ap, sym, ◌∙◌, arith}
+use Rattle.std.proofs.Common.{◌==◌, ◌||◌, suc, zero, ◌≡◌, ◌≢◌, ◌<◌, ◌≤◌, ℕ, true, false, not, cond, eqb, List, [], ◌∷◌, length, get_or, map, refl, sym, ◌∙◌, arith}
 use Rattle.std.proofs.lemmas.List.{length-map}
-use Rattle.std.proofs.Math.Numerals.{one-add}
-use Rattle.std.specs.List.{All, AllPairs, insert, position_or_len}
+use Rattle.std.specs.List.{All, AllPairs}
 use Rattle.std.proofs.lemmas.List.{get_or-map}
 use Rattle.std.proofs.lemmas.List.Elements.{All-cons, All-head, All-tail, All-filter, All-map}
 use Rattle.std.proofs.lemmas.List.Folds.{Any-from_list_any, list_any_at}
@@ -11,17 +10,8 @@ use Rattle.std.proofs.lemmas.Bool.{eqb-true, ne_eqb, eq-eqb, or_parts, false≢t
 use Rattle.std.proofs.lemmas.Map.Keys.{IsDistinct-from_apart}
 use Rattle.std.proofs.lemmas.Map.Steps.{length-le_from_distinct_below}
 use Rattle.pager_model.specs.Ages.{Member, Lists, is_before, same_member, with_member, without_member}
-use Rattle.reservation_lists.specs.Kept.{HasRoom, has_member_of, is_listed}
-
--- a new member goes in before the first one that it comes before
-pub with_member_at_place : (new : Member) (ms : List Member) → with_member new ms ≡ insert ms (position_or_len (is_before new) ms) new
-with_member_at_place new [] = refl
-with_member_at_place new (m ∷ ms) =
-    let later : (n : ℕ) → m ∷ insert ms n new ≡ insert (m ∷ ms) (1 + n) new = λ n. rw one-add refl in
-    elim (is_before new m) as (λ b. cond b (new ∷ (m ∷ ms)) (m ∷ with_member new ms) ≡ insert (m ∷ ms) (cond (not b) (1 + position_or_len (is_before new) ms) 0) new) [
-      | true ↦ refl
-      | false ↦ ap (λ rest. m ∷ rest) (with_member_at_place new ms) ∙ later (position_or_len (is_before new) ms)
-    ]
+use Rattle.reservation_lists.specs.Kept.{HasRoom, IsInOrder, has_member_of, is_listed}
+use Rattle.reservation_lists.proofs.StampOrder.{is_before-apart, IsInOrder-tail, all_behind, all_later}
 
 pub All-with_member : (P : Member → Type 0) (new : Member) (ms : List Member) → P new → All P ms → All P (with_member new ms)
 All-with_member P new [] p ps = All-cons P new [] p ps
@@ -48,6 +38,18 @@ Differ-with_member new (m ∷ ms) other differ =
       | false ↦ AllPairs-cons (λ a b. a.frame ≢ b.frame) m (with_member new ms)
           (All-with_member (λ n. m.frame ≢ n.frame) new ms (other 0 m (omega arith)) behind) rest
     ]
+
+-- a new member is before those behind the first one that it is before
+IsInOrder-with_member : (new : Member) (ms : List Member) → All (λ m. m.frame ≢ new.frame) ms → IsInOrder ms → IsInOrder (with_member new ms)
+IsInOrder-with_member new [] other ordered = λ i j d lt below. absurd (omega arith)
+IsInOrder-with_member new (m ∷ ms) other ordered =
+    let before : Member → Member → Type 0 = λ a b. is_before a b ≡ true in
+    let rest = IsInOrder-with_member new ms (All-tail (λ n. n.frame ≢ new.frame) m ms other) (IsInOrder-tail m ms ordered) in
+    let apart = is_before-apart new m (All-head (λ n. n.frame ≢ new.frame) m ms other) in
+    elim (is_before new m) as (λ b. is_before new m ≡ b → IsInOrder (cond b (new ∷ (m ∷ ms)) (m ∷ with_member new ms))) [
+      | true ↦ λ first. AllPairs-cons before new (m ∷ ms) (all_later new m ms first ordered) ordered
+      | false ↦ λ later. AllPairs-cons before m (with_member new ms) (All-with_member (before m) new ms (grind (arith, apart, later)) (all_behind m ms ordered)) rest
+    ] refl
 
 frames_apart : (frame : ℕ) (ms : List Member) → All (λ m. m.frame ≢ frame) ms → Differ ms → (i j d : ℕ) → i < j → j < suc (length ms) → eqb (get_or (frame ∷ map (λ (m : Member). m.frame) ms) i d) (get_or (frame ∷ map (λ (m : Member). m.frame) ms) j d) ≡ false
 frames_apart frame ms other differ i zero d lt below = absurd (omega arith)
@@ -76,6 +78,7 @@ room_for_one frames capacity frame ms has known other =
 
 pub HasRoom-with_member : (frames capacity more : ℕ) (new : Member) (ms : List Member) → HasRoom frames capacity ms → capacity ≤ more → new.frame < frames → All (λ m. m.frame ≢ new.frame) ms → HasRoom frames more (with_member new ms)
 HasRoom-with_member frames capacity more new ms has le known other = record {
+  ordered = IsInOrder-with_member new ms other has.ordered;
   room = omega (arith, has.room);
   known = All-with_member (λ m. m.frame < frames) new ms known has.known;
   differ = Differ-with_member new ms other has.differ;
@@ -83,6 +86,7 @@ HasRoom-with_member frames capacity more new ms has le known other = record {
 
 pub HasRoom-without_member : (frames capacity : ℕ) (gone : Member) (ms : List Member) → HasRoom frames capacity ms → HasRoom frames capacity (without_member gone ms)
 HasRoom-without_member frames capacity gone ms has = record {
+  ordered = AllPairs-filter (λ a b. is_before a b ≡ true) (λ m. not (same_member gone m)) ms has.ordered;
   room = has.room;
   known = All-filter (λ m. not (same_member gone m)) (λ m. m.frame < frames) ms has.known;
   differ = AllPairs-filter (λ a b. a.frame ≢ b.frame) (λ m. not (same_member gone m)) ms has.differ;

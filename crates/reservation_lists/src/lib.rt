@@ -1,21 +1,22 @@
 //! The lists of reservations by age: one for each size of extent that a reservation can give back.
 //!
 //! A reservation that isn't full stands in the list of its yield, the largest size of an extent inside it without a used
-//! place. Each list is in order of the stamp and then of the first frame, so that its first member is the one to break.
+//! place. Each list is a vector in order of the stamp and then of the first frame, in memory that `create` took: its first
+//! member is the one to break, and a member's place is searched for by halves.
 #![tactic(auto)]
 
 ghost use Rattle.std.specs.Prelude.{◌≡◌, ◌<◌, ◌≤◌, IfOk, vec_len, vec_capacity, false};
-ghost use Rattle.std.specs.List.{position_or_len};
-ghost use Rattle.pager_model.specs.Ages.{is_before, same_member, oldest_in};
+ghost use Rattle.std.specs.List.{prefix_len};
+ghost use Rattle.pager_model.specs.Ages.{is_before, oldest_in};
 ghost use Rattle.pager_model.specs.Ages.{with_member, without_member, list_at, with_list};
-ghost use Rattle.reservation_lists.specs.Kept.{no_members, is_listed};
+ghost use Rattle.reservation_lists.specs.Kept.{IsInOrder, no_members, has_member_of, is_listed};
 
 use pager_model::{NoMemory, Size};
 use std::alloc::Global;
 use std::marker::Model;
 
 /// A reservation in a list.
-#[derive(Debug, Drop)]
+#[derive(Debug, PartialEq, Eq, Drop)]
 struct Member {
     stamp: u64,
     frame: u32,
@@ -27,6 +28,8 @@ impl Model for Member {
     ghost Value = { Member };
 
     ghost view = { λ m. record { stamp = m.stamp; frame = m.frame } };
+
+    ghost inverse = { λ m. record { stamp = m.stamp; frame = m.frame } };
 }
 
 impl Member {
@@ -36,30 +39,25 @@ impl Member {
     {
         self.stamp < other.stamp || (self.stamp == other.stamp && self.frame < other.frame)
     }
-
-    /// Whether it has this stamp and first frame.
-    fn matches(&self, stamp: u64, frame: u32) -> bool
-        ensures { result ≡ same_member (record { stamp = stamp; frame = frame }) self.now }
-    {
-        self.stamp == stamp && self.frame == frame
-    }
 }
 
-/// Where the new member stands in the list.
-fn place_of(list: &[Member], new: &Member) -> usize
-    ensures { result ≡ position_or_len (is_before new.now) list.now }
+/// Where a member stands in a list in order, or would stand: after those that come before it.
+fn place_of(list: &[Member], member: &Member) -> usize
+    requires { IsInOrder list.now }
+    ensures { result ≡ prefix_len (λ m. is_before m member.now) list.now }
 {
-    for (place, member) in list.iter().enumerate() {
-        if new.is_before(member) {
-            return place;
-        }
+    match list.last() {
+        // Most members that go in have the youngest stamp, and stand at the end.
+        Some(last) if last.is_before(member) => list.len(),
+        _ => list.partition_point(|m| m.is_before(member)),
     }
-    list.len()
 }
 
-/// Puts a member in its place in the list, which has room for it.
+/// Puts a member in its place in the list, which is in order, has room for it and has no member of its frame.
 fn insert_in(list: &mut Vec<Member>, new: Member)
-    requires { vec_len list.old < vec_capacity list.old }
+    requires ordered { IsInOrder list.old.items }
+    requires room { vec_len list.old < vec_capacity list.old }
+    requires unlisted { has_member_of new.frame list.old.items ≡ false }
     ensures items { list.new.items ≡ with_member new list.old.items }
     ensures capacity { vec_capacity list.old ≤ vec_capacity list.new }
 {
@@ -67,13 +65,16 @@ fn insert_in(list: &mut Vec<Member>, new: Member)
     list.insert(place, new).unwrap()
 }
 
-/// Takes the member of this stamp and first frame out of the list.
-fn remove_from(list: &mut Vec<Member>, stamp: u64, frame: u32)
-    ensures items { list.new.items
-        ≡ without_member (record { stamp = stamp; frame = frame }) list.old.items }
+/// Takes a member out of the list, which is in order, where it stands there.
+fn remove_from(list: &mut Vec<Member>, gone: &Member)
+    requires { IsInOrder list.old.items }
+    ensures items { list.new.items ≡ without_member gone.now list.old.items }
     ensures capacity { vec_capacity list.new ≡ vec_capacity list.old }
 {
-    list.retain(|m| !m.matches(stamp, frame));
+    let place = place_of(list.as_slice(), gone);
+    if list.get(place) == Some(gone) {
+        list.remove(place);
+    }
 }
 
 /// The lists of the sizes below the largest.
@@ -140,10 +141,11 @@ impl Lists {
               (without_member (record { stamp = stamp; frame = frame }) (list_at self.old.lists size));
         } }
     {
+        let gone = Member { stamp, frame };
         match size.level() {
-            0 => remove_from(&mut self.base, stamp, frame),
-            1 => remove_from(&mut self.small, stamp, frame),
-            _ => remove_from(&mut self.middle, stamp, frame),
+            0 => remove_from(&mut self.base, &gone),
+            1 => remove_from(&mut self.small, &gone),
+            _ => remove_from(&mut self.middle, &gone),
         }
     }
 

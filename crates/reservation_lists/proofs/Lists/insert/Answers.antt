@@ -2,8 +2,8 @@ use Rattle.std.proofs.Common.{arith}
 use Rattle.reservation_lists.proofs.Members.{room_for_one, IsUnlisted-from_false, HasRoom-with_member}
 use Rattle.reservation_lists.proofs.Lists.insert.Goals as goal
 
-pub insert_in-requires : goal.insert_in-requires
-insert_in-requires c =
+pub insert_in-requires-clause-room : goal.insert_in-requires-clause-room
+insert_in-requires-clause-room c =
     let known = rw (← c.self.view_is) at c.requires.known in
     let unlisted = IsUnlisted-from_false _ _ (rw (← c.self.view_is) at c.requires.unlisted) in
     let has = c.self.invariant.0 in
@@ -16,8 +16,8 @@ invariant_of-self c =
     let has = c.self.invariant in
     (rw c.insert_in.ensures.items (HasRoom-with_member _ _ _ _ _ has.0 c.insert_in.ensures.capacity known unlisted.base), has.1, has.2)
 
-pub insert_in-requires-in-1 : goal.insert_in-requires-in-1
-insert_in-requires-in-1 c =
+pub insert_in-requires-in-1-clause-room : goal.insert_in-requires-in-1-clause-room
+insert_in-requires-in-1-clause-room c =
     let known = rw (← c.self.view_is) at c.requires.known in
     let unlisted = IsUnlisted-from_false _ _ (rw (← c.self.view_is) at c.requires.unlisted) in
     let has = c.self.invariant.1 in
@@ -30,8 +30,8 @@ invariant_of-self-in-1 c =
     let has = c.self.invariant in
     (has.0, rw c.insert_in-in-1.ensures.items (HasRoom-with_member _ _ _ _ _ has.1 c.insert_in-in-1.ensures.capacity known unlisted.small), has.2)
 
-pub insert_in-requires-in_default : goal.insert_in-requires-in_default
-insert_in-requires-in_default c =
+pub insert_in-requires-in_default-clause-room : goal.insert_in-requires-in_default-clause-room
+insert_in-requires-in_default-clause-room c =
     let known = rw (← c.self.view_is) at c.requires.known in
     let unlisted = IsUnlisted-from_false _ _ (rw (← c.self.view_is) at c.requires.unlisted) in
     let has = c.self.invariant.2 in
