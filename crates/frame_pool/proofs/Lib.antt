@@ -25,7 +25,6 @@ pub mod StateSoundness
 pub mod PageMoves
 pub mod Owners
 pub mod OrderedOwners
-pub mod VictimSearch
 pub mod PoolFields
 pub mod Partition
 pub mod FrameCounts

@@ -1,7 +1,7 @@
 -- What each move keeps true of a pool's fields.
-use Rattle.std.proofs.Common.{◌≡◌, ◌≢◌, ℕ, ◌+◌, ◌<◌, ◌≤◌, true, false, cond, List, length, get_or, set, map, Option, Some, None, option_map, replicate, refl, sym, ap, subst, ◌∙◌, inl, inr, arith}
+use Rattle.std.proofs.Common.{◌≡◌, ◌≢◌, ◌&&◌, Bool, not, ℕ, ◌+◌, ◌<◌, ◌≤◌, true, false, cond, List, length, get_or, set, map, Option, Some, None, option_map, replicate, refl, sym, ap, subst, ◌∙◌, inl, inr, arith}
 use Rattle.std.specs.List.{range_with_len}
-use Rattle.std.specs.Option.{is_some, IsSome, IfSome}
+use Rattle.std.specs.Option.{is_some, is_none, IsSome, IfSome}
 use Rattle.std.proofs.Math.ListN.{get_or-map}
 use Rattle.std.proofs.Math.Seq.{map-set_same}
 use Rattle.std.proofs.lemmas.Bool.{cases_eq, cases_lt, false≢true}
@@ -25,7 +25,7 @@ use Rattle.frame_pool.specs.Pooled.{IsPool, number_in}
 use Rattle.frame_pool.proofs.PagePlaces.{covers-CoversPageOf, has_frame_for, HasPlace, frame_in-from, frame_in-found, covering-is}
 use Rattle.frame_pool.proofs.LayoutRelease.{Gives-vacate, Gives-carve}
 use Rattle.frame_pool.proofs.LayoutPlacing.{WasPlaced-placing}
-use Rattle.frame_pool.proofs.StateSoundness.{is_used-layout_of, used_if_noted, IsSound-take, IsSound-give_page, IsSound-claimed, IsSound-unclaimed, IsSound-dropped}
+use Rattle.frame_pool.proofs.StateSoundness.{is_used-layout_of, used_if_noted, IsSound-take, IsSound-counted, IsSound-give_page, IsSound-claimed, IsSound-unclaimed, IsSound-dropped}
 use Rattle.frame_pool.proofs.StartStates.{IsSound-start, nothing_used}
 
 -- The frames that are there.
@@ -56,50 +56,49 @@ AreHere-same frames used after here same = λ f known.
 -- A pool after a move.
 
 -- the layout of a pool is that of its state
-pub layout_of-pool : (p : Inside) → IsPool p.frames.items p.layout (state_of p) → layout_of (state_of p) ≡ p.layout
+pub layout_of-pool : (p : Inside) → IsPool p.frames.items p.layout p.used.processors (state_of p) → layout_of (state_of p) ≡ p.layout
 layout_of-pool p pool = ap (λ us. record { free = p.layout.free; records = p.layout.records; used = us }) (sym pool.same_used)
 
 -- so this layout is sound
-laid : (p : Inside) → IsPool p.frames.items p.layout (state_of p) → IsLaid p.layout
+laid : (p : Inside) → IsPool p.frames.items p.layout p.used.processors (state_of p) → IsLaid p.layout
 laid p pool = subst IsLaid (layout_of-pool p pool) pool.sound.laid
 
 -- of each frame it is noted whether it is used
-pub used_long : (frames : List (Option Framed)) (l : Layout) (st : FrameState) → IsPool frames l st → length st.used ≡ length frames
-used_long frames l st pool = sym (length-map st.used is_some) ∙ pool.sound.laid.used_long ∙ sym pool.frames_known
+pub used_long : (frames : List (Option Framed)) (l : Layout) (claimers : ℕ) (st : FrameState) → IsPool frames l claimers st → length st.used ≡ length frames
+used_long frames l claimers st pool = sym (length-map st.used is_some) ∙ pool.sound.laid.used_long ∙ sym pool.frames_known
 
 -- what a move leaves is a pool, where the state stays sound and the frames are there as it says
-IsPool-after : (frames : List (Option Framed)) (l : Layout) (st : FrameState) (moved : List (Option Framed)) (m : Layout) (after : FrameState) → IsPool frames l st → IsSound (length st.free) (length st.held) after → m.used ≡ map is_some after.used → length moved ≡ length frames → AreHere moved after.used → after.preemptions ≤ after.entries → IsPool moved m after
-IsPool-after frames l st moved m after pool sound same long here few = record {
+IsPool-after : (frames : List (Option Framed)) (l : Layout) (claimers : ℕ) (st : FrameState) (moved : List (Option Framed)) (m : Layout) (after : FrameState) → IsPool frames l claimers st → IsSound (length st.free) (length st.held) after → m.used ≡ map is_some after.used → length moved ≡ length frames → AreHere moved after.used → after.preemptions ≤ after.entries → IsPool moved m claimers after
+IsPool-after frames l claimers st moved m after pool sound same long here few = record {
   sound = subst (λ n. IsSound n (length after.held) after) (sym sound.known) (subst (λ n. IsSound (length st.free) n after) (sym sound.processors_known) sound);
   same_used = same;
   few_frames = omega (arith, sound.known, pool.few_frames);
   few_processors = omega (arith, sound.processors_known, pool.few_processors);
+  claimers_known = pool.claimers_known ∙ sym sound.processors_known;
   frames_known = long ∙ pool.frames_known ∙ sym sound.known;
   here = here;
   few_broken = few;
 }
 
--- a claim is written over what is noted of the frame
-abbrev pub claimed_over : FrameState → ℕ → Option ℕ → Option Used → FrameState
-claimed_over st at claim place =
-    record { free = st.free; records = st.records; used = set st.used at (with_claim claim place); held = st.held; entries = st.entries; preemptions = st.preemptions }
+-- what is noted of a frame is used whoever claims it
+used_claimed : (claim : Option ℕ) (o : Option Used) → is_some (with_claim claim o) ≡ is_some o
+used_claimed claim None = refl
+used_claimed claim (Some u) = refl
 
--- a frame is claimed by a processor that has nothing, or by none
-pub IsPool-claimed : (frames : List (Option Framed)) (l : Layout) (st : FrameState) (at : ℕ) (claim : Option ℕ) (place : Option Used) → IsPool frames l st → place ≡ used_at st at → ((c : ℕ) → claim ≡ Some c → (c < length st.held) × HasNothing st c) → IsPool frames l (claimed_over st at claim place)
-IsPool-claimed frames l st at claim place pool noted may =
-    let still = map-set_same is_some st.used at (with_claim claim (used_at st at)) None (same_some (used_at st at)) in
-    subst (λ o. IsPool frames l (claimed_over st at claim o)) (sym noted)
-    (IsPool-after frames l st frames l (claimed st at claim) pool (sound claim may) (pool.same_used ∙ sym still) refl
+-- a frame is claimed by a processor that has nothing, or by none, and the entry is counted
+IsPool-reclaimed : (frames : List (Option Framed)) (l : Layout) (claimers : ℕ) (st : FrameState) (at : ℕ) (claim : Option ℕ) → IsPool frames l claimers st → IsSound (length st.free) (length st.held) (claimed st at claim) → IsPool frames l claimers (counted (claimed st at claim))
+IsPool-reclaimed frames l claimers st at claim pool sound =
+    let still = map-set_same is_some st.used at (with_claim claim (used_at st at)) None (used_claimed claim (used_at st at)) in
+    IsPool-after frames l claimers st frames l (counted (claimed st at claim)) pool (IsSound-counted _ _ (claimed st at claim) sound) (pool.same_used ∙ sym still) refl
     (AreHere-same frames st.used (set st.used at (with_claim claim (used_at st at))) pool.here still)
-    pool.few_broken)
-  where
-    same_some : (o : Option Used) → is_some (with_claim claim o) ≡ is_some o
-    same_some None = refl
-    same_some (Some u) = refl
+    (omega (arith, pool.few_broken))
 
-    sound : (o : Option ℕ) → ((c : ℕ) → o ≡ Some c → (c < length st.held) × HasNothing st c) → IsSound (length st.free) (length st.held) (claimed st at o)
-    sound None may = IsSound-unclaimed _ _ st at pool.sound
-    sound (Some c) may = let c_may = may c refl in IsSound-claimed _ _ st at c pool.sound c_may.0 c_may.1
+pub IsPool-claimed : (frames : List (Option Framed)) (l : Layout) (claimers : ℕ) (st : FrameState) (at c : ℕ) → IsPool frames l claimers st → c < length st.held → HasNothing st c → IsPool frames l claimers (counted (claimed st at (Some c)))
+IsPool-claimed frames l claimers st at c pool known nothing =
+    IsPool-reclaimed frames l claimers st at (Some c) pool (IsSound-claimed _ _ st at c pool.sound known nothing)
+
+pub IsPool-unclaimed : (frames : List (Option Framed)) (l : Layout) (claimers : ℕ) (st : FrameState) (at : ℕ) → IsPool frames l claimers st → IsPool frames l claimers (counted (claimed st at None))
+IsPool-unclaimed frames l claimers st at pool = IsPool-reclaimed frames l claimers st at None pool (IsSound-unclaimed _ _ st at pool.sound)
 
 -- what is read where a processor holds a frame is the frame
 pub held_read : (st : FrameState) (c frame : ℕ) (read : Option ℕ) → IsSome (held_by st c) → read ≡ get_or st.held c read → read ≡ Some frame → held_by st c ≡ Some frame
@@ -109,10 +108,10 @@ held_read st c frame read holds is found = sym (get_or_read st.held c read known
     known = elim (cases_lt c (length st.held)) [ inl within ↦ within | inr past ↦ absurd (false≢true (subst IsSome (get_or_past st.held c None past) holds)) ]
 
 -- a held frame is put back
-pub IsPool-dropped : (frames : List (Option Framed)) (l : Layout) (st : FrameState) (c frame : ℕ) → IsPool frames l st → held_by st c ≡ Some frame → IsPool frames (put_back frame l) (dropped_in st c (Some frame))
-IsPool-dropped frames l st c frame pool holds =
+pub IsPool-dropped : (frames : List (Option Framed)) (l : Layout) (claimers : ℕ) (st : FrameState) (c frame : ℕ) → IsPool frames l claimers st → held_by st c ≡ Some frame → IsPool frames (put_back frame l) claimers (dropped_in st c (Some frame))
+IsPool-dropped frames l claimers st c frame pool holds =
     let sound = subst (λ o. IsSound (length st.free) (length st.held) (dropped_in st c o)) holds (IsSound-dropped _ _ st c pool.sound) in
-    IsPool-after frames l st frames (put_back frame l) (dropped_in st c (Some frame)) pool sound pool.same_used refl pool.here pool.few_broken
+    IsPool-after frames l claimers st frames (put_back frame l) (dropped_in st c (Some frame)) pool sound pool.same_used refl pool.here pool.few_broken
 
 -- At first all frames are there.
 
@@ -131,7 +130,7 @@ AreHere-start n = λ f known.
     ∙ ap (λ g. Some g) (get_or-map-range_with_len zero_frame 0 n f f (zero_frame 0) below (omega arith)) in
     ap number_in at ∙ ap (λ o. cond (is_some o) None (Some f)) (sym (get_or-alike n f None))
 
-pub IsPool-start : (n processors : ℕ) → n ≤ 32768 → processors ≤ 17 → IsPool (all_frames n) (start_layout n) (start_frames n processors)
+pub IsPool-start : (n processors : ℕ) → n ≤ 32768 → processors ≤ 17 → IsPool (all_frames n) (start_layout n) processors (start_frames n processors)
 IsPool-start n processors few few_processors =
     let frames_long = length-replicate n true in
     let held_long = length-replicate {A = Option ℕ} processors None in
@@ -142,6 +141,7 @@ IsPool-start n processors few few_processors =
       same_used = sym (nothing_used n);
       few_frames = omega (arith, frames_long);
       few_processors = omega (arith, held_long);
+      claimers_known = sym held_long;
       frames_known = length-all_frames n ∙ sym frames_long;
       here = AreHere-start n;
       few_broken = omega arith;
@@ -152,6 +152,16 @@ IsPool-start n processors few few_processors =
 -- what may be paged out is noted
 pub noted_evictable : (st : FrameState) (frame : ℕ) → is_evictable (used_at st frame) ≡ true → used_at st frame ≢ None
 noted_evictable st frame may none = false≢true (sym (ap is_evictable none) ∙ may)
+
+-- and no processor claims it
+pub unclaimed_evictable : (o : Option Used) → is_evictable o ≡ true → claim_in o ≡ None
+unclaimed_evictable None may = refl
+unclaimed_evictable (Some u) may = by_claim u.wired u.claim may
+  where
+    by_claim : (wired : Bool) (claim : Option ℕ) → (not wired && is_none claim) ≡ true → claim ≡ None
+    by_claim wired None is = refl
+    by_claim true (Some c) is = absurd (false≢true is)
+    by_claim false (Some c) is = absurd (false≢true is)
 
 -- the page that its reservation joins to a used place has it
 pub page_of : (st : FrameState) (frame page : ℕ) (r : Reservation) → IsLaid (layout_of st) → record_at (layout_of st) r.frame ≡ Some r → used_at st frame ≢ None → IsPageAt r frame page → frame_of st r.space page ≡ Some frame
@@ -180,7 +190,7 @@ state_taken st m want frame broken =
     }
 
 -- A page has its place in a layout, whose frame is taken out of the pool.
-module _ (p : Inside) (space page : ℕ) (want : Want) (m : Layout) (frame broken : ℕ) (pool : IsPool p.frames.items p.layout (state_of p)) (none : frame_of (state_of p) space page ≡ None) (placed : PlacesPage p.layout m (placing p.entries space page want p.layout) frame broken) where
+module _ (p : Inside) (space page : ℕ) (want : Want) (m : Layout) (frame broken : ℕ) (pool : IsPool p.frames.items p.layout p.used.processors (state_of p)) (none : frame_of (state_of p) space page ≡ None) (placed : PlacesPage p.layout m (placing p.entries space page want p.layout) frame broken) where
   abbrev pub taking_of : Taking
   taking_of = taking (state_of p) want placed.place
 
@@ -200,8 +210,15 @@ module _ (p : Inside) (space page : ℕ) (want : Want) (m : Layout) (frame broke
       let places = WasPlaced-placing (layout_of (state_of p)) p.entries space page want placed.place pool.sound.laid none placing_is in
       omega (arith, places.known, placed.same_frame, pool.frames_known)
 
-  pub was_unused : is_some (used_at (state_of p) frame) ≡ false
+  was_unused : is_some (used_at (state_of p) frame) ≡ false
   was_unused = sym (is_used-layout_of (state_of p) frame) ∙ ap (λ k. is_used k.used frame) (layout_of-pool p pool) ∙ placed.unused
+
+  pub nothing_noted : used_at (state_of p) frame ≡ None
+  nothing_noted = not_some (used_at (state_of p) frame) was_unused
+    where
+      not_some : (o : Option Used) → is_some o ≡ false → o ≡ None
+      not_some None none = refl
+      not_some (Some u) none = absurd (false≢true (sym none))
 
   pub frame_out : (frame < length (state_of p).free) × (is_some (used_at (state_of p) frame) ≡ false)
   frame_out = (omega (arith, frame_known, pool.frames_known), was_unused)
@@ -211,16 +228,16 @@ module _ (p : Inside) (space page : ℕ) (want : Want) (m : Layout) (frame broke
   frame_there read is =
       ap number_in (get_or_read p.frames.items frame read frame_known is None) ∙ pool.here frame frame_known ∙ ap (λ b. cond b None (Some frame)) was_unused
 
-  pub IsPool-taken : IsPool (set p.frames.items frame None) m (state_taken (state_of p) m want frame broken)
+  pub IsPool-taken : IsPool (set p.frames.items frame None) m p.used.processors (state_taken (state_of p) m want frame broken)
   IsPool-taken =
       let st = state_of p in
       let place : Option Used = Some (record { age = p.entries; wired = want.wired; claim = None }) in
       let sound = IsSound-take _ _ st space page want taking_of pool.sound none take_frame-placed in
-      IsPool-after p.frames.items p.layout st (set p.frames.items frame None) m (state_taken st m want frame broken) pool
+      IsPool-after p.frames.items p.layout p.used.processors st (set p.frames.items frame None) m (state_taken st m want frame broken) pool
       (subst (IsSound (length st.free) (length st.held)) (sym state_taken-is) sound)
       (placed.used ∙ ap (λ us. set us frame true) pool.same_used ∙ sym (map-set is_some st.used frame place))
       (length-set p.frames.items frame None)
-      (AreHere-set p.frames.items st.used frame None place pool.here (used_long p.frames.items p.layout st pool) refl)
+      (AreHere-set p.frames.items st.used frame None place pool.here (used_long p.frames.items p.layout p.used.processors st pool) refl)
       (omega (arith, pool.few_broken, placed.few_broken))
 
 -- Giving up.
@@ -231,7 +248,7 @@ state_given st m frame held =
     record { free = m.free; records = m.records; used = set st.used frame None; held = held; entries = st.entries; preemptions = st.preemptions }
 
 -- A page gives its frame up, and the layout is moved by the claim that was read.
-module _ (p : Inside) (space page frame : ℕ) (pool : IsPool p.frames.items p.layout (state_of p)) (is : frame_of (state_of p) space page ≡ Some frame) where
+module _ (p : Inside) (space page frame : ℕ) (pool : IsPool p.frames.items p.layout p.used.processors (state_of p)) (is : frame_of (state_of p) space page ≡ Some frame) where
   place : HasPlace (layout_of (state_of p)) space page frame
   place = frame_in-found (layout_of (state_of p)) space page frame is
 
@@ -245,16 +262,9 @@ module _ (p : Inside) (space page frame : ℕ) (pool : IsPool p.frames.items p.l
   giver_used : is_used p.layout.used frame ≡ true
   giver_used = ap (λ k. is_used k.used frame) (sym (layout_of-pool p pool)) ∙ place.used
 
-  -- the used place is known
-  frame_noted : frame < length p.used.items
-  frame_noted = elim (cases_lt frame (length p.used.items)) [
-    | inl known ↦ known
-    | inr past ↦ absurd (false≢true (sym (is_used-layout_of (state_of p) frame ∙ ap is_some (get_or_past p.used.items frame None past)) ∙ place.used))
-  ]
-
-  -- what is read of the claim
-  pub claim_read : (claim : Option ℕ) (read : Option Used) → claim ≡ claim_in read → read ≡ get_or p.used.items frame read → claim ≡ claim_in (used_at (state_of p) frame)
-  claim_read claim read claims noted = claims ∙ ap claim_in (get_or_read p.used.items frame read frame_noted noted None)
+  -- so something is noted of it
+  pub frame_noted : is_some (used_at (state_of p) frame) ≡ true
+  frame_noted = sym (is_used-layout_of (state_of p) frame) ∙ place.used
 
   -- the frame is no used place of the layout any more
   used_given : (claim : Option ℕ) → (layout_given claim frame giver p.layout).used ≡ set p.layout.used frame false
@@ -273,12 +283,12 @@ module _ (p : Inside) (space page frame : ℕ) (pool : IsPool p.frames.items p.l
         ∙ ap (λ f. given st f giver) place.frame
         ∙ sym (ap (given_in st page) (covering-is (layout_of st) space page place.id giver pool.sound.laid place.is place.covers_page))
 
-    pub IsPool-given : (back : Framed) → back.number ≡ frame → IsPool (set p.frames.items frame (Some back)) m (state_given (state_of p) m frame (held_given claim frame p.held.items))
+    pub IsPool-given : (back : Framed) → back.number ≡ frame → IsPool (set p.frames.items frame (Some back)) m p.used.processors (state_given (state_of p) m frame (held_given claim frame p.held.items))
     IsPool-given back numbered =
         let st = state_of p in
-        IsPool-after p.frames.items p.layout st (set p.frames.items frame (Some back)) m (state_given st m frame (held_given claim frame st.held)) pool
+        IsPool-after p.frames.items p.layout p.used.processors st (set p.frames.items frame (Some back)) m (state_given st m frame (held_given claim frame st.held)) pool
         (subst (IsSound (length st.free) (length st.held)) (sym give_page-is) (IsSound-give_page _ _ st space page frame pool.sound is))
         (ap (λ k. k.used) moved ∙ used_given claim ∙ ap (λ us. set us frame false) pool.same_used ∙ sym (map-set is_some st.used frame None))
         (length-set p.frames.items frame (Some back))
-        (AreHere-set p.frames.items st.used frame (Some back) None pool.here (used_long p.frames.items p.layout st pool) (ap Some numbered))
+        (AreHere-set p.frames.items st.used frame (Some back) None pool.here (used_long p.frames.items p.layout p.used.processors st pool) (ap Some numbered))
         pool.few_broken

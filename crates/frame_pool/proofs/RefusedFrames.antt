@@ -1,7 +1,8 @@
 -- Where a frame is refused none can be had: each is held, or under a page that is wired or whose frame is claimed.
-use Rattle.std.proofs.Common.{◌≡◌, ◌≢◌, ℕ, Bool, true, false, not, ◌&&◌, ◌||◌, is_some, Option, Some, None, inl, inr, refl, sym, ap, ◌∙◌}
+use Rattle.std.proofs.Common.{◌≡◌, ◌≢◌, ◌<◌, ℕ, Bool, true, false, not, ◌&&◌, ◌||◌, List, length, get_or, is_some, Option, Some, None, inl, inr, refl, sym, ap, ◌∙◌}
 use Rattle.std.specs.Option.{is_none}
-use Rattle.std.proofs.lemmas.Bool.{false≢true, false_from_ne_true}
+use Rattle.std.proofs.lemmas.Bool.{cases_lt, false≢true, false_from_ne_true}
+use Rattle.std.proofs.lemmas.List.{get_or_past}
 use Rattle.std.proofs.lemmas.List.Folds.{list_any_at}
 use Rattle.pager_model.specs.declared.reservation.Reservation.{Reservation}
 use Rattle.pager_model.specs.declared.reservation.Used.{Used}
@@ -13,7 +14,6 @@ use Rattle.pager_model.specs.Records.{is_used}
 use Rattle.frame_pool.specs.Laid.{IsSound}
 use Rattle.frame_pool.proofs.FullLayout.{EachFull, EachFull-from, used-full}
 use Rattle.frame_pool.proofs.StateSoundness.{noted_if_used}
-use Rattle.frame_pool.proofs.VictimSearch.{known_evictable}
 
 -- each place of a full layout is used
 used_in_full : (l : Layout) (frame id : ℕ) → EachFull l → has_frame frame (record_at l id) ≡ true → is_used l.used frame ≡ true
@@ -32,6 +32,13 @@ kept_place-from (Some u) noted kept = by_claim u.wired u.claim kept
     by_claim true claim is = refl
     by_claim false None is = absurd (false≢true (sym is))
     by_claim false (Some c) is = refl
+
+-- a place that may be paged out is known
+known_evictable : (used : List (Option Used)) (at : ℕ) → is_evictable (get_or used at None) ≡ true → at < length used
+known_evictable used at may = elim (cases_lt at (length used)) [
+  | inl known ↦ known
+  | inr past ↦ absurd (false≢true (ap is_evictable (sym (get_or_past used at None past)) ∙ may))
+]
 
 -- where none may be claimed no place is evictable
 not_evictable : (st : FrameState) (wired claimed held frame : ℕ) → IsRefused st wired claimed held → is_evictable (used_at st frame) ≡ false

@@ -4,6 +4,5 @@ pub mod Placed
 pub mod Pooled
 pub mod LayoutState
 pub mod PoolState
-pub mod Victims
 pub mod Allowed
 pub mod Breaking

@@ -1,8 +1,7 @@
-ghost use Rattle.std.specs.Prelude.{◌≡◌, ℕ, Bool, ◌+◌, ◌%◌, ◌^◌, ◌<◌, ◌≤◌, Some, true, false, length, slice_index_or, sum_by, count_by, IfOk, IfSome, IfNone, IsSomeAnd};
+ghost use Rattle.std.specs.Prelude.{◌≡◌, ℕ, Bool, ◌+◌, ◌%◌, ◌^◌, ◌<◌, ◌≤◌, Some, true, false, length, slice_index_or, count_by, IfOk, IfSome, IfNone, IsSomeAnd};
 ghost use Rattle.std.specs.List.{list_any};
 ghost use Rattle.std.specs.Option.{option_and_then};
 ghost use Rattle.pager_model.specs.Agreement.{has_frame};
-ghost use Rattle.pager_model.specs.FrameStates.{places_in};
 ghost use Rattle.pager_model.specs.Layouts.{start_layout, frame_for, frame_in, split_layout, split_free, broken_at, to_break, record_at};
 ghost use Rattle.pager_model.specs.Layouts.{carve_layout, narrow_layout, take_out, vacate_layout, put_back};
 ghost use Rattle.pager_model.specs.Layouts.{extent_of, largest_extent, populated, placing};
@@ -15,7 +14,7 @@ ghost use Rattle.frame_pool.specs.Placed.{CanBreak, FindsExtent, PlacesPage, wit
 
 use crate::free::{give, take};
 use crate::lists::{enlist, enlist_parts, unlist};
-use crate::records::{covering, lowest_as_wide, page_at, places, preferred};
+use crate::records::{covering, lowest_as_wide, page_at, preferred};
 use buddy_extents::Free;
 use pager_model::{Extent, NoMemory, Reservation, Size, Want};
 use reservation_lists::Lists;
@@ -92,13 +91,6 @@ impl Layout {
         ensures { result ≡ count_by (λ free. free) self.now.free }
     {
         self.free.count()
-    }
-
-    /// How many places the reservations have, used or not.
-    pub(crate) fn places(&self) -> u32
-        ensures { result ≡ sum_by places_in self.now.records }
-    {
-        places(&self.reservations, self.frames)
     }
 
     /// Gives a page of a space, which has none, a place: in the reservation that has the page, or in a new one. `None` exactly

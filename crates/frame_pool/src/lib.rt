@@ -10,7 +10,6 @@ mod free;
 pub mod laws;
 mod layout;
 mod lists;
-mod places;
 mod pool;
 mod records;
 

@@ -1,4 +1,4 @@
-ghost use Rattle.std.specs.Prelude.{◌≡◌, ℕ, ◌+◌, ◌%◌, ◌^◌, ◌<◌, ◌≤◌, ◌⊎◌, ◌==◌, ◌&&◌, if◌then◌else◌, false, Some, None, IfOk, IfErr, IsErr, IsSome, is_some, length, map};
+ghost use Rattle.std.specs.Prelude.{◌≡◌, ℕ, ◌+◌, ◌%◌, ◌^◌, ◌<◌, ◌≤◌, ◌⊎◌, ◌==◌, ◌&&◌, if◌then◌else◌, false, Some, None, IfOk, IfErr, IsErr, IsSome, is_some, length, map, count_by};
 ghost use Rattle.std.specs.List.{range_with_len};
 ghost use Rattle.pager_model.specs.Frame.{zero_frame};
 ghost use Rattle.pager_model.specs.FrameStates.{FrameState, Taking, start_frames, used_at, held_by, frame_of, claim_in, HasNothing};
@@ -7,13 +7,11 @@ ghost use Rattle.pager_model.specs.FrameStates.{free_count, used_count, reserved
 ghost use Rattle.pager_model.specs.PreferredSize.{IsWanted};
 
 use crate::layout::Layout;
-use crate::places::{
-    claimed_by, claimed_places, claimer, held_frames, used_places, victim, wired_places,
-};
 use crate::records::page_at;
-use pager_model::{Frame, NoMemory, Used, Want, frames_of};
+use pager_model::{Frame, NoMemory, Want, frames_of};
 use std::alloc::Global;
 use std::marker::Model;
+use used_frames::UsedFrames;
 
 /// No frame can be had.
 #[derive(Clone, Copy, Debug, PartialEq, Eq)]
@@ -62,8 +60,7 @@ pub struct Pool {
     // for each frame the frame itself, where no page has it
     frames: Vec<Option<Frame>>,
     layout: Layout,
-    // for each frame what is noted of it as a used place
-    used: Vec<Option<Used>>,
+    used: UsedFrames,
     // for each processor the frame that it holds
     held: Vec<Option<u32>>,
     entries: u64,
@@ -80,7 +77,7 @@ impl Model for Pool {
 
     ghost view = { state_of };
 
-    ghost invariant = { λ p. IsPool p.frames.items p.layout (state_of p) };
+    ghost invariant = { λ p. IsPool p.frames.items p.layout p.used.processors (state_of p) };
 }
 
 impl Pool {
@@ -100,7 +97,7 @@ impl Pool {
         Ok(Pool {
             frames: every_frame(alloc, frames)?,
             layout: Layout::create(alloc, frames)?,
-            used: vec![in alloc; None; frames as usize]?,
+            used: UsedFrames::create(alloc, frames, processors)?,
             held: vec![in alloc; None; processors as usize]?,
             entries: 0,
             preemptions: 0,
@@ -123,15 +120,10 @@ impl Pool {
         let Some(place) = self.layout.place(self.entries, space, page, want) else {
             return Err(Full);
         };
-        let at = place.frame as usize;
-        let Some(frame) = self.frames[at].take() else {
+        let Some(frame) = self.frames[place.frame as usize].take() else {
             unreachable!()
         };
-        self.used[at] = Some(Used {
-            age: self.entries,
-            wired: want.wired,
-            claim: None,
-        });
+        self.used.add(place.frame, self.entries, want.wired);
         self.preemptions += place.broken;
         self.entries += 1;
         Ok(frame)
@@ -148,16 +140,15 @@ impl Pool {
         ensures none_left { IfErr result (λ none. (has_evictable self.old ≡ false) × (self.new ≡ self.old)
             × (none ≡ record { wired = wired_count self.old; claimed = claimed_count self.old; held = held_count self.old })) }
     {
-        let Some(at) = victim(self.used.as_slice()) else {
+        let Some(frame) = self.used.victim() else {
             return Err(NoneLeft {
-                wired: wired_places(self.used.as_slice()),
-                claimed: claimed_places(self.used.as_slice()),
+                wired: self.used.wired(),
+                claimed: self.used.claimed(),
                 held: held_frames(self.held.as_slice()),
             });
         };
-        let frame = at as u32;
         let reservation = self.layout.reservation_of(frame).unwrap();
-        self.note_claim(at, Some(processor));
+        self.used.claim(frame, processor);
         self.entries += 1;
         Ok(Victim {
             space: reservation.space,
@@ -175,10 +166,8 @@ impl Pool {
         ensures places { (s p : ℕ) → frame_of self.new s p ≡ (if (space == s) && (p == page) then None else frame_of self.old s p) }
     {
         let number = frame.number();
-        let at = number as usize;
-        let claim = claimer(&self.used[at]);
-        self.used[at] = None;
-        self.frames[at] = Some(frame);
+        let claim = self.used.remove(number);
+        self.frames[number as usize] = Some(frame);
         match claim {
             None => self.layout.vacate(number),
             Some(processor) => {
@@ -233,10 +222,9 @@ impl Pool {
         ensures frame { claim_in (used_at self.old result) ≡ Some processor }
         ensures unclaimed { self.new ≡ counted (claimed self.old result None) }
     {
-        let at = claimed_by(self.used.as_slice(), processor).unwrap();
-        self.note_claim(at, None);
+        let frame = self.used.unclaim(processor);
         self.entries += 1;
-        at as u32
+        frame
     }
 
     /// How many frames are in each role.
@@ -249,14 +237,16 @@ impl Pool {
         ensures claimed { result.claimed ≡ claimed_count self.now }
         ensures held { result.held ≡ held_count self.now }
     {
-        let used = used_places(self.used.as_slice());
+        let free = self.layout.free_frames();
+        let used = self.used.count();
+        let held = held_frames(self.held.as_slice());
         Counts {
-            free: self.layout.free_frames(),
-            reserved: self.layout.places() - used,
+            free,
+            reserved: self.frames.len() as u32 - free - used - held,
             used,
-            wired: wired_places(self.used.as_slice()),
-            claimed: claimed_places(self.used.as_slice()),
-            held: held_frames(self.held.as_slice()),
+            wired: self.used.wired(),
+            claimed: self.used.claimed(),
+            held,
         }
     }
 
@@ -273,17 +263,6 @@ impl Pool {
         ensures { self.new ≡ counted self.old }
     {
         self.entries += 1;
-    }
-
-    /// The used frame is claimed by this processor, or by none.
-    fn note_claim(&mut self, at: usize, claim: Option<u32>)
-        requires known { at < length self.old.used }
-        requires may { (processor : ℕ) → claim ≡ Some processor → (processor < length self.old.held) × HasNothing self.old processor }
-        ensures { self.new ≡ claimed self.old at claim }
-    {
-        if let Some(used) = self.used[at].as_mut() {
-            used.claim = claim;
-        }
     }
 
     /// The frame that the processor holds becomes free, and no entry is counted.
@@ -304,6 +283,14 @@ fn every_frame(alloc: Global, count: u32) -> Result<Vec<Option<Frame>>, NoMemory
 {
     let frames = frames_of(alloc, count)?;
     Ok(frames.into_iter().map(Some).collect(alloc)?)
+}
+
+/// How many processors hold a frame.
+fn held_frames(held: &[Option<u32>]) -> u32
+    requires { length held.now ≤ 17 }
+    ensures { result ≡ count_by is_some held.now }
+{
+    held.iter().filter(|frame| frame.is_some()).count() as u32
 }
 
 #[cfg(test)]

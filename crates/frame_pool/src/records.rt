@@ -1,5 +1,4 @@
-ghost use Rattle.std.specs.Prelude.{◌≡◌, ℕ, ◌<◌, ◌≤◌, Some, true, length, option_map, sum_by};
-ghost use Rattle.pager_model.specs.FrameStates.{places_in};
+ghost use Rattle.std.specs.Prelude.{◌≡◌, ℕ, ◌<◌, ◌≤◌, Some, true, length, option_map};
 ghost use Rattle.pager_model.specs.Layouts.{covers, covering, frame_for, meets, meets_any};
 ghost use Rattle.pager_model.specs.PreferredSize.{IsWanted, preferred_size};
 ghost use Rattle.pager_model.specs.Agreement.{has_frame};
@@ -83,29 +82,6 @@ pub(crate) fn preferred(
 {
     let meets = |extent: Extent| meets_any(reservations, frames, space, &extent);
     size_policy::preferred(page, want, meets)
-}
-
-/// How many places a reservation has, where there is one.
-fn places_of(reservation: Option<Reservation>) -> u32
-    ensures { result ≡ places_in reservation }
-{
-    match reservation {
-        Some(reservation) => reservation.size.pages(),
-        None => 0,
-    }
-}
-
-/// How many places the reservations have.
-pub(crate) fn places(reservations: &Reservations, frames: u32) -> u32
-    requires frames { frames ≡ length reservations.now.records }
-    requires few { frames ≤ 32768 }
-    ensures { result ≡ sum_by places_in reservations.now.records }
-{
-    let mut places = 0;
-    for id in 0..frames {
-        places += places_of(reservations.get(id));
-    }
-    places
 }
 
 /// The first frame of the lowest of the eight parts of a reservation that has this yield, where each is a reservation.

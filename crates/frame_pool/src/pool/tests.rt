@@ -3,7 +3,7 @@ ghost use Rattle.pager_model.specs.FrameStates.{frame_of, used_at, held_by, clai
 
 mod plain;
 
-use super::{Collected, Full, NoneLeft, Pool, claimed_by};
+use super::{Collected, Full, NoneLeft, Pool};
 use crate::layout::tests::frame_in;
 use pager_model::{Frame, Want};
 use plain::Plain;
@@ -25,7 +25,7 @@ impl Pool {
         ensures found { IfSome result (λ frame. claim_in (used_at self.now frame) ≡ Some processor) }
         ensures none { IfNone result ((frame : ℕ) → claim_in (used_at self.now frame) ≡ Some processor → ⊥) }
     {
-        claimed_by(self.used.as_slice(), processor).map(|at| at as u32)
+        self.used.claimed_by(processor)
     }
 
     /// The frame that the processor holds.

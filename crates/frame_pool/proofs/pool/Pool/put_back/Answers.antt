@@ -14,4 +14,4 @@ invariant_of-self c =
     let st = state_of c.self.inside in
     let frame = c.unwrap-frame.result in
     let holds = held_read st c.args.processor frame c.index_mut.result.now (rw (← c.self.view_is) at c.requires) c.index_mut.ensures.value (sym c.take.ensures.value ∙ c.unwrap-frame.ensures) in
-    rw (c.put_back.ensures, c.take.ensures.after) (IsPool-dropped _ _ st c.args.processor frame c.self.invariant holds)
+    rw (c.put_back.ensures, c.take.ensures.after) (IsPool-dropped _ _ _ st c.args.processor frame c.self.invariant holds)

@@ -5,7 +5,7 @@ use Rattle.pager_model.specs.Layouts.{placing}
 use Rattle.frame_pool.specs.PoolState.{state_of}
 use Rattle.frame_pool.specs.Pooled.{number_in}
 use Rattle.frame_pool.proofs.LayoutPlacing.{full-placing, placing-full}
-use Rattle.frame_pool.proofs.PoolFields.{layout_of-pool, used_long, taking_of, take_frame-placed, state_taken-is, frame_known, frame_out, frame_there, IsPool-taken}
+use Rattle.frame_pool.proofs.PoolFields.{layout_of-pool, used_long, taking_of, take_frame-placed, state_taken-is, frame_known, frame_out, frame_there, nothing_noted, IsPool-taken}
 use Rattle.frame_pool.proofs.pool.Pool.take.Goals as goal
 
 pub returns-in_default-clause-full : goal.returns-in_default-clause-full
@@ -30,17 +30,25 @@ unreachable-requires c =
     let gone : None ≡ number_in c.index_mut.result.now = ap number_in c.in_default-take.ensures.value in
     none-some c.in-Some.place.frame (gone ∙ there)
 
-pub index_mut-requires-2 : goal.index_mut-requires-2
-index_mut-requires-2 c =
+pub add-requires-clause-known : goal.add-requires-clause-known
+add-requires-clause-known c =
     let p = c.self.inside in
     let unplaced = rw (← c.self.view_is) at c.requires.unplaced in
     let known = frame_known p c.args.space c.args.page c.args.want.now _ _ _ c.self.invariant unplaced c.in-Some.ensures.placed in
-    omega (arith, known, used_long _ _ (state_of p) c.self.invariant, p.used.ok.0)
+    omega (arith, known, used_long _ _ _ (state_of p) c.self.invariant)
+
+pub add-requires-clause-unused : goal.add-requires-clause-unused
+add-requires-clause-unused c =
+    let unplaced = rw (← c.self.view_is) at c.requires.unplaced in
+    nothing_noted c.self.inside c.args.space c.args.page c.args.want.now _ _ _ c.self.invariant unplaced c.in-Some.ensures.placed
+
+pub add-requires-clause-youngest : goal.add-requires-clause-youngest
+add-requires-clause-youngest c = c.self.invariant.sound.ages_past
 
 pub invariant_of-self-2 : goal.invariant_of-self-2
 invariant_of-self-2 c =
     let unplaced = rw (← c.self.view_is) at c.requires.unplaced in
-    rw c.take.ensures.after (IsPool-taken c.self.inside c.args.space c.args.page c.args.want.now _ _ _ c.self.invariant unplaced c.in-Some.ensures.placed)
+    rw (c.take.ensures.after, c.add.ensures) (IsPool-taken c.self.inside c.args.space c.args.page c.args.want.now _ _ _ c.self.invariant unplaced c.in-Some.ensures.placed)
 
 pub returns-clause-taken : goal.returns-clause-taken
 returns-clause-taken c =
@@ -54,7 +62,7 @@ returns-clause-taken c =
     let number : Some c.in-Some-take.frame.number ≡ number_in c.index_mut.result.now = ap number_in c.in-Some-take.ensures.value in (
       taking_of p space page want _ _ _ c.self.invariant unplaced placed,
       ap (λ st. take_frame st space page want) (sym c.self.view_is) ∙ take_frame-placed p space page want _ _ _ c.self.invariant unplaced placed,
-      state_taken-is p space page want _ _ _ c.self.invariant unplaced placed,
+      rw c.add.ensures (state_taken-is p space page want _ _ _ c.self.invariant unplaced placed),
       same_Some _ _ (number ∙ there) ∙ placed.same_frame,
     )
 
