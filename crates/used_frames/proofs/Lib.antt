@@ -1,1 +1,2 @@
 pub mod LinkChanges
+pub mod NoteCounts
