@@ -1,2 +1,3 @@
 pub mod LinkChanges
 pub mod NoteCounts
+pub mod NoteChanges

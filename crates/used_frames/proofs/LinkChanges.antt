@@ -34,7 +34,7 @@ module _ (links : Links) (before after : ℕ) (are : AreLinks links) (before_kno
   }
 
 -- an age that is there is not missing
-some_or_none : (o : Option ℕ) → ((age : ℕ) × (o ≡ Some age)) ⊎ (o ≡ None)
+pub some_or_none : (o : Option ℕ) → ((age : ℕ) × (o ≡ Some age)) ⊎ (o ≡ None)
 some_or_none None = inr refl
 some_or_none (Some age) = inl (age, refl)
 

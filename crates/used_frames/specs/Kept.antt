@@ -16,7 +16,12 @@ abbrev pub link_age : Option Used → Option ℕ
 link_age None = None
 link_age (Some u) = if u.wired then None else Some u.age
 
+-- a frame is claimed by a processor exactly where the processor claims it
+abbrev pub AreMutual : List (Option ℕ) → List (Option ℕ) → Type 0
+AreMutual by_frame by_processor =
+    (frame processor : ℕ) → (slice_index_or by_frame frame None ≡ Some processor) ↔ (slice_index_or by_processor processor None ≡ Some frame)
+
 -- the used frames that aren't wired are linked in order of age, and each processor has the frame that it claims
 pub record AreKept (notes : List (Option Used)) (order : Links) (claims : List (Option ℕ)) : Type 0 where
   pub ordered : IsInOrder order (map link_age notes)
-  pub claimed : (processor frame : ℕ) → (slice_index_or claims processor None ≡ Some frame) ↔ (claim_in (slice_index_or notes frame None) ≡ Some processor)
+  pub claimed : AreMutual (map claim_in notes) claims
