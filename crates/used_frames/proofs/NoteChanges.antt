@@ -159,9 +159,6 @@ module _ (notes : List (Option Used)) (order : Links) (claims : List (Option ℕ
   frame_within : frame < length (map claim_in notes)
   frame_within = omega (arith, index_within notes frame u is, length-map notes claim_in)
 
-  used : is_some (get_or notes frame None) ≡ true
-  used = ap is_some is
-
   reclaimed : (claim : Option ℕ) → map link_age (set notes frame (with_claim claim (get_or notes frame None))) ≡ map link_age notes
   reclaimed claim = map-set_same link_age notes frame _ None (link_age-with_claim claim (get_or notes frame None))
 
@@ -169,14 +166,30 @@ module _ (notes : List (Option Used)) (order : Links) (claims : List (Option ℕ
       → AreKept (set notes frame (with_claim (Some processor) (get_or notes frame None))) order (set claims processor (Some frame))
   AreKept-claim unclaimed nothing = record {
     ordered = rw (reclaimed (Some processor)) are.ordered;
-    claimed = rw (map-set claim_in notes frame (with_claim (Some processor) (get_or notes frame None)), claim_in-with_claim (Some processor) (get_or notes frame None) used)
+    claimed = rw (map-set claim_in notes frame (with_claim (Some processor) (get_or notes frame None)), claim_in-with_claim (Some processor) (get_or notes frame None) (ap is_some is))
     (AreMutual-claim (map claim_in notes) claims frame processor are.claimed frame_within known (claim_at notes frame ∙ unclaimed) nothing);
   }
+
+  -- any note without a claim
+  pub AreMutual-cleared : (note : Option Used) → claim_in note ≡ None → claim_in (get_or notes frame None) ≡ Some processor
+      → AreMutual (map claim_in (set notes frame note)) (set claims processor None)
+  AreMutual-cleared note no_claim claims_it =
+      rw (map-set claim_in notes frame note, no_claim)
+      (AreMutual-unclaim (map claim_in notes) claims frame processor are.claimed frame_within known (claim_at notes frame ∙ claims_it))
 
   pub AreKept-unclaim : claim_in (get_or notes frame None) ≡ Some processor
       → AreKept (set notes frame (with_claim None (get_or notes frame None))) order (set claims processor None)
   AreKept-unclaim claims_it = record {
     ordered = rw (reclaimed None) are.ordered;
-    claimed = rw (map-set claim_in notes frame (with_claim None (get_or notes frame None)), claim_in-with_claim None (get_or notes frame None) used)
-    (AreMutual-unclaim (map claim_in notes) claims frame processor are.claimed frame_within known (claim_at notes frame ∙ claims_it));
+    claimed = AreMutual-cleared (with_claim None (get_or notes frame None)) (claim_in-with_claim None (get_or notes frame None) (ap is_some is)) claims_it;
   }
+
+-- a used frame has a note
+pub some_from_is_some : (note : Option Used) → is_some note ≡ true → (u : Used) × (note ≡ Some u)
+some_from_is_some None is = cc
+some_from_is_some (Some u) is = (u, refl)
+
+-- and so has a claimed one
+pub some_from_claim : (note : Option Used) (processor : ℕ) → claim_in note ≡ Some processor → (u : Used) × (note ≡ Some u)
+some_from_claim None processor is = cc
+some_from_claim (Some u) processor is = (u, refl)

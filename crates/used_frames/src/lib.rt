@@ -82,12 +82,13 @@ impl UsedFrames {
     {
         let used = self.notes.get(frame).unwrap();
         self.notes.set(frame, None);
+        if let Some(processor) = used.claim {
+            self.claims[processor as usize] = None;
+        }
         if !used.wired {
             self.order.remove(frame);
         }
-        let processor = used.claim?;
-        self.claims[processor as usize] = None;
-        Some(processor)
+        used.claim
     }
 
     /// The processor, which claims no frame, claims this one, which nobody claims.
