@@ -22,12 +22,18 @@ claim_at notes frame = get_or-map claim_in notes frame None
 pub link_age_at : (notes : List (Option Used)) (frame : ℕ) → get_or (map link_age notes) frame None ≡ link_age (get_or notes frame None)
 link_age_at notes frame = get_or-map link_age notes frame None
 
+pub link_age-unwired : (u : Used) → u.wired ≡ false → link_age (Some u) ≡ Some u.age
+link_age-unwired u unwired = rw unwired refl
+
+pub link_age-wired : (u : Used) → u.wired ≡ true → link_age (Some u) ≡ None
+link_age-wired u wired = rw wired refl
+
 -- an age in the order is that of a note
 link_age_cases : (note : Option Used) (age : ℕ) → link_age note ≡ Some age → (u : Used) × (note ≡ Some u) × (u.wired ≡ false) × (u.age ≡ age)
 link_age_cases None age is = cc
 link_age_cases (Some u) age is = elim (cases_Bool u.wired) [
-  | inl wired ↦ let none : link_age (Some u) ≡ None = rw wired refl in cc
-  | inr unwired ↦ let some : link_age (Some u) ≡ Some u.age = rw unwired refl in (u, refl, unwired, let same : Some u.age ≡ Some age = sym some ∙ is in cc)
+  | inl wired ↦ let none = link_age-wired u wired in cc
+  | inr unwired ↦ let some = link_age-unwired u unwired in (u, refl, unwired, let same : Some u.age ≡ Some age = sym some ∙ is in cc)
 ]
 
 pub link_age_noted : (notes : List (Option Used)) (frame age : ℕ) → get_or (map link_age notes) frame None ≡ Some age → (u : Used) × (get_or notes frame None ≡ Some u) × (u.age ≡ age)
@@ -107,12 +113,17 @@ AreKept-none frames processors order is = record {
   claimed = rw (map-none claim_in refl frames) (AreMutual-none frames processors);
 }
 
+-- a frame that nobody claims leaves the claims as they are
+pub AreMutual-same : (notes : List (Option Used)) (order : Links) (claims : List (Option ℕ)) → AreKept notes order claims → (frame : ℕ) (note : Option Used)
+    → claim_in note ≡ claim_in (get_or notes frame None) → AreMutual (map claim_in (set notes frame note)) claims
+AreMutual-same notes order claims are frame note same_claim = rw (map-set_same claim_in notes frame note None same_claim) are.claimed
+
 -- a note with the same age in the order and the same claim changes nothing else
 pub AreKept-same : (notes : List (Option Used)) (order : Links) (claims : List (Option ℕ)) (frame : ℕ) (note : Option Used) → AreKept notes order claims
     → link_age note ≡ link_age (get_or notes frame None) → claim_in note ≡ claim_in (get_or notes frame None) → AreKept (set notes frame note) order claims
 AreKept-same notes order claims frame note are same_age same_claim = record {
   ordered = rw (map-set_same link_age notes frame note None same_age) are.ordered;
-  claimed = rw (map-set_same claim_in notes frame note None same_claim) are.claimed;
+  claimed = AreMutual-same notes order claims are frame note same_claim;
 }
 
 -- a note with the same claim, whose age came into the order or went out of it
@@ -120,7 +131,7 @@ pub AreKept-reorder : (notes : List (Option Used)) (order new : Links) (claims :
     → IsInOrder new (set (map link_age notes) frame (link_age note)) → claim_in note ≡ claim_in (get_or notes frame None) → AreKept (set notes frame note) new claims
 AreKept-reorder notes order new claims frame note are ordered same_claim = record {
   ordered = rw (map-set link_age notes frame note) ordered;
-  claimed = rw (map-set_same claim_in notes frame note None same_claim) are.claimed;
+  claimed = AreMutual-same notes order claims are frame note same_claim;
 }
 
 -- a claim is in the list of claims, and conversely
