@@ -39,7 +39,7 @@ some_or_none None = inr refl
 some_or_none (Some age) = inl (age, refl)
 
 -- the end has no age
-no_age_at_end : (links : Links) (ages : List (Option ℕ)) → IsInOrder links ages → age_of ages links.end ≡ None
+pub no_age_at_end : (links : Links) (ages : List (Option ℕ)) → IsInOrder links ages → age_of ages links.end ≡ None
 no_age_at_end links ages is = get_or_past ages links.end None (omega (arith, is.long))
 
 -- A youngest frame goes in.

@@ -29,7 +29,7 @@ pub link_age-wired : (u : Used) → u.wired ≡ true → link_age (Some u) ≡ N
 link_age-wired u wired = rw wired refl
 
 -- an age in the order is that of a note
-link_age_cases : (note : Option Used) (age : ℕ) → link_age note ≡ Some age → (u : Used) × (note ≡ Some u) × (u.wired ≡ false) × (u.age ≡ age)
+pub link_age_cases : (note : Option Used) (age : ℕ) → link_age note ≡ Some age → (u : Used) × (note ≡ Some u) × (u.wired ≡ false) × (u.age ≡ age)
 link_age_cases None age is = cc
 link_age_cases (Some u) age is = elim (cases_Bool u.wired) [
   | inl wired ↦ let none = link_age-wired u wired in cc
