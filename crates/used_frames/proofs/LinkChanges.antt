@@ -1,5 +1,5 @@
 -- Links stay in order of age as a frame goes in or out.
-use Rattle.std.proofs.Common.{◌≡◌, ◌≢◌, ◌<◌, ◌≤◌, ◌⊎◌, ℕ, ◌+◌, not, eqb, true, false, cond, List, length, get_or, set, replicate, Option, Some, None, refl, ap, sym, ◌∙◌, subst, inl, inr, arith}
+use Rattle.std.proofs.Common.{◌≡◌, ◌≢◌, ◌<◌, ◌≤◌, ◌⊎◌, ℕ, ◌+◌, not, eqb, List, get_or, set, replicate, Option, Some, None, refl, ap, sym, ◌∙◌, inl, inr, arith}
 use Rattle.std.proofs.lemmas.List.{get_or-set_same, get_or-set_other, length-set, get_or-replicate, get_or_past, length-replicate}
 use Rattle.std.proofs.lemmas.Bool.{cases_eq, cases_lt, ne_eqb, eq-eqb}
 use Rattle.std.specs.Bool.{then_some}
@@ -291,13 +291,13 @@ module _ (links : Links) (ages : List (Option ℕ)) (frame age : ℕ) (are : Are
         stop = stop_kept after after_apart then.stop;
         from = λ old has. omega (arith, then.from old (age_kept after old has).1);
         least = λ at old has high.
-        let kept = age_kept at old has in
-        let next = was.least at old kept.1 high in
-        let own : Some next.0 ≡ Some age = sym next.1 ∙ ap (age_of ages) to_frame ∙ in_order in
-        let age_is : next.0 ≡ age = cc in
-        let differs : old ≢ age = λ same. kept.0 (is.differ at frame age (kept.1 ∙ ap Some same) in_order) in
-        let least = then.least at old kept.1 (omega (arith, next.2)) in
-        (least.0, kept_age after after_apart ∙ least.1, least.2);
+            let kept = age_kept at old has in
+            let next = was.least at old kept.1 high in
+            let own : Some next.0 ≡ Some age = sym next.1 ∙ ap (age_of ages) to_frame ∙ in_order in
+            let age_is : next.0 ≡ age = cc in
+            let differs : old ≢ age = λ same. kept.0 (is.differ at frame age (kept.1 ∙ ap Some same) in_order) in
+            let least = then.least at old kept.1 (omega (arith, next.2)) in
+            (least.0, kept_age after after_apart ∙ least.1, least.2);
       }
 
   next-kept_is : (at : ℕ) → IsStop ages links.end at → at ≢ before → IsNextFrom fewer links.end (least_after (age_of ages at)) (next_of links at)
@@ -308,8 +308,8 @@ module _ (links : Links) (ages : List (Option ℕ)) (frame age : ℕ) (are : Are
         stop = stop_kept (next_of links at) apart was.stop;
         from = λ old has. was.from old (age_kept (next_of links at) old has).1;
         least = λ at' old has high.
-        let least = was.least at' old (age_kept at' old has).1 high in
-        (least.0, kept_age (next_of links at) apart ∙ least.1, least.2);
+            let least = was.least at' old (age_kept at' old has).1 high in
+            (least.0, kept_age (next_of links at) apart ∙ least.1, least.2);
       }
 
   pub IsInOrder-remove : IsInOrder unlinked fewer
@@ -347,20 +347,20 @@ module _ (links : Links) (ages : List (Option ℕ)) (frame age : ℕ) (are : Are
 pub IsLeastFrom-next : (links : Links) (ages : List (Option ℕ)) (low at : ℕ) → IsInOrder links ages → IsNextFrom ages links.end low at → IsLeastFrom ages low (then_some (not (eqb at links.end)) at)
 IsLeastFrom-next links ages low at is next = elim (cases_eq at links.end) [
   | inl same ↦ rw (eq-eqb at links.end same) (record {
-      from = tt;
-      least = λ other age has high.
-      let least = next.least other age has high in
-      let none = no_age_at_end links ages is in
-      let some : age_of ages links.end ≡ Some least.0 = sym (ap (age_of ages) same) ∙ least.1 in
-      cc;
-    })
+    from = tt;
+    least = λ other age has high.
+        let least = next.least other age has high in
+        let none = no_age_at_end links ages is in
+        let some : age_of ages links.end ≡ Some least.0 = sym (ap (age_of ages) same) ∙ least.1 in
+        cc;
+  })
   | inr apart ↦ rw (ne_eqb at links.end apart) (record {
-      from = elim (some_or_none (age_of ages at)) [
-        | inl some ↦ (some.0, some.1, next.from some.0 some.1)
-        | inr none ↦ absurd (apart (next.stop none))
-      ];
-      least = next.least;
-    })
+    from = elim (some_or_none (age_of ages at)) [
+      | inl some ↦ (some.0, some.1, next.from some.0 some.1)
+      | inr none ↦ absurd (apart (next.stop none))
+    ];
+    least = next.least;
+  })
 ]
 
 -- at first nothing is in

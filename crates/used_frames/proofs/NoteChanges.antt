@@ -1,6 +1,6 @@
 -- What stays true of the notes as one changes.
-use Rattle.std.proofs.Common.{◌≡◌, ◌≢◌, ◌<◌, ◌≤◌, ◌↔◌, ℕ, zero, suc, ◌+◌, List, [], ◌∷◌, length, get_or, set, map, replicate, Option, Some, None, IfSome, IfNone, is_some, true, false, refl, ap, sym, ◌∙◌, subst, inl, inr, arith}
-use Rattle.std.proofs.lemmas.List.{get_or-set_same, get_or-set_other, length-set, get_or-replicate, get_or_past, length-replicate, length-map, map-set}
+use Rattle.std.proofs.Common.{◌≡◌, ◌<◌, ℕ, zero, suc, List, ◌∷◌, length, get_or, set, map, replicate, Option, Some, None, IfSome, IfNone, is_some, true, false, refl, ap, sym, ◌∙◌, subst, inl, inr, arith}
+use Rattle.std.proofs.lemmas.List.{get_or-set_same, get_or-set_other, get_or-replicate, get_or_past, length-replicate, length-map, map-set}
 use Rattle.std.proofs.lemmas.Bool.{cases_eq, cases_lt, cases_Bool}
 use Rattle.std.proofs.Math.ListN.{get_or-map}
 use Rattle.std.proofs.Math.Seq.{map-set_same}
@@ -65,16 +65,18 @@ AreMutual-claim by_frame by_processor frame processor are frame_in processor_in 
       | inl same_frame ↦ elim (cases_eq p processor) [
         | inl same ↦ (λ _. rw (same, there, same_frame) refl, λ _. rw (same_frame, here, same) refl)
         | inr other ↦
-            let kept = get_or-set_other by_processor processor p (Some frame) None other in
-            (λ has. let at : Some processor ≡ Some p = sym here ∙ sym (ap (λ i. get_or (set by_frame frame (Some processor)) i None) same_frame) ∙ has in absurd (other (cc)),
-            λ has. let was = (are f p).1 (sym kept ∙ has) in let none : get_or by_frame f None ≡ None = ap (λ i. get_or by_frame i None) same_frame ∙ no_claim in cc)
+            let kept = get_or-set_other by_processor processor p (Some frame) None other in (
+              λ has. let at : Some processor ≡ Some p = sym here ∙ sym (ap (λ i. get_or (set by_frame frame (Some processor)) i None) same_frame) ∙ has in absurd (other (cc)),
+              λ has. let was = (are f p).1 (sym kept ∙ has) in let none : get_or by_frame f None ≡ None = ap (λ i. get_or by_frame i None) same_frame ∙ no_claim in cc,
+            )
       ]
       | inr other_frame ↦
           let kept = get_or-set_other by_frame frame f (Some processor) None other_frame in
           elim (cases_eq p processor) [
-            | inl same ↦
-                (λ has. let was = (are f p).0 (sym kept ∙ has) in let none : get_or by_processor p None ≡ None = ap (λ i. get_or by_processor i None) same ∙ claims_none in cc,
-                λ has. let at : Some frame ≡ Some f = sym there ∙ sym (ap (λ i. get_or (set by_processor processor (Some frame)) i None) same) ∙ has in absurd (other_frame (cc)))
+            | inl same ↦ (
+              λ has. let was = (are f p).0 (sym kept ∙ has) in let none : get_or by_processor p None ≡ None = ap (λ i. get_or by_processor i None) same ∙ claims_none in cc,
+              λ has. let at : Some frame ≡ Some f = sym there ∙ sym (ap (λ i. get_or (set by_processor processor (Some frame)) i None) same) ∙ has in absurd (other_frame (cc)),
+            )
             | inr other ↦ rw (kept, get_or-set_other by_processor processor p (Some frame) None other) (are f p)
           ]
     ]
@@ -178,7 +180,7 @@ module _ (notes : List (Option Used)) (order : Links) (claims : List (Option ℕ
   AreKept-claim unclaimed nothing = record {
     ordered = rw (reclaimed (Some processor)) are.ordered;
     claimed = rw (map-set claim_in notes frame (with_claim (Some processor) (get_or notes frame None)), claim_in-with_claim (Some processor) (get_or notes frame None) (ap is_some is))
-    (AreMutual-claim (map claim_in notes) claims frame processor are.claimed frame_within known (claim_at notes frame ∙ unclaimed) nothing);
+        (AreMutual-claim (map claim_in notes) claims frame processor are.claimed frame_within known (claim_at notes frame ∙ unclaimed) nothing);
   }
 
   -- any note without a claim

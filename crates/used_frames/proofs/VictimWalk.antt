@@ -1,5 +1,5 @@
 -- A walk from the first frame in order to the victim.
-use Rattle.std.proofs.Common.{◌≡◌, ◌≢◌, ◌<◌, ◌≤◌, ℕ, ◌+◌, ◌-◌, List, length, get_or, map, Option, Some, None, IfSome, IsSomeAnd, Bool, true, false, not, ◌&&◌, is_none, is_some, refl, ap, sym, ◌∙◌, inl, inr, arith}
+use Rattle.std.proofs.Common.{◌≡◌, ◌≢◌, ◌<◌, ◌≤◌, ℕ, ◌+◌, ◌-◌, List, get_or, map, Option, Some, None, IfSome, IsSomeAnd, true, false, is_none, is_some, refl, ap, sym, ◌∙◌, inl, inr, arith}
 use Rattle.std.specs.List.{list_any}
 use Rattle.std.proofs.lemmas.Bool.{cases_Bool, cases_lt, true≢false, false_from_ne_true}
 use Rattle.std.proofs.lemmas.List.Folds.{Any-from_list_any}
@@ -43,12 +43,12 @@ pub IsReached-after : (notes : List (Option Used)) (order : Links) (frame age : 
 IsReached-after notes order frame age next ordered reached has claimed least = record {
   in_order = in_order_from (ages_of notes) (age + 1) next least;
   passed = λ other old has_old unclaimed.
-  let before = reached.passed other old has_old unclaimed in
-  let own : Some before.0 ≡ Some age = sym before.1 ∙ has in
-  let own_is : before.0 ≡ age = cc in
-  let apart : other ≢ frame = λ same. true≢false (sym claimed ∙ ap (λ i. is_claimed_place (get_or notes i None)) (sym same) ∙ unclaimed) in
-  let differs : old ≢ age = λ same. apart (ordered.differ other frame age (has_old ∙ ap Some same) has) in
-  least.least other old has_old (omega (arith, before.2));
+      let before = reached.passed other old has_old unclaimed in
+      let own : Some before.0 ≡ Some age = sym before.1 ∙ has in
+      let own_is : before.0 ≡ age = cc in
+      let apart : other ≢ frame = λ same. true≢false (sym claimed ∙ ap (λ i. is_claimed_place (get_or notes i None)) (sym same) ∙ unclaimed) in
+      let differs : old ≢ age = λ same. apart (ordered.differ other frame age (has_old ∙ ap Some same) has) in
+      least.least other old has_old (omega (arith, before.2));
 }
 
 -- an age in the order is that of a frame which isn't wired, and which may be paged out where nobody claims it
@@ -86,9 +86,9 @@ IsLeast-reached notes frame reached unclaimed =
       known = let cases = link_age_cases (get_or notes frame None) age.0 own in index_within notes frame cases.0 cases.1;
       evictable = unclaimed_evictable (get_or notes frame None) age.0 own unclaimed;
       least = λ other evictable.
-      let noted = evictable_noted (get_or notes other None) evictable in
-      let passed = reached.passed other (age_in (get_or notes other None)) (link_age_at notes other ∙ noted.0) noted.1 in
-      omega (arith, passed.2, age_noted (get_or notes frame None) passed.0 (sym (link_age_at notes frame) ∙ passed.1));
+          let noted = evictable_noted (get_or notes other None) evictable in
+          let passed = reached.passed other (age_in (get_or notes other None)) (link_age_at notes other ∙ noted.0) noted.1 in
+          omega (arith, passed.2, age_noted (get_or notes frame None) passed.0 (sym (link_age_at notes frame) ∙ passed.1));
     }
 
 -- without a frame left none may be paged out
@@ -116,5 +116,10 @@ pub fewer_left : (notes : List (Option Used)) (order : Links) (frame age : ℕ) 
 fewer_left notes order frame age None ordered has least =
     omega (arith, below_last (ages_of notes) order frame age ordered has, age_noted (get_or notes frame None) age (sym (link_age_at notes frame) ∙ has))
 fewer_left notes order frame age (Some next) ordered has least =
-    omega (arith, below_last (ages_of notes) order next least.from.0 ordered least.from.1, least.from.2, age_noted (get_or notes frame None) age (sym (link_age_at notes frame) ∙ has),
-    age_noted (get_or notes next None) least.from.0 (sym (link_age_at notes next) ∙ least.from.1))
+    omega (
+      arith,
+      below_last (ages_of notes) order next least.from.0 ordered least.from.1,
+      least.from.2,
+      age_noted (get_or notes frame None) age (sym (link_age_at notes frame) ∙ has),
+      age_noted (get_or notes next None) least.from.0 (sym (link_age_at notes next) ∙ least.from.1),
+    )

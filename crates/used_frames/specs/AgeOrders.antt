@@ -1,5 +1,5 @@
 -- Frames in order of age, each linked to the next and to the one before.
-use Rattle.std.specs.Prelude.{ℕ, ◌≡◌, ◌+◌, ◌<◌, ◌≤◌, List, length, slice_index, slice_index_or, slice_set, Option, Some, None, IfSome, IsSomeAnd}
+use Rattle.std.specs.Prelude.{ℕ, ◌≡◌, ◌+◌, ◌≤◌, List, length, slice_index, slice_index_or, slice_set, Option, Some, None, IfSome, IsSomeAnd}
 
 -- For each frame the next one and the one before. The end, which is the number after the last frame's, stands before the first frame
 -- in order and after the last.

@@ -159,3 +159,6 @@ impl UsedFrames {
         self.notes.claimed()
     }
 }
+
+#[cfg(test)]
+mod tests;

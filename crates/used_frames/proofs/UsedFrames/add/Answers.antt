@@ -1,4 +1,4 @@
-use Rattle.std.proofs.Common.{◌≡◌, Some, None, cond, map, set, ap, sym, refl, ◌∙◌}
+use Rattle.std.proofs.Common.{map, ap, sym, ◌∙◌}
 use Rattle.pager_model.specs.FrameStates.{claim_in}
 use Rattle.used_frames.specs.Kept.{link_age}
 use Rattle.used_frames.proofs.NoteChanges.{AreKept-reorder, AreKept-same, link_age_at, link_age_noted}

@@ -1,4 +1,4 @@
-use Rattle.std.proofs.Common.{◌≡◌, get_or, Some, None, IfSome, IfNone, refl, sym, ◌∙◌, rules, arith}
+use Rattle.std.proofs.Common.{◌≡◌, get_or, None, sym, ◌∙◌, arith}
 use Rattle.std.proofs.lemmas.Grind.{common_steps}
 use Rattle.used_frames.specs.Noted.{Claims}
 use Rattle.used_frames.proofs.NoteChanges.{claim_listed, listed_claim, if_some, if_none}

@@ -1,10 +1,10 @@
-use Rattle.std.proofs.Common.{◌≡◌, ◌<◌, ℕ, List, Option, Some, None, map, set, length, get_or, sym, refl, ap, subst, ◌∙◌, arith, rules}
+use Rattle.std.proofs.Common.{◌≡◌, ◌<◌, ℕ, List, Option, Some, None, map, set, length, get_or, sym, refl, ap, ◌∙◌, arith}
 use Rattle.std.proofs.lemmas.List.{map-set}
 use Rattle.std.proofs.lemmas.Bool.{not-true, not-false}
 use Rattle.std.proofs.Math.Seq.{map-set_same}
 use Rattle.pager_model.specs.declared.reservation.Used.{Used}
 use Rattle.pager_model.specs.FrameStates.{claim_in}
-use Rattle.used_frames.specs.AgeOrders.{Links, IsInOrder}
+use Rattle.used_frames.specs.AgeOrders.{Links}
 use Rattle.used_frames.specs.declared.UsedFrames.TheInside.{Inside}
 use Rattle.used_frames.specs.Kept.{AreMutual, link_age}
 use Rattle.used_frames.proofs.NoteChanges.{AreMutual-cleared, AreMutual-same, claim_listed, index_within, link_age_at, link_age-unwired, link_age-wired}

@@ -1,4 +1,4 @@
-use Rattle.std.proofs.Common.{◌≡◌, ◌<◌, Some, None, length, get_or, arith, rules}
+use Rattle.std.proofs.Common.{◌≡◌, ◌<◌, Some, None, length, get_or, arith}
 use Rattle.pager_model.specs.FrameStates.{claim_in}
 use Rattle.used_frames.proofs.NoteChanges.{AreKept-unclaim, claim_listed, index_within, some_from_claim}
 use Rattle.used_frames.proofs.UsedFrames.unclaim.Goals as goal

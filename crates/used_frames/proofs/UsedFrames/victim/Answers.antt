@@ -1,8 +1,5 @@
-use Rattle.std.proofs.Common.{◌≡◌, ℕ, Some, get_or, map, None, sym, ap, ◌∙◌, arith, rules}
-use Rattle.std.proofs.lemmas.Bool.{not-true, not-false}
-use Rattle.pager_model.specs.FrameStates.{is_claimed_place}
-use Rattle.used_frames.specs.AgeOrders.{age_of}
-use Rattle.used_frames.proofs.VictimWalk.{IsLeast-reached, IsReached, IsReached-after, IsReached-first, ages_of, fewer_left, none_reached}
+use Rattle.std.proofs.Common.{Some, sym}
+use Rattle.used_frames.proofs.VictimWalk.{IsLeast-reached, IsReached, IsReached-after, IsReached-first, fewer_left, none_reached}
 use Rattle.used_frames.proofs.UsedFrames.victim.Goals as goal
 use Rattle.used_frames.proofs.UsedFrames.victim.Goals.{In-Some}
 

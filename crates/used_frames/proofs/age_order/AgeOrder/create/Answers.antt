@@ -1,5 +1,4 @@
 use Rattle.std.proofs.Common.{◌≡◌, ◌+◌, replicate, rules}
-use Rattle.used_frames.specs.AgeOrders.{Links}
 use Rattle.used_frames.proofs.LinkChanges.{IsInOrder-none}
 use Rattle.used_frames.proofs.age_order.AgeOrder.create.Goals as goal
 

@@ -1,4 +1,4 @@
-use Rattle.std.proofs.Common.{arith, is_some, None}
+use Rattle.std.proofs.Common.{is_some, None}
 use Rattle.pager_model.specs.FrameStates.{is_wired_place, is_claimed_place}
 use Rattle.used_frames.proofs.NoteCounts.{count_by-set_fits}
 use Rattle.used_frames.proofs.notes.Notes.set.Goals as goal
