@@ -1,2 +1,4 @@
+pub mod AgeOrders
+pub mod Kept
 pub mod Noted
 pub mod Victims

@@ -5,33 +5,43 @@
 //! the counts are kept as they change: no call looks through all frames.
 #![tactic(auto)]
 
-use pager_model::NoMemory;
-use std::alloc::Global;
-use std::marker::Model;
-
 ghost use Rattle.std.specs.Prelude.{◌≡◌, ℕ, ◌<◌, ◌≤◌, Some, None, IfOk, IfSome, IfNone, is_some, length, replicate, count_by, true, false};
 ghost use Rattle.std.specs.List.{list_any};
 ghost use Rattle.pager_model.specs.FrameStates.{claim_in, is_evictable, is_wired_place, is_claimed_place};
 ghost use Rattle.used_frames.specs.Noted.{note_of, with_note, with_claim_of, Claims, AreOlder};
 ghost use Rattle.used_frames.specs.Victims.{IsLeast};
 
+mod age_order;
+mod notes;
+
+use age_order::AgeOrder;
+use notes::Notes;
+use pager_model::{NoMemory, Used};
+use std::alloc::Global;
+use std::marker::Model;
+
 /// What is noted of the used frames, with all the memory that it ever needs.
 ///
 /// Contracts see the list by frame of what is noted, and the number of processors.
 #[derive(Debug, Drop)]
 pub struct UsedFrames {
-    number: u32,
+    notes: Notes,
+    /// The used frames that aren't wired.
+    order: AgeOrder,
+    /// For each processor the frame that it claims.
+    claims: Vec<Option<u32>>,
 }
 
 impl Model for UsedFrames {
+    ghost use Rattle.std.specs.Prelude.{length};
+    ghost use Rattle.used_frames.specs.Kept.{AreKept};
     ghost use Rattle.used_frames.specs.Noted.{Noted};
-    ghost use Rattle.std.specs.Prelude.{[]};
 
     ghost Value = { Noted };
 
-    ghost view = { λ u. record { frames = []; processors = u.number } };
+    ghost view = { λ u. record { frames = u.notes; processors = length u.claims.items } };
 
-    ghost invariant = { λ u. ⊥ };
+    ghost invariant = { λ u. AreKept u.notes u.order u.claims.items };
 }
 
 impl UsedFrames {
@@ -39,7 +49,11 @@ impl UsedFrames {
     pub fn create(alloc: Global, frames: u32, processors: u32) -> Result<UsedFrames, NoMemory>
         ensures { IfOk result (λ used. used ≡ record { frames = replicate frames None; processors = processors }) }
     {
-        Err(NoMemory)
+        Ok(UsedFrames {
+            notes: Notes::create(alloc, frames)?,
+            order: AgeOrder::create(alloc, frames)?,
+            claims: vec![in alloc; None; processors as usize]?,
+        })
     }
 
     /// The frame is used from now on, at an age greater than that of all others.
@@ -49,8 +63,15 @@ impl UsedFrames {
         requires youngest { AreOlder self.old age }
         ensures { self.new ≡ with_note self.old frame (Some (record { age = age; wired = wired; claim = None })) }
     {
-        let _open = self.number;
-        unreachable!()
+        let note = Used {
+            age,
+            wired,
+            claim: None,
+        };
+        self.notes.set(frame, Some(note));
+        if !wired {
+            self.order.push(frame);
+        }
     }
 
     /// The frame is used no more. Answers the processor that claimed it, where one did.
@@ -59,8 +80,15 @@ impl UsedFrames {
         ensures claimer { result ≡ claim_in (note_of self.old frame) }
         ensures removed { self.new ≡ with_note self.old frame None }
     {
-        let _open = self.number;
-        unreachable!()
+        let used = self.notes.get(frame).unwrap();
+        self.notes.set(frame, None);
+        if let Some(processor) = used.claim {
+            self.claims[processor as usize] = None;
+        }
+        if !used.wired {
+            self.order.remove(frame);
+        }
+        used.claim
     }
 
     /// The processor, which claims no frame, claims this one, which nobody claims.
@@ -71,8 +99,8 @@ impl UsedFrames {
         requires nothing { (other : ℕ) → Claims self.old processor other → ⊥ }
         ensures { self.new ≡ with_claim_of self.old frame (Some processor) }
     {
-        let _open = self.number;
-        unreachable!()
+        self.notes.set_claim(frame, Some(processor));
+        self.claims[processor as usize] = Some(frame);
     }
 
     /// The frame that the processor claims is claimed no more. Answers it.
@@ -81,8 +109,10 @@ impl UsedFrames {
         ensures frame { Claims self.old processor result }
         ensures unclaimed { self.new ≡ with_claim_of self.old result None }
     {
-        let _open = self.number;
-        unreachable!()
+        let frame = self.claimed_by(processor).unwrap();
+        self.notes.set_claim(frame, None);
+        self.claims[processor as usize] = None;
+        frame
     }
 
     /// The frame that the processor claims, where it claims one.
@@ -90,8 +120,7 @@ impl UsedFrames {
         ensures found { IfSome result (Claims self.now processor) }
         ensures none { IfNone result ((frame : ℕ) → Claims self.now processor frame → ⊥) }
     {
-        let _open = self.number;
-        unreachable!()
+        self.claims.get(processor as usize).copied().flatten()
     }
 
     /// The frame whose page is paged out next: of those that are neither wired nor claimed the one of least age.
@@ -99,31 +128,37 @@ impl UsedFrames {
         ensures found { IfSome result (IsLeast self.now.frames) }
         ensures none { IfNone result (list_any is_evictable self.now.frames ≡ false) }
     {
-        let _open = self.number;
-        unreachable!()
+        let mut next = self.order.first();
+        while let Some(frame) = next {
+            if !self.notes.is_claimed(frame) {
+                return Some(frame);
+            }
+            next = self.order.after(frame);
+        }
+        None
     }
 
     /// How many frames are used.
     pub fn count(&self) -> u32
         ensures { result ≡ count_by is_some self.now.frames }
     {
-        let _open = self.number;
-        unreachable!()
+        self.notes.used()
     }
 
     /// How many used frames are of a page in a wired region.
     pub fn wired(&self) -> u32
         ensures { result ≡ count_by is_wired_place self.now.frames }
     {
-        let _open = self.number;
-        unreachable!()
+        self.notes.wired()
     }
 
     /// How many used frames a processor claims.
     pub fn claimed(&self) -> u32
         ensures { result ≡ count_by is_claimed_place self.now.frames }
     {
-        let _open = self.number;
-        unreachable!()
+        self.notes.claimed()
     }
 }
+
+#[cfg(test)]
+mod tests;

@@ -1,0 +1,4 @@
+pub mod LinkChanges
+pub mod NoteCounts
+pub mod NoteChanges
+pub mod VictimWalk

@@ -1,0 +1,208 @@
+-- What stays true of the notes as one changes.
+use Rattle.std.proofs.Common.{◌≡◌, ◌<◌, ℕ, zero, suc, List, ◌∷◌, length, get_or, set, map, replicate, Option, Some, None, IfSome, IfNone, is_some, true, false, refl, ap, sym, ◌∙◌, subst, inl, inr, arith}
+use Rattle.std.proofs.lemmas.List.{get_or-set_same, get_or-set_other, get_or-replicate, get_or_past, length-replicate, length-map, map-set}
+use Rattle.std.proofs.lemmas.Bool.{cases_eq, cases_lt, cases_Bool}
+use Rattle.std.proofs.Math.ListN.{get_or-map}
+use Rattle.std.proofs.Math.Seq.{map-set_same}
+use Rattle.pager_model.specs.declared.reservation.Used.{Used}
+use Rattle.pager_model.specs.FrameStates.{claim_in, with_claim}
+use Rattle.used_frames.specs.AgeOrders.{Links, IsInOrder}
+use Rattle.used_frames.proofs.LinkChanges.{some_or_none}
+use Rattle.used_frames.specs.Kept.{AreKept, AreMutual, link_age}
+
+none_of : (n i : ℕ) → get_or {A = Option ℕ} (replicate n None) i None ≡ None
+none_of n i = elim (cases_lt i n) [
+  | inl within ↦ get_or-replicate n i None None within
+  | inr past ↦ get_or_past (replicate n None) i None (omega (arith, length-replicate {A = Option ℕ} n None))
+]
+
+pub claim_at : (notes : List (Option Used)) (frame : ℕ) → get_or (map claim_in notes) frame None ≡ claim_in (get_or notes frame None)
+claim_at notes frame = get_or-map claim_in notes frame None
+
+pub link_age_at : (notes : List (Option Used)) (frame : ℕ) → get_or (map link_age notes) frame None ≡ link_age (get_or notes frame None)
+link_age_at notes frame = get_or-map link_age notes frame None
+
+pub link_age-unwired : (u : Used) → u.wired ≡ false → link_age (Some u) ≡ Some u.age
+link_age-unwired u unwired = rw unwired refl
+
+pub link_age-wired : (u : Used) → u.wired ≡ true → link_age (Some u) ≡ None
+link_age-wired u wired = rw wired refl
+
+-- an age in the order is that of a note
+pub link_age_cases : (note : Option Used) (age : ℕ) → link_age note ≡ Some age → (u : Used) × (note ≡ Some u) × (u.wired ≡ false) × (u.age ≡ age)
+link_age_cases None age is = cc
+link_age_cases (Some u) age is = elim (cases_Bool u.wired) [
+  | inl wired ↦ let none = link_age-wired u wired in cc
+  | inr unwired ↦ let some = link_age-unwired u unwired in (u, refl, unwired, let same : Some u.age ≡ Some age = sym some ∙ is in cc)
+]
+
+pub link_age_noted : (notes : List (Option Used)) (frame age : ℕ) → get_or (map link_age notes) frame None ≡ Some age → (u : Used) × (get_or notes frame None ≡ Some u) × (u.age ≡ age)
+link_age_noted notes frame age is =
+    let cases = link_age_cases (get_or notes frame None) age (sym (link_age_at notes frame) ∙ is) in
+    (cases.0, cases.1, cases.3)
+
+pub if_some : {X : Type 0} (o : Option X) (P : X → Type 0) → ((x : X) → o ≡ Some x → P x) → IfSome o P
+if_some None P p = tt
+if_some (Some x) P p = p x refl
+
+pub if_none : {X : Type 0} (o : Option X) {P : Type 0} → (o ≡ None → P) → IfNone o P
+if_none None p = p refl
+if_none (Some x) p = tt
+
+AreMutual-none : (n m : ℕ) → AreMutual (replicate n None) (replicate m None)
+AreMutual-none n m = λ frame processor.
+    (λ has. let none = none_of n frame in cc, λ has. let none = none_of m processor in cc)
+
+-- a frame and a processor that had none
+pub AreMutual-claim : (by_frame by_processor : List (Option ℕ)) (frame processor : ℕ) → AreMutual by_frame by_processor
+    → frame < length by_frame → processor < length by_processor
+    → get_or by_frame frame None ≡ None → get_or by_processor processor None ≡ None
+    → AreMutual (set by_frame frame (Some processor)) (set by_processor processor (Some frame))
+AreMutual-claim by_frame by_processor frame processor are frame_in processor_in no_claim claims_none = λ f p.
+    let here = get_or-set_same by_frame frame (Some processor) None frame_in in
+    let there = get_or-set_same by_processor processor (Some frame) None processor_in in
+    elim (cases_eq f frame) [
+      | inl same_frame ↦ elim (cases_eq p processor) [
+        | inl same ↦ (λ _. rw (same, there, same_frame) refl, λ _. rw (same_frame, here, same) refl)
+        | inr other ↦
+            let kept = get_or-set_other by_processor processor p (Some frame) None other in (
+              λ has. let at : Some processor ≡ Some p = sym here ∙ sym (ap (λ i. get_or (set by_frame frame (Some processor)) i None) same_frame) ∙ has in absurd (other (cc)),
+              λ has. let was = (are f p).1 (sym kept ∙ has) in let none : get_or by_frame f None ≡ None = ap (λ i. get_or by_frame i None) same_frame ∙ no_claim in cc,
+            )
+      ]
+      | inr other_frame ↦
+          let kept = get_or-set_other by_frame frame f (Some processor) None other_frame in
+          elim (cases_eq p processor) [
+            | inl same ↦ (
+              λ has. let was = (are f p).0 (sym kept ∙ has) in let none : get_or by_processor p None ≡ None = ap (λ i. get_or by_processor i None) same ∙ claims_none in cc,
+              λ has. let at : Some frame ≡ Some f = sym there ∙ sym (ap (λ i. get_or (set by_processor processor (Some frame)) i None) same) ∙ has in absurd (other_frame (cc)),
+            )
+            | inr other ↦ rw (kept, get_or-set_other by_processor processor p (Some frame) None other) (are f p)
+          ]
+    ]
+
+-- they have each other no more
+pub AreMutual-unclaim : (by_frame by_processor : List (Option ℕ)) (frame processor : ℕ) → AreMutual by_frame by_processor
+    → frame < length by_frame → processor < length by_processor → get_or by_frame frame None ≡ Some processor
+    → AreMutual (set by_frame frame None) (set by_processor processor None)
+AreMutual-unclaim by_frame by_processor frame processor are frame_in processor_in has_claim = λ f p.
+    let here = get_or-set_same by_frame frame None None frame_in in
+    let there = get_or-set_same by_processor processor None None processor_in in
+    let claims = (are frame processor).0 has_claim in
+    elim (cases_eq f frame) [
+      | inl same_frame ↦ elim (cases_eq p processor) [
+        | inl same ↦ rw (same_frame, same, here, there) (λ has. cc, λ has. cc)
+        | inr other ↦
+            rw (same_frame, here, get_or-set_other by_processor processor p None None other)
+            (λ has. cc, λ has. let was = (are frame p).1 has in let at : Some processor ≡ Some p = sym has_claim ∙ was in absurd (other (cc)))
+      ]
+      | inr other_frame ↦
+          elim (cases_eq p processor) [
+            | inl same ↦
+                rw (same, there, get_or-set_other by_frame frame f None None other_frame)
+                (λ has. let was = (are f processor).0 has in let at : Some frame ≡ Some f = sym claims ∙ was in absurd (other_frame (cc)), λ has. cc)
+            | inr other ↦ rw (get_or-set_other by_frame frame f None None other_frame, get_or-set_other by_processor processor p None None other) (are f p)
+          ]
+    ]
+
+map-none : {X : Type 0} (f : Option X → Option ℕ) → f None ≡ None → (n : ℕ) → map f (replicate n None) ≡ replicate n None
+map-none f none zero = refl
+map-none f none (suc n) = rw none (ap (λ xs. None ∷ xs) (map-none f none n))
+
+pub AreKept-none : (frames processors : ℕ) (order : Links) → IsInOrder order (replicate frames None) → AreKept (replicate frames None) order (replicate processors None)
+AreKept-none frames processors order is = record {
+  ordered = subst (IsInOrder order) (sym (map-none link_age refl frames)) is;
+  claimed = rw (map-none claim_in refl frames) (AreMutual-none frames processors);
+}
+
+-- a frame that nobody claims leaves the claims as they are
+pub AreMutual-same : (notes : List (Option Used)) (order : Links) (claims : List (Option ℕ)) → AreKept notes order claims → (frame : ℕ) (note : Option Used)
+    → claim_in note ≡ claim_in (get_or notes frame None) → AreMutual (map claim_in (set notes frame note)) claims
+AreMutual-same notes order claims are frame note same_claim = rw (map-set_same claim_in notes frame note None same_claim) are.claimed
+
+-- a note with the same age in the order and the same claim changes nothing else
+pub AreKept-same : (notes : List (Option Used)) (order : Links) (claims : List (Option ℕ)) (frame : ℕ) (note : Option Used) → AreKept notes order claims
+    → link_age note ≡ link_age (get_or notes frame None) → claim_in note ≡ claim_in (get_or notes frame None) → AreKept (set notes frame note) order claims
+AreKept-same notes order claims frame note are same_age same_claim = record {
+  ordered = rw (map-set_same link_age notes frame note None same_age) are.ordered;
+  claimed = AreMutual-same notes order claims are frame note same_claim;
+}
+
+-- a note with the same claim, whose age came into the order or went out of it
+pub AreKept-reorder : (notes : List (Option Used)) (order new : Links) (claims : List (Option ℕ)) (frame : ℕ) (note : Option Used) → AreKept notes order claims
+    → IsInOrder new (set (map link_age notes) frame (link_age note)) → claim_in note ≡ claim_in (get_or notes frame None) → AreKept (set notes frame note) new claims
+AreKept-reorder notes order new claims frame note are ordered same_claim = record {
+  ordered = rw (map-set link_age notes frame note) ordered;
+  claimed = AreMutual-same notes order claims are frame note same_claim;
+}
+
+-- a claim is in the list of claims, and conversely
+module _ (notes : List (Option Used)) (order : Links) (claims : List (Option ℕ)) (are : AreKept notes order claims) (frame processor : ℕ) where
+  pub claim_listed : claim_in (get_or notes frame None) ≡ Some processor → get_or claims processor None ≡ Some frame
+  claim_listed claims_it = (are.claimed frame processor).0 (claim_at notes frame ∙ claims_it)
+
+  pub listed_claim : get_or claims processor None ≡ Some frame → claim_in (get_or notes frame None) ≡ Some processor
+  listed_claim listed = sym (claim_at notes frame) ∙ (are.claimed frame processor).1 listed
+
+-- who claims nothing has no entry
+pub unlisted : (notes : List (Option Used)) (order : Links) (claims : List (Option ℕ)) → AreKept notes order claims → (processor : ℕ)
+    → ((frame : ℕ) → claim_in (get_or notes frame None) ≡ Some processor → ⊥) → get_or claims processor None ≡ None
+unlisted notes order claims are processor nothing = elim (some_or_none (get_or claims processor None)) [
+  | inl some ↦ absurd (nothing some.0 (listed_claim notes order claims are some.0 processor some.1))
+  | inr none ↦ none
+]
+
+-- what is at an index is within the list
+pub index_within : {X : Type 0} (xs : List (Option X)) (i : ℕ) (x : X) → get_or xs i None ≡ Some x → i < length xs
+index_within xs i x is = elim (cases_lt i (length xs)) [
+  | inl within ↦ within
+  | inr past ↦ let none = get_or_past xs i None past in absurd (cc)
+]
+
+link_age-with_claim : (claim : Option ℕ) (note : Option Used) → link_age (with_claim claim note) ≡ link_age note
+link_age-with_claim claim None = refl
+link_age-with_claim claim (Some u) = refl
+
+claim_in-with_claim : (claim : Option ℕ) (note : Option Used) → is_some note ≡ true → claim_in (with_claim claim note) ≡ claim
+claim_in-with_claim claim None some = cc
+claim_in-with_claim claim (Some u) some = refl
+
+-- a claim or none in place of another leaves the order
+module _ (notes : List (Option Used)) (order : Links) (claims : List (Option ℕ)) (are : AreKept notes order claims) (frame processor : ℕ) (u : Used) (is : get_or notes frame None ≡ Some u) (known : processor < length claims) where
+  frame_within : frame < length (map claim_in notes)
+  frame_within = omega (arith, index_within notes frame u is, length-map notes claim_in)
+
+  reclaimed : (claim : Option ℕ) → map link_age (set notes frame (with_claim claim (get_or notes frame None))) ≡ map link_age notes
+  reclaimed claim = map-set_same link_age notes frame _ None (link_age-with_claim claim (get_or notes frame None))
+
+  pub AreKept-claim : claim_in (get_or notes frame None) ≡ None → get_or claims processor None ≡ None
+      → AreKept (set notes frame (with_claim (Some processor) (get_or notes frame None))) order (set claims processor (Some frame))
+  AreKept-claim unclaimed nothing = record {
+    ordered = rw (reclaimed (Some processor)) are.ordered;
+    claimed = rw (map-set claim_in notes frame (with_claim (Some processor) (get_or notes frame None)), claim_in-with_claim (Some processor) (get_or notes frame None) (ap is_some is))
+        (AreMutual-claim (map claim_in notes) claims frame processor are.claimed frame_within known (claim_at notes frame ∙ unclaimed) nothing);
+  }
+
+  -- any note without a claim
+  pub AreMutual-cleared : (note : Option Used) → claim_in note ≡ None → claim_in (get_or notes frame None) ≡ Some processor
+      → AreMutual (map claim_in (set notes frame note)) (set claims processor None)
+  AreMutual-cleared note no_claim claims_it =
+      rw (map-set claim_in notes frame note, no_claim)
+      (AreMutual-unclaim (map claim_in notes) claims frame processor are.claimed frame_within known (claim_at notes frame ∙ claims_it))
+
+  pub AreKept-unclaim : claim_in (get_or notes frame None) ≡ Some processor
+      → AreKept (set notes frame (with_claim None (get_or notes frame None))) order (set claims processor None)
+  AreKept-unclaim claims_it = record {
+    ordered = rw (reclaimed None) are.ordered;
+    claimed = AreMutual-cleared (with_claim None (get_or notes frame None)) (claim_in-with_claim None (get_or notes frame None) (ap is_some is)) claims_it;
+  }
+
+-- a used frame has a note
+pub some_from_is_some : (note : Option Used) → is_some note ≡ true → (u : Used) × (note ≡ Some u)
+some_from_is_some None is = cc
+some_from_is_some (Some u) is = (u, refl)
+
+-- and so has a claimed one
+pub some_from_claim : (note : Option Used) (processor : ℕ) → claim_in note ≡ Some processor → (u : Used) × (note ≡ Some u)
+some_from_claim None processor is = cc
+some_from_claim (Some u) processor is = (u, refl)

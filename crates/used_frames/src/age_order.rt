@@ -1,0 +1,106 @@
+//! Frames in order of age.
+
+ghost use Rattle.std.specs.Prelude.{◌≡◌, ℕ, ◌+◌, ◌<◌, ◌≤◌, List, Option, Some, None, IfOk};
+ghost use Rattle.std.specs.Prelude.{replicate, slice_set};
+ghost use Rattle.used_frames.specs.AgeOrders.{age_of, least_after, linked, IsInOrder, IsLeastFrom, IsStop};
+
+use pager_model::NoMemory;
+use std::alloc::Global;
+use std::marker::Model;
+
+/// Frames in order of age, each linked to the next and to the one before.
+///
+/// The links don't have the ages: contracts say for which ages they are in order.
+#[derive(Debug, Drop)]
+pub(crate) struct AgeOrder {
+    next: Vec<u32>,
+    prev: Vec<u32>,
+    /// The number after the last frame's, which stands before the first frame in order and after the last.
+    end: u32,
+}
+
+impl Model for AgeOrder {
+    ghost use Rattle.used_frames.specs.AgeOrders.{AreLinks, Links};
+
+    ghost Value = { Links };
+
+    ghost view = { λ o. record { next = o.next.items; prev = o.prev.items; end = o.end } };
+
+    ghost invariant = { λ o. AreLinks (record { next = o.next.items; prev = o.prev.items; end = o.end }) };
+}
+
+impl AgeOrder {
+    /// No frame is in.
+    pub(crate) fn create(alloc: Global, frames: u32) -> Result<AgeOrder, NoMemory>
+        ensures end { IfOk result (λ order. order.end ≡ frames) }
+        ensures empty { IfOk result (λ order. IsInOrder order (replicate frames None)) }
+    {
+        let places = frames as usize + 1;
+        Ok(AgeOrder {
+            next: vec![in alloc; frames; places]?,
+            prev: vec![in alloc; frames; places]?,
+            end: frames,
+        })
+    }
+
+    /// Puts the frame in at an age greater than that of all others.
+    pub(crate) fn push(&mut self, frame: u32)
+        requires { frame < self.old.end }
+        ensures end { self.new.end ≡ self.old.end }
+        ensures pushed { (ages : List (Option ℕ)) (age : ℕ) → IsInOrder self.old ages → age_of ages frame ≡ None
+            → ((other old : ℕ) → age_of ages other ≡ Some old → old < age)
+            → IsInOrder self.new (slice_set ages frame (Some age)) }
+    {
+        let last = self.prev[self.end as usize];
+        self.link(last, frame);
+        self.link(frame, self.end);
+    }
+
+    /// Takes the frame out.
+    pub(crate) fn remove(&mut self, frame: u32)
+        requires { frame < self.old.end }
+        ensures end { self.new.end ≡ self.old.end }
+        ensures removed { (ages : List (Option ℕ)) (age : ℕ) → IsInOrder self.old ages → age_of ages frame ≡ Some age
+            → IsInOrder self.new (slice_set ages frame None) }
+    {
+        let before = self.prev[frame as usize];
+        let after = self.next[frame as usize];
+        self.link(before, after);
+    }
+
+    /// The frame of least age.
+    pub(crate) fn first(&self) -> Option<u32>
+        ensures { (ages : List (Option ℕ)) → IsInOrder self.now ages → IsLeastFrom ages 0 result }
+    {
+        self.follower(self.end)
+    }
+
+    /// The frame that is the next younger one.
+    pub(crate) fn after(&self, frame: u32) -> Option<u32>
+        requires { frame < self.now.end }
+        ensures { (ages : List (Option ℕ)) (age : ℕ) → IsInOrder self.now ages → age_of ages frame ≡ Some age
+            → IsLeastFrom ages (age + 1) result }
+    {
+        self.follower(frame)
+    }
+
+    /// The frame that comes next after a frame or the end.
+    fn follower(&self, at: u32) -> Option<u32>
+        requires { at ≤ self.now.end }
+        ensures { (ages : List (Option ℕ)) → IsInOrder self.now ages → IsStop ages self.now.end at
+            → IsLeastFrom ages (least_after (age_of ages at)) result }
+    {
+        let next = self.next[at as usize];
+        (next != self.end).then_some(next)
+    }
+
+    /// Links two frames, or a frame and the end, so that one comes next after the other.
+    fn link(&mut self, before: u32, after: u32)
+        requires before { before ≤ self.old.end }
+        requires after { after ≤ self.old.end }
+        ensures { self.new ≡ linked self.old before after }
+    {
+        self.next[before as usize] = after;
+        self.prev[after as usize] = before;
+    }
+}

@@ -1,0 +1,129 @@
+//! The notes of all frames, counted.
+
+ghost use Rattle.std.specs.Prelude.{◌≡◌, ◌+◌, ◌^◌, ◌<◌, ◌≤◌, length, replicate, slice_index_or, slice_set, count_by, is_some, Some, None, IfOk};
+ghost use Rattle.std.specs.Int.{from_bool};
+ghost use Rattle.pager_model.specs.FrameStates.{claim_in, is_wired_place, is_claimed_place, with_claim};
+
+use pager_model::{NoMemory, Used};
+use std::alloc::Global;
+use std::marker::Model;
+
+/// For each frame what is noted of it, where it is used.
+#[derive(Debug, Drop)]
+pub(crate) struct Notes {
+    places: Vec<Option<Used>>,
+    used: u32,
+    wired: u32,
+    claimed: u32,
+}
+
+impl Model for Notes {
+    ghost use Rattle.std.specs.Prelude.{List, Option};
+    ghost use Rattle.pager_model.specs.declared.reservation.Used.{Used};
+    ghost use Rattle.used_frames.specs.Kept.{AreCounted};
+
+    ghost Value = { List (Option Used) };
+
+    ghost view = { λ n. n.places.items };
+
+    ghost invariant = { λ n. AreCounted n.places.items n.used n.wired n.claimed };
+}
+
+/// Whether the note is of a page in a wired region.
+fn is_wired(note: Option<Used>) -> bool
+    ensures { result ≡ is_wired_place note }
+{
+    match note {
+        Some(used) => used.wired,
+        None => false,
+    }
+}
+
+/// Whether the note is of a frame that a processor claims.
+fn is_claimed(note: Option<Used>) -> bool
+    ensures { result ≡ is_claimed_place note }
+{
+    match note {
+        Some(used) => used.claim.is_some(),
+        None => false,
+    }
+}
+
+/// The count where a frame that counted or not counts or not from now on.
+fn recount(count: u32, before: bool, after: bool) -> u32
+    requires counted { from_bool before ≤ count }
+    requires fits { count + from_bool after < 2 ^ 32 + from_bool before }
+    ensures { result + from_bool before ≡ count + from_bool after }
+{
+    count - u32::from(before) + u32::from(after)
+}
+
+impl Notes {
+    /// No frame is used.
+    pub(crate) fn create(alloc: Global, frames: u32) -> Result<Notes, NoMemory>
+        ensures { IfOk result (λ notes. notes ≡ replicate frames None) }
+    {
+        Ok(Notes {
+            places: vec![in alloc; None; frames as usize]?,
+            used: 0,
+            wired: 0,
+            claimed: 0,
+        })
+    }
+
+    /// What is noted of the frame.
+    pub(crate) fn get(&self, frame: u32) -> Option<Used>
+        ensures { result ≡ slice_index_or self.now frame None }
+    {
+        self.places.get(frame as usize).copied().flatten()
+    }
+
+    /// Whether a processor claims the frame.
+    pub(crate) fn is_claimed(&self, frame: u32) -> bool
+        ensures { result ≡ is_claimed_place (slice_index_or self.now frame None) }
+    {
+        is_claimed(self.get(frame))
+    }
+
+    /// This is noted of the frame from now on.
+    pub(crate) fn set(&mut self, frame: u32, note: Option<Used>)
+        requires { frame < length self.old }
+        ensures { self.new ≡ slice_set self.old frame note }
+    {
+        let before = self.get(frame);
+        self.used = recount(self.used, before.is_some(), note.is_some());
+        self.wired = recount(self.wired, is_wired(before), is_wired(note));
+        self.claimed = recount(self.claimed, is_claimed(before), is_claimed(note));
+        self.places[frame as usize] = note;
+    }
+
+    /// The used frame is claimed by this processor, or by none.
+    pub(crate) fn set_claim(&mut self, frame: u32, claim: Option<u32>)
+        requires { frame < length self.old }
+        ensures { self.new ≡ slice_set self.old frame (with_claim claim (slice_index_or self.old frame None)) }
+    {
+        let note = self.get(frame);
+        self.set(frame, note.map(|used| Used { claim, ..used }));
+    }
+
+    /// How many frames are used.
+    pub(crate) fn used(&self) -> u32
+        ensures { result ≡ count_by is_some self.now }
+    {
+        self.used
+    }
+
+    /// How many used frames are of a page in a wired region.
+    pub(crate) fn wired(&self) -> u32
+        ensures { result ≡ count_by is_wired_place self.now }
+    {
+        self.wired
+    }
+
+    /// How many used frames a processor claims.
+    pub(crate) fn claimed(&self) -> u32
+        ensures { result ≡ count_by is_claimed_place self.now }
+    {
+        self.claimed
+    }
+}
