@@ -7,3 +7,4 @@ pub mod PoolState
 pub mod Victims
 pub mod Allowed
 pub mod Breaking
+pub mod Mapped
