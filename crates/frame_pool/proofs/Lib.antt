@@ -36,3 +36,6 @@ pub mod OldestBroken
 pub mod RefusedFrames
 pub mod OrderedRefusals
 pub mod KeptFrames
+pub mod MappedPages
+pub mod MappedRecords
+pub mod MappedParts
