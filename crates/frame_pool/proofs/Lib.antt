@@ -39,3 +39,5 @@ pub mod KeptFrames
 pub mod MappedPages
 pub mod MappedRecords
 pub mod MappedParts
+pub mod MappedLooks
+pub mod LayoutMapped

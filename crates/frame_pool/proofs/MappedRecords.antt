@@ -1,7 +1,7 @@
 -- What the map has to be as reservations come and go.
-use Rattle.std.proofs.Common.{◌≡◌, ◌≢◌, ℕ, ◌+◌, ◌/◌, ◌^◌, ◌<◌, ◌≤◌, ◌⊎◌, ◌↔◌, true, false, cond, ltb, List, [], ◌∷◌, length, get_or, set, sum_by, Option, Some, None, is_some, IsSomeAnd, inl, inr, refl, sym, ap, subst, ◌∙◌, arith}
+use Rattle.std.proofs.Common.{◌≡◌, ◌≢◌, ℕ, ◌+◌, ◌/◌, ◌^◌, ◌<◌, ◌≤◌, ◌⊎◌, ◌↔◌, true, false, ◌&&◌, cond, eqb, leb, ltb, replicate, List, [], ◌∷◌, length, get_or, set, sum_by, Option, Some, None, is_some, IsSomeAnd, inl, inr, refl, sym, ap, subst, ◌∙◌, arith}
 use Rattle.std.proofs.lemmas.Bool.{cases_Bool, cases_eq, cond_both, cond-true, cond-false, false≢true, lt-ltb, le-ltb, ltb-true}
-use Rattle.std.proofs.lemmas.List.{get_or-set_same, get_or-set_other, length-set}
+use Rattle.std.proofs.lemmas.List.{get_or-set_same, get_or-set_other, length-replicate, length-set}
 use Rattle.std.proofs.lemmas.List.Sums.{sum_by-set, sum_by-cons}
 use Rattle.std.proofs.lemmas.Option.{none-some, same_Some}
 use Rattle.pager_model.specs.declared.reservation.Reservation.{Reservation}
@@ -9,6 +9,7 @@ use Rattle.pager_model.specs.Agreement.{has_frame}
 use Rattle.pager_model.specs.Extents.{IsExtent}
 use Rattle.pager_model.specs.FrameStates.{places_in}
 use Rattle.pager_model.specs.Layouts.{covers}
+use Rattle.pager_model.proofs.Lists.{get_or-alike}
 use Rattle.population_map.specs.Populations.{Populations, page_at, id_of, placed_pages, space_count, frame_count, IsInNone, SameRoom, PlacesOnly}
 use Rattle.reservations.proofs.ExtentLemmas.{eight_pos}
 use Rattle.reservations.proofs.FrameIds.{has_frame_from, known_record}
@@ -251,3 +252,52 @@ module _ (m : Populations) (records : List (Option Reservation)) (id : ℕ) (r :
         room = mapped.room ∙ sym (length-set records id None);
         few = omega (arith, few_without (space_count m), none, mapped.few);
       }
+
+-- ---- a reservation becomes younger, and none is at first
+
+-- where one stands with the same pages, the map stays
+pub IsMapped-alike : (m : Populations) (records : List (Option Reservation)) (id : ℕ) (r q : Reservation) → IsMapped m records → get_or records id None ≡ Some r → q.space ≡ r.space → q.first ≡ r.first → q.size ≡ r.size → IsMapped m (set records id (Some q))
+IsMapped-alike m records id r q mapped is space first size = record {
+  exact = λ s p k j known low small.
+      let was = mapped.exact s p k j known low small in
+      elim (cases_eq j id) [
+        | inl same ↦
+            let at_old = ap (λ i. get_or records i None) same ∙ is in
+            let at_new = ap (λ i. get_or (set records id (Some q)) i None) same ∙ get_or-set_same records id (Some q) None (known_record records id r is) in (
+              λ h. let own = subst (HasAt k s p) at_old (was.0 h) in subst (HasAt k s p) (sym at_new) (size ∙ own.0, sym (alike s p) ∙ own.1),
+              λ h. let own = subst (HasAt k s p) at_new h in was.1 (subst (HasAt k s p) (sym at_old) (sym size ∙ own.0, alike s p ∙ own.1)),
+            )
+        | inr other ↦
+            let stays = get_or-set_other records id j (Some q) None other in
+            (λ h. subst (HasAt k s p) (sym stays) (was.0 h), λ h. was.1 (subst (HasAt k s p) stays h))
+      ];
+  pages = λ j t at. elim (cases_eq j id) [
+    | inl same ↦
+        let at_new = ap (λ i. get_or (set records id (Some q)) i None) same ∙ get_or-set_same records id (Some q) None (known_record records id r is) in
+        omega (arith, mapped.pages id r is, first, ap (λ (u : Reservation). u.first) (same_Some q t (sym at_new ∙ at)))
+    | inr other ↦ mapped.pages j t (sym (get_or-set_other records id j (Some q) None other) ∙ at)
+  ];
+  room = mapped.room ∙ sym (length-set records id (Some q));
+  few =
+      let change = sum_by-set (places_below (space_count m)) records id (Some q) None (known_record records id r is) in
+      let weights : places_below (space_count m) (Some q) ≡ places_below (space_count m) (Some r) = ap (λ n. cond (ltb n (space_count m)) (8 ^ q.size) 0) space ∙ ap (λ k. cond (ltb r.space (space_count m)) (8 ^ k) 0) size in
+      omega (arith, change, weights, ap (places_below (space_count m)) is, mapped.few);
+}
+  where
+    alike : (s p : ℕ) → covers s p r ≡ covers s p q
+    alike s p =
+        ap (λ n. eqb n s && (leb r.first p && ltb p (r.first + 8 ^ r.size))) (sym space)
+        ∙ ap (λ n. eqb q.space s && (leb n p && ltb p (n + 8 ^ r.size))) (sym first)
+        ∙ ap (λ k. eqb q.space s && (leb q.first p && ltb p (q.first + 8 ^ k))) (sym size)
+
+-- without a reservation no extent is placed
+pub IsMapped-start : (m : Populations) (frames : ℕ) → ((size page : ℕ) → id_of m size page ≡ None) → placed_pages m ≡ 0 → frame_count m ≡ frames → IsMapped m (replicate frames None)
+IsMapped-start m frames no_extent no_page room = record {
+  exact = λ s p k j _ _ _. (
+    λ is. absurd (none-some j (sym (no_extent k (page_at s p)) ∙ is)),
+    λ has. absurd (subst (HasAt k s p) (get_or-alike frames j None) has),
+  );
+  pages = λ id r is. absurd (none-some r (sym (get_or-alike frames id None) ∙ is));
+  room = room ∙ sym (length-replicate frames None);
+  few = omega (arith, no_page);
+}

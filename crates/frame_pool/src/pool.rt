@@ -99,7 +99,7 @@ impl Pool {
     {
         Ok(Pool {
             frames: every_frame(alloc, frames)?,
-            layout: Layout::create(alloc, frames)?,
+            layout: Layout::create(alloc, frames, spaces)?,
             used: vec![in alloc; None; frames as usize]?,
             held: vec![in alloc; None; processors as usize]?,
             entries: 0,
