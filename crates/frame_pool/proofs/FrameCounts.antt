@@ -1,8 +1,8 @@
 -- Where the state of the frames is sound, the counts of the roles sum to all frames.
-use Rattle.std.proofs.Common.{◌≡◌, ◌≢◌, ℕ, zero, suc, ◌+◌, ◌<◌, ◌≤◌, ◌^◌, Bool, true, false, ◌&&◌, cond, eqb, leb, ltb, List, [], ◌∷◌, ◌++◌, length, get_or, take, sum_by, count_by, is_some, Option, Some, None, refl, sym, ap, subst, ◌∙◌, arith}
+use Rattle.std.proofs.Common.{◌≡◌, ◌≢◌, ℕ, zero, suc, ◌+◌, ◌<◌, ◌≤◌, ◌^◌, Bool, true, false, ◌&&◌, cond, eqb, leb, ltb, List, [], ◌∷◌, ◌++◌, length, get_or, take, sum_by, count_by, is_some, Option, Some, None, inl, inr, refl, sym, ap, subst, ◌∙◌, arith}
 use Rattle.std.specs.List.{range_with_len}
 use Rattle.std.proofs.Math.Path.{fun_ext}
-use Rattle.std.proofs.lemmas.Bool.{false≢true, and_parts, leb-true, ltb-true, le-leb, lt-ltb, and_from, eq-eqb, ne_eqb}
+use Rattle.std.proofs.lemmas.Bool.{cases_Bool, false≢true, and_parts, leb-true, ltb-true, le-leb, lt-ltb, and_from, eq-eqb, ne_eqb}
 use Rattle.std.proofs.lemmas.Bool.Decides.{nat_tests}
 use Rattle.std.proofs.lemmas.List.{length-map, take_all}
 use Rattle.std.proofs.lemmas.List.FromFn.{length-range_with_len, get_or-range_with_len}
@@ -10,10 +10,10 @@ use Rattle.std.proofs.lemmas.List.Sums.{sum_by-cons, sum_by_push, sum_by_more}
 use Rattle.pager_model.specs.declared.reservation.Reservation.{Reservation}
 use Rattle.pager_model.specs.Agreement.{has_frame, is_frame, roles}
 use Rattle.pager_model.specs.FrameStates.{FrameState, layout_of, used_at, free_count, used_count, places_in, reserved_count, held_count}
-use Rattle.pager_model.specs.Layouts.{is_free}
-use Rattle.pager_model.proofs.CountLemmas.{count-one_more}
+use Rattle.pager_model.specs.Layouts.{Layout, is_free}
+use Rattle.pager_model.proofs.CountLemmas.{count-one_more, weight}
 use Rattle.pager_model.proofs.Ranges.{range_with_len-more}
-use Rattle.frame_pool.specs.Laid.{IsSound}
+use Rattle.frame_pool.specs.Laid.{IsLaid, IsSound}
 use Rattle.frame_pool.proofs.Partition.{IsPartition-sound, count-nowhere}
 
 -- Sums.
@@ -107,19 +107,45 @@ weight-le : (b : Bool) (n : ℕ) → (b ≡ true → n ≡ 1) → cond b 1 0 ≤
 weight-le true n one = omega (arith, one refl)
 weight-le false n one = omega arith
 
+-- over all frames the reservations that have each are the places
+all_places_of : (frames : ℕ) (records : List (Option Reservation)) → ((id : ℕ) (r : Reservation) → get_or records id None ≡ Some r → r.frame + 8 ^ r.size ≤ frames)
+    → sum_by (λ f. count_by (has_frame f) records) (range_with_len 0 frames) ≡ sum_by places_in records
+all_places_of frames records within =
+    exchange has_frame records (range_with_len 0 frames)
+    ∙ sum_by-same_at (λ o. count_by (λ f. has_frame f o) (range_with_len 0 frames)) places_in records None
+    (λ i _. count-places_in frames (get_or records i None) (within i))
+
+-- where the element of one index at most passes, one is counted at most
+count-one_most : {X : Type 0} (p : X → Bool) (xs : List X) (d : X) → ((i j : ℕ) → p (get_or xs i d) ≡ true → p (get_or xs j d) ≡ true → i ≡ j) → count_by p xs ≤ 1
+count-one_most p [] d only = omega arith
+count-one_most p (x ∷ xs) d only =
+    let both = sum_by-cons (λ y. weight (p y)) x xs in
+    elim (cases_Bool (p x)) [
+      | inl here ↦
+          let head : weight (p x) ≡ 1 = ap weight here in
+          let rest = count-nowhere p xs d (λ i is. let same = only 0 (suc i) here is in omega (arith, same)) in
+          omega (arith, head, rest, both)
+      | inr not ↦
+          let head : weight (p x) ≡ 0 = ap weight not in
+          let rest = count-one_most p xs d (λ i j a b. let same = only (suc i) (suc j) a b in omega (arith, same)) in
+          omega (arith, head, rest, both)
+    ]
+
+-- in a sound layout there are no more places than frames
+pub places_few : (l : Layout) → IsLaid l → sum_by places_in l.records ≤ length l.free
+places_few l laid =
+    let frames = length l.free in
+    let each = sum_by-le_at (λ f. count_by (has_frame f) l.records) (λ f. 1) (range_with_len 0 frames) 0
+    (λ i _. let f = get_or (range_with_len 0 frames) i 0 in count-one_most (has_frame f) l.records None (λ j k. laid.apart f j k)) in
+    let all = all_places_of frames l.records (λ id r is. omega (arith, (laid.placed id r is).within, laid.records_long)) in
+    omega (arith, each, all, sum_by-ones (range_with_len 0 frames), length-range_with_len 0 frames)
+
 module _ (frames processors : ℕ) (st : FrameState) (sound : IsSound frames processors st) where
   -- each number of the range is a frame's
   below : (i : ℕ) → i < length (range_with_len 0 frames) → get_or (range_with_len 0 frames) i 0 < frames
   below i within =
       let known : i < frames = omega (arith, length-range_with_len 0 frames) in
       omega (arith, known, get_or-range_with_len 0 frames i 0 known)
-
-  -- over all frames the reservations that have each are the places
-  all_places : sum_by (λ f. count_by (has_frame f) st.records) (range_with_len 0 frames) ≡ sum_by places_in st.records
-  all_places =
-      exchange has_frame st.records (range_with_len 0 frames)
-      ∙ sum_by-same_at (λ o. count_by (λ f. has_frame f o) (range_with_len 0 frames)) places_in st.records None
-      (λ i _. count-places_in frames (get_or st.records i None) (λ r is. omega (arith, (sound.laid.placed i r is).within, sound.laid.records_long, sound.known)))
 
   -- over all frames the processors that hold each are the ones that hold one
   all_held : sum_by (λ f. count_by (is_frame f) st.held) (range_with_len 0 frames) ≡ held_count st
@@ -135,6 +161,10 @@ module _ (frames processors : ℕ) (st : FrameState) (sound : IsSound frames pro
   -- over all frames the used ones
   all_used : sum_by (λ f. cond (is_some (used_at st f)) 1 0) (range_with_len 0 frames) ≡ used_count st
   all_used = count-indexes is_some st.used None frames (sym (length-map st.used is_some) ∙ sound.laid.used_long ∙ sound.known)
+
+  -- over all frames the places
+  all_places : sum_by (λ f. count_by (has_frame f) st.records) (range_with_len 0 frames) ≡ sum_by places_in st.records
+  all_places = all_places_of frames st.records (λ i r is. omega (arith, (sound.laid.placed i r is).within, sound.laid.records_long, sound.known))
 
   -- no more places are used than there are
   pub used_places_few : used_count st ≤ sum_by places_in st.records

@@ -18,6 +18,8 @@ use Rattle.reservations.proofs.FrameIds.{ArePlaced-set, has_frame_bounds, has_fr
 use Rattle.reservations.proofs.SplitLemmas.{split_records-open}
 use Rattle.frame_pool.specs.Laid.{IsLaid}
 use Rattle.frame_pool.specs.Listed.{AreListed, IsInOrder, WasSplit}
+use Rattle.frame_pool.specs.Mapped.{IsMapped}
+use Rattle.population_map.specs.Populations.{Populations}
 use Rattle.frame_pool.proofs.LayoutBreak.{placed_own, alone_own, record_at-part, part_with-has, yield_less}
 use Rattle.frame_pool.proofs.LayoutRelease.{had}
 use Rattle.frame_pool.proofs.AgeLists.{list_of-used, is_listed-none, AreListed-full}
@@ -73,7 +75,7 @@ AreListed-used lists used records f b are out =
 -- A reservation is taken out of the records.
 module _ (l : Layout) (id : ℕ) (r : Reservation) (laid : IsLaid l) (is : record_at l id ≡ Some r) where
   -- the others have none of its frames
-  not_in_rest : (f j : ℕ) → has_frame f (Some r) ≡ true → has_frame f (get_or (set l.records id None) j None) ≡ true → ⊥
+  pub not_in_rest : (f j : ℕ) → has_frame f (Some r) ≡ true → has_frame f (get_or (set l.records id None) j None) ≡ true → ⊥
   not_in_rest f j mine has =
       let was = had l id r is f j has in
       was.0 (laid.apart f j id was.1 (ap (has_frame f) is ∙ mine))
@@ -83,7 +85,7 @@ module _ (l : Layout) (id : ℕ) (r : Reservation) (laid : IsLaid l) (is : recor
   none_there = get_or-set_same l.records id None None (known_record l.records id r is)
 
   -- the others are in their places
-  rest_placed : ArePlaced (set l.records id None)
+  pub rest_placed : ArePlaced (set l.records id None)
   rest_placed = ArePlaced-set l.records id None laid.placed (known_record l.records id r is) (λ q e. absurd (none-some q e))
 
   -- lists of the others have no member of it
@@ -122,8 +124,8 @@ module _ (l : Layout) (id : ℕ) (r : Reservation) (laid : IsLaid l) (is : recor
   ]
 
   -- The reservation goes back into the lists as another one may stand in its place, where a frame of it became used or unused.
-  pub IsInOrder-again : (frames f : ℕ) (b : Bool) (o : Option Reservation) (new : Layout) (kept without after : KeptLists) → IsInOrder frames l kept → has_frame f (Some r) ≡ true → IsLaid new → length new.free ≡ length l.free → new.used ≡ set l.used f b → new.records ≡ set l.records id o → without.frames ≡ kept.frames → after.frames ≡ without.frames → AreListed without.lists l.used (set l.records id None) → ((records : List (Option Reservation)) → get_or records id None ≡ None → id < length records → AreListed without.lists new.used records → AreListed after.lists new.used (set records id (record_at new id))) → IsInOrder frames new after
-  IsInOrder-again frames f b o new kept without after order mine laid_after long used records room last are enlists =
+  pub IsInOrder-again : (frames f : ℕ) (b : Bool) (o : Option Reservation) (new : Layout) (kept without after : KeptLists) (map mapped : Populations) → IsInOrder frames l kept map → has_frame f (Some r) ≡ true → IsLaid new → length new.free ≡ length l.free → new.used ≡ set l.used f b → new.records ≡ set l.records id o → without.frames ≡ kept.frames → after.frames ≡ without.frames → AreListed without.lists l.used (set l.records id None) → ((records : List (Option Reservation)) → get_or records id None ≡ None → id < length records → AreListed without.lists new.used records → AreListed after.lists new.used (set records id (record_at new id))) → IsMapped mapped new.records → IsInOrder frames new after mapped
+  IsInOrder-again frames f b o new kept without after map mapped order mine laid_after long used records room last are enlists is_mapped =
       let known = known_record l.records id r is in
       let rest = subst (λ u. AreListed without.lists u (set l.records id None)) (sym used) (rest_listed without.lists f b mine are) in
       let stands : record_at new id ≡ o = ap (λ rs. get_or rs id None) records ∙ get_or-set_same l.records id o None known in
@@ -135,11 +137,12 @@ module _ (l : Layout) (id : ℕ) (r : Reservation) (laid : IsLaid l) (is : recor
         laid = laid_after;
         listed = subst (AreListed after.lists new.used) again (enlists (set l.records id None) none_there (omega (arith, known, length-set l.records id None)) rest);
         room = last ∙ room ∙ order.room;
+        mapped = is_mapped;
       }
 
   -- The reservation goes, and a frame of it became unused.
-  pub IsInOrder-gone : (frames f : ℕ) (new : Layout) (kept without : KeptLists) → IsInOrder frames l kept → has_frame f (Some r) ≡ true → IsLaid new → length new.free ≡ length l.free → new.used ≡ set l.used f false → new.records ≡ set l.records id None → without.frames ≡ kept.frames → AreListed without.lists l.used (set l.records id None) → IsInOrder frames new without
-  IsInOrder-gone frames f new kept without order mine laid_after long used records room are = record {
+  pub IsInOrder-gone : (frames f : ℕ) (new : Layout) (kept without : KeptLists) (map mapped : Populations) → IsInOrder frames l kept map → has_frame f (Some r) ≡ true → IsLaid new → length new.free ≡ length l.free → new.used ≡ set l.used f false → new.records ≡ set l.records id None → without.frames ≡ kept.frames → AreListed without.lists l.used (set l.records id None) → IsMapped mapped new.records → IsInOrder frames new without mapped
+  IsInOrder-gone frames f new kept without map mapped order mine laid_after long used records room are is_mapped = record {
     known = long ∙ order.known;
     few = order.few;
     laid = laid_after;
@@ -147,6 +150,7 @@ module _ (l : Layout) (id : ℕ) (r : Reservation) (laid : IsLaid l) (is : recor
         subst (λ u. AreListed without.lists u new.records) (sym used)
         (subst (AreListed without.lists (set l.used f false)) (sym records) (rest_listed without.lists f false mine are));
     room = room ∙ order.room;
+    mapped = is_mapped;
   }
 
   -- it is the only one with a frame of it

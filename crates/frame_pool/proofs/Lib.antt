@@ -35,3 +35,8 @@ pub mod OldestBroken
 pub mod RefusedFrames
 pub mod OrderedRefusals
 pub mod KeptFrames
+pub mod MappedPages
+pub mod MappedRecords
+pub mod MappedParts
+pub mod MappedLooks
+pub mod LayoutMapped

@@ -9,13 +9,17 @@ use Rattle.pager_model.specs.Records.{part_of, kept_part, split_records}
 use Rattle.pager_model.specs.declared.reservation.Reservation.{Reservation}
 use Rattle.reservations.specs.Kept.{IsPlaced}
 use Rattle.reservations.proofs.CountLemmas.{extent_of_frame}
-use Rattle.reservations.proofs.ExtentLemmas.{eight_pos, eight_parts, part_of_eight}
+use Rattle.reservations.proofs.ExtentLemmas.{eight_pos, eight_parts, eight_quotient, part_of_eight}
 use Rattle.reservations.proofs.FrameIds.{has_frame_bounds, has_frame_from, unused_in}
 use Rattle.reservations.proofs.SplitLemmas.{split_up_to, split_step, split_up_to-more, kept_cases}
 
 -- no other record has a frame of the reservation
 abbrev pub IsAlone : Reservation → List (Option Reservation) → Type 0
 IsAlone r records = (frame id : ℕ) → has_frame frame (Some r) ≡ true → has_frame frame (get_or records id None) ≡ true → id ≡ r.frame
+
+-- the number of pages of a part
+pub eighth : (pages size : ℕ) → 0 < size → pages ≡ 8 ^ size → pages / 8 ≡ 8 ^ (size - 1)
+eighth pages size splits is = ap (λ n. n / 8) is ∙ eight_quotient 1 size splits
 
 -- The records after a split.
 

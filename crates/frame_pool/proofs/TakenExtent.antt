@@ -10,6 +10,7 @@ use Rattle.pager_model.specs.Layouts.{Layout, Found, break_layout, broken_at, to
 use Rattle.pager_model.specs.Records.{is_used, yield_of}
 use Rattle.reservation_lists.specs.Kept.{KeptLists}
 use Rattle.frame_pool.specs.Laid.{IsLaid}
+use Rattle.population_map.specs.Populations.{Populations}
 use Rattle.frame_pool.specs.Listed.{IsInOrder}
 use Rattle.frame_pool.specs.Placed.{CanBreak, FindsExtent, without_extent}
 use Rattle.frame_pool.proofs.LayoutBreak.{yield_less}
@@ -68,13 +69,14 @@ module _ (found : Found) (laid : IsLaid found.layout) (is : choice found.layout.
   }
 
 -- the lists are those of the layout without its frames
-pub IsInOrder-without : (frames : ℕ) (found : Found) (kept : KeptLists) → IsInOrder frames found.layout kept → choice found.layout.free found.size ≡ Some found.first → IsInOrder frames (without_extent found) kept
-IsInOrder-without frames found kept order is = record {
+pub IsInOrder-without : (frames : ℕ) (found : Found) (kept : KeptLists) (map : Populations) → IsInOrder frames found.layout kept map → choice found.layout.free found.size ≡ Some found.first → IsInOrder frames (without_extent found) kept map
+IsInOrder-without frames found kept map order is = record {
   known = without-long found order.laid is ∙ order.known;
   few = order.few;
   laid = IsLaid-without found order.laid is;
   listed = order.listed;
   room = order.room;
+  mapped = order.mapped;
 }
 
 -- Where an extent is found.

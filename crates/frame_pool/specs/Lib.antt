@@ -6,3 +6,4 @@ pub mod LayoutState
 pub mod PoolState
 pub mod Allowed
 pub mod Breaking
+pub mod Mapped

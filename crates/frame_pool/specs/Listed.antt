@@ -5,21 +5,24 @@ use Rattle.pager_model.specs.Ages.{Lists, list_at}
 use Rattle.pager_model.specs.Layouts.{Layout, list_of}
 use Rattle.pager_model.specs.Agreement.{has_frame}
 use Rattle.pager_model.specs.Records.{Records, is_used, split_records}
+use Rattle.population_map.specs.Populations.{Populations}
 use Rattle.reservation_lists.specs.Kept.{KeptLists}
 use Rattle.reservations.specs.Kept.{IsPlaced, ArePlaced}
 use Rattle.frame_pool.specs.Laid.{IsLaid}
+use Rattle.frame_pool.specs.Mapped.{IsMapped}
 
 -- the three lists are those of these reservations
 abbrev pub AreListed : Lists → List Bool → List (Option Reservation) → Type 0
 AreListed lists used records = (k : ℕ) → k < 3 → list_at lists k ≡ list_of used k records
 
--- the layout of so many frames is sound, and the lists are its
-pub record IsInOrder (frames : ℕ) (l : Layout) (kept : KeptLists) : Type 0 where
+-- the layout of so many frames is sound, and the lists and the map are its
+pub record IsInOrder (frames : ℕ) (l : Layout) (kept : KeptLists) (map : Populations) : Type 0 where
   pub known : length l.free ≡ frames
   pub few : frames ≤ 32768
   pub laid : IsLaid l
   pub listed : AreListed kept.lists l.used l.records
   pub room : kept.frames ≡ frames
+  pub mapped : IsMapped map l.records
 
 -- From records in which the reservation was none any more, and whose lists these are, the reservation was split.
 pub record WasSplit (lists : KeptLists) (after : Records) (whole : Reservation) : Type 0 where

@@ -14,16 +14,23 @@ ghost use Rattle.frame_pool.specs.Placed.{CanBreak, FindsExtent, PlacesPage, wit
 
 use crate::free::{give, take};
 use crate::lists::{enlist, enlist_parts, unlist};
+use crate::mapped;
 use crate::records::{covering, lowest_as_wide, page_at, preferred};
 use buddy_extents::Free;
 use pager_model::{Extent, NoMemory, Reservation, Size, Want};
+use population_map::PopulationMap;
 use reservation_lists::Lists;
 use reservations::{Part, Reservations, frame_for};
 use size_policy::extent_round;
 use std::alloc::Global;
 use std::marker::Model;
 
-/// Which frames are free, the reservations with their used places, and the lists of reservations by age.
+/// How many spaces a map of pages knows at most.
+const MOST_MAPPED: u32 = 1024;
+
+/// Which frames are free, the reservations with their used places, the lists of reservations by age, and the map by which the
+/// reservation that has a page is found. The map knows as many spaces as were announced; the pages of others are looked for among all
+/// reservations.
 ///
 /// Contracts see it as the layout of the frames.
 #[derive(Debug, Drop)]
@@ -32,6 +39,7 @@ pub(crate) struct Layout {
     free: Free,
     reservations: Reservations,
     lists: Lists,
+    map: PopulationMap,
 }
 
 impl Model for Layout {
@@ -43,7 +51,7 @@ impl Model for Layout {
 
     ghost view = { layout_in };
 
-    ghost invariant = { λ l. IsInOrder l.frames (layout_in l) l.lists };
+    ghost invariant = { λ l. IsInOrder l.frames (layout_in l) l.lists l.map };
 }
 
 /// An extent of frames for a new reservation, and how many reservations were broken for it.
@@ -62,8 +70,8 @@ pub(crate) struct Place {
 }
 
 impl Layout {
-    /// All frames are free.
-    pub(crate) fn create(alloc: Global, frames: u32) -> Result<Layout, NoMemory>
+    /// All frames are free, and so many spaces are announced.
+    pub(crate) fn create(alloc: Global, frames: u32, spaces: u32) -> Result<Layout, NoMemory>
         requires whole { frames % 512 ≡ 0 }
         requires most { frames ≤ 32768 }
         ensures { IfOk result (λ l. l ≡ start_layout frames) }
@@ -73,6 +81,7 @@ impl Layout {
             free: Free::create(alloc, frames)?,
             reservations: Reservations::create(alloc, frames)?,
             lists: Lists::create(alloc, frames)?,
+            map: PopulationMap::create(alloc, spaces.min(MOST_MAPPED), frames)?,
         })
     }
 
@@ -95,17 +104,20 @@ impl Layout {
 
     /// Gives a page of a space, which has none, a place: in the reservation that has the page, or in a new one. `None` exactly
     /// where there is none, and then nothing changes.
+    ///
+    /// In an announced space at most four looks find the reservation, and for each size that is tried at most four tell whether the
+    /// extent round the page meets one.
     pub(crate) fn place(&mut self, stamp: u64, space: u32, page: u32, want: &Want) -> Option<Place>
         requires unplaced { frame_in self.old space page ≡ None }
         requires wanted { IsWanted want.now page }
         ensures placed { IfSome result (λ p. PlacesPage self.old self.new (placing stamp space page want.now self.old) p.frame p.broken) }
         ensures none { IfNone result ((placing stamp space page want.now self.old ≡ None) × (self.new ≡ self.old)) }
     {
-        if let Some(reservation) = covering(&self.reservations, self.frames, space, page) {
+        if let Some(reservation) = covering(&self.reservations, &self.map, self.frames, space, page) {
             let frame = self.populate(&reservation, page, stamp);
             return Some(Place { frame, broken: 0 });
         }
-        let size = preferred(&self.reservations, self.frames, space, page, want);
+        let size = preferred(&self.reservations, &self.map, self.frames, space, page, want);
         let found = self.largest_extent(size)?;
         let pages = extent_round(found.size, page);
         let reservation = Reservation {
@@ -143,6 +155,7 @@ impl Layout {
         requires has { CoversPage reservation page }
         requires placed { IsPlaced (length self.old.free) reservation.frame reservation }
         requires apart { (frame id : ℕ) → has_frame frame (Some reservation) ≡ true → has_frame frame (record_at self.old id) ≡ false }
+        requires within { reservation.first < 1048576 }
         requires laid { IsLaid (with_reservation reservation page self.old) }
         ensures layout { self.new ≡ with_reservation reservation page self.old }
         ensures frame { result ≡ frame_for page reservation }
@@ -150,6 +163,7 @@ impl Layout {
         let id = reservation.frame;
         let frame = frame_for(&reservation, page);
         self.reservations.add(reservation, page);
+        mapped::insert(&mut self.map, &reservation);
         enlist(&mut self.lists, &self.reservations, id);
         frame
     }
@@ -243,9 +257,11 @@ impl Layout {
     {
         let whole = self.reservations.get(id).unwrap();
         unlist(&mut self.lists, &self.reservations, id);
+        mapped::remove(&mut self.map, &self.reservations, id);
         let parts = self.reservations.split(id);
         give_parts(&mut self.free, &whole, &parts);
         enlist_parts(&mut self.lists, &self.reservations, &whole);
+        mapped::insert_parts(&mut self.map, &self.reservations, &whole);
         parts
     }
 
@@ -258,6 +274,7 @@ impl Layout {
         let id = reservation.frame;
         unlist(&mut self.lists, &self.reservations, id);
         if self.reservations.vacate(id, page_at(&reservation, frame)) {
+            mapped::remove(&mut self.map, &self.reservations, id);
             self.reservations.dissolve(id);
             give(
                 &mut self.free,
@@ -278,6 +295,7 @@ impl Layout {
     {
         let page = self.narrow(frame);
         self.reservations.vacate(frame, page);
+        mapped::remove(&mut self.map, &self.reservations, frame);
         self.reservations.dissolve(frame);
     }
 

@@ -10,6 +10,7 @@ mod free;
 pub mod laws;
 mod layout;
 mod lists;
+mod mapped;
 mod pool;
 mod records;
 

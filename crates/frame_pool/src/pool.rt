@@ -96,7 +96,7 @@ impl Pool {
     {
         Ok(Pool {
             frames: every_frame(alloc, frames)?,
-            layout: Layout::create(alloc, frames)?,
+            layout: Layout::create(alloc, frames, spaces)?,
             used: UsedFrames::create(alloc, frames, processors)?,
             held: vec![in alloc; None; processors as usize]?,
             entries: 0,

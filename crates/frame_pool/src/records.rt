@@ -4,10 +4,13 @@ ghost use Rattle.pager_model.specs.PreferredSize.{IsWanted, preferred_size};
 ghost use Rattle.pager_model.specs.Agreement.{has_frame};
 ghost use Rattle.pager_model.specs.Extents.{IsExtent};
 ghost use Rattle.pager_model.specs.Records.{is_used, part_of, yield_of, lowest_as_wide};
-ghost use Rattle.reservations.specs.Kept.{IsPlaced, CoversPage, reservation_at};
+ghost use Rattle.reservations.specs.Kept.{ArePlaced, CoversPage, IsPlaced, reservation_at};
+ghost use Rattle.frame_pool.specs.Mapped.{IsMapped, OneCovers};
 ghost use Rattle.frame_pool.specs.Placed.{IsPageAt, first_of};
 
+use crate::mapped;
 use pager_model::{Extent, Reservation, Size, Want};
+use population_map::PopulationMap;
 use reservations::Reservations;
 
 /// Whether the reservation has the page of the space.
@@ -19,8 +22,31 @@ fn has_page(reservation: &Reservation, space: u32, page: u32) -> bool
         && page - reservation.first < reservation.size.pages()
 }
 
-/// The reservation that has the page of the space, if one has it.
+/// The reservation that has the page of the space, if one has it: by at most four looks at the map, however many reservations there
+/// are. In a space that the map doesn't know, it is looked for among all.
 pub(crate) fn covering(
+    reservations: &Reservations,
+    map: &PopulationMap,
+    frames: u32,
+    space: u32,
+    page: u32,
+) -> Option<Reservation>
+    requires frames { frames ≡ length reservations.now.records }
+    requires placed { ArePlaced reservations.now.records }
+    requires mapped { IsMapped map.now reservations.now.records }
+    requires one_cover { OneCovers reservations.now.records }
+    requires page { page < 1048576 }
+    ensures { result ≡ covering space page reservations.now.records }
+{
+    if map.spaces() <= space {
+        return covering_among_all(reservations, frames, space, page);
+    }
+    let id = mapped::find(map, space, page)?;
+    reservations.get(id)
+}
+
+/// The reservation that has the page of the space, if one has it, looked for among all.
+pub(crate) fn covering_among_all(
     reservations: &Reservations,
     frames: u32,
     space: u32,
@@ -53,8 +79,35 @@ fn meets(reservation: &Reservation, space: u32, extent: &Extent) -> bool
     }
 }
 
-/// Whether a reservation has a page of the extent of the space's pages.
-fn meets_any(reservations: &Reservations, frames: u32, space: u32, extent: &Extent) -> bool
+/// Whether a reservation has a page of the extent of the space's pages: by at most four looks at the map, however many reservations
+/// there are. In a space that the map doesn't know, each is asked.
+fn meets_any(
+    reservations: &Reservations,
+    map: &PopulationMap,
+    frames: u32,
+    space: u32,
+    extent: &Extent,
+) -> bool
+    requires frames { frames ≡ length reservations.now.records }
+    requires placed { ArePlaced reservations.now.records }
+    requires mapped { IsMapped map.now reservations.now.records }
+    requires aligned { IsExtent extent.now.size extent.now.first }
+    requires within { extent.now.first < 1048576 }
+    ensures { result ≡ meets_any space reservations.now.records extent.now.size extent.now.first }
+{
+    if map.spaces() <= space {
+        return meets_among_all(reservations, frames, space, extent);
+    }
+    mapped::meets(map, space, *extent)
+}
+
+/// Whether a reservation has a page of the extent of the space's pages, where each is asked.
+fn meets_among_all(
+    reservations: &Reservations,
+    frames: u32,
+    space: u32,
+    extent: &Extent,
+) -> bool
     requires { frames ≡ length reservations.now.records }
     ensures { result ≡ meets_any space reservations.now.records extent.now.size extent.now.first }
 {
@@ -71,16 +124,19 @@ fn meets_any(reservations: &Reservations, frames: u32, space: u32, extent: &Exte
 /// The size that is tried first for a page.
 pub(crate) fn preferred(
     reservations: &Reservations,
+    map: &PopulationMap,
     frames: u32,
     space: u32,
     page: u32,
     want: &Want,
 ) -> Size
     requires frames { frames ≡ length reservations.now.records }
+    requires placed { ArePlaced reservations.now.records }
+    requires mapped { IsMapped map.now reservations.now.records }
     requires wanted { IsWanted want.now page }
     ensures { result ≡ preferred_size (meets_any space reservations.now.records) page want.now }
 {
-    let meets = |extent: Extent| meets_any(reservations, frames, space, &extent);
+    let meets = |extent: Extent| meets_any(reservations, map, frames, space, &extent);
     size_policy::preferred(page, want, meets)
 }
 

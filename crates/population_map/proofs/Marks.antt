@@ -1,9 +1,8 @@
 -- What marks say of pages.
-use Rattle.std.proofs.Common.{◌≡◌, ℕ, zero, suc, ◌+◌, ◌*◌, ◌/◌, ◌%◌, ◌^◌, ◌<◌, ◌≤◌, Bool, true, false, ◌||◌, ◌&&◌, nat_lt, Option, Some, None, unwrap_or, is_some, inl, inr, refl, sym, ap, subst, ◌∙◌, arith}
-use Rattle.std.specs.List.{range_with_len, count_by}
+use Rattle.std.proofs.Common.{◌≡◌, ℕ, zero, suc, ◌+◌, ◌*◌, ◌/◌, ◌%◌, ◌^◌, ◌<◌, ◌≤◌, true, Option, Some, None, unwrap_or, is_some, inl, inr, refl, sym, ap, subst, ◌∙◌, arith}
 use Rattle.std.specs.Int.{bit_at}
-use Rattle.std.proofs.lemmas.Bool.{or_cases, or_left, or_right, false≢true, eqb-true, eq-eqb}
-use Rattle.extent_tree.specs.Rows.{Arena, row, is_split, SplitsAreRowsBelow}
+use Rattle.std.proofs.lemmas.Bool.{or_cases, or_left, or_right, eqb-true, eq-eqb}
+use Rattle.extent_tree.specs.Rows.{Arena, row}
 use Rattle.extent_tree.proofs.Rooms.{coarser}
 use Rattle.extent_tree.proofs.Rows.{row_alike}
 use Rattle.population_map.specs.declared.mark.Mark.{Mark}

@@ -1,5 +1,5 @@
 -- What the marks of a population map keep.
-use Rattle.std.specs.Prelude.{ℕ, ◌≡◌, ◌/◌, ◌%◌, ◌^◌, ◌<◌, ◌≤◌, ◌⊎◌, ◌↔◌, suc, true, Option, Some, None, is_some, if◌then◌else◌, ◌&&◌, ◌==◌, is_none}
+use Rattle.std.specs.Prelude.{ℕ, ◌≡◌, ◌*◌, ◌/◌, ◌%◌, ◌^◌, ◌<◌, ◌≤◌, ◌⊎◌, ◌↔◌, suc, true, Option, Some, None, is_some, if◌then◌else◌, ◌&&◌, ◌==◌, is_none}
 use Rattle.std.specs.Int.{bit_at}
 use Rattle.extent_tree.specs.Rows.{Arena, row, SplitsAreRowsBelow}
 use Rattle.population_map.specs.declared.mark.Mark.{Mark}
@@ -21,12 +21,12 @@ pub record AreMarks (m : Arena Mark) : Type 0 where
   pub placed : (page : ℕ) → is_populated m page ≡ true → is_placed m page ≡ true
   pub apart : (a b page : ℕ) → a ≤ 3 → b ≤ 3 → is_some (id_of m a page) ≡ true → is_some (id_of m b page) ≡ true → a ≡ b
 
--- and there is room for the nodes of all that may be placed
-pub record IsPopulation (m : Arena Mark) : Type 0 where
+-- and there is room for the nodes of all that may be placed in so many spaces
+pub record IsPopulation (spaces : ℕ) (m : Arena Mark) : Type 0 where
   pub marks : AreMarks m
   pub few : placed_pages m ≤ frame_count m
   pub thirds : m.room % 3 ≡ 0
-  pub whole : m.roots % 2048 ≡ 0
+  pub whole : m.roots ≡ 2048 * spaces
   pub known : m.roots ≤ 2097152
 
 -- a mark is kept where it says something

@@ -9,6 +9,10 @@ use Rattle.population_map.specs.declared.mark.Mark.{Mark}
 abbrev pub page_at : ℕ → ℕ → ℕ
 page_at space page = 1048576 * space + page
 
+-- what contracts see of a population map
+abbrev pub Populations : Type 0
+Populations = Arena Mark
+
 -- nothing is kept of an extent
 abbrev pub unmarked : Mark
 unmarked = record { id = None; some = 0; full = 0 }

@@ -32,6 +32,7 @@ const ROOTS: u32 = 2048;
 /// with such a page. `create` takes it, and nodes are written as they are first used.
 #[derive(Debug, Drop)]
 pub struct PopulationMap {
+    spaces: u32,
     tree: ExtentTree<Mark>,
 }
 
@@ -44,7 +45,7 @@ impl Model for PopulationMap {
 
     ghost view = { λ m. m.tree };
 
-    ghost invariant = { λ m. IsPopulation m.tree };
+    ghost invariant = { λ m. IsPopulation m.spaces m.tree };
 }
 
 /// The number of a page of a space over all spaces.
@@ -68,7 +69,14 @@ impl PopulationMap {
         ensures count { IfOk result (λ map. placed_pages map ≡ 0) }
     {
         let tree = ExtentTree::create(alloc, ROOTS * spaces, 3 * frames)?;
-        Ok(PopulationMap { tree })
+        Ok(PopulationMap { spaces, tree })
+    }
+
+    /// How many spaces there are.
+    pub fn spaces(&self) -> u32
+        ensures { result ≡ space_count self.now }
+    {
+        self.spaces
     }
 
     /// Places an extent of which no page is in a placed one.
@@ -93,7 +101,7 @@ impl PopulationMap {
         );
     }
 
-    /// Takes a placed extent out, and evicts its pages.
+    /// Takes a placed extent out, and evicts its pages. Where none is populated, one look says so, whatever its size.
     pub fn remove(&mut self, space: u32, extent: Extent)
         requires space { space < space_count self.old }
         requires aligned { IsExtent extent.size extent.first }

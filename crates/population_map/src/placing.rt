@@ -1,10 +1,10 @@
 //! Extents as they are placed and looked for, over the tree. Pages are counted over all spaces.
 
-ghost use Rattle.std.specs.Prelude.{◌≡◌, ℕ, ◌+◌, ◌-◌, ◌*◌, ◌/◌, ◌%◌, ◌^◌, ◌<◌, ◌≤◌, true, false, MatchOption, Some, None, is_some};
+ghost use Rattle.std.specs.Prelude.{◌≡◌, ℕ, ◌+◌, ◌-◌, ◌*◌, ◌/◌, ◌%◌, ◌^◌, ◌<◌, ◌≤◌, ◌↔◌, true, false, MatchOption, Some, None, is_some};
 ghost use Rattle.std.specs.Bool.{OnTrue, OnFalse};
 ghost use Rattle.pager_model.specs.Extents.{IsExtent};
 ghost use Rattle.population_map.specs.Kept.{AreMarks};
-ghost use Rattle.population_map.specs.Populations.{id_of, is_placed, is_populated, mark_of, placed_pages, IsInNone, SameRoom, PlacesOnly, EmptiesOnly};
+ghost use Rattle.population_map.specs.Populations.{id_of, is_placed, is_populated, mark_of, placed_pages, IsInNone, SomePopulated, SameRoom, PlacesOnly, EmptiesOnly};
 
 use crate::mark::{Mark, has_bit};
 use crate::way;
@@ -62,12 +62,47 @@ pub(crate) fn remove<L: Ledger>(tree: &mut ExtentTree<Mark>, size: Size, first: 
 {
     let (book, share) = blank.open::<L>();
     let steps = &mut Steps::begin(book, share);
+    evict_all(tree, size, first, steps);
+    tree.remove(size, first, steps);
+}
+
+/// Evicts the populated pages of a placed extent. Where there is none, one look says so.
+fn evict_all<L: Ledger>(tree: &mut ExtentTree<Mark>, size: Size, first: u32, steps: &mut Steps<L>)
+    requires marks { AreMarks tree.old }
+    requires page { first < 512 * tree.old.roots }
+    requires known { tree.old.roots ≤ 2097152 }
+    requires aligned { IsExtent size first }
+    requires placed { is_some (id_of tree.old size first) ≡ true }
+    requires room { 3 * placed_pages tree.old ≤ tree.old.room }
+    ensures marks { AreMarks tree.new }
+    ensures room { SameRoom tree.old tree.new }
+    ensures ids { (part page : ℕ) → part ≤ 3 → id_of tree.new part page ≡ id_of tree.old part page }
+    ensures empty { EmptiesOnly tree.old tree.new size first }
+{
+    if !has_populated(tree, size, first, steps) {
+        return;
+    }
     for page in first..first + size.pages() {
         if is_populated(tree, page, steps) {
             way::change(tree, page, false, steps);
         }
     }
-    tree.remove(size, first, steps);
+}
+
+/// Whether an extent round a page has a populated page.
+fn has_populated<L: Ledger>(
+    tree: &ExtentTree<Mark>,
+    size: Size,
+    page: u32,
+    steps: &mut Steps<L>,
+) -> bool
+    requires { AreMarks tree.now }
+    ensures { (result ≡ true) ↔ SomePopulated tree.now size page }
+{
+    if size.level() == 0 {
+        return is_populated(tree, page, steps);
+    }
+    mark_at(tree, size, page, steps).some != 0
 }
 
 /// Whether a page is populated.

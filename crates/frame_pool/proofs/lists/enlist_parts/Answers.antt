@@ -2,12 +2,9 @@ use Rattle.std.proofs.Common.{◌≡◌, ℕ, ◌+◌, ◌-◌, ◌*◌, ◌/◌
 use Rattle.reservations.specs.Kept.{reservation_at}
 use Rattle.reservations.proofs.ExtentLemmas.{eight_pos, eight_quotient, part_of_eight, aligned_end}
 use Rattle.frame_pool.proofs.ListsByFrame.{no_record, HasParts, HasParts-none, HasParts-all, HasParts-more, HasParts-skip, part_in_room, part_unlisted, none_before, known_before}
+use Rattle.frame_pool.proofs.PartRecords.{eighth}
 use Rattle.frame_pool.proofs.lists.enlist_parts.Goals as goal
 use Rattle.frame_pool.proofs.lists.enlist_parts.Goals.{then-is_some, else-is_some}
-
--- the number of pages of a part
-eighth : (pages size : ℕ) → 0 < size → pages ≡ 8 ^ size → pages / 8 ≡ 8 ^ (size - 1)
-eighth pages size splits is = ap (λ n. n / 8) is ∙ eight_quotient 1 size splits
 
 pub loop-i-init : goal.loop-i-init
 loop-i-init c = HasParts-none c.args.lists.now c.args.reservations.now c.args.whole.now c.requires.split

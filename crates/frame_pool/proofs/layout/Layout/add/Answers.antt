@@ -2,11 +2,12 @@ use Rattle.std.proofs.Common.{◌≡◌, ◌∙◌, ◌<◌, Option, Some, None,
 use Rattle.std.proofs.lemmas.Bool.{false≢true}
 use Rattle.std.proofs.lemmas.List.{get_or-set_same}
 use Rattle.pager_model.specs.declared.reservation.Reservation.{Reservation}
-use Rattle.pager_model.specs.Layouts.{frame_for}
+use Rattle.pager_model.specs.Layouts.{Layout, frame_for}
 use Rattle.reservations.proofs.ExtentLemmas.{eight_pos}
 use Rattle.reservations.proofs.FrameIds.{has_frame_from}
 use Rattle.frame_pool.specs.Listed.{AreListed}
 use Rattle.frame_pool.proofs.LayoutInOrder.{AreListed-used, place_has}
+use Rattle.frame_pool.proofs.LayoutMapped.{MayEnter-added}
 use Rattle.frame_pool.proofs.ListsByFrame.{none_begins}
 use Rattle.frame_pool.proofs.AgeLists.{is_listed-none}
 use Rattle.frame_pool.proofs.layout.Layout.add.Goals as goal
@@ -19,6 +20,17 @@ enlist-requires-clause-unlisted c =
     let apart = rw (← c.self.view_is) at c.requires.apart in
     let none = none_begins inside.reservations.records r.frame was.laid.placed (apart r.frame r.frame (has_frame_from r.frame r (omega arith) (omega (arith, eight_pos r.size)))) in
     is_listed-none inside.lists.lists inside.reservations.used inside.reservations.records r.frame was.listed was.laid.placed none
+
+pub insert-requires : goal.insert-requires
+insert-requires c =
+    let r = c.args.reservation in
+    let inside = c.self.inside in
+    let was = c.self.invariant in
+    let l : Layout = record { free = inside.free; records = inside.reservations.records; used = inside.reservations.used } in
+    let apart = rw (← c.self.view_is) at c.requires.apart in
+    let laid = rw (← c.self.view_is) at c.requires.laid in
+    let placed = rw (← c.self.view_is) at c.requires.placed in
+    (inside.reservations.records, was.mapped, MayEnter-added l r c.args.page was.laid placed c.requires.within apart laid)
 
 pub invariant_of-self : goal.invariant_of-self
 invariant_of-self c =
@@ -36,10 +48,12 @@ invariant_of-self c =
     let known : r.frame < length records = omega (arith, placed.within, eight_pos r.size, was.laid.records_long) in
     let enlists : (rs : List (Option Reservation)) → get_or rs r.frame None ≡ None → r.frame < length rs → AreListed inside.lists.lists (set used place true) rs → AreListed c.enlist.new.lists.lists (set used place true) (set rs r.frame (get_or (set records r.frame (Some r)) r.frame None)) =
     rw c.add.ensures at c.enlist.ensures.listed in
+    let l : Layout = record { free = inside.free; records = records; used = used } in
     rw c.add.ensures (record {
       known = was.known;
       few = was.few;
       laid = laid;
       listed = rw (get_or-set_same records r.frame (Some r) None known) at (enlists records none known listed);
       room = c.enlist.ensures.room ∙ was.room;
+      mapped = c.insert.ensures records was.mapped (MayEnter-added l r c.args.page was.laid placed c.requires.within apart laid);
     })

@@ -1,11 +1,21 @@
-use Rattle.std.proofs.Common.{◌≡◌, ◌∙◌, ◌+◌, ◌-◌, None, false, ap, arith}
+use Rattle.std.proofs.Common.{◌≡◌, ◌∙◌, ◌+◌, ◌-◌, None, false, sym, ap, subst, arith}
 use Rattle.std.proofs.lemmas.Option.{IfSome_then}
 use Rattle.pager_model.specs.Layouts.{Layout, take_out, record_at}
 use Rattle.pager_model.specs.Records.{Records}
 use Rattle.reservations.specs.Kept.{with_record, with_used}
+use Rattle.frame_pool.specs.Mapped.{IsMapped}
 use Rattle.frame_pool.proofs.LayoutRelease.{Gives-take_out}
 use Rattle.frame_pool.proofs.LayoutInOrder.{AreListed-take_out, some_of}
 use Rattle.frame_pool.proofs.layout.Layout.carve.Goals as goal
+
+pub remove-requires-clause-mapped : goal.remove-requires-clause-mapped
+remove-requires-clause-mapped c =
+    let inside = c.self.inside in
+    let l : Layout = record { free = inside.free; records = inside.reservations.records; used = inside.reservations.used } in
+    let alone = rw (← c.self.view_is) at c.narrow-page.ensures.alone in
+    let own = some_of (record_at l c.args.frame) _ alone in
+    let at_place = rw own.1 at c.vacate.ensures.vacated in
+    subst (λ (st : Records). IsMapped inside.map st.records) (sym at_place) c.self.invariant.mapped
 
 pub invariant_of-self : goal.invariant_of-self
 invariant_of-self c =
@@ -28,6 +38,7 @@ invariant_of-self c =
       laid = gives.laid;
       listed = AreListed-take_out l frame r inside.lists.lists was.laid own.1 own.2.0 was.listed;
       room = was.room;
+      mapped = rw unused at c.remove.ensures;
     })
 
 pub returns : goal.returns

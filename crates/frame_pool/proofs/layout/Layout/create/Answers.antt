@@ -1,11 +1,13 @@
 use Rattle.std.proofs.Common.{true, refl}
 use Rattle.std.proofs.lemmas.List.{length-replicate}
+use Rattle.frame_pool.proofs.MappedRecords.{IsMapped-start}
 use Rattle.frame_pool.proofs.StartStates.{IsLaid-start, AreListed-start}
 use Rattle.frame_pool.proofs.layout.Layout.create.Goals as goal
 
 pub invariant_of-result : goal.invariant_of-result
 invariant_of-result c =
     let frames = c.args.frames in
+    let made = c.in_ok-create-4.ensures in
     rw (c.in_ok-create.ensures, c.in_ok-create-2.ensures, c.in_ok-create-3.ensures)
     (record {
       known = length-replicate frames true;
@@ -13,4 +15,5 @@ invariant_of-result c =
       laid = IsLaid-start frames;
       listed = AreListed-start frames;
       room = refl;
+      mapped = IsMapped-start c.in_ok-create-4.field-0 frames made.no_extent made.count made.frames;
     })

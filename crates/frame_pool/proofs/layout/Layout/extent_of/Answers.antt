@@ -11,7 +11,7 @@ invariant_of-self c =
     let s = c.self.inside in
     let l : Layout = record { free = s.free; records = s.reservations.records; used = s.reservations.used } in
     let found : Found = record { layout = l; size = c.args.size; first = c.in-Some.first; broken = 0 } in
-    rw c.in-Some.ensures.taken (IsInOrder-without s.frames found s.lists c.self.invariant (sym c.in-Some.ensures.chosen))
+    rw c.in-Some.ensures.taken (IsInOrder-without s.frames found s.lists s.map c.self.invariant (sym c.in-Some.ensures.chosen))
 
 pub returns-in-Some-clause-found : goal.returns-in-Some-clause-found
 returns-in-Some-clause-found c =
@@ -44,7 +44,7 @@ invariant_of-self-3 c =
     let found : Found = record { layout = l; size = c.args.size; first = first; broken = 1 } in
     let chosen : choice s.free c.args.size ≡ Some first = sym c.take-2.ensures.chosen ∙ c.unwrap-first.ensures in
     let taken = rw c.unwrap-first.ensures at c.take-2.ensures.taken in
-    rw taken (IsInOrder-without s.frames found s.lists c.self-2.invariant chosen)
+    rw taken (IsInOrder-without s.frames found s.lists s.map c.self-2.invariant chosen)
 
 pub returns-clause-found : goal.returns-clause-found
 returns-clause-found c =

@@ -3,6 +3,8 @@ use Rattle.pager_model.specs.Layouts.{Layout, frame_for, stamped, record_at}
 use Rattle.pager_model.specs.Records.{Records, is_used}
 use Rattle.reservations.specs.Kept.{with_record, with_used}
 use Rattle.frame_pool.specs.Laid.{IsLaid}
+use Rattle.frame_pool.specs.Mapped.{IsMapped}
+use Rattle.frame_pool.proofs.MappedRecords.{IsMapped-alike}
 use Rattle.frame_pool.proofs.LayoutInOrder.{IsLaid-populated, IsInOrder-again, place_has, rest_unlisted}
 use Rattle.frame_pool.proofs.layout.Layout.populate.Goals as goal
 
@@ -25,9 +27,10 @@ invariant_of-self c =
     let laid = IsLaid-populated l r c.args.stamp page c.self.invariant.laid is c.requires.has unused in
     let done : c.populate.new.self ≡ with_used (with_record inside.reservations r.frame (Some (stamped r c.args.stamp))) (frame_for page r) true = rw is at c.populate.ensures in
     let after : Records → Layout = λ st. record { free = inside.free; records = st.records; used = st.used } in
-    IsInOrder-again l r.frame r c.self.invariant.laid is inside.frames (frame_for page r) true (Some (stamped r c.args.stamp)) (after c.populate.new.self) inside.lists c.unlist.new.lists c.enlist.new.lists c.self.invariant (place_has r page c.requires.has)
+    IsInOrder-again l r.frame r c.self.invariant.laid is inside.frames (frame_for page r) true (Some (stamped r c.args.stamp)) (after c.populate.new.self) inside.lists c.unlist.new.lists c.enlist.new.lists inside.map inside.map c.self.invariant (place_has r page c.requires.has)
     (subst (λ st. IsLaid (after st)) (sym done) laid) refl (ap (λ (st : Records). st.used) done) (ap (λ (st : Records). st.records) done)
     c.unlist.ensures.room c.enlist.ensures.room c.unlist.ensures.listed c.enlist.ensures.listed
+    (subst (λ (st : Records). IsMapped inside.map st.records) (sym done) (IsMapped-alike inside.map l.records r.frame r (stamped r c.args.stamp) c.self.invariant.mapped is refl refl refl))
 
 pub frame_for-requires-clause-frames : goal.frame_for-requires-clause-frames
 frame_for-requires-clause-frames c =

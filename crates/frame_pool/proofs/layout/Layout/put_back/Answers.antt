@@ -13,4 +13,4 @@ invariant_of-self c =
     let back = PutsBack-put_back l c.args.frame was.laid known out in
     let of = rw c.unwrap.ensures at c.of.ensures in
     rw (c.give.ensures, of.1)
-    (record { known = back.long ∙ was.known; few = was.few; laid = back.laid; listed = was.listed; room = was.room })
+    (record { known = back.long ∙ was.known; few = was.few; laid = back.laid; listed = was.listed; room = was.room; mapped = was.mapped })

@@ -3,6 +3,7 @@ use Rattle.pager_model.specs.Layouts.{Layout, split_free, record_at}
 use Rattle.pager_model.specs.Records.{is_used, split_records}
 use Rattle.reservations.specs.Parts.{told_parts}
 use Rattle.frame_pool.proofs.LayoutInOrder.{WasSplit-from, not_free_there}
+use Rattle.frame_pool.proofs.LayoutMapped.{WasSplitFrom-left}
 use Rattle.frame_pool.proofs.LayoutSplit.{Settles-split}
 use Rattle.frame_pool.proofs.layout.Layout.split.Goals as goal
 
@@ -25,6 +26,16 @@ enlist_parts-requires-clause-split c =
     WasSplit-from l c.args.id r was.laid is c.unlist.new.lists c.split-parts.new.self
     (c.unlist.ensures.room ∙ was.room ∙ sym was.known ∙ sym was.laid.records_long) c.unlist.ensures.listed records c.split-parts.ensures.used
 
+pub insert_parts-requires-clause-split : goal.insert_parts-requires-clause-split
+insert_parts-requires-clause-split c =
+    let inside = c.self.inside in
+    let was = c.self.invariant in
+    let r = c.unwrap-whole.result in
+    let l : Layout = record { free = inside.free; records = inside.reservations.records; used = inside.reservations.used } in
+    let is : record_at l c.args.id ≡ Some r = sym c.get.ensures.record ∙ c.unwrap-whole.ensures in
+    let records : c.split-parts.new.self.records ≡ split_records (is_used inside.reservations.used) r inside.reservations.records = rw is at c.split-parts.ensures.records in
+    WasSplitFrom-left l c.args.id r was.laid is inside.map c.remove.new.map c.split-parts.new.self was.mapped c.remove.ensures records c.split-parts.ensures.used
+
 pub invariant_of-self : goal.invariant_of-self
 invariant_of-self c =
     let inside = c.self.inside in
@@ -44,4 +55,5 @@ invariant_of-self c =
       laid = settles.laid;
       listed = rw (records, c.split-parts.ensures.used) at c.enlist_parts.ensures.listed;
       room = c.enlist_parts.ensures.room ∙ c.unlist.ensures.room ∙ was.room;
+      mapped = rw records at c.insert_parts.ensures;
     })

@@ -5,6 +5,7 @@ use Rattle.pager_model.specs.Records.{Records}
 use Rattle.reservations.specs.Kept.{with_record, with_used}
 use Rattle.reservations.proofs.FrameIds.{has_frame_from}
 use Rattle.frame_pool.specs.Laid.{IsLaid}
+use Rattle.frame_pool.specs.Mapped.{IsMapped}
 use Rattle.frame_pool.proofs.LayoutRelease.{Gives-vacate}
 use Rattle.frame_pool.proofs.LayoutInOrder.{IfSome-from, IsInOrder-again, IsInOrder-gone, not_free_there, rest_unlisted, same_reservation, vacated}
 use Rattle.frame_pool.proofs.layout.Layout.vacate.Goals as goal
@@ -14,6 +15,14 @@ page_at-requires-clause-pages c =
     let r = c.unwrap-reservation.result in
     let found = rw (c.unwrap-reservation.ensures, ← c.self.view_is) at c.reservation_of.ensures.found in
     (c.self.invariant.laid.placed r.frame r found.0).pages_aligned
+
+pub remove-requires-clause-mapped : goal.remove-requires-clause-mapped
+remove-requires-clause-mapped c =
+    let inside = c.self.inside in
+    let r = c.unwrap-reservation.result in
+    let found = rw (c.unwrap-reservation.ensures, ← c.self.view_is) at c.reservation_of.ensures.found in
+    let at_place = rw found.0 at c.vacate.ensures.vacated in
+    subst (λ (st : Records). IsMapped inside.map st.records) (sym at_place) c.self.invariant.mapped
 
 pub give-requires-clause-within : goal.give-requires-clause-within
 give-requires-clause-within c =
@@ -53,9 +62,10 @@ invariant_of-self c =
     let used = rw (← c.self.view_is) at c.requires in
     let gives = Gives-vacate l r.frame frame r c.self.invariant.laid found.0 found.1 used in
     let new : Layout = record { free = c.give.new.free; records = c.dissolve.new.self.records; used = c.dissolve.new.self.used } in
-    IsInOrder-gone l r.frame r c.self.invariant.laid found.0 inside.frames frame new inside.lists c.unlist.new.lists c.self.invariant found.1
+    IsInOrder-gone l r.frame r c.self.invariant.laid found.0 inside.frames frame new inside.lists c.unlist.new.lists inside.map c.remove.new.map c.self.invariant found.1
     (subst IsLaid (sym after) gives.laid) (ap (λ (m : Layout). length m.free) after ∙ gives.long) (ap (λ (st : Records). st.used) gone) (ap (λ (st : Records). st.records) gone)
     c.unlist.ensures.room c.unlist.ensures.listed
+    (subst (λ (st : Records). IsMapped c.remove.new.map st.records) (sym c.dissolve.ensures) c.remove.ensures)
 
 pub returns-then-vacate : goal.returns-then-vacate
 returns-then-vacate c =
@@ -87,10 +97,11 @@ invariant_of-self-2 c =
     let used = rw (← c.self.view_is) at c.requires in
     let gives = Gives-vacate l r.frame frame r c.self.invariant.laid found.0 found.1 used in
     let new : Layout = record { free = inside.free; records = c.vacate.new.self.records; used = c.vacate.new.self.used } in
-    IsInOrder-again l r.frame r c.self.invariant.laid found.0 inside.frames frame false (record_at l r.frame) new inside.lists c.unlist.new.lists c.enlist.new.lists c.self.invariant found.1
+    IsInOrder-again l r.frame r c.self.invariant.laid found.0 inside.frames frame false (record_at l r.frame) new inside.lists c.unlist.new.lists c.enlist.new.lists inside.map inside.map c.self.invariant found.1
     (subst IsLaid (sym after) gives.laid) refl (ap (λ (st : Records). st.used) unused)
     (ap (λ (st : Records). st.records) unused ∙ sym (set-get_or inside.reservations.records r.frame None))
     c.unlist.ensures.room c.enlist.ensures.room c.unlist.ensures.listed c.enlist.ensures.listed
+    (subst (λ (st : Records). IsMapped inside.map st.records) (sym unused) c.self.invariant.mapped)
 
 pub returns : goal.returns
 returns c =

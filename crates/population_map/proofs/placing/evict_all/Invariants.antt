@@ -1,7 +1,7 @@
 use Rattle.std.proofs.Common.{◌≡◌, ◌<◌, ◌≤◌, ℕ, false}
 use Rattle.population_map.specs.Kept.{AreMarks}
 use Rattle.population_map.specs.Populations.{id_of, is_populated, SameRoom}
-use Rattle.population_map.proofs.placing.remove.Given as goal
+use Rattle.population_map.proofs.placing.evict_all.Given as goal
 
 -- the pages so far are evicted, and nothing else changed
 abbrev pub invariant-loop-page : goal.invariant-loop-page

@@ -1,0 +1,303 @@
+-- What the map has to be as reservations come and go.
+use Rattle.std.proofs.Common.{◌≡◌, ◌≢◌, ℕ, ◌+◌, ◌/◌, ◌^◌, ◌<◌, ◌≤◌, ◌⊎◌, ◌↔◌, true, false, ◌&&◌, cond, eqb, leb, ltb, replicate, List, [], ◌∷◌, length, get_or, set, sum_by, Option, Some, None, is_some, IsSomeAnd, inl, inr, refl, sym, ap, subst, ◌∙◌, arith}
+use Rattle.std.proofs.lemmas.Bool.{cases_Bool, cases_eq, cond_both, cond-true, cond-false, false≢true, lt-ltb, le-ltb, ltb-true}
+use Rattle.std.proofs.lemmas.List.{get_or-set_same, get_or-set_other, length-replicate, length-set}
+use Rattle.std.proofs.lemmas.List.Sums.{sum_by-set, sum_by-cons}
+use Rattle.std.proofs.lemmas.Option.{none-some, same_Some}
+use Rattle.pager_model.specs.declared.reservation.Reservation.{Reservation}
+use Rattle.pager_model.specs.Agreement.{has_frame}
+use Rattle.pager_model.specs.Extents.{IsExtent}
+use Rattle.pager_model.specs.FrameStates.{places_in}
+use Rattle.pager_model.specs.Layouts.{covers}
+use Rattle.pager_model.proofs.Lists.{get_or-alike}
+use Rattle.population_map.specs.Populations.{Populations, page_at, id_of, placed_pages, space_count, frame_count, IsInNone, SameRoom, PlacesOnly}
+use Rattle.reservations.proofs.ExtentLemmas.{eight_pos}
+use Rattle.reservations.proofs.FrameIds.{has_frame_from, known_record}
+use Rattle.frame_pool.specs.Mapped.{IsMapped, MayEnter, places_below}
+use Rattle.frame_pool.proofs.ListsByFrame.{found_record_and}
+use Rattle.frame_pool.proofs.MappedPages.{covered_in, in_covered, page_in}
+use Rattle.frame_pool.proofs.PagePlaces.{CoversPageOf-covers, covers-CoversPageOf}
+
+-- the reservation is of the size and has the page
+abbrev HasAt : ℕ → ℕ → ℕ → Option Reservation → Type 0
+HasAt k s p o = IsSomeAnd o (λ r. (r.size ≡ k) × (covers s p r ≡ true))
+
+-- the extent of a size round a page is the reservation's, or another
+its_own : (r : Reservation) (k s p : ℕ) → ((k ≡ r.size) × (covers s p r ≡ true)) ⊎ (k ≡ r.size → covers s p r ≡ true → ⊥)
+its_own r k s p = elim (cases_eq k r.size) [
+  | inr apart ↦ inr (λ same _. apart same)
+  | inl same ↦ elim (cases_Bool (covers s p r)) [
+    | inl has ↦ inl (same, has)
+    | inr not ↦ inr (λ _ has. false≢true (sym not ∙ has))
+  ]
+]
+
+-- ids after the extent of a reservation changed alone
+module _ (m n : Populations) (r : Reservation) (pages : IsExtent r.size r.first) (low : r.first < 1048576) (o : Option ℕ) (places : PlacesOnly m n r.size (page_at r.space r.first) o) where
+  id_here : (k s p : ℕ) → k ≡ r.size → covers s p r ≡ true → id_of n k (page_at s p) ≡ o
+  id_here k s p same has = ap (λ j. id_of n j (page_at s p)) same ∙ places.changed (page_at s p) (covered_in r pages low s p has)
+
+  id_else : (k s p : ℕ) → k ≤ 3 → p < 1048576 → (k ≡ r.size → covers s p r ≡ true → ⊥) → id_of n k (page_at s p) ≡ id_of m k (page_at s p)
+  id_else k s p small known else =
+      places.others k (page_at s p) small (λ same at. else same (in_covered r pages low s p known (subst (λ j. page_at s p / 8 ^ j ≡ page_at r.space r.first / 8 ^ j) same at)))
+
+-- the reservations of some spaces have no more places than all
+pub sum_below : (spaces : ℕ) (records : List (Option Reservation)) → sum_by (places_below spaces) records ≤ sum_by places_in records
+sum_below spaces [] = omega arith
+sum_below spaces (o ∷ records) = omega (arith, sum_by-cons (places_below spaces) o records, sum_by-cons places_in o records, at o, sum_below spaces records)
+  where
+    at : (o : Option Reservation) → places_below spaces o ≤ places_in o
+    at None = omega arith
+    at (Some r) = cond_both (ltb r.space spaces) (8 ^ r.size) 0 (λ n. n ≤ 8 ^ r.size) (λ _. omega arith) (λ _. omega arith)
+
+-- ---- a reservation comes in
+
+module _ (m : Populations) (records : List (Option Reservation)) (r : Reservation) (mapped : IsMapped m records) (may : MayEnter records r) where
+  abbrev with_it : List (Option Reservation)
+  with_it = set records r.frame (Some r)
+
+  first_free : get_or records r.frame None ≡ None
+  first_free = may.none r.frame (has_frame_from r.frame r (omega arith) (omega (arith, eight_pos r.size)))
+
+  first_known : r.frame < length records
+  first_known = omega (arith, may.placed.within, eight_pos r.size)
+
+  -- the records with it
+  here : (j : ℕ) → j ≡ r.frame → get_or with_it j None ≡ Some r
+  here j same = ap (λ k. get_or with_it k None) same ∙ get_or-set_same records r.frame (Some r) None first_known
+
+  there : (j : ℕ) → j ≢ r.frame → get_or with_it j None ≡ get_or records j None
+  there j other = get_or-set_other records r.frame j (Some r) None other
+
+  pages_with : (id : ℕ) (q : Reservation) → get_or with_it id None ≡ Some q → q.first < 1048576
+  pages_with id q is = elim (cases_eq id r.frame) [
+    | inl same ↦ omega (arith, may.within, ap (λ (t : Reservation). t.first) (same_Some r q (sym (here id same) ∙ is)))
+    | inr other ↦ mapped.pages id q (sym (there id other) ∙ is)
+  ]
+
+  few_with : (spaces : ℕ) → sum_by (places_below spaces) with_it ≡ sum_by (places_below spaces) records + places_below spaces (Some r)
+  few_with spaces =
+      let change = sum_by-set (places_below spaces) records r.frame (Some r) None first_known in
+      omega (arith, change, ap (places_below spaces) first_free)
+
+  -- the exact ids: by the extent of the reservation, and by the others
+  module _ (n : Populations) (places : PlacesOnly m n r.size (page_at r.space r.first) (Some r.frame)) where
+    id_to : (s p k j : ℕ) → s < space_count m → p < 1048576 → k ≤ 3 → id_of n k (page_at s p) ≡ Some j → HasAt k s p (get_or with_it j None)
+    id_to s p k j known low small is = elim (its_own r k s p) [
+      | inl own ↦
+          let same = same_Some r.frame j (sym (id_here m n r may.placed.pages_aligned may.within (Some r.frame) places k s p own.0 own.1) ∙ is) in
+          subst (HasAt k s p) (sym (here j (sym same))) (sym own.0, own.1)
+      | inr else ↦
+          let was = (mapped.exact s p k j known low small).0 (sym (id_else m n r may.placed.pages_aligned may.within (Some r.frame) places k s p small low else) ∙ is) in
+          elim (cases_eq j r.frame) [
+            | inl same ↦ absurd (subst (HasAt k s p) (ap (λ i. get_or records i None) same ∙ first_free) was)
+            | inr other ↦ subst (HasAt k s p) (sym (there j other)) was
+          ]
+    ]
+
+    id_from : (s p k j : ℕ) → s < space_count m → p < 1048576 → k ≤ 3 → HasAt k s p (get_or with_it j None) → id_of n k (page_at s p) ≡ Some j
+    id_from s p k j known low small has = elim (cases_eq j r.frame) [
+      | inl same ↦
+          let own = subst (HasAt k s p) (here j same) has in
+          id_here m n r may.placed.pages_aligned may.within (Some r.frame) places k s p (sym own.0) own.1 ∙ ap Some (sym same)
+      | inr other ↦
+          let was = subst (HasAt k s p) (there j other) has in
+          let q = found_record_and (get_or records j None) (λ t. (t.size ≡ k) × (covers s p t ≡ true)) was in
+          id_else m n r may.placed.pages_aligned may.within (Some r.frame) places k s p small low
+          (λ _ also.
+          let space = (CoversPageOf-covers s p r also).space_is in
+          may.apart j p q.0 q.1 (subst (λ t. covers t p r ≡ true) (sym space) also) (subst (λ t. covers t p q.0 ≡ true) (sym space) q.2.1))
+          ∙ (mapped.exact s p k j known low small).1 was
+    ]
+
+    pub IsMapped-entered : r.space < space_count m → SameRoom m n → placed_pages n ≡ placed_pages m + 8 ^ r.size → IsMapped n with_it
+    IsMapped-entered known same count =
+        let spaces : space_count n ≡ space_count m = ap (λ k. k / 2048) same.roots in
+        let places = ap (λ k. places_below k (Some r)) spaces ∙ cond-true (ltb r.space (space_count m)) (8 ^ r.size) 0 (lt-ltb r.space (space_count m) known) in
+        record {
+          exact = λ s p k j at low small. let within : s < space_count m = omega (arith, at, spaces) in (id_to s p k j within low small, id_from s p k j within low small);
+          pages = pages_with;
+          room = ap (λ k. k / 3) same.room ∙ mapped.room ∙ sym (length-set records r.frame (Some r));
+          few = omega (arith, few_with (space_count n), places, count, mapped.few, ap (λ k. sum_by (places_below k) records) spaces);
+        }
+
+  -- in a space that the map doesn't know nothing changes
+  pub IsMapped-entered_elsewhere : space_count m ≤ r.space → IsMapped m with_it
+  IsMapped-entered_elsewhere unknown = record {
+    exact = λ s p k j known low small. (
+      λ is.
+          let was = (mapped.exact s p k j known low small).0 is in
+          elim (cases_eq j r.frame) [
+            | inl same ↦ absurd (subst (HasAt k s p) (ap (λ i. get_or records i None) same ∙ first_free) was)
+            | inr other ↦ subst (HasAt k s p) (sym (there j other)) was
+          ],
+      λ has. elim (cases_eq j r.frame) [
+        | inl same ↦
+            let own = subst (HasAt k s p) (here j same) has in
+            absurd (omega (arith, known, (CoversPageOf-covers s p r own.1).space_is))
+        | inr other ↦ (mapped.exact s p k j known low small).1 (subst (HasAt k s p) (there j other) has)
+      ],
+    );
+    pages = pages_with;
+    room = mapped.room ∙ sym (length-set records r.frame (Some r));
+    few = omega (arith, few_with (space_count m), mapped.few);
+  }
+
+  -- what placing it requires
+  pub entering_apart : r.space < space_count m → (page : ℕ) → page / 8 ^ r.size ≡ page_at r.space r.first / 8 ^ r.size → IsInNone m page
+  entering_apart known page same k small =
+      let at = page_in r.size r.space r.first page may.placed.pages_aligned may.within same in
+      let covered = covers-CoversPageOf r.space at.0 r (record { space_is = refl; low = at.3; high = at.4 }) in
+      ap (id_of m k) at.1 ∙ none_of (id_of m k (page_at r.space at.0))
+      (λ j is.
+      let q = found_record_and (get_or records j None) (λ t. (t.size ≡ k) × (covers r.space at.0 t ≡ true)) ((mapped.exact r.space at.0 k j known at.2 small).0 is) in
+      may.apart j at.0 q.0 q.1 covered q.2.1)
+    where
+      none_of : (o : Option ℕ) → ((j : ℕ) → o ≡ Some j → ⊥) → o ≡ None
+      none_of None never = refl
+      none_of (Some j) never = absurd (never j refl)
+
+  pub entering_room : placed_pages m + 8 ^ r.size ≤ frame_count m
+  entering_room = omega (arith, mapped.few, mapped.room, may.few, sum_below (space_count m) records)
+
+-- ---- a reservation goes
+
+module _ (m : Populations) (records : List (Option Reservation)) (id : ℕ) (r : Reservation) (mapped : IsMapped m records) (is : get_or records id None ≡ Some r) (pages : IsExtent r.size r.first) where
+  abbrev without_it : List (Option Reservation)
+  without_it = set records id None
+
+  low_of : r.first < 1048576
+  low_of = mapped.pages id r is
+
+  -- the records without it
+  gone : (j : ℕ) → j ≡ id → get_or without_it j None ≡ None
+  gone j same = ap (λ k. get_or without_it k None) same ∙ get_or-set_same records id None None (known_record records id r is)
+
+  stays : (j : ℕ) → j ≢ id → get_or without_it j None ≡ get_or records j None
+  stays j other = get_or-set_other records id j None None other
+
+  pages_without : (j : ℕ) (q : Reservation) → get_or without_it j None ≡ Some q → q.first < 1048576
+  pages_without j q at = elim (cases_eq j id) [
+    | inl same ↦ absurd (none-some q (sym (gone j same) ∙ at))
+    | inr other ↦ mapped.pages j q (sym (stays j other) ∙ at)
+  ]
+
+  few_without : (spaces : ℕ) → sum_by (places_below spaces) without_it + places_below spaces (Some r) ≡ sum_by (places_below spaces) records
+  few_without spaces =
+      let change = sum_by-set (places_below spaces) records id None None (known_record records id r is) in
+      omega (arith, change, ap (places_below spaces) is)
+
+  -- its extent is placed with its id
+  own_id : (k s p : ℕ) → s < space_count m → p < 1048576 → k ≡ r.size → covers s p r ≡ true → id_of m k (page_at s p) ≡ Some id
+  own_id k s p known low same has = (mapped.exact s p k id known low (omega (arith, same, pages.0))).1 (subst (HasAt k s p) (sym is) (sym same, has))
+
+  pub leaving_placed : r.space < space_count m → is_some (id_of m r.size (page_at r.space r.first)) ≡ true
+  leaving_placed known =
+      let first = covers-CoversPageOf r.space r.first r (record { space_is = refl; low = omega arith; high = omega (arith, eight_pos r.size) }) in
+      ap is_some (own_id r.size r.space r.first known low_of refl first)
+
+  module _ (n : Populations) (places : PlacesOnly m n r.size (page_at r.space r.first) None) where
+    left_to : (s p k j : ℕ) → s < space_count m → p < 1048576 → k ≤ 3 → id_of n k (page_at s p) ≡ Some j → HasAt k s p (get_or without_it j None)
+    left_to s p k j known low small at = elim (its_own r k s p) [
+      | inl own ↦ absurd (none-some j (sym (id_here m n r pages low_of None places k s p own.0 own.1) ∙ at))
+      | inr else ↦
+          let was = (mapped.exact s p k j known low small).0 (sym (id_else m n r pages low_of None places k s p small low else) ∙ at) in
+          elim (cases_eq j id) [
+            | inl same ↦
+                let own = subst (HasAt k s p) (ap (λ i. get_or records i None) same ∙ is) was in
+                absurd (else (sym own.0) own.1)
+            | inr other ↦ subst (HasAt k s p) (sym (stays j other)) was
+          ]
+    ]
+
+    left_from : (s p k j : ℕ) → s < space_count m → p < 1048576 → k ≤ 3 → HasAt k s p (get_or without_it j None) → id_of n k (page_at s p) ≡ Some j
+    left_from s p k j known low small has = elim (cases_eq j id) [
+      | inl same ↦ absurd (subst (HasAt k s p) (gone j same) has)
+      | inr other ↦
+          let was = (mapped.exact s p k j known low small).1 (subst (HasAt k s p) (stays j other) has) in
+          id_else m n r pages low_of None places k s p small low (λ same also. other (same_Some j id (sym was ∙ own_id k s p known low same also))) ∙ was
+    ]
+
+    pub IsMapped-left : r.space < space_count m → SameRoom m n → placed_pages n + 8 ^ r.size ≡ placed_pages m → IsMapped n without_it
+    IsMapped-left known same count =
+        let spaces : space_count n ≡ space_count m = ap (λ k. k / 2048) same.roots in
+        let places = ap (λ k. places_below k (Some r)) spaces ∙ cond-true (ltb r.space (space_count m)) (8 ^ r.size) 0 (lt-ltb r.space (space_count m) known) in
+        record {
+          exact = λ s p k j at low small. let within : s < space_count m = omega (arith, at, spaces) in (left_to s p k j within low small, left_from s p k j within low small);
+          pages = pages_without;
+          room = ap (λ k. k / 3) same.room ∙ mapped.room ∙ sym (length-set records id None);
+          few = omega (arith, few_without (space_count n), places, count, mapped.few, ap (λ k. sum_by (places_below k) records) spaces);
+        }
+
+  -- in a space that the map doesn't know nothing changes
+  pub IsMapped-left_elsewhere : space_count m ≤ r.space → IsMapped m without_it
+  IsMapped-left_elsewhere unknown =
+      let none : places_below (space_count m) (Some r) ≡ 0 = cond-false (ltb r.space (space_count m)) (8 ^ r.size) 0 (le-ltb r.space (space_count m) unknown) in
+      record {
+        exact = λ s p k j known low small. (
+          λ at.
+              let was = (mapped.exact s p k j known low small).0 at in
+              elim (cases_eq j id) [
+                | inl same ↦
+                    let own = subst (HasAt k s p) (ap (λ i. get_or records i None) same ∙ is) was in
+                    absurd (omega (arith, known, (CoversPageOf-covers s p r own.1).space_is))
+                | inr other ↦ subst (HasAt k s p) (sym (stays j other)) was
+              ],
+          λ has. elim (cases_eq j id) [
+            | inl same ↦ absurd (subst (HasAt k s p) (gone j same) has)
+            | inr other ↦ (mapped.exact s p k j known low small).1 (subst (HasAt k s p) (stays j other) has)
+          ],
+        );
+        pages = pages_without;
+        room = mapped.room ∙ sym (length-set records id None);
+        few = omega (arith, few_without (space_count m), none, mapped.few);
+      }
+
+-- ---- a reservation becomes younger, and none is at first
+
+-- where one stands with the same pages, the map stays
+pub IsMapped-alike : (m : Populations) (records : List (Option Reservation)) (id : ℕ) (r q : Reservation) → IsMapped m records → get_or records id None ≡ Some r → q.space ≡ r.space → q.first ≡ r.first → q.size ≡ r.size → IsMapped m (set records id (Some q))
+IsMapped-alike m records id r q mapped is space first size = record {
+  exact = λ s p k j known low small.
+      let was = mapped.exact s p k j known low small in
+      elim (cases_eq j id) [
+        | inl same ↦
+            let at_old = ap (λ i. get_or records i None) same ∙ is in
+            let at_new = ap (λ i. get_or (set records id (Some q)) i None) same ∙ get_or-set_same records id (Some q) None (known_record records id r is) in (
+              λ h. let own = subst (HasAt k s p) at_old (was.0 h) in subst (HasAt k s p) (sym at_new) (size ∙ own.0, sym (alike s p) ∙ own.1),
+              λ h. let own = subst (HasAt k s p) at_new h in was.1 (subst (HasAt k s p) (sym at_old) (sym size ∙ own.0, alike s p ∙ own.1)),
+            )
+        | inr other ↦
+            let stays = get_or-set_other records id j (Some q) None other in
+            (λ h. subst (HasAt k s p) (sym stays) (was.0 h), λ h. was.1 (subst (HasAt k s p) stays h))
+      ];
+  pages = λ j t at. elim (cases_eq j id) [
+    | inl same ↦
+        let at_new = ap (λ i. get_or (set records id (Some q)) i None) same ∙ get_or-set_same records id (Some q) None (known_record records id r is) in
+        omega (arith, mapped.pages id r is, first, ap (λ (u : Reservation). u.first) (same_Some q t (sym at_new ∙ at)))
+    | inr other ↦ mapped.pages j t (sym (get_or-set_other records id j (Some q) None other) ∙ at)
+  ];
+  room = mapped.room ∙ sym (length-set records id (Some q));
+  few =
+      let change = sum_by-set (places_below (space_count m)) records id (Some q) None (known_record records id r is) in
+      let weights : places_below (space_count m) (Some q) ≡ places_below (space_count m) (Some r) = ap (λ n. cond (ltb n (space_count m)) (8 ^ q.size) 0) space ∙ ap (λ k. cond (ltb r.space (space_count m)) (8 ^ k) 0) size in
+      omega (arith, change, weights, ap (places_below (space_count m)) is, mapped.few);
+}
+  where
+    alike : (s p : ℕ) → covers s p r ≡ covers s p q
+    alike s p =
+        ap (λ n. eqb n s && (leb r.first p && ltb p (r.first + 8 ^ r.size))) (sym space)
+        ∙ ap (λ n. eqb q.space s && (leb n p && ltb p (n + 8 ^ r.size))) (sym first)
+        ∙ ap (λ k. eqb q.space s && (leb q.first p && ltb p (q.first + 8 ^ k))) (sym size)
+
+-- without a reservation no extent is placed
+pub IsMapped-start : (m : Populations) (frames : ℕ) → ((size page : ℕ) → id_of m size page ≡ None) → placed_pages m ≡ 0 → frame_count m ≡ frames → IsMapped m (replicate frames None)
+IsMapped-start m frames no_extent no_page room = record {
+  exact = λ s p k j _ _ _. (
+    λ is. absurd (none-some j (sym (no_extent k (page_at s p)) ∙ is)),
+    λ has. absurd (subst (HasAt k s p) (get_or-alike frames j None) has),
+  );
+  pages = λ id r is. absurd (none-some r (sym (get_or-alike frames id None) ∙ is));
+  room = room ∙ sym (length-replicate frames None);
+  few = omega (arith, no_page);
+}

@@ -1,0 +1,116 @@
+//! The reservations in the map of their pages, and what the map answers of them. Each counted call has a counter of steps of its own that
+//! begins at 0.
+
+ghost use Rattle.std.specs.Prelude.{◌≡◌, ℕ, ◌/◌, ◌^◌, ◌<◌, ◌≤◌, true, List, Option, Some, None, IsSome, MatchOption, slice_set};
+ghost use Rattle.std.specs.Bool.{OnTrue, OnFalse};
+ghost use Rattle.pager_model.specs.declared.reservation.Reservation.{Reservation};
+ghost use Rattle.pager_model.specs.Extents.{IsExtent};
+ghost use Rattle.population_map.specs.Populations.{page_at, id_of, is_placed, space_count, IsInNone};
+ghost use Rattle.reservations.specs.Kept.{reservation_at};
+ghost use Rattle.frame_pool.specs.Mapped.{IsMapped, MayEnter, WasSplitFrom};
+
+use pager_model::{Extent, Reservation, Steps};
+use population_map::PopulationMap;
+use reservations::Reservations;
+use std::marker::Brand;
+use std::sync::ledger::{Blank, Ledger};
+
+/// The pages of a reservation.
+fn pages_of(reservation: &Reservation) -> Extent
+    ensures { result ≡ record { size = reservation.now.size; first = reservation.now.first } }
+{
+    Extent {
+        size: reservation.size,
+        first: reservation.first,
+    }
+}
+
+/// Places the pages of a reservation, where the map knows their space.
+pub(crate) fn insert(map: &mut PopulationMap, reservation: &Reservation)
+    requires { (records : List (Option Reservation)) × IsMapped map.old records × MayEnter records reservation.now }
+    ensures { (records : List (Option Reservation)) → IsMapped map.old records → MayEnter records reservation.now
+        → IsMapped map.new (slice_set records reservation.now.frame (Some reservation.now)) }
+{
+    if reservation.space < map.spaces() {
+        map.place(reservation.space, pages_of(reservation), reservation.frame);
+    }
+}
+
+/// Takes the pages of the reservation that begins at the frame `id` out, where the map knows their space.
+pub(crate) fn remove(map: &mut PopulationMap, reservations: &Reservations, id: u32)
+    requires there { IsSome (reservation_at reservations.now id) }
+    requires mapped { IsMapped map.old reservations.now.records }
+    ensures { IsMapped map.new (slice_set reservations.now.records id None) }
+{
+    let reservation = reservations.get(id).unwrap();
+    if reservation.space < map.spaces() {
+        map.remove(reservation.space, pages_of(&reservation));
+    }
+}
+
+/// Places the pages of the parts that a reservation, which isn't in the map any more, was split into, where they are reservations.
+pub(crate) fn insert_parts(map: &mut PopulationMap, reservations: &Reservations, whole: &Reservation)
+    requires splits { 0 < whole.now.size }
+    requires split { WasSplitFrom map.old reservations.now whole.now }
+    ensures { IsMapped map.new reservations.now.records }
+{
+    let pages = whole.size.pages() / 8;
+    for i in 0..8 {
+        let first = whole.frame + i * pages;
+        if let Some(part) = reservations.get(first) {
+            insert(map, &part);
+        }
+    }
+}
+
+/// The first frame of the reservation that has the page of a space that the map knows, by at most four looks.
+pub(crate) fn find(map: &PopulationMap, space: u32, page: u32) -> Option<u32>
+    requires space { space < space_count map.now }
+    requires page { page < 1048576 }
+    ensures { MatchOption result (IsInNone map.now (page_at space page))
+        (λ id. (size : ℕ) × (size ≤ 3) × (id_of map.now size (page_at space page) ≡ Some id)) }
+{
+    find_counted::<Brand>(map, space, page, Blank::new(1))
+}
+
+fn find_counted<L: Ledger>(map: &PopulationMap, space: u32, page: u32, blank: Blank) -> Option<u32>
+    requires name { blank.name ≡ L.name }
+    requires parts { blank.parts ≡ L.parts }
+    requires share { 0 < blank.parts }
+    requires space { space < space_count map.now }
+    requires page { page < 1048576 }
+    ensures { MatchOption result (IsInNone map.now (page_at space page))
+        (λ id. (size : ℕ) × (size ≤ 3) × (id_of map.now size (page_at space page) ≡ Some id)) }
+{
+    let (book, share) = blank.open::<L>();
+    map.find(space, page, &mut Steps::begin(book, share))
+}
+
+/// Whether a reservation of the space, which the map knows, has a page of the extent, by at most four looks.
+pub(crate) fn meets(map: &PopulationMap, space: u32, extent: Extent) -> bool
+    requires space { space < space_count map.now }
+    requires aligned { IsExtent extent.size extent.first }
+    requires within { extent.first < 1048576 }
+    ensures meets { OnTrue result ((page : ℕ) × (page / 8 ^ extent.size ≡ page_at space extent.first / 8 ^ extent.size)
+        × (is_placed map.now page ≡ true)) }
+    ensures apart { OnFalse result ((page : ℕ) → page / 8 ^ extent.size ≡ page_at space extent.first / 8 ^ extent.size
+        → IsInNone map.now page) }
+{
+    meets_counted::<Brand>(map, space, extent, Blank::new(1))
+}
+
+fn meets_counted<L: Ledger>(map: &PopulationMap, space: u32, extent: Extent, blank: Blank) -> bool
+    requires name { blank.name ≡ L.name }
+    requires parts { blank.parts ≡ L.parts }
+    requires share { 0 < blank.parts }
+    requires space { space < space_count map.now }
+    requires aligned { IsExtent extent.size extent.first }
+    requires within { extent.first < 1048576 }
+    ensures meets { OnTrue result ((page : ℕ) × (page / 8 ^ extent.size ≡ page_at space extent.first / 8 ^ extent.size)
+        × (is_placed map.now page ≡ true)) }
+    ensures apart { OnFalse result ((page : ℕ) → page / 8 ^ extent.size ≡ page_at space extent.first / 8 ^ extent.size
+        → IsInNone map.now page) }
+{
+    let (book, share) = blank.open::<L>();
+    map.meets(space, extent, &mut Steps::begin(book, share))
+}
