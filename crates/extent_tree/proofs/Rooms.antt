@@ -1,5 +1,5 @@
 -- How many nodes the rows of a tree take: three at most for each page that a row is round, or that a row is to be round.
-use Rattle.std.proofs.Common.{◌≡◌, ℕ, zero, suc, ◌*◌, ◌/◌, ◌^◌, ◌<◌, ◌≤◌, Bool, true, false, ◌||◌, ◌&&◌, nat_lt, is_some, inl, inr, sym, ap, ◌∙◌, arith}
+use Rattle.std.proofs.Common.{◌≡◌, ℕ, ◌*◌, ◌/◌, ◌^◌, ◌<◌, ◌≤◌, Bool, true, false, ◌||◌, ◌&&◌, nat_lt, is_some, inl, inr, sym, ◌∙◌, arith}
 use Rattle.std.specs.List.{range_with_len, count_by}
 use Rattle.std.proofs.lemmas.Bool.{or_cases, false≢true, eqb-true}
 use Rattle.pager_model.proofs.ExtentLemmas.{coarser}

@@ -1,8 +1,8 @@
 -- What the nodes keep, as a value is written, a node is made, hung at a place or taken off.
-use Rattle.std.proofs.Common.{◌≡◌, ◌≢◌, ℕ, zero, suc, ◌+◌, ◌-◌, ◌*◌, ◌/◌, ◌^◌, ◌<◌, ◌≤◌, ◌⊎◌, ◌==◌, true, false, cond, [], ◌∷◌, ◌++◌, length, replicate, take, slice_index, get_or, Option, Some, None, is_some, inl, inr, refl, sym, ap, subst, ◌∙◌, arith, get_or-set_same, get_or-set_other}
+use Rattle.std.proofs.Common.{◌≡◌, ◌≢◌, ℕ, zero, suc, ◌+◌, ◌-◌, ◌*◌, ◌/◌, ◌^◌, ◌<◌, ◌≤◌, ◌⊎◌, ◌==◌, true, false, cond, [], ◌∷◌, ◌++◌, length, replicate, take, slice_index, Option, Some, None, is_some, inl, inr, refl, sym, ap, subst, ◌∙◌, arith, get_or-set_same, get_or-set_other}
 use Rattle.std.proofs.Math.ListN.{set, length-set}
 use Rattle.std.proofs.lemmas.Bool.{cases_eq, cases_lt, eq-eqb, ne_eqb}
-use Rattle.std.proofs.lemmas.List.{length-append, length-replicate, length-take-le, length_push, get_or_append_left, get_or-append_right, get_or_push, get_or_past, get_or-take, get_or-replicate}
+use Rattle.std.proofs.lemmas.List.{length-append, length-take-le, length_push, get_or_append_left, get_or-append_right, get_or_push, get_or_past, get_or-take}
 use Rattle.pager_model.proofs.Lists.{get_or-alike}
 use Rattle.extent_tree.specs.Rows.{Arena, blank, spot_at, place_of, spot_in, spot_of, is_split}
 use Rattle.extent_tree.specs.Counts.{extents, splits}
