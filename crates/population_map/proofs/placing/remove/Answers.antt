@@ -1,6 +1,7 @@
 use Rattle.std.proofs.Common.{None, is_some, ap, sym, ◌∙◌, arith}
 use Rattle.population_map.proofs.Marks.{row_if_id}
-use Rattle.population_map.proofs.Placings.{Placed, in_extent, of_extent, extent_within, removed_extent, removed_count, same_count}
+use Rattle.pager_model.proofs.ExtentLemmas.{in_extent, of_extent, extent_within}
+use Rattle.population_map.proofs.Placings.{Placed, removed_extent, removed_count, same_count}
 use Rattle.population_map.proofs.placing.remove.Goals as goal
 use Rattle.population_map.proofs.placing.remove.Goals.{After-remove}
 use Rattle.population_map.proofs.placing.remove.Given.{Over}
