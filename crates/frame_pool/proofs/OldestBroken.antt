@@ -23,7 +23,7 @@ use Rattle.pager_model.specs.Records.{is_used, yield_of}
 use Rattle.pager_model.specs.Settings.{Given}
 use Rattle.pager_model.proofs.Histories.{frames_at-named}
 use Rattle.reservations.specs.Kept.{ArePlaced}
-use Rattle.reservations.proofs.ExtentLemmas.{eight_pos}
+use Rattle.pager_model.proofs.ExtentLemmas.{eight_pos}
 use Rattle.reservations.proofs.FrameIds.{has_frame_from, known_record}
 use Rattle.frame_pool.specs.Laid.{IsLaid}
 use Rattle.frame_pool.proofs.AgeLists.{with_listed-in, list_of-open, All-list_of, oldest_in-found}
