@@ -10,10 +10,10 @@ use Rattle.pager_model.specs.declared.tile.Tile.{Tile}
 use Rattle.pager_model.specs.Extents.{extent_start}
 use Rattle.pager_model.specs.Regions.{in_range}
 use Rattle.pager_model.specs.Tiles.{tile_of, begins_at, size_at, size_in, is_promoted, promotions_between, count_pages, begins_tile, tiles_of_size}
+use Rattle.pager_model.proofs.CountLemmas.{weight}
 use Rattle.tiles.specs.declared.moves.Moves.{Moves}
 use Rattle.tiles.specs.Blocks.{ProtectsInBlock, OutsideSame, AreMovesOf, is_grown_at, begun_in, begun_at}
 use Rattle.tiles.specs.Resident.{Resident, mapping_at, frames_in, with_rights, Protects, AreMoves, begins_large}
-use Rattle.pager_model.proofs.CountLemmas.{weight}
 use Rattle.tiles.proofs.Counting.{count, count-zero, count-suc, count-more, count-apart, count-none, count-same, count_pages-is, count_pages_most}
 use Rattle.tiles.proofs.Extents.{StartsBelow, starts_below}
 use Rattle.tiles.proofs.Largest.{size_small, none_size, tile_absent, tile_begins}

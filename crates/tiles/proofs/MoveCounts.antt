@@ -5,16 +5,16 @@ use Rattle.std.proofs.lemmas.Bool.Decides.{nat_tests}
 use Rattle.pager_model.specs.declared.tile.Mapping.{Mapping}
 use Rattle.pager_model.specs.Extents.{extent_start}
 use Rattle.pager_model.specs.Tiles.{tile_of, begins_at, size_at, is_promoted, promotions_between, demotions_between}
+use Rattle.pager_model.proofs.CountLemmas.{weight}
+use Rattle.pager_model.proofs.ExtentLemmas.{coarser}
 use Rattle.tiles.specs.declared.moves.Moves.{Moves}
 use Rattle.tiles.specs.Beside.{AreKeptBut, SamePages, whole}
 use Rattle.tiles.specs.Blocks.{OutsideSame, is_grown_at}
 use Rattle.tiles.specs.Kept.{AreSizes, SizesBut, SameSizes}
 use Rattle.tiles.specs.Resident.{Resident, mapping_at, Maps, AreMoves}
 use Rattle.tiles.proofs.SizeChanges.{others_back, promotions_one, promotions_same}
-use Rattle.pager_model.proofs.CountLemmas.{weight}
 use Rattle.tiles.proofs.Counting.{count_pages-is, count-sum}
 use Rattle.tiles.proofs.Eligible.{whole_local}
-use Rattle.pager_model.proofs.ExtentLemmas.{coarser}
 use Rattle.tiles.proofs.Extents.{StartsBelow, starts_below}
 use Rattle.tiles.proofs.Largest.{size_small, size_is, whole_within, whole_beyond, none_size, tile_begins}
 use Rattle.tiles.proofs.SettledSizes.{eqb_no}

@@ -2,10 +2,10 @@
 use Rattle.std.proofs.Common.{◌≡◌, ◌≢◌, ℕ, zero, suc, ◌+◌, ◌*◌, ◌<◌, ◌≤◌, Bool, true, false, eqb, ltb, if◌then◌else◌, Option, Some, None, is_some, inl, inr, refl, sym, ap, ◌∙◌, arith}
 use Rattle.std.proofs.lemmas.Bool.{cases_eq, cases_lt, cases_Bool, false≢true, false_from_ne_true, eq-eqb, eqb-true, lt-ltb}
 use Rattle.std.proofs.lemmas.Bool.Decides.{nat_tests}
+use Rattle.pager_model.proofs.CountLemmas.{weight}
 use Rattle.extent_tree.specs.Counts.{splits_with}
 use Rattle.extent_tree.specs.Rows.{Arena, row, SplitsAreRowsBelow}
 use Rattle.extent_tree.proofs.Rooms.{RowsIn, room_for}
-use Rattle.pager_model.proofs.CountLemmas.{weight}
 use Rattle.tiles.proofs.Counting.{count, count-is, count-zero, count-suc, count-none}
 
 -- no two pages have one number

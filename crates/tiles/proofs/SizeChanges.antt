@@ -5,10 +5,10 @@ use Rattle.std.proofs.lemmas.Bool.Decides.{nat_tests}
 use Rattle.pager_model.specs.declared.tile.Mapping.{Mapping}
 use Rattle.pager_model.specs.Tiles.{size_at, tile_of, begins_at, is_promoted, promotions_between, count_pages}
 use Rattle.pager_model.specs.Extents.{extent_start}
+use Rattle.pager_model.proofs.ExtentLemmas.{coarser, first_of_extent}
 use Rattle.tiles.specs.Beside.{OthersSame, size_beside, whole}
 use Rattle.tiles.proofs.Eligible.{whole_alike, whole_local}
 use Rattle.tiles.proofs.Counting.{count_pages_at, count_pages_none}
-use Rattle.pager_model.proofs.ExtentLemmas.{coarser, first_of_extent}
 use Rattle.tiles.proofs.Extents.{starts_below}
 use Rattle.tiles.proofs.Largest.{HasTile, none_size, tile_begins, size_small, whole_within, whole_beyond, within_size, size_is}
 

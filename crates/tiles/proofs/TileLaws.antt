@@ -6,8 +6,8 @@ use Rattle.pager_model.specs.declared.tile.Mapping.{Mapping}
 use Rattle.pager_model.specs.declared.tile.Tile.{Tile}
 use Rattle.pager_model.specs.Extents.{extent_start}
 use Rattle.pager_model.specs.Tiles.{IsTile, tile_with, eligible_with, eligible_at, tile_of, size_at}
-use Rattle.tiles.proofs.Eligible.{HasExtent, has_whole, whole_none, none_whole, whole_alike, eligible_is, eligible_has, page_in}
 use Rattle.pager_model.proofs.ExtentLemmas.{coarser, first_of_extent}
+use Rattle.tiles.proofs.Eligible.{HasExtent, has_whole, whole_none, none_whole, whole_alike, eligible_is, eligible_has, page_in}
 use Rattle.tiles.proofs.Extents.{starts_below}
 use Rattle.tiles.proofs.Largest.{HasTile, tiles, resident_tile, size_is}
 

@@ -1,6 +1,6 @@
 use Rattle.std.proofs.Common.{◌≢◌, ◌/◌, ◌^◌, ◌∙◌, sym, ap, arith}
-use Rattle.tiles.proofs.SizeChanges.{beside_same, beside_zero, beside_one, beside_two}
 use Rattle.pager_model.proofs.ExtentLemmas.{eight_pos}
+use Rattle.tiles.proofs.SizeChanges.{beside_same, beside_zero, beside_one, beside_two}
 use Rattle.tiles.proofs.sizes.size_beside.Goals as goal
 
 pub nonzero_div-other : goal.nonzero_div-other

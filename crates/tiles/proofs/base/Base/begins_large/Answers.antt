@@ -1,7 +1,7 @@
 use Rattle.std.proofs.Common.{arith, ◌∙◌}
+use Rattle.pager_model.proofs.ExtentLemmas.{eight_pos}
 use Rattle.tiles.specs.Resident.{mapping_at}
 use Rattle.tiles.proofs.Blocks.{large_yes, large_no}
-use Rattle.pager_model.proofs.ExtentLemmas.{eight_pos}
 use Rattle.tiles.proofs.base.Base.begins_large.Goals as goal
 
 pub nonzero_rem-result : goal.nonzero_rem-result

@@ -1,7 +1,7 @@
 use Rattle.std.proofs.Common.{◌∙◌, sym, arith}
+use Rattle.pager_model.proofs.ExtentLemmas.{eight_pos}
 use Rattle.tiles.specs.Resident.{mapping_at}
 use Rattle.tiles.proofs.Largest.{tile_absent, tile_found, offset_within}
-use Rattle.pager_model.proofs.ExtentLemmas.{eight_pos}
 use Rattle.tiles.proofs.base.Base.tile_of.Goals as goal
 
 pub returns-in_err-mapping : goal.returns-in_err-mapping

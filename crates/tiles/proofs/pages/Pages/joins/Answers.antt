@@ -1,8 +1,8 @@
 use Rattle.std.proofs.Common.{◌≡◌, ℕ, ◌+◌, ◌-◌, ◌*◌, ◌%◌, ◌^◌, ◌∙◌, sym, ap, subst, inl, inr, arith, true}
 use Rattle.std.proofs.lemmas.Bool.{cases_eq}
 use Rattle.pager_model.specs.Tiles.{moved_by}
-use Rattle.tiles.specs.Beside.{GoesOnAt}
 use Rattle.pager_model.proofs.ExtentLemmas.{eight_pos}
+use Rattle.tiles.specs.Beside.{GoesOnAt}
 use Rattle.tiles.proofs.SettledSizes.{power_small, joins_no_head, joins_no_frame, joins_no_part, joins_all, part_at}
 use Rattle.tiles.proofs.pages.Pages.joins.Goals as goal
 
