@@ -16,6 +16,7 @@ use Rattle.pager_model.specs.Order.{is_answered_alone}
 use Rattle.pager_model.specs.Regions.{region_at, is_wired}
 use Rattle.pager_model.specs.SpaceStates.{SpaceState, MayFail, ReplyAllowed, HasItsPages, answered_flat, space_after, frees_its_page, pages_of, pages_after, tile_at}
 use Rattle.pager_model.specs.SpaceStates.Next.{Anyone}
+use Rattle.pager_model.proofs.SpaceEntries.{served-unlawful}
 use Rattle.space_core.specs.declared.space.OutFault.{OutFault}
 use Rattle.space_core.specs.declared.space.OutFault.TheVariants.{Failed as OutFailed, NoMemory as OutNoMemory}
 use Rattle.space_core.specs.Beginning.{Begins, BeginsAnswered, BeginsEvicting, SameRegions, copied_reply}
