@@ -6,8 +6,9 @@ use Rattle.std.proofs.lemmas.List.{ext_get_or, length-replicate, get_or-replicat
 use Rattle.std.proofs.lemmas.List.FromFn.{length-map-range_with_len, get_or-map-range_with_len}
 use Rattle.std.proofs.lemmas.Nat.{pow_pos}
 use Rattle.pager_model.specs.FreeBlocks.{with_range}
+use Rattle.pager_model.proofs.ExtentLemmas.{extent_of_frame, range_of_extent}
 use Rattle.buddy_extents.specs.Blocks.{node, is_block, has_block, is_free, free_in, free_with, same_block, AreBlocks, InHand, IsBuddy}
-use Rattle.buddy_extents.proofs.NodeNumbers.{node_below, same_node, node_of_same, wider, halves, known_together, in_range, of_range}
+use Rattle.buddy_extents.proofs.NodeNumbers.{node_below, same_node, node_of_same, wider, halves, known_together}
 use Rattle.buddy_extents.proofs.Ranges.{length-with_range, with_range_inside, with_range_outside, range_cases}
 
 -- two tests that hold of each other are one
@@ -418,11 +419,11 @@ put nodes frames n frame free most hand =
 
 pub in_range_from : (n first any : ℕ) → first / 2 ^ n * 2 ^ n ≡ first → any / 2 ^ n ≡ first / 2 ^ n → (first ≤ any) × (any < first + 2 ^ n)
 in_range_from n first any start e =
-    let range = in_range n first any e in (omega (arith, range.0, start), omega (arith, range.1, start))
+    let range = range_of_extent (first / 2 ^ n) (2 ^ n) any (pow_pos n) e in (omega (arith, range.0, start), omega (arith, range.1, start))
 
 pub of_range_from : (n first any : ℕ) → first / 2 ^ n * 2 ^ n ≡ first → first ≤ any → any < first + 2 ^ n → any / 2 ^ n ≡ first / 2 ^ n
 of_range_from n first any start low high =
-    of_range n (first / 2 ^ n) any (omega arith) (omega arith)
+    extent_of_frame (first / 2 ^ n) (2 ^ n) any (omega arith) (omega arith)
 
 free_at-others : (nodes : List Bool) (n frame any : ℕ) → (any / 2 ^ n ≡ frame / 2 ^ n → ⊥) → free_at nodes n frame any ≡ is_free nodes any
 unfolding free_at

@@ -6,8 +6,9 @@ use Rattle.std.proofs.lemmas.Nat.{pow_pos, shl-shr, div_below, pow-add, shl_belo
 use Rattle.std.specs.Option.{option_or}
 use Rattle.bit_set.specs.Bits.{IsFirstFrom}
 use Rattle.pager_model.specs.FreeBlocks.{run_free, block_start, block_free, is_maximal, lowest_block, least_block}
+use Rattle.pager_model.proofs.ExtentLemmas.{extent_of_frame, range_of_extent}
 use Rattle.buddy_extents.specs.Blocks.{first_node, node, is_block, is_free, free_in, AreBlocks, IsBuddy}
-use Rattle.buddy_extents.proofs.NodeNumbers.{IsBuddy-xor, node_of_same, next_first_node, later_first_node, wider, wider_up, known_together, in_range, of_range}
+use Rattle.buddy_extents.proofs.NodeNumbers.{IsBuddy-xor, node_of_same, next_first_node, later_first_node, wider, wider_up, known_together}
 use Rattle.buddy_extents.proofs.Runs.{run_free_from, run_free_frames, run_free_within, NoneBefore, lowest_block-first, lowest_block-none, least_here, least_later}
 use Rattle.buddy_extents.proofs.BlockMoves.{same_test, is_free-block, is_free-none, length-free_in, get_or-free_in}
 
@@ -65,7 +66,7 @@ pub run_of_block : (nodes : List Bool) (frames : ℕ) → AreBlocks nodes frames
 run_of_block nodes frames blocks n m first order small known is =
     run_free_from (free_in nodes frames) (block_start n first) (2 ^ n) (λ i h.
     let frame = block_start n first + i in
-    let e : frame / 2 ^ n ≡ first / 2 ^ n = of_range n (first / 2 ^ n) frame (omega arith) (omega arith) in
+    let e : frame / 2 ^ n ≡ first / 2 ^ n = extent_of_frame (first / 2 ^ n) (2 ^ n) frame (omega arith) (omega arith) in
     let at : is_block nodes m frame ≡ true = ap (λ x. get_or nodes x false) (node_of_same m frame first (wider_up n m frame first order e)) ∙ is in
     let here = known_together n first frame (omega arith) known e in
     get_or-free_in nodes frames frame (blocks.within frame m here small at) ∙ is_free-block nodes frame m small at)
@@ -83,7 +84,7 @@ larger_not_free nodes frames blocks n first small known is =
           apart (blocks.one_each first n m known (omega arith) high is round))
     ] in
     let some = some_not_free nodes frames blocks n other (omega arith) buddy.0 none in
-    let range = in_range (n + 1) first some.0 (wider n some.0 other some.2 ∙ buddy.1) in
+    let range = range_of_extent (first / 2 ^ (n + 1)) (2 ^ (n + 1)) some.0 (pow_pos (n + 1)) (wider n some.0 other some.2 ∙ buddy.1) in
     false≢true (sym some.3 ∙ free_of_run nodes frames (block_start (n + 1) first) (2 ^ (n + 1)) run some.0 range.0 range.1))
 
 -- the blocks in the set are the maximal free ones
@@ -115,7 +116,7 @@ maximal_is_block nodes frames most blocks n first small known start = same_test 
               false≢true (sym alone ∙ and_from _ _ (lt-ltb n 9 (omega arith)) large))
         ] in
         let some = some_not_free nodes frames blocks n first small known none in
-        let range = in_range n first some.0 some.2 in
+        let range = range_of_extent (first / 2 ^ n) (2 ^ n) some.0 (pow_pos n) some.2 in
         false≢true (sym some.3 ∙ free_of_run nodes frames first (2 ^ n) run some.0 (omega (arith, range.0, start)) (omega (arith, range.1, start))))
 
 -- ---- the first node

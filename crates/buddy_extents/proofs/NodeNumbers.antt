@@ -1,7 +1,7 @@
 -- The numbers of the nodes: each block has one of its own, and orders follow each other.
 use Rattle.std.proofs.Common.{◌≡◌, ◌≢◌, ℕ, suc, ◌+◌, ◌-◌, ◌*◌, ◌/◌, ◌^◌, ◌<◌, ◌≤◌, ◌⊎◌, inl, inr, sym, ap, subst, ◌∙◌, bit_xor, zero-add, arith}
 use Rattle.std.proofs.lemmas.Bool.{cases_order, cases_eq, cases_lt}
-use Rattle.std.proofs.lemmas.Nat.{pow_pos, pow-add, shl-shr, shr-shr, shr_below, xor_shr, xor_lt, shr_split, mod_below, pow_below, shr_high, shl_below, leading_top}
+use Rattle.std.proofs.lemmas.Nat.{pow-add, shl-shr, shr-shr, shr_below, xor_shr, xor_lt, pow_below, shl_below, leading_top}
 use Rattle.std.proofs.lemmas.Nat.Bits.{bit_at_xor}
 use Rattle.std.proofs.Math.Nat.{one-mul, pow-suc, pow-le-pow_right}
 use Rattle.std.specs.Int.{bit_at}
@@ -80,19 +80,6 @@ wider_up m n frame other h same =
 pub known_together : (order frame other : ℕ) → order ≤ 15 → frame < 32768 → other / 2 ^ order ≡ frame / 2 ^ order → other < 32768
 known_together order frame other h known same =
     omega (arith, wider_up order 15 other frame h same)
-
--- a block's frames are those of its range
-pub in_range : (order frame other : ℕ) → other / 2 ^ order ≡ frame / 2 ^ order → (frame / 2 ^ order * 2 ^ order ≤ other) × (other < frame / 2 ^ order * 2 ^ order + 2 ^ order)
-in_range order frame other same =
-    let split = shr_split other order in
-    let rest = mod_below other (2 ^ order) (pow_pos order) in
-    let start : other / 2 ^ order * 2 ^ order ≡ frame / 2 ^ order * 2 ^ order = ap (λ q. q * 2 ^ order) same in
-    (omega (arith, split, start), omega (arith, split, rest, start))
-
-pub of_range : (order place other : ℕ) → place * 2 ^ order ≤ other → other < place * 2 ^ order + 2 ^ order → other / 2 ^ order ≡ place
-of_range order place other low high =
-    let sum : place * 2 ^ order + (other - place * 2 ^ order) ≡ other = omega arith in
-    subst (λ n. n / 2 ^ order ≡ place) sum (shr_high place order (other - place * 2 ^ order) (omega arith))
 
 -- of three places in one block of the next order two are the same
 pub two_halves : (a b c : ℕ) → a / 2 ≡ b / 2 → c / 2 ≡ b / 2 → c ≢ b → (a ≡ b) ⊎ (a ≡ c)

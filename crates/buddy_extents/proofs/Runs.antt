@@ -2,37 +2,30 @@
 use Rattle.std.proofs.Common.{◌≡◌, ℕ, zero, suc, ◌+◌, ◌-◌, ◌*◌, ◌/◌, ◌%◌, ◌^◌, ◌<◌, ◌≤◌, Bool, true, false, not, ◌&&◌, List, length, get_or, find, eqb, Option, Some, None, ◌↔◌, inl, inr, refl, sym, subst, ◌∙◌, ap, add-zero, arith}
 use Rattle.std.specs.List.{range_with_len}
 use Rattle.std.specs.Option.{option_or}
-use Rattle.std.proofs.lemmas.Bool.{cases_eq, cond-true, cond-false, and_parts, and_from, false≢true, eqb-true, eq-eqb, not-false, ltb-true, false_from_ne_true, cases_Bool, cases_lt}
+use Rattle.std.proofs.lemmas.Bool.{and_parts, false≢true, eqb-true, eq-eqb, not-false, ltb-true, false_from_ne_true, cases_Bool, cases_lt}
 use Rattle.std.proofs.lemmas.List.{get_or_past}
-use Rattle.std.proofs.lemmas.Option.{none-some, same_Some}
+use Rattle.std.proofs.lemmas.Option.{none-some}
 use Rattle.std.proofs.lemmas.Nat.{div-mul-add, pow-add, pow_pos, shl-shr, shr_split}
-use Rattle.std.proofs.Math.Nat.{mul-mod_left, pow-suc, mul_assoc, pow-le-pow_right, one-le-pow}
+use Rattle.std.proofs.Math.Nat.{mul-mod_left, pow-suc, mul_assoc, pow-le-pow_right}
 use Rattle.pager_model.specs.Extents.{IsExtent}
 use Rattle.pager_model.specs.FreeBlocks.{run_free, block_start, is_maximal, lowest_block, least_block, choice}
+use Rattle.pager_model.proofs.ExtentLemmas.{eight_pos}
+use Rattle.pager_model.proofs.Ranges.{list_all-range, find_passes, find_first}
 
--- each frame of a free run is free, and frames that are each free are a free run
+-- a run is free exactly where each of its frames is
+pub run_free_exactly : (free : List Bool) (first count : ℕ) → (run_free free first count ≡ true) ↔ ((frame : ℕ) → first ≤ frame → frame < first + count → get_or free frame false ≡ true)
+run_free_exactly free first count = list_all-range (λ frame. get_or free frame false) first count
+
+pub run_free_frames : (free : List Bool) (first count : ℕ) → run_free free first count ≡ true → (frame : ℕ) → first ≤ frame → frame < first + count → get_or free frame false ≡ true
+run_free_frames free first count = (run_free_exactly free first count).0
+
+-- the same by the places in the run
 pub run_free_at : (free : List Bool) (first count : ℕ) → run_free free first count ≡ true → (i : ℕ) → i < count → get_or free (first + i) false ≡ true
-run_free_at free first zero e i h = absurd (omega arith)
-run_free_at free first (suc n) e zero h = rw add-zero (and_parts _ _ e).0
-run_free_at free first (suc n) e (suc i) h =
-    let next : (first + 1) + i ≡ first + suc i = omega arith in
-    rw (← next) (run_free_at free (first + 1) n (and_parts _ _ e).1 i (omega arith))
+run_free_at free first count run i h = run_free_frames free first count run (first + i) (omega arith) (omega arith)
 
 pub run_free_from : (free : List Bool) (first count : ℕ) → ((i : ℕ) → i < count → get_or free (first + i) false ≡ true) → run_free free first count ≡ true
-run_free_from free first zero each = refl
-run_free_from free first (suc n) each =
-    and_from _ _ (rw add-zero at (each 0 (omega arith)))
-    (run_free_from free (first + 1) n (λ i h. let next : (first + 1) + i ≡ first + suc i = omega arith in rw next (each (suc i) (omega arith))))
-
--- the same by the frames' numbers
-pub run_free_frames : (free : List Bool) (first count : ℕ) → run_free free first count ≡ true → (frame : ℕ) → first ≤ frame → frame < first + count → get_or free frame false ≡ true
-run_free_frames free first count run frame low high =
-    let place : first + (frame - first) ≡ frame = omega arith in
-    rw (← place) (run_free_at free first count run (frame - first) (omega arith))
-
-pub run_free_exactly : (free : List Bool) (first count : ℕ) → (run_free free first count ≡ true) ↔ ((frame : ℕ) → first ≤ frame → frame < first + count → get_or free frame false ≡ true)
-run_free_exactly free first count =
-    (run_free_frames free first count, λ each. run_free_from free first count (λ i h. each (first + i) (omega arith) (omega arith)))
+run_free_from free first count each =
+    (run_free_exactly free first count).1 (λ frame low high. let place : first + (frame - first) ≡ frame = omega arith in rw (← place) (each (frame - first) (omega arith)))
 
 pub run_free_part : (free : List Bool) (first count part : ℕ) → run_free free first count ≡ true → part ≤ count → run_free free first part ≡ true
 run_free_part free first count part e h =
@@ -46,25 +39,7 @@ run_free_within free first count e h =
       | inr past ↦ absurd (false≢true (sym (get_or_past free (first + (count - 1)) false past) ∙ run_free_at free first count e (count - 1) (omega arith)))
     ]
 
--- what the first number of a range that passes is, and that none passes where none is found
-pub find_passes : (p : ℕ → Bool) (a n f : ℕ) → find p (range_with_len a n) ≡ Some f → p f ≡ true
-find_passes p a zero f e = absurd (none-some _ e)
-find_passes p a (suc n) f e =
-    elim (cases_Bool (p a)) [
-      | inl passes ↦ rw (← same_Some _ _ (rw passes at e)) passes
-      | inr fails ↦ find_passes p (a + 1) n f (rw fails at e)
-    ]
-
--- the first number of a range that passes, where none below it does
-pub find_first : (p : ℕ → Bool) (a n i : ℕ) → ((k : ℕ) → a ≤ k → k < i → p k ≡ false) → a ≤ i → i < a + n → p i ≡ true → find p (range_with_len a n) ≡ Some i
-find_first p a zero i none low high is = absurd (omega arith)
-find_first p a (suc n) i none low high is = elim (cases_eq a i) [
-  | inl here ↦ cond-true _ _ _ (ap p here ∙ is) ∙ ap Some here
-  | inr other ↦
-      cond-false _ _ _ (none a (omega arith) (omega arith))
-      ∙ find_first p (a + 1) n i (λ k from below. none k (omega arith) below) (omega arith) (omega arith) is
-]
-
+-- none passes where none is found
 pub none_passes_on : (p : ℕ → Bool) (a n : ℕ) → p a ≡ false → ((i : ℕ) → i < n → p ((a + 1) + i) ≡ false) → (i : ℕ) → i < suc n → p (a + i) ≡ false
 none_passes_on p a n here later zero h = rw add-zero here
 none_passes_on p a n here later (suc i) h = let next : (a + 1) + i ≡ a + suc i = omega arith in rw (← next) (later i (omega arith))
@@ -158,7 +133,7 @@ IsExtent-choice free k f e =
     let block = least_block_is free (3 * k) (10 - 3 * k) f e in (omega arith, (choice_is_free free k f e).1)
 
 pub choice_within : (free : List Bool) (k f : ℕ) → choice free k ≡ Some f → f + 8 ^ k ≤ length free
-choice_within free k f e = run_free_within free f (8 ^ k) (choice_is_free free k f e).0 (one-le-pow k 8 (omega arith))
+choice_within free k f e = run_free_within free f (8 ^ k) (choice_is_free free k f e).0 (eight_pos k)
 
 -- there is none only where no such run is
 pub no_choice : (free : List Bool) (k : ℕ) → k ≤ 3 → choice free k ≡ None → (f : ℕ) → f % 8 ^ k ≡ 0 → run_free free f (8 ^ k) ≡ false

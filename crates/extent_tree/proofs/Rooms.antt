@@ -1,27 +1,11 @@
 -- How many nodes the rows of a tree take: three at most for each page that a row is round, or that a row is to be round.
-use Rattle.std.proofs.Common.{◌≡◌, ℕ, zero, suc, ◌*◌, ◌/◌, ◌^◌, ◌<◌, ◌≤◌, Bool, true, false, ◌||◌, ◌&&◌, nat_lt, is_some, inl, inr, sym, ap, ◌∙◌, arith}
+use Rattle.std.proofs.Common.{◌≡◌, ℕ, ◌*◌, ◌/◌, ◌^◌, ◌<◌, ◌≤◌, Bool, true, false, ◌||◌, ◌&&◌, nat_lt, is_some, inl, inr, sym, ◌∙◌, arith}
 use Rattle.std.specs.List.{range_with_len, count_by}
 use Rattle.std.proofs.lemmas.Bool.{or_cases, false≢true, eqb-true}
+use Rattle.pager_model.proofs.ExtentLemmas.{coarser}
 use Rattle.extent_tree.specs.Rows.{Arena, row, is_split, SplitsAreRowsBelow}
 use Rattle.extent_tree.specs.Counts.{is_over, splits_with}
 use Rattle.extent_tree.proofs.Counting.{extents-by_pages}
-
--- pages of one extent are of one larger extent
-pub coarser : (a b p q : ℕ) → a ≤ b → b ≤ 3 → p / 8 ^ a ≡ q / 8 ^ a → p / 8 ^ b ≡ q / 8 ^ b
-coarser zero zero p q le small same = same
-coarser zero (suc b) p q le small same =
-    let one : p ≡ q = omega (arith, same) in ap (λ n. n / 8 ^ suc b) one
-coarser (suc zero) (suc zero) p q le small same = same
-coarser (suc zero) (suc (suc zero)) p q le small same = omega (arith, same)
-coarser (suc zero) (suc (suc (suc zero))) p q le small same = omega (arith, same)
-coarser (suc (suc zero)) (suc (suc zero)) p q le small same = same
-coarser (suc (suc zero)) (suc (suc (suc zero))) p q le small same = omega (arith, same)
-coarser (suc (suc (suc zero))) (suc (suc (suc zero))) p q le small same = same
-coarser (suc a) zero p q le small same = absurd (omega arith)
-coarser (suc (suc a)) (suc zero) p q le small same = absurd (omega arith)
-coarser (suc (suc (suc a))) (suc (suc zero)) p q le small same = absurd (omega arith)
-coarser (suc (suc (suc (suc a)))) b p q le small same = absurd (omega arith)
-coarser a (suc (suc (suc (suc b)))) p q le small same = absurd (omega arith)
 
 -- each row of a tree has a page that passes a test
 pub record RowsIn {V : Type 0} (t : Arena V) (test : ℕ → Bool) : Type 0 where

@@ -1,11 +1,11 @@
 -- A tree with no row.
 use Rattle.std.proofs.Common.{◌≡◌, ℕ, ◌+◌, ◌-◌, ◌*◌, ◌^◌, ◌<◌, [], replicate, None, is_some, inl, inr, ap, ◌∙◌, arith}
 use Rattle.std.proofs.lemmas.List.{length-replicate}
+use Rattle.pager_model.proofs.Lists.{get_or-alike}
 use Rattle.extent_tree.specs.Rows.{Arena, blank, spot_at, place_of, spot_of, row, is_split}
 use Rattle.extent_tree.specs.Kept.{IsTree}
 use Rattle.extent_tree.proofs.Counting.{extents-none}
 use Rattle.extent_tree.proofs.Places.{spot_some, spot_none, some_or_none}
-use Rattle.extent_tree.proofs.Trees.{get_or-alike}
 
 -- the roots alone, with nothing at them
 abbrev pub start : {V : Type 0} → ℕ → ℕ → Arena V

@@ -1,8 +1,9 @@
 -- What the nodes keep, as a value is written, a node is made, hung at a place or taken off.
-use Rattle.std.proofs.Common.{◌≡◌, ◌≢◌, ℕ, zero, suc, ◌+◌, ◌-◌, ◌*◌, ◌/◌, ◌^◌, ◌<◌, ◌≤◌, ◌⊎◌, ◌==◌, true, false, cond, [], ◌∷◌, ◌++◌, length, replicate, take, slice_index, get_or, Option, Some, None, is_some, inl, inr, refl, sym, ap, subst, ◌∙◌, arith, get_or-set_same, get_or-set_other}
+use Rattle.std.proofs.Common.{◌≡◌, ◌≢◌, ℕ, zero, suc, ◌+◌, ◌-◌, ◌*◌, ◌/◌, ◌^◌, ◌<◌, ◌≤◌, ◌⊎◌, ◌==◌, true, false, cond, [], ◌∷◌, ◌++◌, length, replicate, take, slice_index, Option, Some, None, is_some, inl, inr, refl, sym, ap, subst, ◌∙◌, arith, get_or-set_same, get_or-set_other}
 use Rattle.std.proofs.Math.ListN.{set, length-set}
 use Rattle.std.proofs.lemmas.Bool.{cases_eq, cases_lt, eq-eqb, ne_eqb}
-use Rattle.std.proofs.lemmas.List.{length-append, length-replicate, length-take-le, length_push, get_or_append_left, get_or-append_right, get_or_push, get_or_past, get_or-take, get_or-replicate}
+use Rattle.std.proofs.lemmas.List.{length-append, length-take-le, length_push, get_or_append_left, get_or-append_right, get_or_push, get_or_past, get_or-take}
+use Rattle.pager_model.proofs.Lists.{get_or-alike}
 use Rattle.extent_tree.specs.Rows.{Arena, blank, spot_at, place_of, spot_in, spot_of, is_split}
 use Rattle.extent_tree.specs.Counts.{extents, splits}
 use Rattle.extent_tree.specs.Kept.{is_used, IsInUse, IsEmpty, IsInHand, AreNodes, IsTreeBut, IsTree, grown, last_spare, hung, with_spare}
@@ -282,12 +283,6 @@ hung_tree t height page place part tree low at free some small =
     ]
 
 -- ---- a node is made
-
-pub get_or-alike : {X : Type 0} (count i : ℕ) (x : X) → get_or (replicate count x) i x ≡ x
-get_or-alike count i x = elim (cases_lt i count) [
-  | inl inside ↦ get_or-replicate count i x x inside
-  | inr past ↦ get_or_past (replicate count x) i x (omega (arith, length-replicate count x))
-]
 
 grown_spot : {V : Type 0} (t : Arena V) (place : ℕ) → spot_at (grown t) place ≡ spot_at t place
 grown_spot t place = elim (cases_lt place (length t.spots)) [

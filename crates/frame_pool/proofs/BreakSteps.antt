@@ -3,7 +3,7 @@ use Rattle.std.proofs.Common.{◌≡◌, ℕ, zero, suc, ◌+◌, ◌-◌, ◌<�
 use Rattle.std.specs.List.{range_with_len, list_any}
 use Rattle.std.specs.Option.{option_or, option_and_then, option_map_or, IfSome, IfNone, IsSome, IsSomeAnd, is_some}
 use Rattle.std.proofs.lemmas.Bool.{cond-false, false≢true}
-use Rattle.buddy_extents.proofs.Runs.{find_passes}
+use Rattle.pager_model.proofs.Ranges.{find_passes}
 use Rattle.pager_model.specs.declared.reservation.Reservation.{Reservation}
 use Rattle.pager_model.specs.Layouts.{Layout, split_layout, broken_at, oldest_of, oldest_from, split_on, record_at}
 use Rattle.pager_model.specs.Records.{is_used, yield_of, part_of, is_part_empty, same_size, lowest_as_wide, goes_on_at}

@@ -13,7 +13,7 @@ use Rattle.pager_model.specs.Layouts.{Layout, split_layout, break_layout, split_
 use Rattle.pager_model.specs.Records.{is_used, has_empty, yield_of, part_of, is_part_empty, goes_on_at}
 use Rattle.buddy_extents.proofs.Runs.{run_free_exactly, run_free_part, no_choice_exactly}
 use Rattle.reservations.specs.Kept.{IsPlaced}
-use Rattle.reservations.proofs.ExtentLemmas.{eight_pos, aligned_part, part_inside, part_of_eight}
+use Rattle.pager_model.proofs.ExtentLemmas.{eight_pos, aligned_part, part_inside, part_of_eight}
 use Rattle.reservations.proofs.FrameIds.{has_frame_bounds, has_frame_from}
 use Rattle.reservations.proofs.SplitLemmas.{part_placed}
 use Rattle.frame_pool.specs.Breaking.{KeepsPlace, Breaks}

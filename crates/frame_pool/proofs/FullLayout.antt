@@ -13,7 +13,7 @@ use Rattle.pager_model.specs.FreeBlocks.{choice, run_free}
 use Rattle.pager_model.specs.Layouts.{Layout, to_break, is_full, is_full_record, record_at, is_free}
 use Rattle.pager_model.specs.Records.{is_used, none_used, has_empty, yield_up_to, yield_of}
 use Rattle.frame_pool.proofs.PartYields.{has_empty_some}
-use Rattle.reservations.proofs.ExtentLemmas.{eight_pos}
+use Rattle.pager_model.proofs.ExtentLemmas.{eight_pos}
 use Rattle.reservations.proofs.FrameIds.{has_frame_bounds, known_record, unused_in}
 use Rattle.reservations.proofs.YieldLemmas.{has_empty-yes}
 use Rattle.frame_pool.specs.Laid.{IsLaid}

@@ -11,7 +11,7 @@ use Rattle.pager_model.specs.Agreement.{has_frame}
 use Rattle.pager_model.specs.Layouts.{Layout, split_layout, break_layout, part_with, narrows_to, narrow_layout, split_on, record_at}
 use Rattle.pager_model.specs.Records.{is_used, none_used, has_empty, yield_of, part_of, is_part_empty, kept_part, same_size, lowest_as_wide, goes_on_at}
 use Rattle.reservations.specs.Kept.{IsPlaced}
-use Rattle.reservations.proofs.CountLemmas.{extent_of_frame}
+use Rattle.pager_model.proofs.ExtentLemmas.{extent_of_frame}
 use Rattle.reservations.proofs.FrameIds.{has_frame_bounds, unused_in}
 use Rattle.reservations.proofs.SplitLemmas.{kept_cases}
 use Rattle.reservations.proofs.YieldLemmas.{yield_below, yield_below-found, yield_below-missed}

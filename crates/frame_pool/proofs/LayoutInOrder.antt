@@ -13,7 +13,7 @@ use Rattle.pager_model.specs.FreeBlocks.{with_range}
 use Rattle.reservation_lists.specs.Kept.{KeptLists, is_listed}
 use Rattle.reservations.specs.Kept.{CoversPage, IsPlaced, ArePlaced}
 use Rattle.frame_pool.proofs.PartRecords.{used_part}
-use Rattle.reservations.proofs.ExtentLemmas.{part_inside, part_of_eight}
+use Rattle.pager_model.proofs.ExtentLemmas.{part_inside, part_of_eight}
 use Rattle.reservations.proofs.FrameIds.{ArePlaced-set, has_frame_bounds, has_frame_from, known_record}
 use Rattle.reservations.proofs.SplitLemmas.{split_records-open}
 use Rattle.frame_pool.specs.Laid.{IsLaid}

@@ -11,7 +11,7 @@ use Rattle.pager_model.specs.Layouts.{Layout, covers, record_at}
 use Rattle.pager_model.specs.Records.{Records, is_used, split_records}
 use Rattle.population_map.specs.Populations.{Populations}
 use Rattle.reservations.specs.Kept.{IsPlaced}
-use Rattle.reservations.proofs.ExtentLemmas.{eight_pos}
+use Rattle.pager_model.proofs.ExtentLemmas.{eight_pos}
 use Rattle.reservations.proofs.FrameIds.{has_frame_from, known_record}
 use Rattle.reservations.proofs.SplitLemmas.{split_records-open}
 use Rattle.frame_pool.specs.Laid.{IsLaid}

@@ -11,7 +11,7 @@ use Rattle.pager_model.specs.Agreement.{has_frame}
 use Rattle.pager_model.specs.FreeBlocks.{choice, with_range}
 use Rattle.pager_model.specs.Layouts.{Layout, Found, Placing, covers, covering, frame_for, used_in, frame_in, stamped, populated, new_reservation, reserved, preferred_in, largest_extent, placing_in, placing, is_full, record_at, is_free}
 use Rattle.pager_model.specs.Records.{is_used}
-use Rattle.reservations.proofs.ExtentLemmas.{eight_pos}
+use Rattle.pager_model.proofs.ExtentLemmas.{eight_pos}
 use Rattle.reservations.proofs.FrameIds.{has_frame_bounds, has_frame_from, no_frame}
 use Rattle.frame_pool.specs.Laid.{IsLaid, IsIn}
 use Rattle.frame_pool.proofs.PagePlaces.{CoversPageOf-covers, covers-CoversPageOf, has_frame_for, covering-found, used_in-unused, frame_in-is, frame_in-none}

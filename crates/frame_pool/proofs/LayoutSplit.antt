@@ -8,7 +8,7 @@ use Rattle.pager_model.specs.Layouts.{Layout, covers, frame_for, frame_in, split
 use Rattle.pager_model.specs.Records.{is_used, part_of, is_part_empty}
 use Rattle.reservations.specs.Kept.{IsPlaced}
 use Rattle.frame_pool.proofs.PartRecords.{IsAlone, find_part, part_in_whole, same_part, which_part, used_part}
-use Rattle.reservations.proofs.ExtentLemmas.{eight_pos, part_of_eight}
+use Rattle.pager_model.proofs.ExtentLemmas.{eight_pos, part_of_eight}
 use Rattle.reservations.proofs.FrameIds.{has_frame_from}
 use Rattle.reservations.proofs.SplitLemmas.{part_placed}
 use Rattle.frame_pool.specs.Laid.{IsLaid, IsIn}

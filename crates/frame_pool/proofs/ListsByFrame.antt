@@ -10,7 +10,7 @@ use Rattle.pager_model.specs.Records.{Records, is_used, yield_of, part_of, kept_
 use Rattle.reservation_lists.specs.Kept.{KeptLists, is_listed}
 use Rattle.reservations.specs.Kept.{IsPlaced, ArePlaced}
 use Rattle.frame_pool.proofs.PartRecords.{split_suc, length-split, parts_apart, part_known, split_at, split_other}
-use Rattle.reservations.proofs.ExtentLemmas.{eight_pos, part_of_eight}
+use Rattle.pager_model.proofs.ExtentLemmas.{eight_pos, part_of_eight}
 use Rattle.reservations.proofs.FrameIds.{has_frame_from}
 use Rattle.reservations.proofs.SplitLemmas.{split_up_to, split_up_to-more, ArePlaced-part}
 use Rattle.frame_pool.specs.Listed.{AreListed, WasSplit}

@@ -10,7 +10,7 @@ use Rattle.pager_model.specs.Layouts.{covers, covering, meets, meets_any}
 use Rattle.population_map.specs.Populations.{Populations, page_at, id_of, is_placed, space_count, IsInNone}
 use Rattle.population_map.proofs.Marks.{placed_size}
 use Rattle.reservations.specs.Kept.{ArePlaced}
-use Rattle.reservations.proofs.ExtentLemmas.{eight_pos}
+use Rattle.pager_model.proofs.ExtentLemmas.{eight_pos}
 use Rattle.reservations.proofs.FrameIds.{known_record}
 use Rattle.frame_pool.specs.Mapped.{IsMapped, OneCovers}
 use Rattle.frame_pool.proofs.ListsByFrame.{found_record, found_record_and}

@@ -4,7 +4,8 @@ use Rattle.pager_model.specs.declared.reservation.Reservation.{Reservation}
 use Rattle.pager_model.specs.Extents.{IsExtent}
 use Rattle.pager_model.specs.Layouts.{covers}
 use Rattle.population_map.specs.Populations.{page_at}
-use Rattle.population_map.proofs.Placings.{aligned_at, extent_within, in_extent, of_extent}
+use Rattle.pager_model.proofs.ExtentLemmas.{extent_within, in_extent, of_extent}
+use Rattle.population_map.proofs.Placings.{aligned_at}
 use Rattle.frame_pool.proofs.PagePlaces.{CoversPageOf-covers, covers-CoversPageOf}
 
 -- an extent of a space's pages ends in the space

@@ -11,7 +11,7 @@ use Rattle.pager_model.specs.Layouts.{covers}
 use Rattle.pager_model.specs.Records.{Records, is_used, part_of, kept_part}
 use Rattle.population_map.specs.Populations.{Populations}
 use Rattle.reservations.specs.Kept.{IsPlaced}
-use Rattle.reservations.proofs.ExtentLemmas.{eight_pos, eight_parts, part_inside, part_of_eight}
+use Rattle.pager_model.proofs.ExtentLemmas.{eight_pos, eight_parts, part_inside, part_of_eight}
 use Rattle.reservations.proofs.FrameIds.{has_frame_bounds, has_frame_from}
 use Rattle.reservations.proofs.SplitLemmas.{split_up_to, split_up_to-more, kept_cases, part_placed}
 use Rattle.frame_pool.specs.Mapped.{IsMapped, MayEnter, WasSplitFrom}

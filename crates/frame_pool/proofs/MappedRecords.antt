@@ -11,7 +11,7 @@ use Rattle.pager_model.specs.FrameStates.{places_in}
 use Rattle.pager_model.specs.Layouts.{covers}
 use Rattle.pager_model.proofs.Lists.{get_or-alike}
 use Rattle.population_map.specs.Populations.{Populations, page_at, id_of, placed_pages, space_count, frame_count, IsInNone, SameRoom, PlacesOnly}
-use Rattle.reservations.proofs.ExtentLemmas.{eight_pos}
+use Rattle.pager_model.proofs.ExtentLemmas.{eight_pos}
 use Rattle.reservations.proofs.FrameIds.{has_frame_from, known_record}
 use Rattle.frame_pool.specs.Mapped.{IsMapped, MayEnter, places_below}
 use Rattle.frame_pool.proofs.ListsByFrame.{found_record_and}

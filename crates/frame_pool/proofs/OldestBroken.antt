@@ -23,7 +23,7 @@ use Rattle.pager_model.specs.Records.{is_used, yield_of}
 use Rattle.pager_model.specs.Settings.{Given}
 use Rattle.pager_model.proofs.Histories.{frames_at-named}
 use Rattle.reservations.specs.Kept.{ArePlaced}
-use Rattle.reservations.proofs.ExtentLemmas.{eight_pos}
+use Rattle.pager_model.proofs.ExtentLemmas.{eight_pos}
 use Rattle.reservations.proofs.FrameIds.{has_frame_from, known_record}
 use Rattle.reservation_lists.proofs.StampOrder.{is_before-same}
 use Rattle.frame_pool.specs.Laid.{IsLaid}

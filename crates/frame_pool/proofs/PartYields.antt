@@ -8,7 +8,7 @@ use Rattle.std.proofs.lemmas.Nat.{div_below, div-add-mod', mod_below}
 use Rattle.std.proofs.lemmas.Option.{none-some, same_Some}
 use Rattle.pager_model.specs.Records.{none_used, has_empty, yield_of, part_of, is_part_empty, same_size, lowest_as_wide, goes_on_at}
 use Rattle.pager_model.specs.declared.reservation.Reservation.{Reservation}
-use Rattle.reservations.proofs.ExtentLemmas.{eight_pos, eight_split, eight_parts, part_inside}
+use Rattle.pager_model.proofs.ExtentLemmas.{eight_pos, eight_split, eight_parts, part_inside}
 use Rattle.reservations.proofs.YieldLemmas.{yield_below, yield_below-found, yield_below-missed, has_empty-yes}
 
 -- The yield, by the sizes that have an extent without a used place.

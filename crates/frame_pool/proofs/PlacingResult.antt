@@ -6,7 +6,7 @@ use Rattle.pager_model.specs.declared.reservation.Reservation.{Reservation}
 use Rattle.pager_model.specs.Extents.{extent_start}
 use Rattle.pager_model.specs.Layouts.{Layout, Placing, covering, frame_for, frame_in, largest_extent, preferred_in, populated, new_reservation, reserved, placing_in, placing, record_at}
 use Rattle.reservations.specs.Kept.{CoversPage}
-use Rattle.reservations.proofs.ExtentLemmas.{eight_pos}
+use Rattle.pager_model.proofs.ExtentLemmas.{eight_pos}
 use Rattle.frame_pool.specs.Laid.{IsLaid}
 use Rattle.frame_pool.specs.Placed.{FindsExtent, PlacesPage, with_reservation, without_extent}
 use Rattle.frame_pool.proofs.PagePlaces.{CoversPageOf-covers, covering-found}

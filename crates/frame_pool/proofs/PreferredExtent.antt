@@ -9,7 +9,7 @@ use Rattle.pager_model.specs.Extents.{extent_start}
 use Rattle.pager_model.specs.Layouts.{Layout, covers, covering, meets, meets_any, preferred_in, record_at}
 use Rattle.pager_model.specs.PreferredSize.{fits}
 use Rattle.size_policy.proofs.Sizes.{Suits-from_fits}
-use Rattle.reservations.proofs.ExtentLemmas.{eight_pos, eight_split}
+use Rattle.pager_model.proofs.ExtentLemmas.{eight_pos, eight_split}
 use Rattle.reservations.proofs.FrameIds.{known_record}
 use Rattle.frame_pool.proofs.PagePlaces.{CoversPageOf-covers, covering-none}
 

@@ -5,7 +5,7 @@ use Rattle.pager_model.specs.declared.reservation.Reservation.{Reservation}
 use Rattle.pager_model.specs.FrameStates.{places_in}
 use Rattle.pager_model.specs.Records.{same_size}
 use Rattle.reservations.specs.Kept.{IsPlaced}
-use Rattle.reservations.proofs.ExtentLemmas.{eight_small}
+use Rattle.pager_model.proofs.ExtentLemmas.{eight_small}
 
 -- a reservation that is kept has at most 512 places
 pub places_few : (frames id : ℕ) (o : Option Reservation) → IfSome o (IsPlaced frames id) → places_in o ≤ 512

@@ -12,10 +12,9 @@ use Rattle.pager_model.specs.Records.{is_used, none_used, part_of, is_part_empty
 use Rattle.buddy_extents.proofs.Ranges.{length-with_range, with_range_inside, with_range_outside}
 use Rattle.reservations.specs.Kept.{IsPlaced}
 use Rattle.frame_pool.proofs.PartRecords.{length-split, split_at, split_other}
-use Rattle.reservations.proofs.CountLemmas.{extent_of_frame}
-use Rattle.reservations.proofs.ExtentLemmas.{part_of_eight}
+use Rattle.pager_model.proofs.ExtentLemmas.{part_of_eight, extent_of_frame}
 use Rattle.reservations.proofs.FrameIds.{has_frame_bounds, has_frame_from}
-use Rattle.reservations.proofs.SplitLemmas.{range_more}
+use Rattle.pager_model.proofs.Ranges.{range_with_len-more}
 use Rattle.frame_pool.proofs.PagePlaces.{CoversPageOf-covers, covers-CoversPageOf}
 
 -- The pages of a reservation and of its parts.
@@ -67,7 +66,7 @@ free_up_to n used r free = fold (freed_part used r) free (range_with_len 0 n)
 -- one part more
 pub free_up_to-suc : (n : ℕ) (used : ℕ → Bool) (r : Reservation) (free : List Bool) → free_up_to (suc n) used r free ≡ freed_part used r (free_up_to n used r free) n
 free_up_to-suc n used r free =
-    let more : range_with_len 0 (n + 1) ≡ range_with_len 0 n ++ n ∷ [] = range_more 0 n ∙ ap (λ m. range_with_len 0 n ++ m ∷ []) (omega arith) in
+    let more : range_with_len 0 (n + 1) ≡ range_with_len 0 n ++ n ∷ [] = range_with_len-more n in
     ap (λ m. free_up_to m used r free) (sym (add-one n)) ∙ ap (fold (freed_part used r) free) more ∙ fold_push (freed_part used r) free (range_with_len 0 n) n
 
 -- the frame is one of an empty part, of the first n parts

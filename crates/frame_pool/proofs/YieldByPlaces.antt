@@ -4,7 +4,7 @@ use Rattle.std.specs.List.{range_with_len, list_any, list_all}
 use Rattle.pager_model.specs.declared.reservation.Reservation.{Reservation}
 use Rattle.pager_model.specs.Agreement.{has_frame}
 use Rattle.pager_model.specs.Records.{none_used, has_empty, yield_up_to, yield_of}
-use Rattle.reservations.proofs.ExtentLemmas.{eight_split, part_inside}
+use Rattle.pager_model.proofs.ExtentLemmas.{eight_split, part_inside}
 use Rattle.reservations.proofs.FrameIds.{has_frame_from}
 
 -- tests that agree on the numbers of a range find alike in it

@@ -6,3 +6,4 @@ pub mod Texts
 pub mod Lists
 pub mod Ranges
 pub mod CountLemmas
+pub mod ExtentLemmas

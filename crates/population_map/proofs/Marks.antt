@@ -3,7 +3,7 @@ use Rattle.std.proofs.Common.{◌≡◌, ℕ, zero, suc, ◌+◌, ◌*◌, ◌/�
 use Rattle.std.specs.Int.{bit_at}
 use Rattle.std.proofs.lemmas.Bool.{or_cases, or_left, or_right, eqb-true, eq-eqb}
 use Rattle.extent_tree.specs.Rows.{Arena, row}
-use Rattle.extent_tree.proofs.Rooms.{coarser}
+use Rattle.pager_model.proofs.ExtentLemmas.{coarser}
 use Rattle.extent_tree.proofs.Rows.{row_alike}
 use Rattle.population_map.specs.declared.mark.Mark.{Mark}
 use Rattle.population_map.specs.Bits.{HasBit, HasAllBits}

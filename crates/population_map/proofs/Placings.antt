@@ -6,8 +6,9 @@ use Rattle.std.proofs.lemmas.Bool.{cases_eq, cases_lt, false≢true, false_from_
 use Rattle.extent_tree.specs.declared.spot.Spot.{Spot}
 use Rattle.extent_tree.specs.Rows.{Arena, row, spot_of, is_split, ChangesOnly, SplitsAreRowsBelow}
 use Rattle.extent_tree.specs.Counts.{splits_with}
-use Rattle.extent_tree.proofs.Counting.{count_block, count_none, count_same}
-use Rattle.extent_tree.proofs.Rooms.{coarser, room_for}
+use Rattle.pager_model.proofs.CountLemmas.{count_block, count-agree, count-none}
+use Rattle.pager_model.proofs.ExtentLemmas.{coarser, in_extent, of_extent, extent_within}
+use Rattle.extent_tree.proofs.Rooms.{room_for}
 use Rattle.extent_tree.proofs.Rows.{split_alike}
 use Rattle.pager_model.specs.Extents.{IsExtent}
 use Rattle.population_map.specs.declared.mark.Mark.{Mark}
@@ -188,27 +189,6 @@ swapped m n size page value marks s placed apart = record {
     ]
 
 -- ---- pages of an extent
-
-pub in_extent : (size first page : ℕ) → size ≤ 3 → first % 8 ^ size ≡ 0 → first ≤ page → page < first + 8 ^ size → page / 8 ^ size ≡ first / 8 ^ size
-in_extent zero first page small aligned low high = omega (arith, aligned)
-in_extent (suc zero) first page small aligned low high = omega (arith, aligned)
-in_extent (suc (suc zero)) first page small aligned low high = omega (arith, aligned)
-in_extent (suc (suc (suc zero))) first page small aligned low high = omega (arith, aligned)
-in_extent (suc (suc (suc (suc size)))) first page small aligned low high = absurd (omega arith)
-
-pub of_extent : (size first page : ℕ) → size ≤ 3 → first % 8 ^ size ≡ 0 → page / 8 ^ size ≡ first / 8 ^ size → (first ≤ page) × (page < first + 8 ^ size)
-of_extent zero first page small aligned same = (omega (arith, same), omega (arith, same))
-of_extent (suc zero) first page small aligned same = (omega (arith, same, aligned), omega (arith, same, aligned))
-of_extent (suc (suc zero)) first page small aligned same = (omega (arith, same, aligned), omega (arith, same, aligned))
-of_extent (suc (suc (suc zero))) first page small aligned same = (omega (arith, same, aligned), omega (arith, same, aligned))
-of_extent (suc (suc (suc (suc size)))) first page small aligned same = absurd (omega arith)
-
-pub extent_within : (size first roots : ℕ) → size ≤ 3 → first % 8 ^ size ≡ 0 → first < 512 * roots → first + 8 ^ size ≤ 512 * roots
-extent_within zero first roots small aligned low = omega (arith, aligned)
-extent_within (suc zero) first roots small aligned low = omega (arith, aligned)
-extent_within (suc (suc zero)) first roots small aligned low = omega (arith, aligned)
-extent_within (suc (suc (suc zero))) first roots small aligned low = omega (arith, aligned)
-extent_within (suc (suc (suc (suc size)))) first roots small aligned low = absurd (omega arith)
 
 -- one map has an extent placed that another has not, of none of whose pages the other has one placed
 pub one_more : (m n : Arena Mark) (size first : ℕ) → size ≤ 3 → first % 8 ^ size ≡ 0 → first < 512 * m.roots → n.roots ≡ m.roots
@@ -440,7 +420,7 @@ pub same_count : (m n : Arena Mark) → n.roots ≡ m.roots → ((size page : �
 unfolding placed_pages
 same_count m n roots ids =
     ap (λ r. count_by (is_placed n) (range_with_len 0 (512 * r))) roots
-    ∙ count_same (is_placed n) (is_placed m) 0 (512 * m.roots) (λ page _. placed_alike m n page (λ size. ids size page))
+    ∙ count-agree (is_placed n) (is_placed m) 0 (512 * m.roots) (λ page _ _. placed_alike m n page (λ size. ids size page))
 
 -- whether what a walk sees is split
 pub spot_split : (m : Arena Mark) (size height page : ℕ) (s : Spot Mark) (b : Bool) → height ≡ 3 - size → s ≡ spot_of m height page → b ≡ is_some s.node → b ≡ is_split m size page
@@ -485,7 +465,7 @@ start_pages m none marks page = false_from_ne_true _ (λ is. false≢true (sym (
 
 pub start_count : (m : Arena Mark) → ((size page : ℕ) → id_of m size page ≡ None) → placed_pages m ≡ 0
 unfolding placed_pages
-start_count m none = count_none (is_placed m) 0 (512 * m.roots) (λ page. in_none m page (λ size _. none size page))
+start_count m none = count-none (is_placed m) 0 (512 * m.roots) (λ page _ _. in_none m page (λ size _. none size page))
 
 -- an extent of a space is one over all spaces
 pub aligned_at : (size space first : ℕ) → IsExtent size first → IsExtent size (page_at space first)

@@ -3,7 +3,8 @@ use Rattle.std.proofs.Common.{◌≡◌, ◌≢◌, ℕ, zero, suc, ◌/◌, ◌
 use Rattle.std.specs.Int.{bit_at}
 use Rattle.std.proofs.lemmas.Bool.{cases_eq, cases_Bool, false≢true, eqb-true, eq-eqb}
 use Rattle.extent_tree.specs.Rows.{Arena, row, ChangesOnly, SplitsAreRowsBelow}
-use Rattle.extent_tree.proofs.Rooms.{RowsIn, coarser}
+use Rattle.pager_model.proofs.ExtentLemmas.{coarser}
+use Rattle.extent_tree.proofs.Rooms.{RowsIn}
 use Rattle.population_map.specs.declared.mark.Mark.{Mark}
 use Rattle.population_map.specs.Bits.{HasBit, HasAllBits, WithBit}
 use Rattle.population_map.specs.Kept.{AreMarks, IsCarried, WritesWay, kept}

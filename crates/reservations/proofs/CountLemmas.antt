@@ -2,13 +2,14 @@
 use Rattle.std.proofs.Common.{◌≡◌, ◌≢◌, ◌<◌, ◌≤◌, ℕ, zero, suc, ◌+◌, ◌-◌, ◌*◌, ◌/◌, ◌%◌, ◌^◌, Bool, true, false, not, ◌&&◌, ◌||◌, cond, eqb, ltb, List, [], ◌∷◌, length, get_or, set, replicate, refl, ap, sym, subst, ◌∙◌, arith, inl, inr, count_by}
 use Rattle.std.specs.List.{range_with_len, list_all, list_any}
 use Rattle.std.proofs.lemmas.List.{get_or-set_same, get_or-set_other, length-set, length-replicate, get_or_read}
-use Rattle.std.proofs.lemmas.List.Sums.{sum_by-cons, count_by-le-length}
-use Rattle.std.proofs.lemmas.List.FromFn.{length-range_with_len}
+use Rattle.std.proofs.Math.Nat.{div-mul-le_self, lt-div-mul-add}
+use Rattle.std.proofs.lemmas.List.Sums.{sum_by-cons}
 use Rattle.std.proofs.lemmas.Bool.{cases_eq, ne_eqb, lt-ltb}
 use Rattle.std.proofs.lemmas.Bool.Decides.{nat_tests}
-use Rattle.std.proofs.lemmas.Nat.{div_below, div-mul-add, div-add-mod', mod_below}
+use Rattle.std.proofs.lemmas.Nat.{div_below, div-add-mod', mod_below}
 use Rattle.pager_model.specs.Records.{is_used, none_used}
-use Rattle.pager_model.proofs.CountLemmas.{count-agree, count-one_more, count-none}
+use Rattle.pager_model.proofs.CountLemmas.{count-suc, count-agree, count-one_more, count-none, count-most}
+use Rattle.pager_model.proofs.ExtentLemmas.{extent_of_frame}
 use Rattle.pager_model.proofs.Lists.{get_or-alike}
 use Rattle.reservations.specs.Counts.{used_in, AreCounts}
 
@@ -29,11 +30,10 @@ any-count p first zero b = refl
 any-count p first (suc n) b =
     let next : first + (b + 1) ≡ first + b + 1 = omega arith in
     let rest = any-count p first n (b + 1) ∙ ap (λ a. ltb (count_by p (range_with_len a n)) n) next in
-    let most = count_by-le-length p (range_with_len (first + b + 1) n) in
-    let long = length-range_with_len (first + b + 1) n in
+    let most = count-most p (first + b + 1) n in
     let here : first + b * 1 ≡ first + b = omega arith in
     let others = list_any (λ i. none_used p (first + i * 1) 1) (range_with_len (b + 1) n) in
-    rw (here, sum_by-cons (λ y. cond (p y) 1 0) (first + b) (range_with_len (first + b + 1) n))
+    rw (here, count-suc p (first + b) n)
     (elim (p (first + b)) as (λ v. ((not v && true) || others) ≡ ltb (cond v 1 0 + count_by p (range_with_len (first + b + 1) n)) (suc n)) [
       | true ↦ rest ∙ grind (arith, nat_tests)
       | false ↦ sym (lt-ltb _ _ (omega arith))
@@ -45,12 +45,6 @@ is_used-same used f b within = get_or-set_same used f b false within
 
 is_used-other : (used : List Bool) (f g : ℕ) (b : Bool) → g ≢ f → is_used (set used f b) g ≡ is_used used g
 is_used-other used f g b other = get_or-set_other used f g b false other
-
--- a frame of the i-th extent has i for its quotient
-pub extent_of_frame : (i w f : ℕ) → i * w ≤ f → f < i * w + w → f / w ≡ i
-extent_of_frame i w f low high =
-    let whole : i * w + (f - i * w) ≡ f = omega arith in
-    subst (λ n. n / w ≡ i) whole (div-mul-add i w (f - i * w) (omega arith))
 
 module _ (used : List Bool) (w : ℕ) (counts : List ℕ) (f : ℕ) (width : 0 < w) (known : f < length used) (are : AreCounts used w counts) where
   pub in_counts : f / w < length counts
@@ -69,26 +63,19 @@ module _ (used : List Bool) (w : ℕ) (counts : List ℕ) (f : ℕ) (width : 0 <
     ];
   }
 
-  low_end : f / w * w ≤ f
-  low_end = omega (arith, div-add-mod' f w)
-
-  high_end : f < f / w * w + w
-  high_end = omega (arith, div-add-mod' f w, mod_below f w width)
-
   pub AreCounts-insert : (x : ℕ) → is_used used f ≡ false → x ≡ get_or counts (f / w) x → AreCounts (set used f true) w (set counts (f / w) (x + 1))
   AreCounts-insert x unused read =
       let more = count-one_more (is_used used) (is_used (set used f true)) f unused (is_used-same used f true known)
-      (λ g other. sym (is_used-other used f g true other)) (f / w * w) w low_end high_end in
+      (λ g other. sym (is_used-other used f g true other)) (f / w * w) w (div-mul-le_self f w) (lt-div-mul-add width) in
       AreCounts-set true (x + 1) (omega (arith, more, get_or_read counts (f / w) x in_counts read 0, are.exact (f / w)))
 
   pub count_fits : (x : ℕ) → x ≡ get_or counts (f / w) x → x ≤ w
   count_fits x read =
-      let most = count_by-le-length (is_used used) (range_with_len (f / w * w) w) in
-      omega (arith, most, length-range_with_len (f / w * w) w, get_or_read counts (f / w) x in_counts read 0, are.exact (f / w))
+      omega (arith, count-most (is_used used) (f / w * w) w, get_or_read counts (f / w) x in_counts read 0, are.exact (f / w))
 
   less : is_used used f ≡ true → used_in used (f / w * w) w ≡ used_in (set used f false) (f / w * w) w + 1
   less is = count-one_more (is_used (set used f false)) (is_used used) f (is_used-same used f false known) is
-      (λ g other. is_used-other used f g false other) (f / w * w) w low_end high_end
+      (λ g other. is_used-other used f g false other) (f / w * w) w (div-mul-le_self f w) (lt-div-mul-add width)
 
   pub some_used : (x : ℕ) → is_used used f ≡ true → x ≡ get_or counts (f / w) x → 0 < x
   some_used x is read = omega (arith, less is, get_or_read counts (f / w) x in_counts read 0, are.exact (f / w))
@@ -104,7 +91,7 @@ is_used-replicate n f = get_or-alike n f false
 pub AreCounts-none : (n w : ℕ) → 0 < w → AreCounts (replicate n false) w (replicate (n / w + 1) 0)
 AreCounts-none n w width = record {
   long = rw (length-replicate, length-replicate) (omega (arith, div-add-mod' n w, mod_below n w width));
-  exact = λ i. get_or-alike (n / w + 1) i 0 ∙ sym (count-none (is_used (replicate n false)) (i * w) w (is_used-replicate n));
+  exact = λ i. get_or-alike (n / w + 1) i 0 ∙ sym (count-none (is_used (replicate n false)) (i * w) w (λ f _ _. is_used-replicate n f));
 }
 
 -- the count of an aligned extent is read at its number

@@ -1,17 +1,16 @@
 -- Which reservation has a frame, as reservations come and go.
-use Rattle.std.proofs.Common.{◌≡◌, ◌≢◌, ◌<◌, ◌≤◌, ℕ, ◌+◌, ◌-◌, ◌^◌, ◌⊎◌, ◌↔◌, Bool, true, false, ltb, leb, Option, Some, None, List, ◌++◌, length, get_or, set, take, drop, replicate, not, refl, ap, sym, subst, ◌∙◌, arith, inl, inr}
-use Rattle.std.specs.List.{range_with_len}
-use Rattle.std.proofs.lemmas.List.{get_or-set_same, get_or-set_other, length-set, set-set, set_past, take_at, get_or_past, get_or-replicate, length-replicate}
+use Rattle.std.proofs.Common.{◌≡◌, ◌≢◌, ◌<◌, ◌≤◌, ℕ, ◌+◌, ◌^◌, ◌⊎◌, ◌↔◌, Bool, true, false, ltb, leb, Option, Some, None, List, ◌++◌, length, get_or, set, take, drop, replicate, not, refl, ap, sym, subst, ◌∙◌, arith, inl, inr}
+use Rattle.std.proofs.lemmas.List.{get_or-set_same, get_or-set_other, length-set, set-set, set_past, take_at, get_or_past, length-replicate}
 use Rattle.std.proofs.lemmas.Bool.{cases_eq, cases_lt, and_parts, and_from, leb-true, ltb-true, le-leb, lt-ltb, not-true, false≢true}
 use Rattle.std.proofs.lemmas.Option.{none-some, same_Some}
-use Rattle.std.proofs.lemmas.List.FromFn.{length-range_with_len, get_or-range_with_len}
-use Rattle.std.proofs.lemmas.List.Sums.{AllPass-from_list_all}
 use Rattle.pager_model.specs.Agreement.{has_frame}
 use Rattle.pager_model.specs.Records.{is_used, none_used}
 use Rattle.pager_model.specs.declared.reservation.Reservation.{Reservation}
+use Rattle.pager_model.proofs.ExtentLemmas.{eight_pos}
+use Rattle.pager_model.proofs.Lists.{get_or-alike}
+use Rattle.pager_model.proofs.Ranges.{list_all-range}
 use Rattle.reservations.specs.Kept.{IsPlaced, ArePlaced, AreNoted, AreKept, IsFilled, first_frame}
 use Rattle.reservations.proofs.CountLemmas.{is_used-replicate}
-use Rattle.reservations.proofs.ExtentLemmas.{eight_pos}
 
 pub has_frame_bounds : (f : ℕ) (r : Reservation) → has_frame f (Some r) ≡ true → (r.frame ≤ f) × (f < r.frame + 8 ^ r.size)
 has_frame_bounds f r has =
@@ -186,19 +185,13 @@ vacant_in_gap records ids used low high are noted room = at (get_or records low 
         absurd (noted.gap low low (omega arith) room (ap (has_frame low) is ∙ has))
 
 -- nothing is noted at first
-pub none_at : {A : Type 0} → (n i : ℕ) (none : A) → get_or (replicate n none) i none ≡ none
-none_at n i none = elim (cases_lt i n) [
-  | inl within ↦ get_or-replicate n i none none within
-  | inr past ↦ get_or_past (replicate n none) i none (rw length-replicate past)
-]
-
 pub AreKept-none : (n : ℕ) → AreKept (replicate n None) (replicate n None) (replicate n false)
 AreKept-none n = record {
   ids_long = length-replicate n None ∙ sym (length-replicate n None);
   used_long = length-replicate n false ∙ sym (length-replicate n None);
-  placed = λ id r is. absurd (none-some r (sym (none_at n id None) ∙ is));
+  placed = λ id r is. absurd (none-some r (sym (get_or-alike n id None) ∙ is));
   noted = record {
-    exact = λ f j out. (λ e. absurd (none-some j (sym (none_at n f None) ∙ e)), λ has. absurd (no_frame f _ (none_at n j None) has));
+    exact = λ f j out. (λ e. absurd (none-some j (sym (get_or-alike n f None) ∙ e)), λ has. absurd (no_frame f _ (get_or-alike n j None) has));
     idle = λ f out none. is_used-replicate n f;
     gap = λ f j low high has. absurd (omega arith);
   };
@@ -276,9 +269,7 @@ AreKept-vacate records ids used f are = record {
 -- where nothing from first on is used, no frame is
 pub unused_in : (p : ℕ → Bool) (first n : ℕ) → none_used p first n ≡ true → (f : ℕ) → first ≤ f → f < first + n → p f ≡ false
 unused_in p first n none f low high =
-    let all = AllPass-from_list_all (λ x. not (p x)) (range_with_len first n) none in
-    let at : get_or (range_with_len first n) (f - first) 0 ≡ f = get_or-range_with_len first n (f - first) 0 (omega arith) ∙ omega arith in
-    not-true (p f) (sym (ap (λ x. not (p x)) at) ∙ all (f - first) 0 (omega (arith, length-range_with_len first n)))
+    not-true (p f) ((list_all-range (λ x. not (p x)) first n).0 none f low high)
 
 -- a frame that no reservation has is no used place
 pub unused_if_free : (records : List (Option Reservation)) (ids : List (Option ℕ)) (used : List Bool) (f : ℕ) → AreKept records ids used → ((j : ℕ) → has_frame f (get_or records j None) ≡ false) → is_used used f ≡ false

@@ -1,15 +1,15 @@
 -- Splitting a reservation part by part.
-use Rattle.std.proofs.Common.{◌≡◌, ◌<◌, ◌≤◌, ℕ, ◌+◌, ◌-◌, ◌*◌, ◌^◌, ◌⊎◌, inl, inr, Bool, true, Option, Some, None, List, [], ◌∷◌, ◌++◌, length, set, refl, ap, sym, subst, ◌∙◌, arith, fold}
+use Rattle.std.proofs.Common.{◌≡◌, ◌<◌, ◌≤◌, ℕ, ◌+◌, ◌-◌, ◌*◌, ◌^◌, ◌⊎◌, inl, inr, Bool, true, Option, Some, None, List, length, set, refl, ap, sym, subst, ◌∙◌, arith, fold}
 use Rattle.std.specs.List.{range_with_len}
-use Rattle.std.proofs.lemmas.List.{set-set, map-id}
-use Rattle.std.proofs.lemmas.List.FromFn.{map-range_with_len_more}
+use Rattle.std.proofs.lemmas.List.{set-set}
 use Rattle.std.proofs.lemmas.List.Sums.{fold_push}
 use Rattle.std.proofs.lemmas.Bool.{cases_Bool, cond-true, cond-false}
 use Rattle.std.proofs.lemmas.Option.{none-some, same_Some}
 use Rattle.pager_model.specs.Records.{is_used, part_of, is_part_empty, kept_part, split_records}
 use Rattle.pager_model.specs.declared.reservation.Reservation.{Reservation}
+use Rattle.pager_model.proofs.ExtentLemmas.{eight_pos, part_of_eight, aligned_part}
+use Rattle.pager_model.proofs.Ranges.{range_with_len-more}
 use Rattle.reservations.specs.Kept.{IsPlaced, ArePlaced, AreNoted, IsFilled, first_frame}
-use Rattle.reservations.proofs.ExtentLemmas.{eight_pos, part_of_eight, aligned_part}
 use Rattle.reservations.proofs.FrameIds.{Belongs, AreNoted-place, ArePlaced-set, vacant_in_gap, unused_in}
 
 -- one part is noted
@@ -20,13 +20,9 @@ split_step used r rs i = set rs (part_of r i).frame (kept_part used r i)
 abbrev pub split_up_to : ℕ → (ℕ → Bool) → Reservation → List (Option Reservation) → List (Option Reservation)
 split_up_to n used r records = fold (split_step used r) records (range_with_len 0 n)
 
-pub range_more : (a n : ℕ) → range_with_len a (n + 1) ≡ range_with_len a n ++ (a + n) ∷ []
-range_more a n = sym (map-id (range_with_len a (n + 1))) ∙ map-range_with_len_more (λ x. x) a n (a + n) refl ∙ ap (λ l. l ++ (a + n) ∷ []) (map-id (range_with_len a n))
-
 pub split_up_to-more : (n : ℕ) (used : ℕ → Bool) (r : Reservation) (records : List (Option Reservation)) → split_up_to (n + 1) used r records ≡ split_step used r (split_up_to n used r records) n
 split_up_to-more n used r records =
-    let more : range_with_len 0 (n + 1) ≡ range_with_len 0 n ++ n ∷ [] = range_more 0 n ∙ ap (λ m. range_with_len 0 n ++ m ∷ []) (omega arith) in
-    ap (fold (split_step used r) records) more ∙ fold_push (split_step used r) records (range_with_len 0 n) n
+    ap (fold (split_step used r) records) (range_with_len-more n) ∙ fold_push (split_step used r) records (range_with_len 0 n) n
 
 -- that the whole is no longer noted makes no difference, since its first part is noted at the same frame
 pub split_records-open : (used : ℕ → Bool) (r : Reservation) (id : ℕ) (records : List (Option Reservation)) → r.frame ≡ id → split_records used r (set records id None) ≡ split_records used r records

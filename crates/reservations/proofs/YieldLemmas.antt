@@ -1,13 +1,20 @@
 -- Steps towards a yield, from the largest size down.
-use Rattle.std.proofs.Common.{◌≡◌, ◌<◌, ◌≤◌, ℕ, zero, suc, ◌+◌, ◌-◌, ◌*◌, ◌^◌, Bool, true, false, ltb, Option, Some, None, List, get_or, ap, sym, subst, ◌∙◌, arith}
+use Rattle.std.proofs.Common.{◌≡◌, ◌<◌, ◌≤◌, ℕ, zero, suc, ◌+◌, ◌-◌, ◌*◌, ◌/◌, ◌^◌, Bool, true, false, ltb, Option, Some, None, List, get_or, ap, sym, subst, ◌∙◌, arith}
 use Rattle.std.specs.List.{range_with_len, list_any}
 use Rattle.std.proofs.lemmas.List.FromFn.{length-range_with_len, get_or-range_with_len}
 use Rattle.std.proofs.lemmas.List.Folds.{list_any_at, list_any_none}
 use Rattle.std.proofs.lemmas.Bool.{cond-true, cond-false}
 use Rattle.pager_model.specs.Records.{is_used, none_used, has_empty, yield_up_to}
 use Rattle.pager_model.specs.declared.reservation.Reservation.{Reservation}
+use Rattle.pager_model.proofs.ExtentLemmas.{eight_split, eight_quotient, part_inside}
 use Rattle.reservations.specs.Counts.{used_in}
 use Rattle.reservations.proofs.CountLemmas.{any-count}
+
+-- the i-th extent of a size inside a larger one ends there
+pub part_of_quotient : (i k s : ℕ) → k ≤ s → i < 8 ^ s / 8 ^ k → i * 8 ^ k + 8 ^ k ≤ 8 ^ s
+part_of_quotient i k s le lt =
+    let within : i < 8 ^ (s - k) = rw eight_quotient at lt in
+    omega (arith, part_inside i (8 ^ k) (8 ^ (s - k)) within, eight_split k s le)
 
 -- the largest size below a bound of an extent inside the reservation without a used place
 abbrev pub yield_below : (ℕ → Bool) → Reservation → ℕ → Option ℕ

@@ -15,6 +15,7 @@ use Rattle.pager_model.specs.Images.{image_room, still_tiles, touched, touched_b
 use Rattle.pager_model.specs.Regions.{region_at}
 use Rattle.pager_model.specs.SpaceStates.{SpaceState, last_count, pages_of}
 use Rattle.pager_model.specs.Tiles.{mapping_with, same_tile, tile_of, is_tile, promotions_between, demotions_between}
+use Rattle.pager_model.proofs.ExtentLemmas.{first_of_extent}
 use Rattle.space_core.specs.Keeping.{IsMapped}
 use Rattle.space_core.specs.Standing.{Kept, Translates, image_at, frame_at, dirty_at, rights_at, rights_by}
 use Rattle.space_core.specs.Tables.{Table, mapping_in, own_in}
@@ -23,7 +24,6 @@ use Rattle.space_core.proofs.TableLemmas.{frame-absent, frame-mapped, dirty-mapp
 use Rattle.tiles.specs.declared.moves.Moves.{Moves}
 use Rattle.tiles.specs.Resident.{AreMoves, with_flag}
 use Rattle.tiles.proofs.Cleared.{no_promotions, no_demotions}
-use Rattle.tiles.proofs.Extents.{first_of_extent}
 use Rattle.tiles.proofs.TileLaws.{tile_largest, largest_tile}
 use Rattle.tlb_images.proofs.ImageLemmas.{filter-all, same_tile-refl}
 
@@ -81,7 +81,7 @@ tile_is : (pages : ℕ → Option Mapping) (page : ℕ) (t : Tile) → tile_of p
 tile_is pages page t at =
     let largest = tile_largest pages page t at in
     let size = t.extent.size in
-    let start : extent_start size t.extent.first ≡ t.extent.first = ap (extent_start size) (sym largest.1) ∙ ap (λ n. n * 8 ^ size) (first_of_extent size page largest.0.extent.0) ∙ largest.1 in
+    let start : extent_start size t.extent.first ≡ t.extent.first = ap (extent_start size) (sym largest.1) ∙ ap (λ n. n * 8 ^ size) (first_of_extent size page) ∙ largest.1 in
     ap (is_that t) (largest_tile pages t.extent.first t largest.0 start) ∙ same_tile-refl t
   where
     is_that : Tile → Option Tile → Bool

@@ -10,10 +10,11 @@ use Rattle.pager_model.specs.declared.tile.Tile.{Tile}
 use Rattle.pager_model.specs.Extents.{extent_start}
 use Rattle.pager_model.specs.Regions.{in_range}
 use Rattle.pager_model.specs.Tiles.{tile_of, begins_at, size_at, size_in, is_promoted, promotions_between, count_pages, begins_tile, tiles_of_size}
+use Rattle.pager_model.proofs.CountLemmas.{weight}
 use Rattle.tiles.specs.declared.moves.Moves.{Moves}
 use Rattle.tiles.specs.Blocks.{ProtectsInBlock, OutsideSame, AreMovesOf, is_grown_at, begun_in, begun_at}
 use Rattle.tiles.specs.Resident.{Resident, mapping_at, frames_in, with_rights, Protects, AreMoves, begins_large}
-use Rattle.tiles.proofs.Counting.{count, one_if, count-zero, count-suc, count-more, count-apart, count-none, count-same, count_pages-is, count_pages_most}
+use Rattle.tiles.proofs.Counting.{count, count-zero, count-suc, count-more, count-apart, count-none, count-same, count_pages-is, count_pages_most}
 use Rattle.tiles.proofs.Extents.{StartsBelow, starts_below}
 use Rattle.tiles.proofs.Largest.{size_small, none_size, tile_absent, tile_begins}
 use Rattle.tiles.proofs.MoveCounts.{size_local, promoted_test, promoted_none, promotions_add, demotions_add}
@@ -144,7 +145,7 @@ eighth_alone : (old new : ℕ → Option Mapping) (q : ℕ) → q % 8 ≢ 0 → 
 eighth_alone old new q apart = promoted_test old new q ∙ not_eighth q (size_at old q) (size_at new q) (size_small new q) apart
 
 -- eight pages more
-pub count_eight : (old new : ℕ → Option Mapping) (from i : ℕ) → from % 8 ≡ 0 → count (is_promoted old new) from (8 * (i + 1)) ≡ count (is_promoted old new) from (8 * i) + one_if (is_grown_at (from + 8 * i) (size_at old (from + 8 * i)) (size_at new (from + 8 * i)))
+pub count_eight : (old new : ℕ → Option Mapping) (from i : ℕ) → from % 8 ≡ 0 → count (is_promoted old new) from (8 * (i + 1)) ≡ count (is_promoted old new) from (8 * i) + weight (is_grown_at (from + 8 * i) (size_at old (from + 8 * i)) (size_at new (from + 8 * i)))
 count_eight old new from i whole =
     let f = is_promoted old new in
     let q = from + 8 * i in
@@ -155,7 +156,7 @@ count_eight old new from i whole =
       ap (count f q) {x = 8} {y = suc 7} refl,
       count-suc f q 7,
       count-none f (q + 1) 7 (λ n low high. eighth_alone old new n (apart from i n whole low high)),
-      ap one_if (promoted_test old new q),
+      ap weight (promoted_test old new q),
     )
   where
     apart : (from i n : ℕ) → from % 8 ≡ 0 → from + 8 * i + 1 ≤ n → n < from + 8 * i + 1 + 7 → n % 8 ≢ 0
@@ -200,8 +201,8 @@ pub counts_more : (block i had has : ℕ) (old new : ℕ → Option Mapping) (so
 counts_more block i had has old new so_far at all counts before after promoted demoted p d =
     let q = block * 512 + 8 * i in
     let whole : block * 512 % 8 ≡ 0 = omega arith in
-    let up : at.promotions ≡ one_if (is_grown_at q (size_at old q) (size_at new q)) = promoted ∙ ap (λ n. one_if (is_grown_at q n has)) before ∙ ap (λ n. one_if (is_grown_at q (size_at old q) n)) after in
-    let down : at.demotions ≡ one_if (is_grown_at q (size_at new q) (size_at old q)) = demoted ∙ ap (λ n. one_if (is_grown_at q n had)) after ∙ ap (λ n. one_if (is_grown_at q (size_at new q) n)) before in
+    let up : at.promotions ≡ weight (is_grown_at q (size_at old q) (size_at new q)) = promoted ∙ ap (λ n. weight (is_grown_at q n has)) before ∙ ap (λ n. weight (is_grown_at q (size_at old q) n)) after in
+    let down : at.demotions ≡ weight (is_grown_at q (size_at new q) (size_at old q)) = demoted ∙ ap (λ n. weight (is_grown_at q n had)) after ∙ ap (λ n. weight (is_grown_at q (size_at new q) n)) before in
     record {
       promotions = omega (arith, p, counts.promotions, up, count_eight old new (block * 512) i whole);
       demotions = omega (arith, d, counts.demotions, down, count_eight new old (block * 512) i whole);
@@ -213,7 +214,7 @@ counts_all block old new moves known outside counts = record {
   demotions = counts.demotions ∙ count_block new old block known (λ p apart. sym (outside p apart));
 }
 
-pub one_most : (b : Bool) → one_if b ≤ 1
+pub one_most : (b : Bool) → weight b ≤ 1
 one_most true = omega arith
 one_most false = omega arith
 
@@ -286,7 +287,7 @@ count_in_range f first len known = at 1048576 refl
         )
 
 -- one page more
-pub count_on : (f : ℕ → Bool) (first page : ℕ) → first ≤ page → count f first (page + 1 - first) ≡ count f first (page - first) + one_if (f page)
+pub count_on : (f : ℕ → Bool) (first page : ℕ) → first ≤ page → count f first (page + 1 - first) ≡ count f first (page - first) + weight (f page)
 count_on f first page from = ap (count f first) {x = page + 1 - first} {y = page - first + 1} (omega arith) ∙ count-more f first (page - first) page (omega arith)
 
 -- ---- the counts of all sizes
@@ -331,7 +332,7 @@ pub sizes_other : (pages : ℕ → Option Mapping) (to : ℕ) (counts : List ℕ
 sizes_other pages to counts so_far none = record {
   long = so_far.long;
   at = λ size low.
-      omega (arith, so_far.at size low, count-more (begins_tile pages size) 0 to to (omega arith), ap one_if (begins_by pages size to None none));
+      omega (arith, so_far.at size low, count-more (begins_tile pages size) 0 to to (omega arith), ap weight (begins_by pages size to None none));
   few = λ size low. omega (arith, so_far.few size low);
 }
 
@@ -358,7 +359,7 @@ sizes_one pages to level counts so_far small is = record {
           so_far.at level (omega arith),
           ap (λ k. count (begins_tile pages k) 0 (to + 1)) e,
           count-more (begins_tile pages level) 0 to to (omega arith),
-          ap one_if (begins_by pages level to (Some level) is ∙ eqb_yes level level refl),
+          ap weight (begins_by pages level to (Some level) is ∙ eqb_yes level level refl),
         )
     | inr other ↦
         omega (
@@ -366,7 +367,7 @@ sizes_one pages to level counts so_far small is = record {
           get_or-set_other counts level size (slice_index counts level + 1) 0 other,
           so_far.at size low,
           count-more (begins_tile pages size) 0 to to (omega arith),
-          ap one_if (begins_by pages size to (Some level) is ∙ eqb_no level size (λ e. other (sym e))),
+          ap weight (begins_by pages size to (Some level) is ∙ eqb_no level size (λ e. other (sym e))),
         )
   ];
   few = λ size low. elim (cases_eq size level) [

@@ -3,9 +3,9 @@ use Rattle.std.proofs.Common.{◌≡◌, ◌≢◌, ℕ, zero, suc, ◌+◌, ◌
 use Rattle.std.specs.List.{range_with_len, count_by}
 use Rattle.std.proofs.lemmas.Bool.{cases_eq}
 use Rattle.std.proofs.lemmas.Bool.Decides.{nat_tests}
-use Rattle.std.proofs.lemmas.List.Sums.{sum_by-cons, count_by-le-length}
-use Rattle.std.proofs.lemmas.List.FromFn.{length-range_with_len}
 use Rattle.pager_model.specs.Tiles.{count_pages}
+use Rattle.pager_model.proofs.CountLemmas as general
+use Rattle.pager_model.proofs.CountLemmas.{weight, count-agree}
 
 -- how many of so many numbers from one on pass
 pub count : (ℕ → Bool) → ℕ → ℕ → ℕ
@@ -15,17 +15,13 @@ pub count-is : (f : ℕ → Bool) (from many : ℕ) → count_by f (range_with_l
 unfolding count
 count-is f from many = refl
 
--- 1 where a test passes
-abbrev pub one_if : Bool → ℕ
-one_if b = cond b 1 0
-
 pub count-zero : (f : ℕ → Bool) (from : ℕ) → count f from 0 ≡ 0
 unfolding count
 count-zero f from = refl
 
-pub count-suc : (f : ℕ → Bool) (from many : ℕ) → count f from (suc many) ≡ one_if (f from) + count f (from + 1) many
+pub count-suc : (f : ℕ → Bool) (from many : ℕ) → count f from (suc many) ≡ weight (f from) + count f (from + 1) many
 unfolding count
-count-suc f from many = sum_by-cons (λ x. cond (f x) 1 0) from (range_with_len (from + 1) many)
+count-suc f from many = general.count-suc f from many
 
 -- the pages of a space
 pub count_pages-is : (f : ℕ → Bool) (many : ℕ) → many ≡ 1048576 → count_pages f ≡ count f 0 many
@@ -33,40 +29,36 @@ unfolding count_pages count
 count_pages-is f many e = ap (λ n. count_by f (range_with_len 0 n)) (sym e)
 
 pub count-same : (f g : ℕ → Bool) (from many : ℕ) → ((n : ℕ) → from ≤ n → n < from + many → f n ≡ g n) → count f from many ≡ count g from many
-count-same f g from zero h = count-zero f from ∙ sym (count-zero g from)
-count-same f g from (suc many) h =
-    omega (arith, count-suc f from many, count-suc g from many, ap one_if (h from (omega arith) (omega arith)), count-same f g (from + 1) many (λ n low high. h n (omega arith) (omega arith)))
+unfolding count
+count-same f g from many h = count-agree f g from many h
 
 pub count-none : (f : ℕ → Bool) (from many : ℕ) → ((n : ℕ) → from ≤ n → n < from + many → f n ≡ false) → count f from many ≡ 0
-count-none f from zero h = count-zero f from
-count-none f from (suc many) h =
-    omega (arith, count-suc f from many, ap one_if (h from (omega arith) (omega arith)), count-none f (from + 1) many (λ n low high. h n (omega arith) (omega arith)))
+unfolding count
+count-none f from many h = general.count-none f from many h
 
 -- one more
-pub count-more : (f : ℕ → Bool) (from many n : ℕ) → from + many ≡ n → count f from (many + 1) ≡ count f from many + one_if (f n)
+pub count-more : (f : ℕ → Bool) (from many n : ℕ) → from + many ≡ n → count f from (many + 1) ≡ count f from many + weight (f n)
 count-more f from zero n e =
-    omega (arith, ap (count f from) {x = 0 + 1} {y = suc 0} (omega arith), count-suc f from 0, count-zero f (from + 1), count-zero f from, ap (λ x. one_if (f x)) {x = from} {y = n} (omega arith))
+    omega (arith, ap (count f from) {x = 0 + 1} {y = suc 0} (omega arith), count-suc f from 0, count-zero f (from + 1), count-zero f from, ap (λ x. weight (f x)) {x = from} {y = n} (omega arith))
 count-more f from (suc many) n e =
     omega (arith, ap (count f from) {x = suc many + 1} {y = suc (many + 1)} (omega arith), count-suc f from (many + 1), count-more f (from + 1) many n (omega arith), count-suc f from many)
 
 pub count-apart : (f : ℕ → Bool) (from first rest next : ℕ) → from + first ≡ next → count f from (first + rest) ≡ count f from first + count f next rest
-count-apart f from zero rest next e =
-    omega (arith, ap (count f from) {x = 0 + rest} {y = rest} (omega arith), count-zero f from, ap (λ n. count f n rest) {x = from} {y = next} (omega arith))
-count-apart f from (suc first) rest next e =
-    omega (arith, ap (count f from) {x = suc first + rest} {y = suc (first + rest)} (omega arith), count-suc f from (first + rest), count-suc f from first, count-apart f (from + 1) first rest next (omega arith))
+unfolding count
+count-apart f from first rest next e = general.count-apart f from first rest next e
 
 pub count-most : (f : ℕ → Bool) (from many : ℕ) → count f from many ≤ many
 unfolding count
-count-most f from many = omega (arith, count_by-le-length f (range_with_len from many), length-range_with_len from many)
+count-most f from many = general.count-most f from many
 
 -- one number may pass
-count-at : (a : ℕ) (flag : Bool) (from many : ℕ) → from ≤ a → a < from + many → count (λ q. eqb q a && flag) from many ≡ one_if flag
+count-at : (a : ℕ) (flag : Bool) (from many : ℕ) → from ≤ a → a < from + many → count (λ q. eqb q a && flag) from many ≡ weight flag
 count-at a flag from zero low high = absurd (omega arith)
 count-at a flag from (suc many) low high = elim (cases_eq from a) [
   | inl here ↦
       let first : (eqb from a && flag) ≡ flag = let t : eqb from a ≡ true = grind (arith, nat_tests) in ap (λ b. b && flag) t in
-      omega (arith, count-suc (λ q. eqb q a && flag) from many, ap one_if first, count-none (λ q. eqb q a && flag) (from + 1) many (λ n above below. other n (omega arith)))
-  | inr apart ↦ omega (arith, count-suc (λ q. eqb q a && flag) from many, ap one_if (other from apart), count-at a flag (from + 1) many (omega arith) (omega arith))
+      omega (arith, count-suc (λ q. eqb q a && flag) from many, ap weight first, count-none (λ q. eqb q a && flag) (from + 1) many (λ n above below. other n (omega arith)))
+  | inr apart ↦ omega (arith, count-suc (λ q. eqb q a && flag) from many, ap weight (other from apart), count-at a flag (from + 1) many (omega arith) (omega arith))
 ]
   where
     other : (n : ℕ) → n ≢ a → (eqb n a && flag) ≡ false
@@ -90,7 +82,7 @@ count_pages_most f = at 1048576 refl
     at : (many : ℕ) → many ≡ 1048576 → count_pages f ≤ 1048576
     at many e = omega (arith, count_pages-is f many e, count-most f 0 many)
 
-pub count-sum : (f g h : ℕ → Bool) (from many : ℕ) → ((n : ℕ) → from ≤ n → n < from + many → one_if (f n) ≡ one_if (g n) + one_if (h n)) → count f from many ≡ count g from many + count h from many
+pub count-sum : (f g h : ℕ → Bool) (from many : ℕ) → ((n : ℕ) → from ≤ n → n < from + many → weight (f n) ≡ weight (g n) + weight (h n)) → count f from many ≡ count g from many + count h from many
 count-sum f g h from zero each = omega (arith, count-zero f from, count-zero g from, count-zero h from)
 count-sum f g h from (suc many) each =
     omega (

@@ -1,6 +1,6 @@
 -- Eligible extents: each of their pages has its first page's mapping, moved. Eight that continue each other make a larger one.
 use Rattle.std.proofs.Common.{◌≡◌, ℕ, zero, suc, ◌+◌, ◌-◌, ◌*◌, ◌/◌, ◌%◌, ◌^◌, ◌<◌, ◌≤◌, Bool, true, false, cond, ◌&&◌, eqb, Option, Some, None, is_some, refl, sym, ap, inl, inr, ◌∙◌, arith, subst}
-use Rattle.std.specs.List.{range_with_len, list_all}
+use Rattle.std.proofs.Math.Nat.{pow-suc}
 use Rattle.std.proofs.lemmas.Bool.{cases_eq}
 use Rattle.std.proofs.lemmas.Bool.Decides.{nat_tests}
 use Rattle.std.proofs.lemmas.Option.{none-some, same_Some}
@@ -10,8 +10,10 @@ use Rattle.pager_model.specs.declared.tile.Mapping.{Mapping}
 use Rattle.pager_model.specs.declared.tile.Tile.{Tile}
 use Rattle.pager_model.specs.Extents.{extent_start}
 use Rattle.tiles.specs.Beside.{whole}
-use Rattle.tiles.proofs.Extents.{in_extent, of_extent, length_positive, first_of_extent, lies_in, in_part, part_of, part_within}
 use Rattle.pager_model.specs.Tiles.{moved_by, same_rights, same_flag, is_mapping, is_eligible, tile_with, eligible_with, eligible_at}
+use Rattle.pager_model.proofs.ExtentLemmas.{eight_pos, part_inside, extent_of_frame, range_of_extent, first_of_extent}
+use Rattle.pager_model.proofs.Ranges.{list_all-range}
+use Rattle.tiles.proofs.Extents.{lies_in, in_part}
 
 -- ---- tests of equality
 
@@ -82,19 +84,6 @@ mapping_same : (m : Mapping) → is_mapping m (Some m) ≡ true
 mapping_same m =
     and_both _ _ (and_both _ _ (eqb_same m.frame m.frame refl) (eqb_same m.region m.region refl)) (and_both _ _ (rights_same m.rights) (flag_same m.dirty))
 
--- ---- all of the numbers from one on
-
-all_from : (f : ℕ → Bool) (from count i : ℕ) → list_all f (range_with_len from count) ≡ true → i < count → f (from + i) ≡ true
-all_from f from zero i h low = absurd (omega arith)
-all_from f from (suc count) zero h low = ap f {x = from + 0} {y = from} (omega arith) ∙ and_left _ _ h
-all_from f from (suc count) (suc i) h low =
-    ap f {x = from + suc i} {y = from + 1 + i} (omega arith) ∙ all_from f (from + 1) count i (and_right (f from) _ h) (omega arith)
-
-all_into : (f : ℕ → Bool) (from count : ℕ) → ((i : ℕ) → i < count → f (from + i) ≡ true) → list_all f (range_with_len from count) ≡ true
-all_into f from zero h = refl
-all_into f from (suc count) h =
-    and_both _ _ (ap f {x = from} {y = from + 0} (omega arith) ∙ h 0 (omega arith)) (all_into f (from + 1) count (λ i low. ap f {x = from + 1 + i} {y = from + suc i} (omega arith) ∙ h (suc i) (omega arith)))
-
 -- ---- an eligible extent round a page
 
 -- each page of the extent has the first one's mapping, moved
@@ -106,17 +95,15 @@ eligible_whole : (pages : ℕ → Option Mapping) (k first : ℕ) (m : Mapping) 
 eligible_whole pages k first m h = record {
   aligned = eqb_one _ _ (and_left _ _ h);
   uniform = λ i low.
-      let at = all_from (λ i. is_mapping (moved_by i m) (pages (first + i))) 0 (8 ^ k) i (and_right (eqb (m.frame % 8 ^ k) 0) _ h) low in
-      let e : 0 + i ≡ i = omega arith in
-      mapping_one (moved_by i m) (pages (first + i)) (rw e at at);
+      let all = (list_all-range (λ i. is_mapping (moved_by i m) (pages (first + i))) 0 (8 ^ k)).0 (and_right (eqb (m.frame % 8 ^ k) 0) _ h) in
+      mapping_one (moved_by i m) (pages (first + i)) (all i (omega arith) (omega arith));
 }
 
 whole_eligible : (pages : ℕ → Option Mapping) (k first : ℕ) (m : Mapping) → IsWhole pages k first m → is_eligible pages k first m ≡ true
 whole_eligible pages k first m w =
     and_both _ _ (eqb_same _ _ w.aligned)
-    (all_into (λ i. is_mapping (moved_by i m) (pages (first + i))) 0 (8 ^ k) (λ i low.
-    let e : 0 + i ≡ i = omega arith in
-    rw e (ap (is_mapping (moved_by i m)) (w.uniform i low) ∙ mapping_same (moved_by i m))))
+    ((list_all-range (λ i. is_mapping (moved_by i m) (pages (first + i))) 0 (8 ^ k)).1
+    (λ i _ low. ap (is_mapping (moved_by i m)) (w.uniform i (omega arith)) ∙ mapping_same (moved_by i m)))
 
 some_if : {X : Type 0} (b : Bool) (x y : X) → cond b (Some x) None ≡ Some y → (b ≡ true) × (y ≡ x)
 some_if true x y h = (refl, sym (same_Some x y h))
@@ -174,9 +161,9 @@ whole_alike pages k page other same = ap (λ n. is_some (eligible_with pages k (
 -- the mapping of a page in it
 pub page_in : (pages : ℕ → Option Mapping) (k page other : ℕ) (h : HasExtent pages k page) → k ≤ 3 → other / 8 ^ k ≡ page / 8 ^ k → pages other ≡ Some (moved_by (other - extent_start k page) h.head)
 page_in pages k page other h low same =
-    let at = in_extent k page other low same in
+    let at = range_of_extent (page / 8 ^ k) (8 ^ k) other (eight_pos k) same in
     let e : extent_start k page + (other - extent_start k page) ≡ other = omega (arith, at.0) in
-    ap pages (sym e) ∙ h.is.uniform (other - extent_start k page) at.1
+    ap pages (sym e) ∙ h.is.uniform (other - extent_start k page) (omega (arith, at))
 
 moved_twice : (by i n : ℕ) (m : Mapping) → by + i ≡ n → moved_by n m ≡ moved_by i (moved_by by m)
 moved_twice by i n m e = ap (λ f. record { frame = f; region = m.region; rights = m.rights; dirty = m.dirty }) {x = m.frame + n} {y = m.frame + by + i} (omega arith)
@@ -188,10 +175,9 @@ one_smaller : (pages : ℕ → Option Mapping) (k page : ℕ) → suc k ≤ 3 �
 one_smaller pages k page low h =
     let by = extent_start k page - extent_start (suc k) page in
     let lies = lies_in k page low in
-    let positive = length_positive k (omega arith) in
     record {
       head = moved_by by h.head;
-      begins = ap pages lies.moved ∙ h.is.uniform by (omega (arith, lies.within, positive));
+      begins = ap pages lies.moved ∙ h.is.uniform by (omega (arith, lies.within, eight_pos k));
       is = record {
         aligned = lies.aligned h.head.frame h.is.aligned;
         uniform = λ i within.
@@ -234,9 +220,11 @@ eight_join pages k page head low begins aligned parts = record { head = head; be
 pub whole_parts : (pages : ℕ → Option Mapping) (k page : ℕ) (h : HasExtent pages (suc k) page) → suc k ≤ 3 → (part : ℕ) → part < 8 → GoesOn pages k page part h.head
 whole_parts pages k page h low part few =
     let first = extent_start (suc k) page + part * 8 ^ k in
+    let within : part * 8 ^ k < 8 ^ suc k = omega (arith, part_inside part (8 ^ k) 8 few, pow-suc 8 k, eight_pos k) in
+    let joined : first / 8 ^ suc k ≡ page / 8 ^ suc k = extent_of_frame (page / 8 ^ suc k) (8 ^ suc k) first (omega arith) (omega arith) in
     record {
-      follows = h.is.uniform (part * 8 ^ k) (part_within k part low few);
-      eligible = has_whole pages k first (one_smaller pages k first low (whole_has pages (suc k) first (whole_alike pages (suc k) page first (part_of k page part low few) ∙ has_whole pages (suc k) page h)));
+      follows = h.is.uniform (part * 8 ^ k) within;
+      eligible = has_whole pages k first (one_smaller pages k first low (whole_has pages (suc k) first (whole_alike pages (suc k) page first joined ∙ has_whole pages (suc k) page h)));
     }
 
 -- a resident page is an eligible extent by itself, and only a resident one is
@@ -261,8 +249,8 @@ local_one old new k page low same is =
     let h = whole_has old k page is in
     has_whole new k page (record {
       head = h.head;
-      begins = sym (same (extent_start k page) (first_of_extent k page low)) ∙ h.begins;
-      is = record { aligned = h.is.aligned; uniform = λ i within. sym (same (extent_start k page + i) (of_extent k page i low within)) ∙ h.is.uniform i within };
+      begins = sym (same (extent_start k page) (first_of_extent k page)) ∙ h.begins;
+      is = record { aligned = h.is.aligned; uniform = λ i within. sym (same (extent_start k page + i) (extent_of_frame (page / 8 ^ k) (8 ^ k) (extent_start k page + i) (omega arith) (omega arith))) ∙ h.is.uniform i within };
     })
 
 pub whole_local : (old new : ℕ → Option Mapping) (k page : ℕ) → k ≤ 3 → ((other : ℕ) → other / 8 ^ k ≡ page / 8 ^ k → old other ≡ new other) → whole old k page ≡ whole new k page

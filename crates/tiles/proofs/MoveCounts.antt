@@ -5,15 +5,17 @@ use Rattle.std.proofs.lemmas.Bool.Decides.{nat_tests}
 use Rattle.pager_model.specs.declared.tile.Mapping.{Mapping}
 use Rattle.pager_model.specs.Extents.{extent_start}
 use Rattle.pager_model.specs.Tiles.{tile_of, begins_at, size_at, is_promoted, promotions_between, demotions_between}
+use Rattle.pager_model.proofs.CountLemmas.{weight}
+use Rattle.pager_model.proofs.ExtentLemmas.{coarser}
 use Rattle.tiles.specs.declared.moves.Moves.{Moves}
 use Rattle.tiles.specs.Beside.{AreKeptBut, SamePages, whole}
 use Rattle.tiles.specs.Blocks.{OutsideSame, is_grown_at}
 use Rattle.tiles.specs.Kept.{AreSizes, SizesBut, SameSizes}
 use Rattle.tiles.specs.Resident.{Resident, mapping_at, Maps, AreMoves}
 use Rattle.tiles.proofs.SizeChanges.{others_back, promotions_one, promotions_same}
-use Rattle.tiles.proofs.Counting.{one_if, count_pages-is, count-sum}
+use Rattle.tiles.proofs.Counting.{count_pages-is, count-sum}
 use Rattle.tiles.proofs.Eligible.{whole_local}
-use Rattle.tiles.proofs.Extents.{up, StartsBelow, starts_below}
+use Rattle.tiles.proofs.Extents.{StartsBelow, starts_below}
 use Rattle.tiles.proofs.Largest.{size_small, size_is, whole_within, whole_beyond, none_size, tile_begins}
 use Rattle.tiles.proofs.SettledSizes.{eqb_no}
 
@@ -54,7 +56,7 @@ moves_same r s moves same no_promotion no_demotion = record {
 pub size_local : (old new : ℕ → Option Mapping) (q : ℕ) → ((p : ℕ) → p / 512 ≡ q / 512 → new p ≡ old p) → size_at new q ≡ size_at old q
 size_local old new q same =
     let n = size_at old q in
-    let alike : (k : ℕ) → k ≤ 3 → whole old k q ≡ whole new k q = λ k low. whole_local old new k q low (λ p joined. sym (same p (up k 3 q p low (omega arith) joined))) in
+    let alike : (k : ℕ) → k ≤ 3 → whole old k q ≡ whole new k q = λ k low. whole_local old new k q low (λ p joined. sym (same p (coarser k 3 p q low (omega arith) joined))) in
     size_is new q n (size_small old q) (λ positive. sym (alike n (size_small old q)) ∙ whole_within old q n positive (omega arith)) (λ k more low. sym (alike k low) ∙ whole_beyond old q k more low)
 
 swap : (a b x y : Bool) → (y ≡ true → a ≡ x) → b ≡ y → (a && b) ≡ (y && x)
@@ -96,16 +98,16 @@ promoted_none old new q same = promoted_test old new q ∙ grown_none q (size_at
 pub promotions_add : (old mid new : ℕ → Option Mapping) (block : ℕ) → ((p : ℕ) → p / 512 ≡ block → mid p ≡ old p) → OutsideSame block mid new → promotions_between old new ≡ promotions_between old mid + promotions_between mid new
 promotions_add old mid new block within outside = at 1048576 refl
   where
-    each : (q : ℕ) → one_if (is_promoted old new q) ≡ one_if (is_promoted old mid q) + one_if (is_promoted mid new q)
+    each : (q : ℕ) → weight (is_promoted old new q) ≡ weight (is_promoted old mid q) + weight (is_promoted mid new q)
     each q = elim (cases_eq (q / 512) block) [
       | inl e ↦
           let same : size_at mid q ≡ size_at old q = size_local old mid q (λ p joined. within p (joined ∙ e)) in
           let first : is_promoted old new q ≡ is_promoted mid new q = promoted_test old new q ∙ ap (λ n. is_grown_at q n (size_at new q)) (sym same) ∙ sym (promoted_test mid new q) in
-          omega (arith, ap one_if first, ap one_if (promoted_none old mid q same))
+          omega (arith, ap weight first, ap weight (promoted_none old mid q same))
       | inr apart ↦
           let same : size_at new q ≡ size_at mid q = size_local mid new q (λ p joined. outside p (λ e. apart (sym joined ∙ e))) in
           let first : is_promoted old new q ≡ is_promoted old mid q = promoted_test old new q ∙ ap (λ n. is_grown_at q (size_at old q) n) same ∙ sym (promoted_test old mid q) in
-          omega (arith, ap one_if first, ap one_if (promoted_none mid new q same))
+          omega (arith, ap weight first, ap weight (promoted_none mid new q same))
     ]
 
     at : (many : ℕ) → many ≡ 1048576 → promotions_between old new ≡ promotions_between old mid + promotions_between mid new
@@ -121,16 +123,16 @@ promotions_add old mid new block within outside = at 1048576 refl
 pub demotions_add : (old mid new : ℕ → Option Mapping) (block : ℕ) → ((p : ℕ) → p / 512 ≡ block → mid p ≡ old p) → OutsideSame block mid new → demotions_between old new ≡ demotions_between old mid + demotions_between mid new
 demotions_add old mid new block within outside = at 1048576 refl
   where
-    each : (q : ℕ) → one_if (is_promoted new old q) ≡ one_if (is_promoted mid old q) + one_if (is_promoted new mid q)
+    each : (q : ℕ) → weight (is_promoted new old q) ≡ weight (is_promoted mid old q) + weight (is_promoted new mid q)
     each q = elim (cases_eq (q / 512) block) [
       | inl e ↦
           let same : size_at mid q ≡ size_at old q = size_local old mid q (λ p joined. within p (joined ∙ e)) in
           let first : is_promoted new old q ≡ is_promoted new mid q = promoted_test new old q ∙ ap (λ n. is_grown_at q (size_at new q) n) (sym same) ∙ sym (promoted_test new mid q) in
-          omega (arith, ap one_if first, ap one_if (promoted_none mid old q (sym same)))
+          omega (arith, ap weight first, ap weight (promoted_none mid old q (sym same)))
       | inr apart ↦
           let same : size_at new q ≡ size_at mid q = size_local mid new q (λ p joined. outside p (λ e. apart (sym joined ∙ e))) in
           let first : is_promoted new old q ≡ is_promoted mid old q = promoted_test new old q ∙ ap (λ n. is_grown_at q n (size_at old q)) same ∙ sym (promoted_test mid old q) in
-          omega (arith, ap one_if first, ap one_if (promoted_none new mid q (sym same)))
+          omega (arith, ap weight first, ap weight (promoted_none new mid q (sym same)))
     ]
 
     at : (many : ℕ) → many ≡ 1048576 → demotions_between old new ≡ demotions_between old mid + demotions_between mid new

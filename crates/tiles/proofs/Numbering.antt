@@ -1,11 +1,12 @@
 -- How many pages have numbers: no more than there are numbers, where no two pages have one. So three nodes for each number are room enough.
-use Rattle.std.proofs.Common.{◌≡◌, ◌≢◌, ℕ, zero, suc, ◌+◌, ◌*◌, ◌/◌, ◌^◌, ◌<◌, ◌≤◌, Bool, true, false, eqb, ltb, if◌then◌else◌, Option, Some, None, is_some, inl, inr, refl, sym, ap, ◌∙◌, arith}
+use Rattle.std.proofs.Common.{◌≡◌, ◌≢◌, ℕ, zero, suc, ◌+◌, ◌*◌, ◌<◌, ◌≤◌, Bool, true, false, eqb, ltb, if◌then◌else◌, Option, Some, None, is_some, inl, inr, refl, sym, ap, ◌∙◌, arith}
 use Rattle.std.proofs.lemmas.Bool.{cases_eq, cases_lt, cases_Bool, false≢true, false_from_ne_true, eq-eqb, eqb-true, lt-ltb}
 use Rattle.std.proofs.lemmas.Bool.Decides.{nat_tests}
+use Rattle.pager_model.proofs.CountLemmas.{weight}
 use Rattle.extent_tree.specs.Counts.{splits_with}
 use Rattle.extent_tree.specs.Rows.{Arena, row, SplitsAreRowsBelow}
 use Rattle.extent_tree.proofs.Rooms.{RowsIn, room_for}
-use Rattle.tiles.proofs.Counting.{count, count-is, one_if, count-zero, count-suc, count-none}
+use Rattle.tiles.proofs.Counting.{count, count-is, count-zero, count-suc, count-none}
 
 -- no two pages have one number
 abbrev pub AreApart : (ℕ → Option ℕ) → Type 0
@@ -29,23 +30,23 @@ count-one f from zero one = omega (arith, count-zero f from)
 count-one f from (suc many) one = elim (cases_Bool (f from)) [
   | inl is ↦
       let rest = count-none f (from + 1) many (λ n low high. false_from_ne_true _ (λ also. absurd (omega (arith, one n from also is)))) in
-      omega (arith, count-suc f from many, ap one_if is, rest)
-  | inr fails ↦ omega (arith, count-suc f from many, ap one_if fails, count-one f (from + 1) many one)
+      omega (arith, count-suc f from many, ap weight is, rest)
+  | inr fails ↦ omega (arith, count-suc f from many, ap weight fails, count-one f (from + 1) many one)
 ]
 
 -- each that passes one test passes one of two others
-count-either : (f g h : ℕ → Bool) (from many : ℕ) → ((n : ℕ) → one_if (f n) ≤ one_if (g n) + one_if (h n)) → count f from many ≤ count g from many + count h from many
+count-either : (f g h : ℕ → Bool) (from many : ℕ) → ((n : ℕ) → weight (f n) ≤ weight (g n) + weight (h n)) → count f from many ≤ count g from many + count h from many
 count-either f g h from zero each = omega (arith, count-zero f from)
 count-either f g h from (suc many) each =
     omega (arith, count-suc f from many, count-suc g from many, count-suc h from many, each from, count-either f g h (from + 1) many each)
 
-below-suc : (o : Option ℕ) (many : ℕ) → one_if (is_below o (suc many)) ≤ one_if (is_below o many) + one_if (is_number o many)
+below-suc : (o : Option ℕ) (many : ℕ) → weight (is_below o (suc many)) ≤ weight (is_below o many) + weight (is_number o many)
 below-suc None many = omega arith
 below-suc (Some n) many = elim (cases_lt n many) [
-  | inl low ↦ omega (arith, ap one_if (lt-ltb n (suc many) (omega arith)), ap one_if (lt-ltb n many low))
+  | inl low ↦ omega (arith, ap weight (lt-ltb n (suc many) (omega arith)), ap weight (lt-ltb n many low))
   | inr high ↦ elim (cases_eq n many) [
-    | inl e ↦ omega (arith, ap one_if (lt-ltb n (suc many) (omega arith)), ap one_if (eq-eqb n many e))
-    | inr apart ↦ let t : ltb n (suc many) ≡ false = grind (arith, nat_tests) in omega (arith, ap one_if t)
+    | inl e ↦ omega (arith, ap weight (lt-ltb n (suc many) (omega arith)), ap weight (eq-eqb n many e))
+    | inr apart ↦ let t : ltb n (suc many) ≡ false = grind (arith, nat_tests) in omega (arith, ap weight t)
   ]
 ]
 

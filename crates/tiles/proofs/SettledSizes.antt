@@ -2,21 +2,18 @@
 use Rattle.std.proofs.Common.{◌≡◌, ◌≢◌, ℕ, zero, suc, ◌+◌, ◌-◌, ◌*◌, ◌/◌, ◌%◌, ◌^◌, ◌<◌, ◌≤◌, Bool, true, false, eqb, if◌then◌else◌, ◌&&◌, nat_le, nat_lt, max, Option, Some, None, refl, sym, ap, inl, inr, ◌∙◌, arith, subst}
 use Rattle.std.proofs.lemmas.Bool.{cases_Bool, cases_eq, cases_lt}
 use Rattle.std.proofs.lemmas.Bool.Decides.{nat_tests}
-use Rattle.std.proofs.Math.Nat.{one-le-pow}
 use Rattle.std.proofs.lemmas.Option.{none-some, same_Some}
 use Rattle.pager_model.specs.declared.tile.Mapping.{Mapping}
 use Rattle.pager_model.specs.Extents.{extent_start}
 use Rattle.pager_model.specs.Tiles.{moved_by, size_at}
+use Rattle.pager_model.proofs.ExtentLemmas.{eight_pos, eight_small, part_of_eight, extent_of_frame, range_of_extent}
 use Rattle.tiles.specs.Beside.{whole, size_beside, GoesOnAt, AreKeptBut, SamePages, Spreads}
 use Rattle.tiles.specs.Kept.{size_kept, sized, AreSizes}
 use Rattle.tiles.specs.Resident.{Resident, mapping_at}
 use Rattle.tiles.proofs.SizeChanges.{IsOver, whole_other, size_settled, size_stays}
 use Rattle.tiles.proofs.Eligible.{HasExtent, GoesOn, whole_has, has_whole, whole_alike, eight_join, whole_parts, page_whole, smaller}
-use Rattle.tiles.proofs.Extents.{starts_below, in_extent, of_extent}
+use Rattle.tiles.proofs.Extents.{starts_below}
 use Rattle.tiles.proofs.Largest.{size_absent, within_size, whole_within}
-
-pub power_positive : (n : ℕ) → 0 < 8 ^ n
-power_positive n = one-le-pow n 8 (omega arith)
 
 pub eqb_yes : (a b : ℕ) → a ≡ b → eqb a b ≡ true
 eqb_yes a b h = grind (arith, nat_tests)
@@ -153,14 +150,11 @@ set_all page size over first to old new low from end sets p =
   where
     range_is : (k page p first to : ℕ) → k ≤ 3 → first ≡ extent_start k page → to ≡ first + 8 ^ k → (nat_le first p && nat_lt p to) ≡ eqb (p / 8 ^ k) (page / 8 ^ k)
     range_is k page p first to low from end = elim (cases_eq (p / 8 ^ k) (page / 8 ^ k)) [
-      | inl same ↦ let at = in_extent k page p low same in grind (arith, nat_tests)
+      | inl same ↦ let at = range_of_extent (page / 8 ^ k) (8 ^ k) p (eight_pos k) same in grind (arith, nat_tests)
       | inr apart ↦ elim (cases_lt p first) [
         | inl below ↦ grind (arith, nat_tests)
         | inr above ↦ elim (cases_lt p to) [
-          | inl within ↦
-              let i = p - extent_start k page in
-              let e : extent_start k page + i ≡ p = omega arith in
-              absurd (apart (ap (λ n. n / 8 ^ k) (sym e) ∙ of_extent k page i low (omega arith)))
+          | inl within ↦ absurd (apart (extent_of_frame (page / 8 ^ k) (8 ^ k) p (omega arith) (omega arith)))
           | inr past ↦ grind (arith, nat_tests)
         ]
       ]
@@ -182,14 +176,6 @@ larger_none pages page j k less low misses = elim (cases_Bool (whole pages k pag
 ]
 
 pub power_small : (level part i pages : ℕ) → 0 < level → level ≤ 3 → part ≡ level - 1 → pages ≡ 8 ^ part → i < 8 → i * pages < 512
-power_small zero part i pages above low is length few = absurd (omega arith)
-power_small (suc zero) part i pages above low is length few =
-    let one : pages ≡ 1 = length ∙ ap (λ k. 8 ^ k) {x = part} {y = 0} (omega arith) in
-    omega (arith, ap (λ n. i * n) one)
-power_small (suc (suc zero)) part i pages above low is length few =
-    let one : pages ≡ 8 = length ∙ ap (λ k. 8 ^ k) {x = part} {y = 1} (omega arith) in
-    omega (arith, ap (λ n. i * n) one)
-power_small (suc (suc (suc zero))) part i pages above low is length few =
-    let one : pages ≡ 64 = length ∙ ap (λ k. 8 ^ k) {x = part} {y = 2} (omega arith) in
-    omega (arith, ap (λ n. i * n) one)
-power_small (suc (suc (suc (suc level)))) part i pages above low is length few = absurd (omega arith)
+power_small level part i pages above low is length few =
+    let same : pages ≡ 8 ^ (level - 1) = length ∙ ap (λ k. 8 ^ k) is in
+    omega (arith, ap (λ n. i * n) same, part_of_eight i level above few, eight_pos (level - 1), eight_small level low)

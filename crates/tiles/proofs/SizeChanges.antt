@@ -5,10 +5,11 @@ use Rattle.std.proofs.lemmas.Bool.Decides.{nat_tests}
 use Rattle.pager_model.specs.declared.tile.Mapping.{Mapping}
 use Rattle.pager_model.specs.Tiles.{size_at, tile_of, begins_at, is_promoted, promotions_between, count_pages}
 use Rattle.pager_model.specs.Extents.{extent_start}
+use Rattle.pager_model.proofs.ExtentLemmas.{coarser, first_of_extent}
 use Rattle.tiles.specs.Beside.{OthersSame, size_beside, whole}
 use Rattle.tiles.proofs.Eligible.{whole_alike, whole_local}
 use Rattle.tiles.proofs.Counting.{count_pages_at, count_pages_none}
-use Rattle.tiles.proofs.Extents.{up, first_of_extent, starts_below}
+use Rattle.tiles.proofs.Extents.{starts_below}
 use Rattle.tiles.proofs.Largest.{HasTile, none_size, tile_begins, size_small, whole_within, whole_beyond, within_size, size_is}
 
 pub others_back : (old new : ℕ → Option Mapping) (page : ℕ) → OthersSame page old new → OthersSame page new old
@@ -26,17 +27,17 @@ size_shared pages page other same =
     let low = size_small pages page in
     size_is pages other s low
     (λ positive. whole_alike pages s page other same ∙ whole_within pages page s positive (omega arith))
-    (λ k more at. whole_alike pages k page other (up s k page other (omega arith) at same) ∙ whole_beyond pages page k more at)
+    (λ k more at. whole_alike pages k page other (coarser s k other page (omega arith) at same) ∙ whole_beyond pages page k more at)
 
 -- the tile that broke leaves a page beside the changed one the largest part that hasn't that one
 size_left : (old new : ℕ → Option Mapping) (page other l : ℕ) → OthersSame page old new → size_at new page ≤ l → l < size_at old page → other / 8 ^ l ≢ page / 8 ^ l → other / 8 ^ suc l ≡ page / 8 ^ suc l → size_at new other ≡ l
 size_left old new page other l others less broken apart joined =
     let b = size_at old page in
     let low = size_small old page in
-    let whole_size : size_at old other ≡ b = size_shared old page other (up (suc l) b page other (omega arith) low joined) in
+    let whole_size : size_at old other ≡ b = size_shared old page other (coarser (suc l) b other page (omega arith) low joined) in
     size_is new other l (omega arith)
     (λ positive. sym (whole_other old new page l other others (omega arith) apart) ∙ whole_within old other l positive (omega arith))
-    (λ k more at. whole_alike new k page other (up (suc l) k page other (omega arith) at joined) ∙ whole_beyond new page k (omega arith) at)
+    (λ k more at. whole_alike new k page other (coarser (suc l) k other page (omega arith) at joined) ∙ whole_beyond new page k (omega arith) at)
 
 -- a page in neither tile, the one before and the one after, keeps its tile's size
 pub size_far : (old new : ℕ → Option Mapping) (page other : ℕ) → OthersSame page old new → other / 8 ^ size_at old page ≢ page / 8 ^ size_at old page → other / 8 ^ size_at new page ≢ page / 8 ^ size_at new page → size_at new other ≡ size_at old other
@@ -45,13 +46,13 @@ size_far old new page other others before after =
     size_is new other n (size_small old other)
     (λ positive. sym (whole_other old new page n other others (size_small old other) (λ same.
     let passes = sym (whole_alike old n page other same) ∙ whole_within old other n positive (omega arith) in
-    before (up n (size_at old page) page other (within_size old page n (size_small old other) passes) (size_small old page) same)))
+    before (coarser n (size_at old page) other page (within_size old page n (size_small old other) passes) (size_small old page) same)))
     ∙ whole_within old other n positive (omega arith))
     (λ k more at. elim (cases_eq (other / 8 ^ k) (page / 8 ^ k)) [
       | inr apart ↦ sym (whole_other old new page k other others at apart) ∙ whole_beyond old other k more at
       | inl same ↦ elim (cases_lt (size_at new page) k) [
         | inl above ↦ whole_alike new k page other same ∙ whole_beyond new page k above at
-        | inr within ↦ absurd (after (up k (size_at new page) page other within (size_small new page) same))
+        | inr within ↦ absurd (after (coarser k (size_at new page) other page within (size_small new page) same))
       ]
     ])
 
@@ -94,20 +95,20 @@ size_settled old new page other over others is joined =
         | inr e ↦ absurd (apart (at_s e))
         | inl e ↦
             let whole_b : other / 8 ^ b ≡ page / 8 ^ b = at_b e in
-            let less : s < b = elim (cases_lt s b) [ inl l ↦ l | inr from ↦ absurd (apart (up b s page other from s_low whole_b)) ] in
+            let less : s < b = elim (cases_lt s b) [ inl l ↦ l | inr from ↦ absurd (apart (coarser b s other page from s_low whole_b)) ] in
             elim (cases_eq (other / 8) (page / 8)) [
               | inl eight ↦
-                  let none : s ≤ 0 = elim (cases_lt 0 s) [ inl l ↦ absurd (apart (up 1 s page other l s_low eight)) | inr from ↦ from ] in
-                  let here : other / 8 ^ 0 ≢ page / 8 ^ 0 = λ same. apart (up 0 s page other (omega arith) s_low same) in
+                  let none : s ≤ 0 = elim (cases_lt 0 s) [ inl l ↦ absurd (apart (coarser 1 s other page l s_low eight)) | inr from ↦ from ] in
+                  let here : other / 8 ^ 0 ≢ page / 8 ^ 0 = λ same. apart (coarser 0 s other page (omega arith) s_low same) in
                   size_left old new page other 0 others none (omega arith) here eight ∙ sym (beside_zero page other s apart eight)
               | inr eight ↦ elim (cases_eq (other / 64) (page / 64)) [
                 | inl sixty_four ↦
-                    let one : s ≤ 1 = elim (cases_lt 1 s) [ inl l ↦ absurd (apart (up 2 s page other l s_low sixty_four)) | inr from ↦ from ] in
-                    let broken : 1 < b = elim (cases_lt 1 b) [ inl l ↦ l | inr from ↦ absurd (eight (up b 1 page other from (omega arith) whole_b)) ] in
+                    let one : s ≤ 1 = elim (cases_lt 1 s) [ inl l ↦ absurd (apart (coarser 2 s other page l s_low sixty_four)) | inr from ↦ from ] in
+                    let broken : 1 < b = elim (cases_lt 1 b) [ inl l ↦ l | inr from ↦ absurd (eight (coarser b 1 other page from (omega arith) whole_b)) ] in
                     size_left old new page other 1 others one broken eight sixty_four ∙ sym (beside_one page other s apart eight sixty_four)
                 | inr sixty_four ↦
-                    let broken : 2 < b = elim (cases_lt 2 b) [ inl l ↦ l | inr from ↦ absurd (sixty_four (up b 2 page other from (omega arith) whole_b)) ] in
-                    size_left old new page other 2 others (omega arith) broken sixty_four (up b 3 page other b_low (omega arith) whole_b) ∙ sym (beside_two page other s apart eight sixty_four)
+                    let broken : 2 < b = elim (cases_lt 2 b) [ inl l ↦ l | inr from ↦ absurd (sixty_four (coarser b 2 other page from (omega arith) whole_b)) ] in
+                    size_left old new page other 2 others (omega arith) broken sixty_four (coarser b 3 other page b_low (omega arith) whole_b) ∙ sym (beside_two page other s apart eight sixty_four)
               ]
             ]
       ]
@@ -116,7 +117,7 @@ size_settled old new page other over others is joined =
 -- and the others have those that they had
 pub size_stays : (old new : ℕ → Option Mapping) (page other over : ℕ) → OthersSame page old new → IsOver (size_at old page) (size_at new page) over → over ≤ 3 → other / 8 ^ over ≢ page / 8 ^ over → size_at new other ≡ size_at old other
 size_stays old new page other over others is low apart =
-    size_far old new page other others (λ same. apart (up (size_at old page) over page other is.before_in low same)) (λ same. apart (up (size_at new page) over page other is.after_in low same))
+    size_far old new page other others (λ same. apart (coarser (size_at old page) over other page is.before_in low same)) (λ same. apart (coarser (size_at new page) over other page is.after_in low same))
 
 -- ---- the moves of a change of one page
 
@@ -166,7 +167,7 @@ promoted_one old new page others q =
                   | inl more ↦
                       let n = size_at new q in
                       let n_low : n ≤ 3 = size_small new q in
-                      let joined = up b n page q (omega arith) n_low same in
+                      let joined = coarser b n q page (omega arith) n_low same in
                       let within : n ≤ s = within_size new page n n_low (sym (whole_alike new n page q joined) ∙ whole_within new q n (omega arith) (omega arith)) in
                       omega arith
                 ]
@@ -178,7 +179,7 @@ promoted_one old new page others q =
   where
     elsewhere : (k page q : ℕ) → k ≤ 3 → q / 8 ^ k ≢ page / 8 ^ k → eqb q (extent_start k page) ≡ false
     elsewhere k page q low apart =
-        let other : q ≢ extent_start k page = λ e. apart (ap (λ n. n / 8 ^ k) e ∙ first_of_extent k page low) in
+        let other : q ≢ extent_start k page = λ e. apart (ap (λ n. n / 8 ^ k) e ∙ first_of_extent k page) in
         grind (arith, nat_tests)
 
     and_none : (a b x y : Bool) → b ≡ false → x ≡ false → (a && b) ≡ (x && y)

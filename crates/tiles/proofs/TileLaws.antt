@@ -1,12 +1,14 @@
 -- What a tile is.
 use Rattle.std.proofs.Common.{◌≡◌, ℕ, ◌+◌, ◌*◌, ◌/◌, ◌%◌, ◌^◌, ◌<◌, ◌≤◌, Option, Some, refl, sym, ap, inl, inr, ◌∙◌, arith, subst}
+use Rattle.std.proofs.Math.Nat.{mul-mod_left}
 use Rattle.std.proofs.lemmas.Option.{none-some, same_Some}
 use Rattle.pager_model.specs.declared.tile.Mapping.{Mapping}
 use Rattle.pager_model.specs.declared.tile.Tile.{Tile}
 use Rattle.pager_model.specs.Extents.{extent_start}
 use Rattle.pager_model.specs.Tiles.{IsTile, tile_with, eligible_with, eligible_at, tile_of, size_at}
+use Rattle.pager_model.proofs.ExtentLemmas.{coarser, first_of_extent}
 use Rattle.tiles.proofs.Eligible.{HasExtent, has_whole, whole_none, none_whole, whole_alike, eligible_is, eligible_has, page_in}
-use Rattle.tiles.proofs.Extents.{up, starts_below, first_of_extent, start_aligned}
+use Rattle.tiles.proofs.Extents.{starts_below}
 use Rattle.tiles.proofs.Largest.{HasTile, tiles, resident_tile, size_is}
 
 eligible_alike : (pages : ℕ → Option Mapping) (k page other : ℕ) → other / 8 ^ k ≡ page / 8 ^ k → eligible_at pages k other ≡ eligible_at pages k page
@@ -15,11 +17,11 @@ eligible_alike pages k page other same = ap (λ n. eligible_with pages k (n * 8 
 tile_is_largest : (pages : ℕ → Option Mapping) (page size : ℕ) (tile : HasTile pages page size) → IsTile pages (tile_with size (extent_start size page) tile.has.head)
 tile_is_largest pages page size tile =
     let first = extent_start size page in
-    let same : first / 8 ^ size ≡ page / 8 ^ size = first_of_extent size page tile.low in
+    let same : first / 8 ^ size ≡ page / 8 ^ size = first_of_extent size page in
     record {
-      extent = (tile.low, start_aligned size page tile.low);
+      extent = (tile.low, mul-mod_left (page / 8 ^ size) (8 ^ size));
       eligible = eligible_alike pages size page first same ∙ eligible_is pages size page tile.has;
-      largest = λ k more low. whole_none pages k first (whole_alike pages k page first (up size k page first (omega arith) low same) ∙ tile.larger k more low);
+      largest = λ k more low. whole_none pages k first (whole_alike pages k page first (coarser size k first page (omega arith) low same) ∙ tile.larger k more low);
     }
 
 -- the tile of a page is a largest eligible extent round it
@@ -36,11 +38,11 @@ pub largest_tile : (pages : ℕ → Option Mapping) (page : ℕ) (t : Tile) → 
 largest_tile pages page t is starts =
     let s = t.extent.size in
     let low : s ≤ 3 = is.extent.0 in
-    let same : t.extent.first / 8 ^ s ≡ page / 8 ^ s = ap (λ n. n / 8 ^ s) (sym starts) ∙ first_of_extent s page low in
+    let same : t.extent.first / 8 ^ s ≡ page / 8 ^ s = ap (λ n. n / 8 ^ s) (sym starts) ∙ first_of_extent s page in
     let here : eligible_at pages s page ≡ Some t = sym (eligible_alike pages s page t.extent.first same) ∙ is.eligible in
     let has = eligible_has pages s page t here in
     let size : size_at pages page ≡ s = size_is pages page s low (λ positive. has_whole pages s page has) (λ k more small.
-    sym (whole_alike pages k page t.extent.first (up s k page t.extent.first (omega arith) small same)) ∙ none_whole pages k t.extent.first (is.largest k more small)) in
+    sym (whole_alike pages k page t.extent.first (coarser s k t.extent.first page (omega arith) small same)) ∙ none_whole pages k t.extent.first (is.largest k more small)) in
     let tile = resident_tile pages page _ (page_in pages s page page has low refl) in
     tile.is ∙ sym (eligible_is pages (size_at pages page) page tile.has) ∙ ap (λ k. eligible_at pages k page) size ∙ here
 

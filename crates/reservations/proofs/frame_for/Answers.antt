@@ -1,5 +1,5 @@
 use Rattle.std.proofs.Common.{arith}
-use Rattle.reservations.proofs.ExtentLemmas.{aligned_end}
+use Rattle.pager_model.proofs.ExtentLemmas.{aligned_end}
 use Rattle.reservations.proofs.frame_for.Goals as goal
 
 pub overflow_add-result : goal.overflow_add-result

@@ -1,6 +1,6 @@
 use Rattle.std.proofs.Common.{◌≡◌, ◌-◌, ◌^◌, arith, ap, ◌∙◌}
+use Rattle.pager_model.proofs.ExtentLemmas.{eight_pos, part_of_eight, aligned_end}
 use Rattle.reservations.specs.declared.part.Part.{Part}
-use Rattle.reservations.proofs.ExtentLemmas.{eight_pos, part_of_eight, aligned_end}
 use Rattle.reservations.proofs.kept_part.Goals as goal
 
 pub overflow_add-result : goal.overflow_add-result

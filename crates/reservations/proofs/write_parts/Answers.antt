@@ -1,6 +1,6 @@
 use Rattle.std.proofs.Common.{◌≡◌, ◌-◌, ◌^◌, arith, ap, sym, ◌∙◌, set, length}
 use Rattle.pager_model.specs.Records.{is_used, part_of, kept_part}
-use Rattle.reservations.proofs.ExtentLemmas.{eight_pos, eight_small, part_of_eight, aligned_end}
+use Rattle.pager_model.proofs.ExtentLemmas.{eight_pos, eight_small, part_of_eight, aligned_end}
 use Rattle.reservations.proofs.SplitLemmas.{split_up_to-more, ArePlaced-part, AreNoted-part}
 use Rattle.reservations.proofs.write_parts.Goals as goal
 

@@ -4,7 +4,7 @@ use Rattle.pager_model.specs.declared.reservation.Reservation.{Reservation}
 use Rattle.pager_model.specs.Records.{part_of}
 use Rattle.reservations.specs.declared.part.Part.{Part}
 use Rattle.reservations.specs.Parts.{told_part, told_parts}
-use Rattle.reservations.proofs.ExtentLemmas.{aligned_part, part_of_eight}
+use Rattle.pager_model.proofs.ExtentLemmas.{aligned_part, part_of_eight}
 use Rattle.reservations.proofs.FrameIds.{has_frame_from}
 use Rattle.frame_pool.proofs.LayoutInOrder.{free_up_to-later}
 use Rattle.frame_pool.proofs.SplitFrames.{length-free_up_to}

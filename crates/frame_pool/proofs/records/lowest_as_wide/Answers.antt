@@ -1,9 +1,9 @@
 use Rattle.std.proofs.Common.{◌≡◌, ℕ, ◌-◌, ◌/◌, ◌^◌, Bool, true, sym, ap, ◌∙◌, option_map, arith}
 use Rattle.pager_model.specs.Records.{is_used, part_of, yield_of, same_size}
-use Rattle.reservations.proofs.ExtentLemmas.{eight_pos, eight_quotient, part_of_eight, aligned_end}
+use Rattle.pager_model.proofs.ExtentLemmas.{eight_pos, eight_quotient, part_of_eight, aligned_end}
 use Rattle.frame_pool.specs.Placed.{first_of}
 use Rattle.frame_pool.proofs.RecordSearch.{same_size-is}
-use Rattle.buddy_extents.proofs.Runs.{find_first}
+use Rattle.pager_model.proofs.Ranges.{find_first}
 use Rattle.frame_pool.proofs.records.lowest_as_wide.Goals as goal
 
 pub overflow_add-first : goal.overflow_add-first

@@ -1,5 +1,5 @@
 use Rattle.std.proofs.Common.{arith}
-use Rattle.reservations.proofs.ExtentLemmas.{aligned_end}
+use Rattle.pager_model.proofs.ExtentLemmas.{aligned_end}
 use Rattle.reservations.proofs.FrameIds.{has_frame_bounds}
 use Rattle.frame_pool.proofs.records.page_at.Goals as goal
 

@@ -1,7 +1,8 @@
 use Rattle.std.proofs.Common.{inl, inr, refl, sym, ◌∙◌, arith}
 use Rattle.std.proofs.lemmas.Bool.{cases_Bool, false≢true}
 use Rattle.population_map.specs.Populations.{is_populated}
-use Rattle.population_map.proofs.Placings.{in_extent, of_extent, extent_within, same_count}
+use Rattle.pager_model.proofs.ExtentLemmas.{in_extent, of_extent, extent_within}
+use Rattle.population_map.proofs.Placings.{same_count}
 use Rattle.population_map.proofs.placing.evict_all.Goals as goal
 
 pub returns-then-not-has_populated-clause-empty : goal.returns-then-not-has_populated-clause-empty

@@ -1,5 +1,5 @@
 use Rattle.std.proofs.Common.{arith, ap, ◌^◌}
-use Rattle.reservations.proofs.ExtentLemmas.{eight_small}
+use Rattle.pager_model.proofs.ExtentLemmas.{eight_small}
 use Rattle.reservations.proofs.tests.assert_yields.Goals as goal
 
 pub nth_page-requires : goal.nth_page-requires

@@ -1,13 +1,13 @@
 use Rattle.std.proofs.Common.{◌≢◌, ◌/◌, ◌^◌, ◌∙◌, sym, ap, arith}
+use Rattle.pager_model.proofs.ExtentLemmas.{eight_pos}
 use Rattle.tiles.proofs.SizeChanges.{beside_same, beside_zero, beside_one, beside_two}
-use Rattle.tiles.proofs.SettledSizes.{power_positive}
 use Rattle.tiles.proofs.sizes.size_beside.Goals as goal
 
 pub nonzero_div-other : goal.nonzero_div-other
-nonzero_div-other c = omega (arith, c.pages.ensures, power_positive c.args.size)
+nonzero_div-other c = omega (arith, c.pages.ensures, eight_pos c.args.size)
 
 pub nonzero_div-page : goal.nonzero_div-page
-nonzero_div-page c = omega (arith, c.pages-2.ensures, power_positive c.args.size)
+nonzero_div-page c = omega (arith, c.pages-2.ensures, eight_pos c.args.size)
 
 pub returns-then-other-pages : goal.returns-then-other-pages
 returns-then-other-pages c =

@@ -3,7 +3,7 @@ use Rattle.std.proofs.lemmas.Bool.{false≢true}
 use Rattle.std.proofs.lemmas.List.{get_or-set_same}
 use Rattle.pager_model.specs.declared.reservation.Reservation.{Reservation}
 use Rattle.pager_model.specs.Layouts.{Layout, frame_for}
-use Rattle.reservations.proofs.ExtentLemmas.{eight_pos}
+use Rattle.pager_model.proofs.ExtentLemmas.{eight_pos}
 use Rattle.reservations.proofs.FrameIds.{has_frame_from}
 use Rattle.frame_pool.specs.Listed.{AreListed}
 use Rattle.frame_pool.proofs.LayoutInOrder.{AreListed-used, place_has}

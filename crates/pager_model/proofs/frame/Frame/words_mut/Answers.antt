@@ -1,4 +1,4 @@
-use Rattle.std.proofs.Common.{◌≡◌, refl, sym, ap, ◌∙◌, ◌++◌, ◌+◌, ◌-◌, ◌≤◌, ◌⊎◌, ℕ, List, [], take, drop, length, replicate, arith, inl, inr}
+use Rattle.std.proofs.Common.{◌≡◌, refl, sym, ap, ◌∙◌, ◌++◌, ℕ, List, take, drop, length, replicate, arith, inl, inr}
 use Rattle.std.proofs.lemmas.Bool.{cond-false, cond-true, eqb-true, eq-eqb, ne_eqb, true≢false}
 use Rattle.std.proofs.lemmas.List.{length-append, length-drop, length-replicate, length-take-le}
 use Rattle.pager_model.specs.Frame.{Framed, words_or_zeros}

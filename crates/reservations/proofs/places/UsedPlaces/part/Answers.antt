@@ -1,5 +1,5 @@
 use Rattle.std.proofs.Common.{◌≡◌, ◌-◌, ◌^◌, arith, ap, ◌∙◌}
-use Rattle.reservations.proofs.ExtentLemmas.{eight_pos, eight_small, part_of_eight, aligned_part, aligned_end}
+use Rattle.pager_model.proofs.ExtentLemmas.{eight_pos, eight_small, part_of_eight, aligned_part, aligned_end}
 use Rattle.reservations.proofs.places.UsedPlaces.part.Goals as goal
 
 pub overflow_mul-first : goal.overflow_mul-first

@@ -1,11 +1,11 @@
 use Rattle.std.proofs.Common.{arith, ◌∙◌}
+use Rattle.pager_model.proofs.ExtentLemmas.{eight_pos}
 use Rattle.tiles.specs.Resident.{mapping_at}
 use Rattle.tiles.proofs.Blocks.{large_yes, large_no}
-use Rattle.tiles.proofs.SettledSizes.{power_positive}
 use Rattle.tiles.proofs.base.Base.begins_large.Goals as goal
 
 pub nonzero_rem-result : goal.nonzero_rem-result
-nonzero_rem-result c = omega (arith, c.pages.ensures, power_positive c.size-size.result)
+nonzero_rem-result c = omega (arith, c.pages.ensures, eight_pos c.size-size.result)
 
 pub returns-then-level-gt0 : goal.returns-then-level-gt0
 returns-then-level-gt0 c =

@@ -1,4 +1,4 @@
-use Rattle.std.proofs.Common.{◌≡◌, ◌≤◌, ◌-◌}
+use Rattle.std.proofs.Common.{◌≤◌, ◌-◌}
 use Rattle.tiles.specs.Resident.{mapping_at}
 use Rattle.tiles.proofs.Blocks.{CountsSizes}
 use Rattle.tiles.proofs.base.Base.counts.Given as goal

@@ -1,7 +1,8 @@
 use Rattle.std.proofs.Common.{◌∙◌, ◌-◌, sym, ap, arith}
+use Rattle.pager_model.proofs.CountLemmas.{weight}
 use Rattle.tiles.specs.Resident.{mapping_at, begins_large}
 use Rattle.tiles.proofs.Blocks.{count_in_range, count_on}
-use Rattle.tiles.proofs.Counting.{count, one_if, count-zero}
+use Rattle.tiles.proofs.Counting.{count, count-zero}
 use Rattle.tiles.proofs.base.Base.tiles_in.Goals as goal
 use Rattle.tiles.proofs.base.Base.tiles_in.Goals.{then-begins_large, else-begins_large}
 
@@ -18,11 +19,11 @@ loop-page-preserved c =
     let f = begins_large (mapping_at c.args.self.now) in
     elim c.if-begins_large.branch [
       | then-begins_large w ↦ record {
-        counted = omega (arith, w.count-is, so_far.counted, count_on f c.args.first c.loop-page.page from, ap one_if (sym c.begins_large.ensures ∙ w.if-begins_large.true));
+        counted = omega (arith, w.count-is, so_far.counted, count_on f c.args.first c.loop-page.page from, ap weight (sym c.begins_large.ensures ∙ w.if-begins_large.true));
         few = omega (arith, w.count-is, so_far.few, from);
       }
       | else-begins_large w ↦ record {
-        counted = omega (arith, w.count-is, so_far.counted, count_on f c.args.first c.loop-page.page from, ap one_if (sym c.begins_large.ensures ∙ w.if-begins_large.false));
+        counted = omega (arith, w.count-is, so_far.counted, count_on f c.args.first c.loop-page.page from, ap weight (sym c.begins_large.ensures ∙ w.if-begins_large.false));
         few = omega (arith, w.count-is, so_far.few, from);
       }
     ]

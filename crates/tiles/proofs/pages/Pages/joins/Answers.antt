@@ -1,15 +1,16 @@
 use Rattle.std.proofs.Common.{◌≡◌, ℕ, ◌+◌, ◌-◌, ◌*◌, ◌%◌, ◌^◌, ◌∙◌, sym, ap, subst, inl, inr, arith, true}
 use Rattle.std.proofs.lemmas.Bool.{cases_eq}
 use Rattle.pager_model.specs.Tiles.{moved_by}
+use Rattle.pager_model.proofs.ExtentLemmas.{eight_pos}
 use Rattle.tiles.specs.Beside.{GoesOnAt}
-use Rattle.tiles.proofs.SettledSizes.{power_positive, power_small, joins_no_head, joins_no_frame, joins_no_part, joins_all, part_at}
+use Rattle.tiles.proofs.SettledSizes.{power_small, joins_no_head, joins_no_frame, joins_no_part, joins_all, part_at}
 use Rattle.tiles.proofs.pages.Pages.joins.Goals as goal
 
 pub nonzero_rem-first : goal.nonzero_rem-first
-nonzero_rem-first c = omega (arith, c.pages-pages.ensures, power_positive c.size_of.result)
+nonzero_rem-first c = omega (arith, c.pages-pages.ensures, eight_pos c.size_of.result)
 
 pub nonzero_rem-head : goal.nonzero_rem-head
-nonzero_rem-head c = omega (arith, c.pages-pages.ensures, power_positive c.size_of.result)
+nonzero_rem-head c = omega (arith, c.pages-pages.ensures, eight_pos c.size_of.result)
 
 pub returns-in_default : goal.returns-in_default
 returns-in_default c old kept own =

@@ -1,9 +1,10 @@
 use Rattle.std.proofs.Common.{ap, ◌-◌, ◌%◌, arith}
-use Rattle.tiles.proofs.SettledSizes.{power_positive, set_all}
+use Rattle.pager_model.proofs.ExtentLemmas.{eight_pos}
+use Rattle.tiles.proofs.SettledSizes.{set_all}
 use Rattle.tiles.proofs.pages.Pages.spread.Goals as goal
 
 pub nonzero_rem-first : goal.nonzero_rem-first
-nonzero_rem-first c = omega (arith, c.pages-pages.ensures, power_positive c.args.over)
+nonzero_rem-first c = omega (arith, c.pages-pages.ensures, eight_pos c.args.over)
 
 pub returns-clause-sizes : goal.returns-clause-sizes
 returns-clause-sizes c =
