@@ -61,10 +61,7 @@ module _ (links : Links) (ages : List (Option ℕ)) (frame age : ℕ) (are : Are
 
   -- each age after is the new one or one from before
   age_cases : (at old : ℕ) → age_of more at ≡ Some old → ((at ≡ frame) × (old ≡ age)) ⊎ ((at ≢ frame) × (age_of ages at ≡ Some old))
-  age_cases at old has = elim (cases_eq at frame) [
-    | inl same ↦ inl (same, let whole : Some old ≡ Some age = sym has ∙ ap (age_of more) same ∙ own_age in cc)
-    | inr other ↦ inr (other, sym (other_age at other) ∙ has)
-  ]
+  age_cases at old has = grind (arith, get_or-set_same, get_or-set_other, is.long)
 
   last_known : last ≤ links.end
   last_known = are.prev_known links.end

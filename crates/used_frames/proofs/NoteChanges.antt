@@ -1,7 +1,8 @@
 -- What stays true of the notes as one changes.
 use Rattle.std.proofs.Common.{◌≡◌, ◌<◌, ℕ, zero, suc, List, ◌∷◌, length, get_or, set, map, replicate, Option, Some, None, IfSome, IfNone, is_some, true, false, refl, ap, sym, ◌∙◌, subst, inl, inr, arith}
-use Rattle.std.proofs.lemmas.List.{get_or-set_same, get_or-set_other, get_or-replicate, get_or_past, length-replicate, length-map, map-set}
-use Rattle.std.proofs.lemmas.Bool.{cases_eq, cases_lt, cases_Bool}
+use Rattle.std.proofs.lemmas.List.{get_or-replicate, get_or_past, length-replicate, length-map, map-set}
+use Rattle.std.proofs.lemmas.Bool.{cases_lt, cases_Bool}
+use Rattle.std.proofs.lemmas.Grind.{common_steps}
 use Rattle.std.proofs.Math.ListN.{get_or-map}
 use Rattle.std.proofs.Math.Seq.{map-set_same}
 use Rattle.pager_model.specs.declared.reservation.Used.{Used}
@@ -53,57 +54,30 @@ AreMutual-none : (n m : ℕ) → AreMutual (replicate n None) (replicate m None)
 AreMutual-none n m = λ frame processor.
     (λ has. let none = none_of n frame in cc, λ has. let none = none_of m processor in cc)
 
--- a frame and a processor that had none
+-- a claim is noted on one side
+module _ (xs ys : List (Option ℕ)) (i j : ℕ) (i_in : i < length xs) (j_in : j < length ys) where
+  -- a frame and a processor that had none have each other
+  claim_both : get_or ys j None ≡ None → ((a b : ℕ) → get_or xs a None ≡ Some b → get_or ys b None ≡ Some a)
+      → (a b : ℕ) → get_or (set xs i (Some j)) a None ≡ Some b → get_or (set ys j (Some i)) b None ≡ Some a
+  claim_both free are a b = grind (arith, common_steps, are a b)
+
+  -- a frame and a processor that had each other have none
+  clear_both : get_or xs i None ≡ Some j → ((a b : ℕ) → get_or xs a None ≡ Some b → get_or ys b None ≡ Some a)
+      → (a b : ℕ) → get_or (set xs i None) a None ≡ Some b → get_or (set ys j None) b None ≡ Some a
+  clear_both has are a b = grind (arith, common_steps, are a b, are i j)
+
 pub AreMutual-claim : (by_frame by_processor : List (Option ℕ)) (frame processor : ℕ) → AreMutual by_frame by_processor
     → frame < length by_frame → processor < length by_processor
     → get_or by_frame frame None ≡ None → get_or by_processor processor None ≡ None
     → AreMutual (set by_frame frame (Some processor)) (set by_processor processor (Some frame))
-AreMutual-claim by_frame by_processor frame processor are frame_in processor_in no_claim claims_none = λ f p.
-    let here = get_or-set_same by_frame frame (Some processor) None frame_in in
-    let there = get_or-set_same by_processor processor (Some frame) None processor_in in
-    elim (cases_eq f frame) [
-      | inl same_frame ↦ elim (cases_eq p processor) [
-        | inl same ↦ (λ _. rw (same, there, same_frame) refl, λ _. rw (same_frame, here, same) refl)
-        | inr other ↦
-            let kept = get_or-set_other by_processor processor p (Some frame) None other in (
-              λ has. let at : Some processor ≡ Some p = sym here ∙ sym (ap (λ i. get_or (set by_frame frame (Some processor)) i None) same_frame) ∙ has in absurd (other (cc)),
-              λ has. let was = (are f p).1 (sym kept ∙ has) in let none : get_or by_frame f None ≡ None = ap (λ i. get_or by_frame i None) same_frame ∙ no_claim in cc,
-            )
-      ]
-      | inr other_frame ↦
-          let kept = get_or-set_other by_frame frame f (Some processor) None other_frame in
-          elim (cases_eq p processor) [
-            | inl same ↦ (
-              λ has. let was = (are f p).0 (sym kept ∙ has) in let none : get_or by_processor p None ≡ None = ap (λ i. get_or by_processor i None) same ∙ claims_none in cc,
-              λ has. let at : Some frame ≡ Some f = sym there ∙ sym (ap (λ i. get_or (set by_processor processor (Some frame)) i None) same) ∙ has in absurd (other_frame (cc)),
-            )
-            | inr other ↦ rw (kept, get_or-set_other by_processor processor p (Some frame) None other) (are f p)
-          ]
-    ]
+AreMutual-claim xs ys i j are i_in j_in no_claim claims_none = λ a b.
+    (claim_both xs ys i j i_in j_in claims_none (λ a b. (are a b).0) a b, claim_both ys xs j i j_in i_in no_claim (λ b a. (are a b).1) b a)
 
--- they have each other no more
 pub AreMutual-unclaim : (by_frame by_processor : List (Option ℕ)) (frame processor : ℕ) → AreMutual by_frame by_processor
     → frame < length by_frame → processor < length by_processor → get_or by_frame frame None ≡ Some processor
     → AreMutual (set by_frame frame None) (set by_processor processor None)
-AreMutual-unclaim by_frame by_processor frame processor are frame_in processor_in has_claim = λ f p.
-    let here = get_or-set_same by_frame frame None None frame_in in
-    let there = get_or-set_same by_processor processor None None processor_in in
-    let claims = (are frame processor).0 has_claim in
-    elim (cases_eq f frame) [
-      | inl same_frame ↦ elim (cases_eq p processor) [
-        | inl same ↦ rw (same_frame, same, here, there) (λ has. cc, λ has. cc)
-        | inr other ↦
-            rw (same_frame, here, get_or-set_other by_processor processor p None None other)
-            (λ has. cc, λ has. let was = (are frame p).1 has in let at : Some processor ≡ Some p = sym has_claim ∙ was in absurd (other (cc)))
-      ]
-      | inr other_frame ↦
-          elim (cases_eq p processor) [
-            | inl same ↦
-                rw (same, there, get_or-set_other by_frame frame f None None other_frame)
-                (λ has. let was = (are f processor).0 has in let at : Some frame ≡ Some f = sym claims ∙ was in absurd (other_frame (cc)), λ has. cc)
-            | inr other ↦ rw (get_or-set_other by_frame frame f None None other_frame, get_or-set_other by_processor processor p None None other) (are f p)
-          ]
-    ]
+AreMutual-unclaim xs ys i j are i_in j_in has = λ a b.
+    (clear_both xs ys i j i_in j_in has (λ a b. (are a b).0) a b, clear_both ys xs j i j_in i_in ((are i j).0 has) (λ b a. (are a b).1) b a)
 
 map-none : {X : Type 0} (f : Option X → Option ℕ) → f None ≡ None → (n : ℕ) → map f (replicate n None) ≡ replicate n None
 map-none f none zero = refl

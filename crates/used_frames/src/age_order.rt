@@ -94,7 +94,7 @@ impl AgeOrder {
         (next != self.end).then_some(next)
     }
 
-    /// Links two frames, or a frame and the end, so that one comes next after the other.
+    /// The frame or the end `after` comes next after `before` from now on.
     fn link(&mut self, before: u32, after: u32)
         requires before { before ≤ self.old.end }
         requires after { after ≤ self.old.end }

@@ -8,7 +8,9 @@ use pager_model::{NoMemory, Used};
 use std::alloc::Global;
 use std::marker::Model;
 
-/// For each frame what is noted of it, where it is used.
+/// For each frame what is noted of it, where it is used, and how many frames are used, wired and claimed.
+///
+/// Contracts see the list by frame of what is noted.
 #[derive(Debug, Drop)]
 pub(crate) struct Notes {
     places: Vec<Option<Used>>,
@@ -49,7 +51,7 @@ fn is_claimed(note: Option<Used>) -> bool
     }
 }
 
-/// The count where a frame that counted or not counts or not from now on.
+/// The count after a change of one frame, by whether it was counted before and is after.
 fn recount(count: u32, before: bool, after: bool) -> u32
     requires counted { from_bool before ≤ count }
     requires fits { count + from_bool after < 2 ^ 32 + from_bool before }
