@@ -1,9 +1,9 @@
 -- What the map answers of a page, and of an extent of pages.
-use Rattle.std.proofs.Common.{◌≡◌, ℕ, ◌+◌, ◌/◌, ◌^◌, ◌<◌, ◌≤◌, suc, Bool, true, false, eqb, ltb, ◌&&◌, List, [], ◌∷◌, length, get_or, max, Option, Some, None, is_some, IsSomeAnd, refl, sym, ap, subst, ◌∙◌, inl, inr, arith}
+use Rattle.std.proofs.Common.{◌≡◌, ℕ, ◌+◌, ◌/◌, ◌^◌, ◌<◌, ◌≤◌, suc, Bool, true, false, eqb, ltb, ◌&&◌, List, [], ◌∷◌, get_or, max, Option, Some, None, is_some, IsSomeAnd, refl, sym, ap, subst, ◌∙◌, inl, inr, arith}
 use Rattle.std.specs.List.{list_any}
 use Rattle.std.proofs.lemmas.Bool.{or_cases, and_parts, and_from, eq-eqb, eqb-true, lt-ltb, ltb-true, false≢true, false_from_ne_true}
 use Rattle.std.proofs.lemmas.List.Folds.{list_any_at}
-use Rattle.std.proofs.lemmas.Option.{none-some, same_Some}
+use Rattle.std.proofs.lemmas.Option.{none-some}
 use Rattle.pager_model.specs.declared.reservation.Reservation.{Reservation}
 use Rattle.pager_model.specs.Extents.{IsExtent}
 use Rattle.pager_model.specs.Layouts.{covers, covering, meets, meets_any}
@@ -13,7 +13,7 @@ use Rattle.reservations.specs.Kept.{ArePlaced}
 use Rattle.pager_model.proofs.ExtentLemmas.{eight_pos}
 use Rattle.reservations.proofs.FrameIds.{known_record}
 use Rattle.frame_pool.specs.Mapped.{IsMapped, OneCovers}
-use Rattle.frame_pool.proofs.ListsByFrame.{found_record, found_record_and}
+use Rattle.frame_pool.proofs.ListsByFrame.{found_record_and}
 use Rattle.frame_pool.proofs.MappedPages.{end_in_space, in_page, page_in}
 use Rattle.frame_pool.proofs.PagePlaces.{CoversPageOf-covers, covers-CoversPageOf, covering-found, covering-none}
 

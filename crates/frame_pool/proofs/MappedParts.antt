@@ -1,5 +1,5 @@
 -- The parts of a reservation that was split come into the map one by one.
-use Rattle.std.proofs.Common.{◌≡◌, ℕ, zero, suc, ◌+◌, ◌-◌, ◌*◌, ◌^◌, ◌<◌, ◌≤◌, ◌⊎◌, true, Bool, List, length, get_or, set, sum_by, Option, Some, None, inl, inr, refl, sym, ap, subst, ◌∙◌, arith}
+use Rattle.std.proofs.Common.{◌≡◌, ℕ, zero, suc, ◌+◌, ◌-◌, ◌*◌, ◌^◌, ◌<◌, ◌≤◌, ◌⊎◌, true, Bool, List, length, get_or, set, sum_by, Option, Some, None, inl, inr, sym, ap, subst, ◌∙◌, arith}
 use Rattle.std.proofs.lemmas.Bool.{cases_eq}
 use Rattle.std.proofs.lemmas.List.{get_or-set_other}
 use Rattle.std.proofs.lemmas.List.Sums.{sum_by-set}
@@ -17,7 +17,7 @@ use Rattle.reservations.proofs.SplitLemmas.{split_up_to, split_up_to-more, kept_
 use Rattle.frame_pool.specs.Mapped.{IsMapped, MayEnter, WasSplitFrom}
 use Rattle.frame_pool.proofs.ListsByFrame.{set-none}
 use Rattle.frame_pool.proofs.MappedPages.{end_in_space}
-use Rattle.frame_pool.proofs.PartRecords.{split_suc, length-split, parts_apart, part_known, split_at, split_other}
+use Rattle.frame_pool.proofs.PartRecords.{split_suc, length-split, part_known, split_at, split_other}
 use Rattle.frame_pool.proofs.SplitFrames.{covers_whole, one_part_covers}
 
 -- From this map on, the first n parts that the reservation was split into are in the map.

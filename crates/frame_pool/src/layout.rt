@@ -113,11 +113,24 @@ impl Layout {
         ensures placed { IfSome result (λ p. PlacesPage self.old self.new (placing stamp space page want.now self.old) p.frame p.broken) }
         ensures none { IfNone result ((placing stamp space page want.now self.old ≡ None) × (self.new ≡ self.old)) }
     {
-        if let Some(reservation) = covering(&self.reservations, &self.map, self.frames, space, page) {
+        if let Some(reservation) = covering(
+            &self.reservations,
+            &self.map,
+            self.frames,
+            space,
+            page,
+        ) {
             let frame = self.populate(&reservation, page, stamp);
             return Some(Place { frame, broken: 0 });
         }
-        let size = preferred(&self.reservations, &self.map, self.frames, space, page, want);
+        let size = preferred(
+            &self.reservations,
+            &self.map,
+            self.frames,
+            space,
+            page,
+            want,
+        );
         let found = self.largest_extent(size)?;
         let pages = extent_round(found.size, page);
         let reservation = Reservation {

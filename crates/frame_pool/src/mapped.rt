@@ -49,7 +49,11 @@ pub(crate) fn remove(map: &mut PopulationMap, reservations: &Reservations, id: u
 }
 
 /// Places the pages of the parts that a reservation, which isn't in the map any more, was split into, where they are reservations.
-pub(crate) fn insert_parts(map: &mut PopulationMap, reservations: &Reservations, whole: &Reservation)
+pub(crate) fn insert_parts(
+    map: &mut PopulationMap,
+    reservations: &Reservations,
+    whole: &Reservation,
+)
     requires splits { 0 < whole.now.size }
     requires split { WasSplitFrom map.old reservations.now whole.now }
     ensures { IsMapped map.new reservations.now.records }

@@ -102,12 +102,7 @@ fn meets_any(
 }
 
 /// Whether a reservation has a page of the extent of the space's pages, where each is asked.
-fn meets_among_all(
-    reservations: &Reservations,
-    frames: u32,
-    space: u32,
-    extent: &Extent,
-) -> bool
+fn meets_among_all(reservations: &Reservations, frames: u32, space: u32, extent: &Extent) -> bool
     requires { frames ≡ length reservations.now.records }
     ensures { result ≡ meets_any space reservations.now.records extent.now.size extent.now.first }
 {

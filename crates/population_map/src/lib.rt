@@ -101,7 +101,7 @@ impl PopulationMap {
         );
     }
 
-    /// Takes a placed extent out, and evicts its pages. Where none is populated, one look says so, whatever its size.
+    /// Takes a placed extent out, and evicts its pages. Where none is populated, at most three looks say so.
     pub fn remove(&mut self, space: u32, extent: Extent)
         requires space { space < space_count self.old }
         requires aligned { IsExtent extent.size extent.first }

@@ -66,7 +66,7 @@ pub(crate) fn remove<L: Ledger>(tree: &mut ExtentTree<Mark>, size: Size, first: 
     tree.remove(size, first, steps);
 }
 
-/// Evicts the populated pages of a placed extent. Where there is none, one look says so.
+/// Evicts the populated pages of a placed extent. Where there is none, its mark says so, and no page is asked.
 fn evict_all<L: Ledger>(tree: &mut ExtentTree<Mark>, size: Size, first: u32, steps: &mut Steps<L>)
     requires marks { AreMarks tree.old }
     requires page { first < 512 * tree.old.roots }

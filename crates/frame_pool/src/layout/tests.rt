@@ -76,7 +76,10 @@ fn pages_of_spaces_that_were_not_announced_get_the_frames_that_the_rules_say(
     let mut layout = Layout::create(rt.alloc(), FRAMES, 1)?;
     let mut stamp = 0u64;
     for (space, page, frame) in TOLD {
-        assert_eq!(rt; place(&rt, &mut layout, stamp, space, page, &PLAIN), Some(frame));
+        assert_eq!(rt;
+            place(&rt, &mut layout, stamp, space, page, &PLAIN),
+            Some(frame)
+        );
         stamp = stamp.saturating_add(1);
     }
     Ok(())
@@ -120,7 +123,10 @@ fn finds_each(rt: &impl Abort, layout: &Layout) {
 fn turn(rt: &impl Abort, layout: &mut Layout, stamp: u64, draw: u32) -> Option<u32> {
     let space = draw % 4;
     let want = WANTS.get(space as usize).copied().unwrap_or(PLAIN);
-    let page = want.low.max(draw / 4 % DRAWN).min(want.high.saturating_sub(1));
+    let page = want
+        .low
+        .max(draw / 4 % DRAWN)
+        .min(want.high.saturating_sub(1));
     let Some(frame) = frame_in(layout, space, page) else {
         return place(rt, layout, stamp, space, page, &want);
     };
@@ -151,7 +157,7 @@ fn frames_are_the_same_however_many_spaces_were_announced(rt: HostRuntime) -> Re
         assert_eq!(rt; turn(&rt, &mut half, stamp, draw), frame);
         assert_eq!(rt; turn(&rt, &mut none, stamp, draw), frame);
         placed = placed.saturating_add(u32::from(frame.is_some()));
-        if stamp % 100 == 0 {
+        if stamp % 250 == 0 {
             finds_each(&rt, &all);
             finds_each(&rt, &half);
         }

@@ -1,6 +1,6 @@
-use Rattle.std.proofs.Common.{◌≡◌, ℕ, ◌+◌, ◌-◌, ◌*◌, ◌/◌, ◌^◌, ◌<◌, is_some, arith, ap, sym, subst, ◌∙◌}
+use Rattle.std.proofs.Common.{◌≡◌, ◌+◌, ◌-◌, ◌*◌, ◌/◌, is_some, arith, ap, sym, subst, ◌∙◌}
 use Rattle.reservations.specs.Kept.{reservation_at}
-use Rattle.pager_model.proofs.ExtentLemmas.{eight_pos, eight_quotient, part_of_eight, aligned_end}
+use Rattle.pager_model.proofs.ExtentLemmas.{eight_pos, part_of_eight, aligned_end}
 use Rattle.frame_pool.proofs.ListsByFrame.{no_record, HasParts, HasParts-none, HasParts-all, HasParts-more, HasParts-skip, part_in_room, part_unlisted, none_before, known_before}
 use Rattle.frame_pool.proofs.PartRecords.{eighth}
 use Rattle.frame_pool.proofs.lists.enlist_parts.Goals as goal

@@ -1,4 +1,4 @@
-use Rattle.std.proofs.Common.{Some, arith}
+use Rattle.std.proofs.Common.{arith}
 use Rattle.frame_pool.proofs.MappedRecords.{entering_apart, entering_room, IsMapped-entered, IsMapped-entered_elsewhere}
 use Rattle.frame_pool.proofs.mapped.insert.Goals as goal
 

@@ -1,4 +1,4 @@
-use Rattle.std.proofs.Common.{◌≡◌, ◌*◌, ◌+◌, ◌-◌, ◌^◌, Some, arith, sym, subst, ◌∙◌}
+use Rattle.std.proofs.Common.{◌≡◌, ◌-◌, arith, sym, subst, ◌∙◌}
 use Rattle.pager_model.proofs.ExtentLemmas.{eight_pos, part_of_eight, aligned_end}
 use Rattle.frame_pool.proofs.MappedParts.{HasMapped, HasMapped-none, HasMapped-all, HasMapped-more, HasMapped-skip, part_enters}
 use Rattle.frame_pool.proofs.PartRecords.{eighth}

@@ -1,4 +1,4 @@
-use Rattle.std.proofs.Common.{◌≡◌, Some, sym, subst, ◌∙◌, arith}
+use Rattle.std.proofs.Common.{◌≡◌, Some, sym, ◌∙◌, arith}
 use Rattle.reservations.specs.Kept.{reservation_at}
 use Rattle.frame_pool.proofs.MappedRecords.{leaving_placed, IsMapped-left, IsMapped-left_elsewhere}
 use Rattle.frame_pool.proofs.mapped.remove.Goals as goal
