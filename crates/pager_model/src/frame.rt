@@ -79,6 +79,13 @@ impl Frame {
         }
         self.words.as_mut_slice()
     }
+
+    /// Makes its words zero, which writes none of them.
+    pub fn clear(&mut self)
+        ensures { self.new ≡ zero_frame self.old.number }
+    {
+        self.words.clear();
+    }
 }
 
 /// The frame of this number, with zero words.

@@ -23,7 +23,7 @@ pub mod trace;
 pub use call::{Call, Line};
 pub use entry::{Entry, Need, Numbered, Want, What};
 pub use extent::{Extent, PAGES};
-pub use frame::{Frame, NoMemory, frames_of};
+pub use frame::{Frame, NoMemory, WORDS, frames_of};
 pub use region::{Kind, Region, Rights};
 pub use reply::{Answered, Reply};
 pub use reservation::{Reservation, Used};

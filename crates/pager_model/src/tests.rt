@@ -23,6 +23,9 @@ fn a_frame_keeps_what_is_written(rt: HostRuntime) -> Result<(), Fail> {
     assert_eq!(rt; frame.words()[1023], 7);
     assert_eq!(rt; frame.words()[0], 0);
     assert_eq!(rt; frame.number(), 0);
+    frame.clear();
+    assert_eq!(rt; frame.words()[1023], 0);
+    assert_eq!(rt; frame.words_mut()[1023], 0);
     Ok(())
 }
 

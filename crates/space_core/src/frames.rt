@@ -1,6 +1,6 @@
 //! The words of one frame.
 
-ghost use Rattle.std.specs.Prelude.{◌≡◌, ◌<◌, length, slice_index_or, slice_set};
+ghost use Rattle.std.specs.Prelude.{◌≡◌, ◌<◌, true, length, replicate, slice_index_or, slice_set};
 
 use pager_model::Frame;
 
@@ -22,4 +22,23 @@ pub fn set_word(frame: &mut Frame, index: usize, word: u64)
     } }
 {
     frame.words_mut()[index] = word;
+}
+
+/// Makes these words the frame's. Where they are zero nothing is written, so that a page never written uses no memory.
+pub fn set_words(frame: &mut Frame, words: &[u64])
+    requires { length words.now ≡ 1024 }
+    ensures { frame.new ≡ record { number = frame.old.number; words = words.now } }
+{
+    if are_zero(words) {
+        frame.clear();
+    } else {
+        frame.words_mut().copy_from_slice(words);
+    }
+}
+
+/// Whether each word is zero.
+fn are_zero(words: &[u64]) -> bool
+    ensures { result ≡ true → words.now ≡ replicate (length words.now) 0 }
+{
+    words.iter().all(|word| *word == 0)
 }

@@ -8,8 +8,8 @@ ghost use Rattle.space_core.specs.Tables.{mapping_in, frame_in, word_in, own_in,
 ghost use Rattle.space_core.specs.Pages.{IsFresh, Maps, Refills, HasWords, Writes, Cleans, OwnsRights, Protects, Forgets, IsFirstResident, NoneFrom};
 ghost use Rattle.store_core.specs.Stored.{copy_at, keeps_at, SameCopies, SetsCopy};
 
-use crate::frames::{set_word, word};
-use pager_model::{Frame, Mapping, NoMemory, PAGES, Rights, Tile};
+use crate::frames::{set_word, set_words, word};
+use pager_model::{Frame, Mapping, NoMemory, PAGES, Rights, Tile, WORDS};
 use std::alloc::Global;
 use std::marker::Model;
 use store_core::{Store, StoreFailed, WriteRefused};
@@ -182,7 +182,10 @@ impl PageTable {
         let Some(frame) = &mut self.frames[number as usize] else {
             unreachable!()
         };
-        store.read(page, frame.words_mut())
+        let mut copy = [0; WORDS];
+        store.read(page, &mut copy)?;
+        set_words(frame, &copy);
+        Ok(())
     }
 
     /// Writes the words of a resident page to its copy in the store.

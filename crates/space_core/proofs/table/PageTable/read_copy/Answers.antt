@@ -1,6 +1,4 @@
 use Rattle.std.proofs.Common.{◌∙◌, sym, ap, arith, ℕ, List, slice_index_or}
-use Rattle.std.proofs.lemmas.List.{take_at}
-use Rattle.std.proofs.lemmas.Result.{IfOk-weaker}
 use Rattle.space_core.specs.contracts.table.PageTable.{the_view}
 use Rattle.space_core.proofs.TableLemmas.{frame-read, found_within, frame-number, frame-there, rewritten_paged, rewritten_has, refills}
 use Rattle.space_core.proofs.table.PageTable.read_copy.Goals as goal
@@ -23,19 +21,24 @@ invariant_of-self g c =
     let is = frame-read t _ _ (found_within _ c.self.invariant _ _ has) c.index_mut.ensures.value ∙ c.in-Some-index_mut.is in
     rewritten_paged t c.self.invariant _ _ _ has (frame-number t c.self.invariant _ _ _ has is)
 
+pub invariant_of-self-2 : goal.invariant_of-self-2
+invariant_of-self-2 g c =
+    let t = the_view c.self.inside in
+    let has = sym (rw (← c.self.view_is) at c.number.ensures.number) ∙ c.in-Some.is in
+    let is = frame-read t _ _ (found_within _ c.self.invariant _ _ has) c.index_mut.ensures.value ∙ c.in-Some-index_mut.is in
+    rw c.set_words.ensures (rewritten_paged t c.self.invariant _ _ _ has (frame-number t c.self.invariant _ _ _ has is))
+
 pub returns-clause-table : goal.returns-clause-table
 returns-clause-table g c =
     let t = the_view c.self.inside in
     let has = sym (rw (← c.self.view_is) at c.number.ensures.number) ∙ c.in-Some.is in
     let is = frame-read t _ _ (found_within _ c.self.invariant _ _ has) c.index_mut.ensures.value ∙ c.in-Some-index_mut.is in
-    rw (← c.self.view_is) (refills t c.self.invariant _ _ _ has (frame-number t c.self.invariant _ _ _ has is))
+    rw (← c.self.view_is, c.set_words.ensures) (refills t c.self.invariant _ _ _ has (frame-number t c.self.invariant _ _ _ has is))
 
 pub returns-clause-read : goal.returns-clause-read
-returns-clause-read g c =
+returns-clause-read g c = λ words tells known i.
     let t = the_view c.self.inside in
     let has = sym (rw (← c.self.view_is) at c.number.ensures.number) ∙ c.in-Some.is in
     let is = frame-read t _ _ (found_within _ c.self.invariant _ _ has) c.index_mut.ensures.value ∙ c.in-Some-index_mut.is in
-    IfOk-weaker c.read.result _ _
-    (λ _ read words tells known i.
-    rewritten_has t c.self.invariant _ _ _ has (frame-number t c.self.invariant _ _ _ has is) i ∙ ap (λ (ws : List ℕ). slice_index_or ws i 0) (take_at c.read.new.words _ 1024 (c.read.auto.words ∙ c.words_mut.ensures.count) ∙ rw known at read tells))
-    c.read.ensures.read
+    let copied = rw known at (c.in_ok-read.ensures.read tells) in
+    rw c.set_words.ensures (rewritten_has t c.self.invariant _ _ _ has (frame-number t c.self.invariant _ _ _ has is) i ∙ ap (λ (ws : List ℕ). slice_index_or ws i 0) copied)
