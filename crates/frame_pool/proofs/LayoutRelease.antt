@@ -3,13 +3,14 @@ use Rattle.std.proofs.Common.{◌≡◌, ◌≢◌, ℕ, ◌+◌, ◌^◌, ◌<�
 use Rattle.std.proofs.lemmas.List.{get_or-set_same, get_or-set_other, length-set, set_past, get_or_past}
 use Rattle.std.proofs.lemmas.Bool.{cases_Bool, cases_eq, cases_lt, false≢true}
 use Rattle.std.proofs.lemmas.Option.{none-some, same_Some}
+use Rattle.buddy_extents.proofs.BlockMoves.{same_test}
 use Rattle.buddy_extents.proofs.Ranges.{length-with_range, with_range_inside, with_range_outside, range_cases}
 use Rattle.pager_model.specs.declared.reservation.Reservation.{Reservation}
 use Rattle.pager_model.specs.Agreement.{has_frame}
 use Rattle.pager_model.specs.FreeBlocks.{with_range}
 use Rattle.pager_model.specs.Layouts.{Layout, frame_in, vacate_layout, carve_layout, narrow_layout, take_out, put_back, is_last, record_at, is_free}
 use Rattle.pager_model.specs.Records.{is_used}
-use Rattle.reservations.proofs.FrameIds.{has_frame_bounds, has_frame_from, known_record, ArePlaced-set, no_frame, unused_in}
+use Rattle.reservations.proofs.FrameIds.{get_or-set_default, unset_before, has_frame_bounds, has_frame_from, known_record, ArePlaced-set, no_frame, unused_in}
 use Rattle.frame_pool.specs.Laid.{IsLaid, IsIn}
 use Rattle.frame_pool.proofs.PagePlaces.{HasPlace, HasPlace-kept, place_has, frame_in-found, frame_in-from}
 use Rattle.frame_pool.proofs.LayoutReplaced.{IsRegion-own, Replaces, holder, IsLaid-replaced, IsIn-beside}
@@ -24,19 +25,9 @@ pub record Gives (old new : Layout) (frame : ℕ) (in_after : ℕ → Type 0) : 
   pub within : (f : ℕ) → IsIn new f ↔ in_after f
   pub pages : (s p f : ℕ) → (frame_in new s p ≡ Some f) ↔ ((f ≢ frame) × (frame_in old s p ≡ Some f))
 
--- a frame that becomes unused is no used place
-pub unused_now : (used : List Bool) (frame f : ℕ) → f ≡ frame → is_used (set used frame false) f ≡ false
-unused_now used frame f same = ap (is_used (set used frame false)) same ∙ elim (cases_lt frame (length used)) [
-  | inl known ↦ get_or-set_same used frame false false known
-  | inr past ↦ ap (λ u. is_used u frame) (set_past used frame false past) ∙ get_or_past used frame false past
-]
-
 -- a used place after a frame became unused was one before, and is another frame
 pub used_before : (used : List Bool) (frame f : ℕ) → is_used (set used frame false) f ≡ true → (f ≢ frame) × (is_used used f ≡ true)
-used_before used frame f is = elim (cases_eq f frame) [
-  | inl here ↦ absurd (false≢true (sym (unused_now used frame f here) ∙ is))
-  | inr other ↦ (other, sym (get_or-set_other used frame f false false other) ∙ is)
-]
+used_before used frame f is = unset_before used frame f false true false≢true is
 
 -- a page's place is the one that it had, where those that stand stood before, and those with used places still stand
 pages_by : (old new : Layout) (frame : ℕ) → IsLaid old → IsLaid new → new.used ≡ set old.used frame false → ((j : ℕ) (q : Reservation) → record_at new j ≡ Some q → record_at old j ≡ Some q) → ((s p f : ℕ) (place : HasPlace old s p f) → is_used new.used f ≡ true → record_at new place.id ≡ Some place.reservation) → (s p f : ℕ) → (frame_in new s p ≡ Some f) ↔ ((f ≢ frame) × (frame_in old s p ≡ Some f))
@@ -59,37 +50,20 @@ with_range_free free first count fits =
     (λ is. inl (sym same ∙ is), λ was. elim was [ inl is ↦ same ∙ is | inr inside ↦ absurd (elim out [ inl before ↦ omega (arith, inside.0) | inr behind ↦ omega (arith, inside.1) ]) ]))
     (λ f low high. (λ is. inr (low, high), λ was. with_range_inside free first count true fits f low high))
 
--- A reservation is no longer noted.
-module _ (l : Layout) (id : ℕ) (r : Reservation) (is : record_at l id ≡ Some r) where
-  -- what stands after it stood before, at another frame
-  pub stood : (j : ℕ) (q : Reservation) → get_or (set l.records id None) j None ≡ Some q → (j ≢ id) × (record_at l j ≡ Some q)
-  stood j q at = elim (cases_eq j id) [
-    | inl here ↦ absurd (none-some q (sym (ap (λ k. get_or (set l.records id None) k None) here ∙ get_or-set_same l.records id None None (known_record l.records id r is)) ∙ at))
-    | inr other ↦ (other, sym (get_or-set_other l.records id j None None other) ∙ at)
-  ]
-
-  -- and whose place a frame is after, its place it was before
-  pub had : (f j : ℕ) → has_frame f (get_or (set l.records id None) j None) ≡ true → (j ≢ id) × (has_frame f (record_at l j) ≡ true)
-  had f j has =
-      let w = holder f (get_or (set l.records id None) j None) has in
-      let was = stood j w.0 w.1 in
-      (was.0, ap (has_frame f) was.1 ∙ w.2)
-
--- a frame that becomes unused leaves every other reservation a used place
-pub used_elsewhere : (l : Layout) (id frame j : ℕ) (r q : Reservation) → IsLaid l → record_at l id ≡ Some r → has_frame frame (Some r) ≡ true → record_at l j ≡ Some q → j ≢ id → (f : ℕ) × (has_frame f (Some q) ≡ true) × (is_used (set l.used frame false) f ≡ true)
-used_elsewhere l id frame j r q laid is has at other =
-    let u = laid.some_used j q at in
-    let apart_from : u.0 ≢ frame = λ same. other (laid.apart frame j id (ap (has_frame frame) at ∙ ap (λ f. has_frame f (Some q)) (sym same) ∙ u.1) (ap (has_frame frame) is ∙ has)) in
-    (u.0, u.1, get_or-set_other l.used frame u.0 false false apart_from ∙ u.2)
+-- after a reservation went no other one has a frame of it
+pub not_in_rest : (l : Layout) (id : ℕ) (r : Reservation) → IsLaid l → record_at l id ≡ Some r → (f j : ℕ) → has_frame f (Some r) ≡ true → has_frame f (get_or (set l.records id None) j None) ≡ true → ⊥
+not_in_rest l id r laid is f j mine has =
+    let w = holder f (get_or (set l.records id None) j None) has in
+    let was = unset_before l.records id j None (Some w.0) (none-some w.0) w.1 in
+    was.0 (laid.apart f j id (ap (has_frame f) was.1 ∙ w.2) (ap (has_frame f) is ∙ mine))
 
 -- A reservation goes whose one used place, if any, is the frame: its frames are free from then on, or out of the layout.
-module _ (l : Layout) (free : List Bool) (id frame : ℕ) (r : Reservation) (laid : IsLaid l) (is : record_at l id ≡ Some r) (long : length free ≡ length l.free) (beside : (f : ℕ) → has_frame f (Some r) ≡ false → (get_or free f false ≡ true) ↔ (is_free l f ≡ true)) (unused : (f : ℕ) → has_frame f (Some r) ≡ true → is_used (set l.used frame false) f ≡ false) (has : has_frame frame (Some r) ≡ true) where
+module _ (l : Layout) (free : List Bool) (id frame : ℕ) (r : Reservation) (laid : IsLaid l) (is : record_at l id ≡ Some r) (long : length free ≡ length l.free) (beside : (f : ℕ) → has_frame f (Some r) ≡ false → get_or free f false ≡ is_free l f) (unused : (f : ℕ) → has_frame f (Some r) ≡ true → is_used (set l.used frame false) f ≡ false) (has : has_frame frame (Some r) ≡ true) where
   abbrev without : Layout
   without = record { free = free; records = set l.records id None; used = set l.used frame false }
 
-  -- no frame of it is of a reservation
-  gone : (f j : ℕ) → has_frame f (Some r) ≡ true → has_frame f (record_at without j) ≡ true → ⊥
-  gone f j mine has' = let w = had l id r is f j has' in w.0 (laid.apart f j id w.1 (ap (has_frame f) is ∙ mine))
+  stood : (j : ℕ) (q : Reservation) → record_at without j ≡ Some q → (j ≢ id) × (record_at l j ≡ Some q)
+  stood j q at = unset_before l.records id j None (Some q) (none-some q) at
 
   Replaces-without : Replaces l without r id
   Replaces-without = record {
@@ -97,30 +71,36 @@ module _ (l : Layout) (free : List Bool) (id frame : ℕ) (r : Reservation) (lai
     records_long = length-set l.records id None;
     free_long = long;
     used_long = length-set l.used frame false;
-    who = λ j q at. inl (stood l id r is j q at);
+    who = λ j q at. inl (stood j q at);
     stays = λ j q other at. get_or-set_other l.records id j None None other ∙ at;
     free = beside;
     used = λ f out. get_or-set_other l.used frame f false false (λ same. false≢true (sym out ∙ ap (λ g. has_frame g (Some r)) same ∙ has));
-    one_frame = λ f j k mine one two. absurd (gone f j mine one);
-    not_free = λ f j mine free_now has_now. gone f j mine has_now;
+    one_frame = λ f j k mine one two. absurd (not_in_rest l id r laid is f j mine one);
+    not_free = λ f j mine free_now has_now. not_in_rest l id r laid is f j mine has_now;
     places = λ f mine used. absurd (false≢true (sym (unused f mine) ∙ used));
-    one_page = λ j k s p q t at_j at_k by_j by_k mine. let w = stood l id r is j q at_j in absurd (w.0 (laid.one_cover j id s p q r w.1 is by_j mine));
+    one_page = λ j k s p q t at_j at_k by_j by_k mine. let w = stood j q at_j in absurd (w.0 (laid.one_cover j id s p q r w.1 is by_j mine));
   }
 
-  IsLaid-without : IsLaid without
-  IsLaid-without = IsLaid-replaced l without r id laid Replaces-without
-
-  -- the same frames beside it are in the layout
-  within-without : (f : ℕ) → has_frame f (Some r) ≡ false → IsIn without f ↔ IsIn l f
-  within-without = IsIn-beside l without r id laid Replaces-without
-
-  -- and every other place stays its page's
-  pages-without : (s p f : ℕ) → (frame_in without s p ≡ Some f) ↔ ((f ≢ frame) × (frame_in l s p ≡ Some f))
-  pages-without = pages_by l without frame laid IsLaid-without refl (λ j q at. (stood l id r is j q at).1) (λ s p f place used.
-      let other : place.id ≢ id = λ here.
-          (let same : place.reservation ≡ r = same_Some place.reservation r (sym place.is ∙ ap (record_at l) here ∙ is) in
-          false≢true (sym (unused f (ap (λ q. has_frame f (Some q)) (sym same) ∙ place_has l s p f place)) ∙ used)) in
-      get_or-set_other l.records id place.id None None other ∙ place.is)
+  -- so the frame is given up, by which of the reservation's frames are in the layout then
+  Gives-without : (in_after : ℕ → Type 0) → ((f : ℕ) → has_frame f (Some r) ≡ true → IsIn without f ↔ in_after f) → ((f : ℕ) → has_frame f (Some r) ≡ false → IsIn l f ↔ in_after f) → Gives l without frame in_after
+  Gives-without in_after inside outside =
+      let laid_after = IsLaid-replaced l without r id laid Replaces-without in
+      record {
+        laid = laid_after;
+        long = long;
+        used = refl;
+        within = λ f. elim (cases_Bool (has_frame f (Some r))) [
+          | inl mine ↦ inside f mine
+          | inr out ↦
+              let same = IsIn-beside l without r id laid Replaces-without f out in
+              (λ now. (outside f out).0 (same.0 now), λ was. same.1 ((outside f out).1 was))
+        ];
+        pages = pages_by l without frame laid laid_after refl (λ j q at. (stood j q at).1) (λ s p f place used.
+            let other : place.id ≢ id = λ here.
+                (let same : place.reservation ≡ r = same_Some place.reservation r (sym place.is ∙ ap (record_at l) here ∙ is) in
+                false≢true (sym (unused f (ap (λ q. has_frame f (Some q)) (sym same) ∙ place_has l s p f place)) ∙ used)) in
+            get_or-set_other l.records id place.id None None other ∙ place.is);
+      }
 
 -- the reservation keeps a used place
 Gives-keeping : (l : Layout) (id frame : ℕ) (r : Reservation) → IsLaid l → record_at l id ≡ Some r → has_frame frame (Some r) ≡ true → is_last frame r l ≡ false → Gives l (record { free = l.free; records = l.records; used = set l.used frame false }) frame (IsIn l)
@@ -138,7 +118,10 @@ Gives-keeping l id frame r laid is has keeps =
             let w = some_used_in (is_used (set l.used frame false)) r.frame (8 ^ r.size) keeps in
             let same : r ≡ q = same_Some r q (sym is ∙ ap (record_at l) (sym here) ∙ at) in
             (w.0, ap (λ s. has_frame w.0 (Some s)) (sym same) ∙ has_frame_from w.0 r w.1 w.2, w.3)
-        | inr other ↦ used_elsewhere l id frame j r q laid is has at other
+        | inr other ↦
+            let u = laid.some_used j q at in
+            let apart_from : u.0 ≢ frame = λ same. other (laid.apart u.0 j id (ap (has_frame u.0) at ∙ u.1) (ap (has_frame u.0) is ∙ ap (λ f. has_frame f (Some r)) same ∙ has)) in
+            (u.0, u.1, get_or-set_other l.used frame u.0 false false apart_from ∙ u.2)
       ];
       one_cover = laid.one_cover;
     } in
@@ -159,21 +142,13 @@ Gives-last l frame r laid is has last =
     let freed = with_range_free l.free r.frame (8 ^ r.size) fits in
     let unused : (f : ℕ) → has_frame f (Some r) ≡ true → is_used (set l.used frame false) f ≡ false =
     λ f mine. (let bounds = has_frame_bounds f r mine in unused_in (is_used (set l.used frame false)) r.frame (8 ^ r.size) last f bounds.0 bounds.1) in
-    let beside : (f : ℕ) → has_frame f (Some r) ≡ false → (get_or (with_range l.free r.frame (8 ^ r.size) true) f false ≡ true) ↔ (is_free l f ≡ true) =
-    λ f out. (
-      λ now. elim ((freed f).0 now) [ inl was ↦ was | inr inside ↦ absurd (false≢true (sym out ∙ has_frame_from f r inside.0 inside.1)) ],
-      λ was. (freed f).1 (inl was),
-    ) in
-    record {
-      laid = IsLaid-without l (with_range l.free r.frame (8 ^ r.size) true) r.frame frame r laid is long beside unused has;
-      long = long;
-      used = refl;
-      pages = pages-without l (with_range l.free r.frame (8 ^ r.size) true) r.frame frame r laid is long beside unused has;
-      within = λ f. elim (cases_Bool (has_frame f (Some r))) [
-        | inl mine ↦ (λ _. inr (r.frame, ap (has_frame f) is ∙ mine), λ _. inl ((freed f).1 (inr (has_frame_bounds f r mine))))
-        | inr out ↦ within-without l (with_range l.free r.frame (8 ^ r.size) true) r.frame frame r laid is long beside unused has f out
-      ];
-    }
+    let beside : (f : ℕ) → has_frame f (Some r) ≡ false → get_or (with_range l.free r.frame (8 ^ r.size) true) f false ≡ is_free l f =
+    λ f out. same_test _ _
+    (λ now. elim ((freed f).0 now) [ inl was ↦ was | inr inside ↦ absurd (false≢true (sym out ∙ has_frame_from f r inside.0 inside.1)) ])
+    (λ was. (freed f).1 (inl was)) in
+    Gives-without l (with_range l.free r.frame (8 ^ r.size) true) r.frame frame r laid is long beside unused has (IsIn l)
+    (λ f mine. (λ _. inr (r.frame, ap (has_frame f) is ∙ mine), λ _. inl ((freed f).1 (inr (has_frame_bounds f r mine)))))
+    (λ f out. (λ now. now, λ was. was))
 
 -- a used place is unused from then on, and no frame leaves the layout or comes into it
 pub Gives-vacate : (l : Layout) (id frame : ℕ) (r : Reservation) → IsLaid l → record_at l id ≡ Some r → has_frame frame (Some r) ≡ true → is_used l.used frame ≡ true → Gives l (vacate_layout frame r l) frame (IsIn l)
@@ -190,26 +165,15 @@ Gives-take_out l frame r laid is one =
     let width : 8 ^ r.size ≡ 1 = ap (λ k. 8 ^ k) one in
     let has : has_frame frame (Some r) ≡ true = has_frame_from frame r (omega (arith, named)) (omega (arith, named, width)) in
     let only : (f : ℕ) → has_frame f (Some r) ≡ true → f ≡ frame = λ f mine. (let bounds = has_frame_bounds f r mine in omega (arith, bounds.0, bounds.1, named, width)) in
-    let unused : (f : ℕ) → has_frame f (Some r) ≡ true → is_used (set l.used frame false) f ≡ false = λ f mine. unused_now l.used frame f (only f mine) in
-    let beside : (f : ℕ) → has_frame f (Some r) ≡ false → (is_free l f ≡ true) ↔ (is_free l f ≡ true) = λ f out. (λ now. now, λ was. was) in
-    record {
-      laid = IsLaid-without l l.free frame frame r laid is refl beside unused has;
-      long = refl;
-      used = refl;
-      pages = pages-without l l.free frame frame r laid is refl beside unused has;
-      within = λ f. elim (cases_Bool (has_frame f (Some r))) [
-        | inl mine ↦ (
-          λ now. elim now [
-            | inl free ↦ absurd (laid.not_free f frame free (ap (has_frame f) is ∙ mine))
-            | inr place ↦ absurd (gone l l.free frame frame r laid is refl beside unused has f place.0 mine place.1)
-          ],
-          λ was. absurd (was.1 (only f mine)),
-        )
-        | inr out ↦
-            let in_both = within-without l l.free frame frame r laid is refl beside unused has f out in
-            (λ now. (in_both.0 now, λ same. false≢true (sym out ∙ ap (λ g. has_frame g (Some r)) same ∙ has)), λ was. in_both.1 was.0)
-      ];
-    }
+    Gives-without l l.free frame frame r laid is refl (λ f out. refl) (λ f mine. get_or-set_default l.used frame f false (only f mine)) has (λ f. IsIn l f × (f ≢ frame))
+    (λ f mine. (
+      λ now. elim now [
+        | inl free ↦ absurd (laid.not_free f frame free (ap (has_frame f) is ∙ mine))
+        | inr place ↦ absurd (not_in_rest l frame r laid is f place.0 mine place.1)
+      ],
+      λ was. absurd (was.1 (only f mine)),
+    ))
+    (λ f out. (λ now. (now, λ same. false≢true (sym out ∙ ap (λ g. has_frame g (Some r)) same ∙ has)), λ was. was.0))
 
 -- a used place is carved out, and this frame alone leaves the layout
 pub Gives-carve : (l : Layout) (id frame : ℕ) (r : Reservation) → IsLaid l → record_at l id ≡ Some r → has_frame frame (Some r) ≡ true → is_used l.used frame ≡ true → Gives l (carve_layout frame r l) frame (λ f. IsIn l f × (f ≢ frame))

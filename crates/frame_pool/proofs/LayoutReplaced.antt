@@ -41,7 +41,7 @@ pub record Replaces (old new : Layout) (r : Reservation) (at : ℕ) : Type 0 whe
   pub used_long : length new.used ≡ length old.used
   pub who : (j : ℕ) (q : Reservation) → record_at new j ≡ Some q → ((j ≢ at) × (record_at old j ≡ Some q)) ⊎ CameIn old new r j q
   pub stays : (j : ℕ) (q : Reservation) → j ≢ at → record_at old j ≡ Some q → record_at new j ≡ Some q
-  pub free : (f : ℕ) → has_frame f (Some r) ≡ false → (is_free new f ≡ true) ↔ (is_free old f ≡ true)
+  pub free : (f : ℕ) → has_frame f (Some r) ≡ false → is_free new f ≡ is_free old f
   pub used : (f : ℕ) → has_frame f (Some r) ≡ false → is_used new.used f ≡ is_used old.used f
   pub one_frame : (f id other : ℕ) → has_frame f (Some r) ≡ true → has_frame f (record_at new id) ≡ true → has_frame f (record_at new other) ≡ true → id ≡ other
   pub not_free : (f id : ℕ) → has_frame f (Some r) ≡ true → is_free new f ≡ true → has_frame f (record_at new id) ≡ true → ⊥
@@ -87,7 +87,7 @@ module _ (old new : Layout) (r : Reservation) (at : ℕ) (laid : IsLaid old) (mo
     ];
     not_free = λ f j free has. elim (cases_Bool (has_frame f (Some r))) [
       | inl inside ↦ move.not_free f j inside free has
-      | inr out ↦ laid.not_free f j ((move.free f out).0 free) ((has_beside f j out).0 has)
+      | inr out ↦ laid.not_free f j (sym (move.free f out) ∙ free) ((has_beside f j out).0 has)
     ];
     places = λ f used. elim (cases_Bool (has_frame f (Some r))) [
       | inl inside ↦ move.places f inside used
@@ -106,8 +106,8 @@ module _ (old new : Layout) (r : Reservation) (at : ℕ) (laid : IsLaid old) (mo
   -- the same frames beside r are in it
   pub IsIn-beside : (f : ℕ) → has_frame f (Some r) ≡ false → IsIn new f ↔ IsIn old f
   IsIn-beside f out = (
-    λ now. elim now [ inl free ↦ inl ((move.free f out).0 free) | inr place ↦ inr (place.0, (has_beside f place.0 out).0 place.1) ],
-    λ was. elim was [ inl free ↦ inl ((move.free f out).1 free) | inr place ↦ inr (place.0, (has_beside f place.0 out).1 place.1) ],
+    λ now. elim now [ inl free ↦ inl (sym (move.free f out) ∙ free) | inr place ↦ inr (place.0, (has_beside f place.0 out).0 place.1) ],
+    λ was. elim was [ inl free ↦ inl (move.free f out ∙ free) | inr place ↦ inr (place.0, (has_beside f place.0 out).1 place.1) ],
   )
 
   -- and every page beside r keeps its place

@@ -2,12 +2,13 @@
 use Rattle.std.proofs.Common.{◌≡◌, ◌≢◌, ℕ, ◌-◌, ◌^◌, ◌<◌, ◌⊎◌, ◌↔◌, inl, inr, true, false, length, Option, Some, None, refl, sym, ap, subst, ◌∙◌, arith}
 use Rattle.std.proofs.lemmas.Bool.{cases_Bool, cases_eq, cond-true, cond-false, false≢true}
 use Rattle.std.proofs.lemmas.Option.{none-some, same_Some}
+use Rattle.buddy_extents.proofs.BlockMoves.{same_test}
 use Rattle.pager_model.specs.declared.reservation.Reservation.{Reservation}
 use Rattle.pager_model.specs.Agreement.{has_frame}
 use Rattle.pager_model.specs.Layouts.{Layout, covers, frame_for, frame_in, split_layout, record_at}
 use Rattle.pager_model.specs.Records.{is_used, part_of, is_part_empty}
 use Rattle.reservations.specs.Kept.{IsPlaced}
-use Rattle.frame_pool.proofs.PartRecords.{IsAlone, find_part, part_in_whole, same_part, which_part, used_part}
+use Rattle.frame_pool.proofs.PartRecords.{find_part, part_in_whole, same_part, which_part, used_part}
 use Rattle.pager_model.proofs.ExtentLemmas.{eight_pos, part_of_eight}
 use Rattle.reservations.proofs.FrameIds.{has_frame_from}
 use Rattle.reservations.proofs.SplitLemmas.{part_placed}
@@ -27,10 +28,8 @@ pub record Settles (old new : Layout) : Type 0 where
   pub covered : (id space page : ℕ) (r : Reservation) → record_at new id ≡ Some r → covers space page r ≡ true → (other : ℕ) × (q : Reservation) × (record_at old other ≡ Some q) × (covers space page q ≡ true)
 
 -- a reservation is in its place at its own first frame
-pub placed_at_own : (l : Layout) (id : ℕ) (r : Reservation) → IsLaid l → record_at l id ≡ Some r → IsPlaced (length l.records) r.frame r
-placed_at_own l id r laid is =
-    let placed = laid.placed id r is in
-    subst (λ k. IsPlaced (length l.records) k r) (sym placed.named) placed
+pub placed_own : (l : Layout) (id : ℕ) (r : Reservation) → IsLaid l → record_at l id ≡ Some r → IsPlaced (length l.records) r.frame r
+placed_own l id r laid is = let placed = laid.placed id r is in subst (λ k. IsPlaced (length l.records) k r) (sym placed.named) placed
 
 -- the record at this frame is the i-th part, which has a used place
 pub record IsPartAt (l : Layout) (r : Reservation) (j i : ℕ) : Type 0 where
@@ -43,17 +42,9 @@ module _ (l new : Layout) (id : ℕ) (r : Reservation) (laid : IsLaid l) (is : r
   pub named : r.frame ≡ id
   named = (laid.placed id r is).named
 
-  -- and is in its place there
-  pub placed_whole : IsPlaced (length l.records) r.frame r
-  placed_whole = placed_at_own l id r laid is
-
   -- only the reservation has a frame of it
   pub one_reservation : (f j : ℕ) → has_frame f (Some r) ≡ true → has_frame f (record_at l j) ≡ true → j ≡ id
   one_reservation f j in_r has = laid.apart f j id has (ap (has_frame f) is ∙ in_r)
-
-  -- no other record has a frame of it
-  pub alone : IsAlone r l.records
-  alone = λ f j in_r has. one_reservation f j in_r has ∙ sym named
 
   -- a record beside the reservation is at no part's frame
   pub beside_parts : (j : ℕ) (q : Reservation) → j ≢ id → record_at l j ≡ Some q → (i : ℕ) → i < 8 → j ≡ (part_of r i).frame → ⊥
@@ -74,7 +65,7 @@ module _ (l new : Layout) (id : ℕ) (r : Reservation) (laid : IsLaid l) (is : r
 
   -- a record that stands then stood before and isn't the reservation, or is a part with a used place
   pub who_stands : (j : ℕ) (q : Reservation) → record_at new j ≡ Some q → ((j ≢ id) × (record_at l j ≡ Some q)) ⊎ ((i : ℕ) × IsPartAt l r j i × (part_of r i ≡ q))
-  who_stands j q stands = elim (find_part (is_used l.used) r l.records splits placed_whole alone 8 j) [
+  who_stands j q stands = elim (find_part r 8 j) [
     | inl at ↦ elim (cases_Bool (is_part_empty (is_used l.used) r at.0)) [
       | inl empty ↦
           let none : record_at new j ≡ None = ap (record_at new) at.2 ∙ split.parts at.0 at.1 ∙ cond-true _ _ _ empty in
@@ -87,14 +78,6 @@ module _ (l new : Layout) (id : ℕ) (r : Reservation) (laid : IsLaid l) (is : r
     ]
     | inr none ↦ inl (λ same. none 0 (omega arith) (omega (arith, same, named)), sym (split.others j none) ∙ stands)
   ]
-
-  -- a frame of a part is a frame of the reservation
-  pub in_whole : (i : ℕ) → i < 8 → (f : ℕ) → has_frame f (Some (part_of r i)) ≡ true → has_frame f (Some r) ≡ true
-  in_whole = part_in_whole (is_used l.used) r l.records splits placed_whole alone
-
-  -- no frame is in two parts
-  pub one_part : (f i j : ℕ) → has_frame f (Some (part_of r i)) ≡ true → has_frame f (Some (part_of r j)) ≡ true → i ≡ j
-  one_part = same_part (is_used l.used) r l.records splits placed_whole alone
 
   -- a page of a part is a page of the reservation
   pub whole_covers : (s p : ℕ) (q : Reservation) (i : ℕ) → i < 8 → part_of r i ≡ q → covers s p q ≡ true → covers s p r ≡ true
@@ -119,14 +102,14 @@ module _ (l new : Layout) (id : ℕ) (r : Reservation) (laid : IsLaid l) (is : r
   -- a used frame of the reservation is one of a part that stands
   pub used_stands : (f : ℕ) → has_frame f (Some r) ≡ true → is_used l.used f ≡ true → (i : ℕ) × (has_frame f (Some (part_of r i)) ≡ true) × (record_at new (part_of r i).frame ≡ Some (part_of r i))
   used_stands f has used =
-      let part = which_part (is_used l.used) r l.records splits placed_whole alone f has in
-      (part.0, part.2, split.parts part.0 part.1 ∙ used_part (is_used l.used) r l.records splits placed_whole alone f part.0 used part.2)
+      let part = which_part r splits f has in
+      (part.0, part.2, split.parts part.0 part.1 ∙ used_part r (is_used l.used) f part.0 used part.2)
 
   -- a part that stands came in its place, with a used one
   pub part_came : (j i : ℕ) → IsPartAt l r j i → CameIn l new r j (part_of r i)
   part_came j i part = record {
-    placed = subst (λ k. IsPlaced (length l.records) k (part_of r i)) (sym part.at) (part_placed (length l.records) i r placed_whole splits part.below);
-    frames = in_whole i part.below;
+    placed = subst (λ k. IsPlaced (length l.records) k (part_of r i)) (sym part.at) (part_placed (length l.records) i r (placed_own l id r laid is) splits part.below);
+    frames = part_in_whole r splits i part.below;
     pages = λ s p. covers_whole s p i r splits part.below;
     some_used =
         let some = some_used_in (is_used l.used) (part_of r i).frame (8 ^ (r.size - 1)) part.filled in
@@ -142,20 +125,19 @@ module _ (l new : Layout) (id : ℕ) (r : Reservation) (laid : IsLaid l) (is : r
     used_long = ap length split.used;
     who = λ j q stands. elim (who_stands j q stands) [ inl still ↦ inl still | inr part ↦ inr (subst (CameIn l new r j) part.2 (part_came j part.0 part.1)) ];
     stays = stands_still;
-    free = λ f out. (
-      λ now. elim (split.free_cases f now) [ inl was ↦ was | inr emptied ↦ absurd (false≢true (sym out ∙ in_whole emptied.part emptied.below f emptied.has)) ],
-      split.free_before f,
-    );
+    free = λ f out. same_test _ _
+        (λ now. elim (split.free_cases f now) [ inl was ↦ was | inr emptied ↦ absurd (false≢true (sym out ∙ part_in_whole r splits emptied.part emptied.below f emptied.has)) ])
+        (split.free_before f);
     used = λ f out. ap (λ u. is_used u f) split.used;
     one_frame = λ f j k inside a b.
         let x = part_holds f j inside a in
         let y = part_holds f k inside b in
-        x.1.at ∙ ap (λ m. (part_of r m).frame) (one_part f x.0 y.0 x.2 y.2) ∙ sym y.1.at;
+        x.1.at ∙ ap (λ m. (part_of r m).frame) (same_part r f x.0 y.0 x.2 y.2) ∙ sym y.1.at;
     not_free = λ f j inside free has. elim (split.free_cases f free) [
       | inl was ↦ laid.not_free f id was (ap (has_frame f) is ∙ inside)
       | inr emptied ↦
           let x = part_holds f j inside has in
-          false≢true (sym x.1.filled ∙ ap (is_part_empty (is_used l.used) r) (one_part f x.0 emptied.part x.2 emptied.has) ∙ emptied.empty)
+          false≢true (sym x.1.filled ∙ ap (is_part_empty (is_used l.used) r) (same_part r f x.0 emptied.part x.2 emptied.has) ∙ emptied.empty)
     ];
     places = λ f inside used.
         let part = used_stands f inside (sym (ap (λ u. is_used u f) split.used) ∙ used) in
@@ -176,7 +158,7 @@ module _ (l new : Layout) (id : ℕ) (r : Reservation) (laid : IsLaid l) (is : r
     | inr out ↦ IsIn-beside l new r id laid Replaces-split f out
     | inl inside ↦ (
       λ _. inr (id, ap (has_frame f) is ∙ inside),
-      λ _. let part = which_part (is_used l.used) r l.records splits placed_whole alone f inside in
+      λ _. let part = which_part r splits f inside in
       elim (cases_Bool (is_part_empty (is_used l.used) r part.0)) [
         | inl empty ↦ inl (split.free_part part.0 f part.1 empty part.2)
         | inr filled ↦ inr ((part_of r part.0).frame, ap (has_frame f) (part_stands part.0 part.1 filled) ∙ part.2)
@@ -238,4 +220,4 @@ module _ (l new : Layout) (id : ℕ) (r : Reservation) (laid : IsLaid l) (is : r
 -- splitting a reservation keeps all this
 pub Settles-split : (l : Layout) (id : ℕ) (r : Reservation) → IsLaid l → record_at l id ≡ Some r → 0 < r.size → Settles l (split_layout r l)
 Settles-split l id r laid is splits =
-    Settles-from l (split_layout r l) id r laid is splits (IsSplit-split_layout l r laid.records_long (placed_at_own l id r laid is) splits)
+    Settles-from l (split_layout r l) id r laid is splits (IsSplit-split_layout l r laid.records_long (placed_own l id r laid is) splits)

@@ -26,6 +26,20 @@ known_record records id r is = elim (cases_lt id (length records)) [
   | inr past ↦ let none = get_or_past records id None past in absurd (none-some r (sym none ∙ is))
 ]
 
+-- where the default was written it stands
+pub get_or-set_default : {A : Type 0} (xs : List A) (i j : ℕ) (d : A) → j ≡ i → get_or (set xs i d) j d ≡ d
+get_or-set_default xs i j d here = ap (λ k. get_or (set xs i d) k d) here ∙ elim (cases_lt i (length xs)) [
+  | inl known ↦ get_or-set_same xs i d d known
+  | inr past ↦ ap (λ ys. get_or ys i d) (set_past xs i d past) ∙ get_or_past xs i d past
+]
+
+-- another value that stands then stood before, and the default was written elsewhere
+pub unset_before : {A : Type 0} (xs : List A) (i j : ℕ) (d x : A) → d ≢ x → get_or (set xs i d) j d ≡ x → (j ≢ i) × (get_or xs j d ≡ x)
+unset_before xs i j d x apart is = elim (cases_eq j i) [
+  | inl here ↦ absurd (apart (sym (get_or-set_default xs i j d here) ∙ is))
+  | inr other ↦ (other, sym (get_or-set_other xs i j d d other) ∙ is)
+]
+
 pub ArePlaced-set : (records : List (Option Reservation)) (id : ℕ) (o : Option Reservation) → ArePlaced records → id < length records → ((r : Reservation) → o ≡ Some r → IsPlaced (length records) id r) → ArePlaced (set records id o)
 ArePlaced-set records id o are within new = λ j r is. rw length-set (elim (cases_eq j id) [
   | inl here ↦
@@ -256,10 +270,7 @@ AreKept-vacate records ids used f are = record {
   noted = record {
     exact = are.noted.exact;
     idle = λ g out none. elim (cases_eq g f) [
-      | inl here ↦ elim (cases_lt f (length used)) [
-        | inl known ↦ ap (is_used (set used f false)) here ∙ get_or-set_same used f false false known
-        | inr past ↦ ap (λ l. is_used l g) (set_past used f false past) ∙ are.noted.idle g out none
-      ]
+      | inl here ↦ get_or-set_default used f g false here
       | inr other ↦ get_or-set_other used f g false false other ∙ are.noted.idle g out none
     ];
     gap = are.noted.gap;
