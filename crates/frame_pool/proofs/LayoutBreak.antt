@@ -1,5 +1,5 @@
 -- What breaking a reservation keeps, and what narrowing one down to a used frame leaves.
-use Rattle.std.proofs.Common.{◌≡◌, ℕ, zero, suc, ◌+◌, ◌-◌, ◌*◌, ◌^◌, ◌<◌, Bool, true, false, length, get_or, Option, Some, None, find, option_map, inl, inr, refl, sym, ap, subst, ◌∙◌, arith}
+use Rattle.std.proofs.Common.{◌≡◌, ℕ, zero, suc, ◌+◌, ◌-◌, ◌*◌, ◌^◌, ◌<◌, Bool, true, false, get_or, Option, Some, None, find, option_map, inl, inr, refl, sym, ap, subst, ◌∙◌, arith}
 use Rattle.std.specs.List.{range_with_len, list_any}
 use Rattle.std.specs.Option.{option_map_or}
 use Rattle.std.proofs.lemmas.Bool.{cases_Bool, cases_lt, cond-true, cond-false, false≢true, lt-ltb, le-ltb}
@@ -10,7 +10,6 @@ use Rattle.pager_model.specs.declared.reservation.Reservation.{Reservation}
 use Rattle.pager_model.specs.Agreement.{has_frame}
 use Rattle.pager_model.specs.Layouts.{Layout, split_layout, break_layout, part_with, narrows_to, narrow_layout, split_on, record_at}
 use Rattle.pager_model.specs.Records.{is_used, none_used, has_empty, yield_of, part_of, is_part_empty, kept_part, same_size, lowest_as_wide, goes_on_at}
-use Rattle.reservations.specs.Kept.{IsPlaced}
 use Rattle.pager_model.proofs.ExtentLemmas.{extent_of_frame}
 use Rattle.reservations.proofs.FrameIds.{has_frame_bounds, unused_in}
 use Rattle.reservations.proofs.SplitLemmas.{kept_cases}

@@ -14,7 +14,7 @@ use Rattle.reservation_lists.specs.Kept.{KeptLists, is_listed}
 use Rattle.reservations.specs.Kept.{CoversPage, IsPlaced, ArePlaced}
 use Rattle.frame_pool.proofs.PartRecords.{used_part}
 use Rattle.pager_model.proofs.ExtentLemmas.{part_inside, part_of_eight}
-use Rattle.reservations.proofs.FrameIds.{ArePlaced-set, has_frame_bounds, has_frame_from, known_record}
+use Rattle.reservations.proofs.FrameIds.{get_or-set_default, ArePlaced-set, has_frame_bounds, has_frame_from, known_record}
 use Rattle.reservations.proofs.SplitLemmas.{split_records-open}
 use Rattle.frame_pool.specs.Laid.{IsLaid}
 use Rattle.frame_pool.specs.Listed.{AreListed, IsInOrder, WasSplit}
@@ -76,7 +76,7 @@ AreListed-used lists used records f b are out =
 module _ (l : Layout) (id : ℕ) (r : Reservation) (laid : IsLaid l) (is : record_at l id ≡ Some r) where
   -- none stands there
   none_there : get_or (set l.records id None) id None ≡ None
-  none_there = get_or-set_same l.records id None None (known_record l.records id r is)
+  none_there = get_or-set_default l.records id id None refl
 
   -- the others are in their places
   pub rest_placed : ArePlaced (set l.records id None)

@@ -1,18 +1,18 @@
 -- That reservations of a sound layout may come into the map.
-use Rattle.std.proofs.Common.{◌≡◌, ℕ, ◌+◌, ◌^◌, ◌<◌, ◌≤◌, true, false, List, length, get_or, set, sum_by, Option, Some, None, inl, inr, refl, sym, ap, subst, ◌∙◌, arith}
-use Rattle.std.proofs.lemmas.Bool.{cases_Bool, cases_eq, false≢true}
+use Rattle.std.proofs.Common.{◌≡◌, ℕ, ◌<◌, true, false, length, get_or, set, Some, None, inl, inr, sym, ap, subst, ◌∙◌, arith}
+use Rattle.std.proofs.lemmas.Bool.{cases_Bool, cases_eq}
 use Rattle.std.proofs.lemmas.List.{get_or-set_same, get_or-set_other, length-set}
 use Rattle.std.proofs.lemmas.List.Sums.{sum_by-set}
 use Rattle.std.proofs.lemmas.Option.{none-some}
 use Rattle.pager_model.specs.declared.reservation.Reservation.{Reservation}
 use Rattle.pager_model.specs.Agreement.{has_frame}
 use Rattle.pager_model.specs.FrameStates.{places_in}
-use Rattle.pager_model.specs.Layouts.{Layout, covers, record_at}
+use Rattle.pager_model.specs.Layouts.{Layout, record_at}
 use Rattle.pager_model.specs.Records.{Records, is_used, split_records}
 use Rattle.population_map.specs.Populations.{Populations}
 use Rattle.reservations.specs.Kept.{IsPlaced}
 use Rattle.pager_model.proofs.ExtentLemmas.{eight_pos}
-use Rattle.reservations.proofs.FrameIds.{has_frame_from, known_record, unset_before}
+use Rattle.reservations.proofs.FrameIds.{has_frame_from, known_record, none_begins, unset_before}
 use Rattle.reservations.proofs.SplitLemmas.{split_records-open}
 use Rattle.frame_pool.specs.Laid.{IsLaid}
 use Rattle.frame_pool.specs.Mapped.{IsMapped, MayEnter, WasSplitFrom}
@@ -20,7 +20,6 @@ use Rattle.frame_pool.specs.Placed.{with_reservation}
 use Rattle.frame_pool.proofs.FrameCounts.{places_few}
 use Rattle.frame_pool.proofs.LayoutInOrder.{rest_placed}
 use Rattle.frame_pool.proofs.LayoutRelease.{not_in_rest}
-use Rattle.frame_pool.proofs.ListsByFrame.{none_begins}
 
 -- a reservation of frames that are in none, with which the layout is sound
 pub MayEnter-added : (l : Layout) (r : Reservation) (page : ℕ) → IsLaid l → IsPlaced (length l.free) r.frame r → r.first < 1048576 → ((frame id : ℕ) → has_frame frame (Some r) ≡ true → has_frame frame (record_at l id) ≡ false) → IsLaid (with_reservation r page l) → MayEnter l.records r

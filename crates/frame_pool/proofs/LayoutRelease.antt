@@ -1,7 +1,7 @@
 -- What giving a frame up, carving it out and putting it back keep.
 use Rattle.std.proofs.Common.{◌≡◌, ◌≢◌, ℕ, ◌+◌, ◌^◌, ◌<◌, ◌≤◌, ◌↔◌, ◌⊎◌, inl, inr, Bool, true, false, cond, List, length, get_or, set, Some, None, refl, sym, ap, ◌∙◌, arith}
-use Rattle.std.proofs.lemmas.List.{get_or-set_same, get_or-set_other, length-set, set_past, get_or_past}
-use Rattle.std.proofs.lemmas.Bool.{cases_Bool, cases_eq, cases_lt, false≢true}
+use Rattle.std.proofs.lemmas.List.{get_or-set_other, length-set}
+use Rattle.std.proofs.lemmas.Bool.{cases_Bool, cases_eq, false≢true}
 use Rattle.std.proofs.lemmas.Option.{none-some, same_Some}
 use Rattle.buddy_extents.proofs.BlockMoves.{same_test}
 use Rattle.buddy_extents.proofs.Ranges.{length-with_range, with_range_inside, with_range_outside, range_cases}
@@ -10,9 +10,9 @@ use Rattle.pager_model.specs.Agreement.{has_frame}
 use Rattle.pager_model.specs.FreeBlocks.{with_range}
 use Rattle.pager_model.specs.Layouts.{Layout, frame_in, vacate_layout, carve_layout, narrow_layout, take_out, put_back, is_last, record_at, is_free}
 use Rattle.pager_model.specs.Records.{is_used}
-use Rattle.reservations.proofs.FrameIds.{get_or-set_default, unset_before, has_frame_bounds, has_frame_from, known_record, ArePlaced-set, no_frame, unused_in}
+use Rattle.reservations.proofs.FrameIds.{get_or-set_default, unset_before, has_frame_bounds, has_frame_from, unused_in}
 use Rattle.frame_pool.specs.Laid.{IsLaid, IsIn}
-use Rattle.frame_pool.proofs.PagePlaces.{HasPlace, HasPlace-kept, place_has, frame_in-found, frame_in-from}
+use Rattle.frame_pool.proofs.PagePlaces.{HasPlace, HasPlace-kept, HasPlace-has, frame_in-found, frame_in-from}
 use Rattle.frame_pool.proofs.LayoutReplaced.{IsRegion-own, Replaces, holder, IsLaid-replaced, IsIn-beside}
 use Rattle.frame_pool.proofs.SplitFrames.{some_used_in}
 use Rattle.frame_pool.proofs.LayoutBreak.{Narrows-narrow}
@@ -97,8 +97,8 @@ module _ (l : Layout) (free : List Bool) (id frame : ℕ) (r : Reservation) (lai
         ];
         pages = pages_by l without frame laid laid_after refl (λ j q at. (stood j q at).1) (λ s p f place used.
             let other : place.id ≢ id = λ here.
-                (let same : place.reservation ≡ r = same_Some place.reservation r (sym place.is ∙ ap (record_at l) here ∙ is) in
-                false≢true (sym (unused f (ap (λ q. has_frame f (Some q)) (sym same) ∙ place_has l s p f place)) ∙ used)) in
+            (let same : place.reservation ≡ r = same_Some place.reservation r (sym place.is ∙ ap (record_at l) here ∙ is) in
+            false≢true (sym (unused f (ap (λ q. has_frame f (Some q)) (sym same) ∙ HasPlace-has l s p f place)) ∙ used)) in
             get_or-set_other l.records id place.id None None other ∙ place.is);
       }
 

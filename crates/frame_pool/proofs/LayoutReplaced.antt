@@ -8,7 +8,7 @@ use Rattle.pager_model.specs.Layouts.{Layout, covers, frame_in, record_at, is_fr
 use Rattle.pager_model.specs.Records.{is_used}
 use Rattle.reservations.specs.Kept.{IsPlaced}
 use Rattle.frame_pool.specs.Laid.{IsLaid, IsIn}
-use Rattle.frame_pool.proofs.PagePlaces.{HasPlace-kept, place_has, frame_in-found, frame_in-from, same_option}
+use Rattle.frame_pool.proofs.PagePlaces.{HasPlace-kept, HasPlace-has, frame_in-found, frame_in-from, same_option}
 
 -- the frames and pages of r are of no reservation but the one at this frame, and that one has no others
 pub record IsRegion (l : Layout) (r : Reservation) (at : ℕ) : Type 0 where
@@ -117,10 +117,10 @@ module _ (old new : Layout) (r : Reservation) (at : ℕ) (laid : IsLaid old) (mo
       (λ f found.
       let place = frame_in-found new s p f found in
       let was = stood_beside place.id s p place.reservation out place.is place.covers_page in
-      let used = used_beside f place.id place.reservation was.0 was.1 (place_has new s p f place) in
+      let used = used_beside f place.id place.reservation was.0 was.1 (HasPlace-has new s p f place) in
       frame_in-from old s p f laid (HasPlace-kept new old s p f place was.1 (sym used ∙ place.used)))
       (λ f found.
       let place = frame_in-found old s p f found in
       let other : place.id ≢ at = λ here. false≢true (sym out ∙ move.region.pages s p place.reservation (sym (ap (record_at old) here) ∙ place.is) place.covers_page) in
-      let used = used_beside f place.id place.reservation other place.is (place_has old s p f place) in
+      let used = used_beside f place.id place.reservation other place.is (HasPlace-has old s p f place) in
       frame_in-from new s p f IsLaid-replaced (HasPlace-kept old new s p f place (move.stays place.id place.reservation other place.is) (used ∙ place.used)))

@@ -1,6 +1,6 @@
 -- What splitting a reservation keeps: the layout stays sound, the same frames are in it, and every page keeps its place.
-use Rattle.std.proofs.Common.{◌≡◌, ◌≢◌, ℕ, ◌-◌, ◌^◌, ◌<◌, ◌⊎◌, ◌↔◌, inl, inr, true, false, length, Option, Some, None, refl, sym, ap, subst, ◌∙◌, arith}
-use Rattle.std.proofs.lemmas.Bool.{cases_Bool, cases_eq, cond-true, cond-false, false≢true}
+use Rattle.std.proofs.Common.{◌≡◌, ◌≢◌, ℕ, ◌-◌, ◌^◌, ◌<◌, ◌⊎◌, ◌↔◌, inl, inr, true, false, length, Some, None, sym, ap, subst, ◌∙◌, arith}
+use Rattle.std.proofs.lemmas.Bool.{cases_Bool, cond-true, cond-false, false≢true}
 use Rattle.std.proofs.lemmas.Option.{none-some, same_Some}
 use Rattle.buddy_extents.proofs.BlockMoves.{same_test}
 use Rattle.pager_model.specs.declared.reservation.Reservation.{Reservation}
@@ -159,10 +159,10 @@ module _ (l new : Layout) (id : ℕ) (r : Reservation) (laid : IsLaid l) (is : r
     | inl inside ↦ (
       λ _. inr (id, ap (has_frame f) is ∙ inside),
       λ _. let part = which_part r splits f inside in
-      elim (cases_Bool (is_part_empty (is_used l.used) r part.0)) [
-        | inl empty ↦ inl (split.free_part part.0 f part.1 empty part.2)
-        | inr filled ↦ inr ((part_of r part.0).frame, ap (has_frame f) (part_stands part.0 part.1 filled) ∙ part.2)
-      ],
+          elim (cases_Bool (is_part_empty (is_used l.used) r part.0)) [
+            | inl empty ↦ inl (split.free_part part.0 f part.1 empty part.2)
+            | inr filled ↦ inr ((part_of r part.0).frame, ap (has_frame f) (part_stands part.0 part.1 filled) ∙ part.2)
+          ],
     )
   ]
 

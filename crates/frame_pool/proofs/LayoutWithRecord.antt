@@ -6,13 +6,13 @@ use Rattle.std.proofs.lemmas.Option.{same_Some}
 use Rattle.buddy_extents.proofs.BlockMoves.{same_test}
 use Rattle.pager_model.specs.declared.reservation.Reservation.{Reservation}
 use Rattle.pager_model.specs.Agreement.{has_frame}
-use Rattle.pager_model.specs.Layouts.{Layout, covers, covering, frame_for, used_in, frame_in, record_at, is_free}
+use Rattle.pager_model.specs.Layouts.{Layout, covers, frame_for, used_in, frame_in, record_at, is_free}
 use Rattle.pager_model.specs.Records.{is_used}
 use Rattle.reservations.specs.Kept.{IsPlaced}
-use Rattle.reservations.proofs.FrameIds.{has_frame_bounds, ArePlaced-set}
+use Rattle.reservations.proofs.FrameIds.{has_frame_bounds}
 use Rattle.frame_pool.specs.Laid.{IsLaid, IsIn}
 use Rattle.frame_pool.proofs.LayoutReplaced.{CameIn, Replaces, IsLaid-replaced, IsIn-beside, frame_in-beside}
-use Rattle.frame_pool.proofs.PagePlaces.{CoversPageOf-covers, has_frame_for, covering-found, covering-none, frame_in-is, used_in-used}
+use Rattle.frame_pool.proofs.PagePlaces.{CoversPageOf-covers, has_frame_for, frame_in-is, used_in-used}
 
 -- the layout with the reservation at its first frame, these free frames, and one more used place
 abbrev pub put : Layout → Reservation → ℕ → List Bool → Layout

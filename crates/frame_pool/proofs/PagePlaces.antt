@@ -87,8 +87,8 @@ pub record HasPlace (l : Layout) (s p f : ℕ) : Type 0 where
   pub used : is_used l.used f ≡ true
 
 -- the frame is a place of the reservation
-pub place_has : (l : Layout) (s p f : ℕ) (place : HasPlace l s p f) → has_frame f (Some place.reservation) ≡ true
-place_has l s p f place = ap (λ g. has_frame g (Some place.reservation)) place.frame ∙ has_frame_for s p place.reservation place.covers_page
+pub HasPlace-has : (l : Layout) (s p f : ℕ) (place : HasPlace l s p f) → has_frame f (Some place.reservation) ≡ true
+HasPlace-has l s p f place = ap (λ g. has_frame g (Some place.reservation)) place.frame ∙ has_frame_for s p place.reservation place.covers_page
 
 -- a place stays its page's in a layout where the reservation stands and the frame is used
 pub HasPlace-kept : (l m : Layout) (s p f : ℕ) (place : HasPlace l s p f) → record_at m place.id ≡ Some place.reservation → is_used m.used f ≡ true → HasPlace m s p f

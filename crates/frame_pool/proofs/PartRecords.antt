@@ -5,7 +5,7 @@ use Rattle.std.proofs.lemmas.List.{get_or-set_same, get_or-set_other, length-set
 use Rattle.std.proofs.lemmas.Bool.{cases_eq, false≢true}
 use Rattle.std.proofs.lemmas.Nat.{div_below, div-add-mod', mod_below, same_from_place}
 use Rattle.pager_model.specs.Agreement.{has_frame}
-use Rattle.pager_model.specs.Records.{part_of, kept_part, split_records}
+use Rattle.pager_model.specs.Records.{part_of, kept_part}
 use Rattle.pager_model.specs.declared.reservation.Reservation.{Reservation}
 use Rattle.reservations.specs.Kept.{IsPlaced}
 use Rattle.pager_model.proofs.ExtentLemmas.{eight_pos, eight_parts, eight_quotient, part_of_eight, extent_of_frame}
