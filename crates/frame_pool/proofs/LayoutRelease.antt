@@ -62,9 +62,11 @@ module _ (l : Layout) (free : List Bool) (id frame : ℕ) (r : Reservation) (lai
   abbrev without : Layout
   without = record { free = free; records = set l.records id None; used = set l.used frame false }
 
+  -- what stands then stood before, at another frame
   stood : (j : ℕ) (q : Reservation) → record_at without j ≡ Some q → (j ≢ id) × (record_at l j ≡ Some q)
   stood j q at = unset_before l.records id j None (Some q) (none-some q) at
 
+  -- nothing came in its place
   Replaces-without : Replaces l without r id
   Replaces-without = record {
     region = IsRegion-own l id r laid is;

@@ -39,10 +39,13 @@ pub record Replaces (old new : Layout) (r : Reservation) (at : ℕ) : Type 0 whe
   pub records_long : length new.records ≡ length old.records
   pub free_long : length new.free ≡ length old.free
   pub used_long : length new.used ≡ length old.used
+  -- what stands stood before, at another frame, or came; and what stood at another frame stands
   pub who : (j : ℕ) (q : Reservation) → record_at new j ≡ Some q → ((j ≢ at) × (record_at old j ≡ Some q)) ⊎ CameIn old new r j q
   pub stays : (j : ℕ) (q : Reservation) → j ≢ at → record_at old j ≡ Some q → record_at new j ≡ Some q
+  -- beside r the same frames are free and used
   pub free : (f : ℕ) → has_frame f (Some r) ≡ false → is_free new f ≡ is_free old f
   pub used : (f : ℕ) → has_frame f (Some r) ≡ false → is_used new.used f ≡ is_used old.used f
+  -- in r no frame is of two reservations, no place free, each used place a place, and no page in two
   pub one_frame : (f id other : ℕ) → has_frame f (Some r) ≡ true → has_frame f (record_at new id) ≡ true → has_frame f (record_at new other) ≡ true → id ≡ other
   pub not_free : (f id : ℕ) → has_frame f (Some r) ≡ true → is_free new f ≡ true → has_frame f (record_at new id) ≡ true → ⊥
   pub places : (f : ℕ) → has_frame f (Some r) ≡ true → is_used new.used f ≡ true → (id : ℕ) × (has_frame f (record_at new id) ≡ true)

@@ -14,7 +14,7 @@ use Rattle.reservations.proofs.FrameIds.{has_frame_from}
 use Rattle.reservations.proofs.SplitLemmas.{part_placed}
 use Rattle.frame_pool.specs.Laid.{IsLaid, IsIn}
 use Rattle.frame_pool.proofs.PagePlaces.{has_frame_for, frame_in-found, frame_in-from, same_option}
-use Rattle.frame_pool.proofs.LayoutReplaced.{IsRegion-own, CameIn, Replaces, holder, IsLaid-replaced, IsIn-beside, frame_in-beside}
+use Rattle.frame_pool.proofs.LayoutReplaced.{IsRegion, IsRegion-own, CameIn, Replaces, holder, IsLaid-replaced, IsIn-beside, frame_in-beside}
 use Rattle.frame_pool.proofs.SplitFrames.{IsSplit, IsSplit-split_layout, covers_whole, frame_for_part, one_part_covers, part_covers, some_used_in}
 
 -- from a layout to another one only reservations were split
@@ -42,9 +42,9 @@ module _ (l new : Layout) (id : ℕ) (r : Reservation) (laid : IsLaid l) (is : r
   pub named : r.frame ≡ id
   named = (laid.placed id r is).named
 
-  -- only the reservation has a frame of it
-  pub one_reservation : (f j : ℕ) → has_frame f (Some r) ≡ true → has_frame f (record_at l j) ≡ true → j ≡ id
-  one_reservation f j in_r has = laid.apart f j id has (ap (has_frame f) is ∙ in_r)
+  -- its frames and pages are of no other one
+  pub region : IsRegion l r id
+  region = IsRegion-own l id r laid is
 
   -- a record beside the reservation is at no part's frame
   pub beside_parts : (j : ℕ) (q : Reservation) → j ≢ id → record_at l j ≡ Some q → (i : ℕ) → i < 8 → j ≡ (part_of r i).frame → ⊥
@@ -53,7 +53,7 @@ module _ (l new : Layout) (id : ℕ) (r : Reservation) (laid : IsLaid l) (is : r
       let ends = part_of_eight i r.size splits one in
       let in_r = has_frame_from j r (omega (arith, at)) (omega (arith, at, ends, eight_pos (r.size - 1))) in
       let in_q = has_frame_from j q (omega (arith, own.named)) (omega (arith, own.named, eight_pos q.size)) in
-      other (one_reservation j j in_r (ap (has_frame j) stands ∙ in_q))
+      other (region.alone j j in_r (ap (has_frame j) stands ∙ in_q))
 
   -- it still stands
   pub stands_still : (j : ℕ) (q : Reservation) → j ≢ id → record_at l j ≡ Some q → record_at new j ≡ Some q
@@ -88,14 +88,14 @@ module _ (l new : Layout) (id : ℕ) (r : Reservation) (laid : IsLaid l) (is : r
   part_holds f j inside has =
       let w = holder f (record_at new j) has in
       elim (who_stands j w.0 w.1) [
-        | inl still ↦ absurd (still.0 (one_reservation f j inside (ap (has_frame f) still.1 ∙ w.2)))
+        | inl still ↦ absurd (still.0 (region.alone f j inside (ap (has_frame f) still.1 ∙ w.2)))
         | inr part ↦ (part.0, part.1, ap (λ q. has_frame f (Some q)) part.2 ∙ w.2)
       ]
 
   -- and a page of it is one of a part
   pub part_has_page : (j s p : ℕ) (q : Reservation) → covers s p r ≡ true → record_at new j ≡ Some q → covers s p q ≡ true → (i : ℕ) × IsPartAt l r j i × (part_of r i ≡ q) × (covers s p (part_of r i) ≡ true)
   part_has_page j s p q inside stands has = elim (who_stands j q stands) [
-    | inl still ↦ absurd (still.0 (laid.one_cover j id s p q r still.1 is has inside))
+    | inl still ↦ absurd (still.0 (region.apart s p j q still.1 has inside))
     | inr part ↦ (part.0, part.1, part.2, ap (covers s p) part.2 ∙ has)
   ]
 
@@ -119,7 +119,7 @@ module _ (l new : Layout) (id : ℕ) (r : Reservation) (laid : IsLaid l) (is : r
   -- the reservation gave way to its parts
   pub Replaces-split : Replaces l new r id
   Replaces-split = record {
-    region = IsRegion-own l id r laid is;
+    region = region;
     records_long = split.records_long;
     free_long = split.free_long;
     used_long = ap length split.used;
@@ -185,7 +185,7 @@ module _ (l new : Layout) (id : ℕ) (r : Reservation) (laid : IsLaid l) (is : r
         }))
         (λ f found.
         let place = frame_in-found l s p f found in
-        let same = (IsRegion-own l id r laid is).apart s p place.id place.reservation place.is place.covers_page has in
+        let same = region.apart s p place.id place.reservation place.is place.covers_page has in
         let at : f ≡ frame_for p r = place.frame ∙ ap (frame_for p) (same_Some place.reservation r (sym place.is ∙ ap (record_at l) same ∙ is)) in
         let part = used_stands (frame_for p r) (has_frame_for s p r has) (sym (ap (is_used l.used) at) ∙ place.used) in
         let part_has = part_covers s p part.0 r has part.1 in
