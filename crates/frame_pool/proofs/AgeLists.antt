@@ -3,7 +3,6 @@ use Rattle.std.proofs.Common.{◌≡◌, ◌≢◌, ℕ, zero, suc, ◌+◌, ◌
 use Rattle.std.specs.List.{All}
 use Rattle.std.specs.Option.{option_or}
 use Rattle.std.proofs.lemmas.Bool.{cases_eq, cond-true, eq-eqb, ne_eqb, or_from}
-use Rattle.std.proofs.lemmas.List.{get_or-set_same, get_or-set_other}
 use Rattle.std.proofs.lemmas.List.Elements.{All-nil, All-head}
 use Rattle.std.proofs.lemmas.List.Folds.{list_any_none}
 use Rattle.std.proofs.lemmas.Option.{none-some, same_Some}
@@ -17,7 +16,7 @@ use Rattle.reservation_lists.specs.Kept.{has_member_of, is_listed}
 use Rattle.reservation_lists.proofs.Members.{All-with_member}
 use Rattle.reservations.specs.Kept.{ArePlaced}
 use Rattle.frame_pool.proofs.PartYields.{same_size_from}
-use Rattle.reservations.proofs.FrameIds.{known_record}
+use Rattle.reservations.proofs.FrameIds.{unset_before}
 use Rattle.frame_pool.specs.Listed.{AreListed}
 use Rattle.frame_pool.proofs.MemberOrder.{with_member-swap, without_member-with}
 use Rattle.frame_pool.proofs.YieldByPlaces.{yield_of-agree}
@@ -116,12 +115,9 @@ oldest_in-none used k records id r none is yields =
 -- the other records have members of other frames
 others_of_list : (used : List Bool) (k : ℕ) (records : List (Option Reservation)) (id : ℕ) (r : Reservation) → ArePlaced records → get_or records id None ≡ Some r → All (λ m. m.frame ≢ r.frame) (list_of used k (set records id None))
 others_of_list used k records id r placed is =
-    All-list_of (λ m. m.frame ≢ r.frame) used k (set records id None) (λ at q there yields same. elim (cases_eq at id) [
-      | inl here ↦ none-some q (sym (ap (λ n. get_or (set records id None) n None) here ∙ get_or-set_same records id None None (known_record records id r is)) ∙ there)
-      | inr other ↦
-          let was = sym (get_or-set_other records id at None None other) ∙ there in
-          other (sym (placed at q was).named ∙ same ∙ (placed id r is).named)
-    ])
+    All-list_of (λ m. m.frame ≢ r.frame) used k (set records id None) (λ at q there yields same.
+    let was = unset_before records id at None (Some q) (none-some q) there in
+    was.0 (sym (placed at q was.1).named ∙ same ∙ (placed id r is).named))
 
 -- a list that was put in is there, and the others are as before
 list_at-same : (lists : Lists) (k : ℕ) (ms : List Member) → list_at (with_list lists k ms) k ≡ ms

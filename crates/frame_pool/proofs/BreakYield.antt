@@ -3,7 +3,7 @@ use Rattle.std.proofs.Common.{◌≡◌, ◌≢◌, ℕ, zero, suc, ◌+◌, ◌
 use Rattle.std.specs.List.{range_with_len, list_any}
 use Rattle.std.specs.Option.{option_map_or}
 use Rattle.std.proofs.Math.Nat.{pow-le-pow_right}
-use Rattle.std.proofs.lemmas.Bool.{cases_Bool, cases_eq, cases_lt, cond-true, false≢true}
+use Rattle.std.proofs.lemmas.Bool.{cases_Bool, cases_eq, cases_lt, cond-true, false≢true, false_from_ne_true}
 use Rattle.std.proofs.lemmas.List.Folds.{Any-from_list_any}
 use Rattle.std.proofs.lemmas.List.FromFn.{get_or-range_with_len}
 use Rattle.pager_model.specs.declared.reservation.Reservation.{Reservation}
@@ -18,10 +18,10 @@ use Rattle.reservations.proofs.FrameIds.{has_frame_bounds, has_frame_from}
 use Rattle.reservations.proofs.SplitLemmas.{part_placed}
 use Rattle.frame_pool.specs.Breaking.{KeepsPlace, Breaks}
 use Rattle.frame_pool.specs.Laid.{IsLaid}
-use Rattle.frame_pool.proofs.LayoutBreak.{placed_own, alone_own, record_at-part, kept_each, yield_less}
-use Rattle.frame_pool.proofs.PartRecords.{which_part, used_part, outside_parts}
+use Rattle.frame_pool.proofs.LayoutBreak.{record_at-part, kept_each, yield_less}
+use Rattle.frame_pool.proofs.PartRecords.{outside_parts}
 use Rattle.frame_pool.proofs.PartYields.{IsWidest-from, yield_narrow, any_part_is, part_as_wide, lowest_found, goes_on}
-use Rattle.frame_pool.proofs.LayoutSplit.{Settles-split}
+use Rattle.frame_pool.proofs.LayoutSplit.{Settles-split, placed_own, used_stands, Replaces-split}
 use Rattle.frame_pool.proofs.SplitFrames.{IsSplit, IsSplit-split_layout}
 
 -- a part joins its frames to the pages that the whole joins them to
@@ -40,32 +40,18 @@ module _ (l : Layout) (r : Reservation) (laid : IsLaid l) (is : record_at l r.fr
   split : IsSplit l (split_layout r l) r
   split = IsSplit-split_layout l r laid.records_long placed splits
 
-  -- the part with a frame
-  part_with_frame : (f : ℕ) → has_frame f (Some r) ≡ true → (j : ℕ) × (j < 8) × (has_frame f (Some (part_of r j)) ≡ true)
-  part_with_frame = which_part used r l.records splits placed (alone_own l r.frame r laid is)
-
-  -- a part with a used place stands after the split
-  used_part_stands : (f j : ℕ) → j < 8 → used f ≡ true → has_frame f (Some (part_of r j)) ≡ true → record_at (split_layout r l) (part_of r j).frame ≡ Some (part_of r j)
-  used_part_stands f j one uses has = split.parts j one ∙ used_part used r l.records splits placed (alone_own l r.frame r laid is) f j uses has
+  -- a used frame is one of a part that stands after the split
+  part_stands : (f : ℕ) → has_frame f (Some r) ≡ true → used f ≡ true → (j : ℕ) × (has_frame f (Some (part_of r j)) ≡ true) × (record_at (split_layout r l) (part_of r j).frame ≡ Some (part_of r j))
+  part_stands = used_stands l (split_layout r l) r.frame r laid is splits split
 
   others_split : (id : ℕ) → (id < r.frame) ⊎ (r.frame + 8 ^ r.size ≤ id) → record_at (split_layout r l) id ≡ record_at l id
-  others_split id out = split.others id (outside_parts used r l.records splits placed (alone_own l r.frame r laid is) id out)
+  others_split id out = split.others id (outside_parts r splits id out)
 
   -- beside the reservation no frame becomes free or taken
   others_free_split : (f : ℕ) → (f < r.frame) ⊎ (r.frame + 8 ^ r.size ≤ f) → is_free (split_layout r l) f ≡ is_free l f
-  others_free_split f out = elim (cases_Bool (is_free l f)) [
-    | inl was ↦ split.free_before f was ∙ sym was
-    | inr taken ↦ elim (cases_Bool (is_free (split_layout r l) f)) [
-      | inl now ↦ elim (split.free_cases f now) [
-        | inl was ↦ absurd (false≢true (sym taken ∙ was))
-        | inr part ↦
-            let bounds = has_frame_bounds f (part_of r part.part) part.has in
-            let ends = part_of_eight part.part r.size splits part.below in
-            absurd (elim out [ inl before ↦ omega (arith, bounds.0, before) | inr past ↦ omega (arith, bounds.1, ends, past) ])
-      ]
-      | inr still ↦ still ∙ sym taken
-    ]
-  ]
+  others_free_split f out = (Replaces-split l (split_layout r l) r.frame r laid is splits split).free f (false_from_ne_true _ (λ has.
+      let bounds = has_frame_bounds f r has in
+      elim out [ inl before ↦ omega (arith, bounds.0, before) | inr past ↦ omega (arith, bounds.1, past) ]))
 
   -- a part without a used place is freed
   Breaks-now : (i : ℕ) → i < 8 → is_part_empty used r i ≡ true → Breaks r (r.size - 1) l (split_layout r l)
@@ -83,8 +69,8 @@ module _ (l : Layout) (r : Reservation) (laid : IsLaid l) (is : record_at l r.fr
       },
     );
     kept = λ f has uses.
-        let at = part_with_frame f has in
-        (part_of r at.0, used_part_stands f at.0 at.1 uses at.2, keeps_part r f at.0 at.2);
+        let at = part_stands f has uses in
+        (part_of r at.0, at.2, keeps_part r f at.0 at.1);
     used = refl;
     others = others_split;
     others_free = others_free_split;
@@ -110,10 +96,10 @@ module _ (l : Layout) (r : Reservation) (laid : IsLaid l) (is : record_at l r.fr
           },
         );
         kept = λ f has uses.
-            let at = part_with_frame f has in
+            let at = part_stands f has uses in
             elim (cases_eq at.0 i) [
               | inl here ↦
-                  let in_part = subst (λ m. has_frame f (Some (part_of r m)) ≡ true) here at.2 in
+                  let in_part = subst (λ m. has_frame f (Some (part_of r m)) ≡ true) here at.1 in
                   let part = breaks.kept f in_part uses in
                   let place = part.2 in (
                     part.0,
@@ -127,8 +113,8 @@ module _ (l : Layout) (r : Reservation) (laid : IsLaid l) (is : record_at l r.fr
                   )
               | inr other ↦ (
                 part_of r at.0,
-                breaks.others (part_of r at.0).frame (apart at.0 other) ∙ used_part_stands f at.0 at.1 uses at.2,
-                keeps_part r f at.0 at.2,
+                breaks.others (part_of r at.0).frame (apart at.0 other) ∙ at.2,
+                keeps_part r f at.0 at.1,
               )
             ];
         used = breaks.used;

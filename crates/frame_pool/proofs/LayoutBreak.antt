@@ -1,5 +1,5 @@
 -- What breaking a reservation keeps, and what narrowing one down to a used frame leaves.
-use Rattle.std.proofs.Common.{◌≡◌, ℕ, zero, suc, ◌+◌, ◌-◌, ◌*◌, ◌^◌, ◌<◌, Bool, true, false, length, get_or, Option, Some, None, find, option_map, inl, inr, refl, sym, ap, subst, ◌∙◌, arith}
+use Rattle.std.proofs.Common.{◌≡◌, ℕ, zero, suc, ◌+◌, ◌-◌, ◌*◌, ◌^◌, ◌<◌, Bool, true, false, get_or, Option, Some, None, find, option_map, inl, inr, refl, sym, ap, subst, ◌∙◌, arith}
 use Rattle.std.specs.List.{range_with_len, list_any}
 use Rattle.std.specs.Option.{option_map_or}
 use Rattle.std.proofs.lemmas.Bool.{cases_Bool, cases_lt, cond-true, cond-false, false≢true, lt-ltb, le-ltb}
@@ -10,15 +10,14 @@ use Rattle.pager_model.specs.declared.reservation.Reservation.{Reservation}
 use Rattle.pager_model.specs.Agreement.{has_frame}
 use Rattle.pager_model.specs.Layouts.{Layout, split_layout, break_layout, part_with, narrows_to, narrow_layout, split_on, record_at}
 use Rattle.pager_model.specs.Records.{is_used, none_used, has_empty, yield_of, part_of, is_part_empty, kept_part, same_size, lowest_as_wide, goes_on_at}
-use Rattle.reservations.specs.Kept.{IsPlaced}
 use Rattle.pager_model.proofs.ExtentLemmas.{extent_of_frame}
 use Rattle.reservations.proofs.FrameIds.{has_frame_bounds, unused_in}
 use Rattle.reservations.proofs.SplitLemmas.{kept_cases}
 use Rattle.reservations.proofs.YieldLemmas.{yield_below, yield_below-found, yield_below-missed}
 use Rattle.frame_pool.specs.Laid.{IsLaid}
-use Rattle.frame_pool.proofs.PartRecords.{IsAlone, split_at, which_part, used_part}
+use Rattle.frame_pool.proofs.PartRecords.{split_at, which_part, used_part}
 use Rattle.frame_pool.proofs.PartYields.{has_empty_some}
-use Rattle.frame_pool.proofs.LayoutSplit.{Settles, Settles-split}
+use Rattle.frame_pool.proofs.LayoutSplit.{Settles, Settles-split, placed_own}
 
 -- One splitting after another.
 
@@ -44,20 +43,9 @@ Settles-then a b c first then' = record {
   covered = λ id space page r is has. let w = then'.covered id space page r is has in first.covered w.0 space page w.1 w.2 w.3;
 }
 
--- A reservation of a sound layout, and its parts.
-
-module _ (l : Layout) (id : ℕ) (r : Reservation) (laid : IsLaid l) (is : record_at l id ≡ Some r) where
-  -- it begins at its own frame
-  pub placed_own : IsPlaced (length l.records) r.frame r
-  placed_own = let placed = laid.placed id r is in subst (λ n. IsPlaced (length l.records) n r) (sym placed.named) placed
-
-  -- and no other has its frames
-  pub alone_own : IsAlone r l.records
-  alone_own = λ frame other own has. laid.apart frame other id has (ap (has_frame frame) is ∙ own) ∙ sym (laid.placed id r is).named
-
-  -- a part that is kept stands in the split layout
-  pub record_at-part : (i : ℕ) → 0 < r.size → i < 8 → kept_part (is_used l.used) r i ≡ Some (part_of r i) → record_at (split_layout r l) (part_of r i).frame ≡ Some (part_of r i)
-  record_at-part i splits one kept = split_at (is_used l.used) r l.records splits placed_own 8 i one (omega arith) ∙ kept
+-- a part that is kept stands in the split layout
+pub record_at-part : (l : Layout) (id : ℕ) (r : Reservation) → IsLaid l → record_at l id ≡ Some r → (i : ℕ) → 0 < r.size → i < 8 → kept_part (is_used l.used) r i ≡ Some (part_of r i) → record_at (split_layout r l) (part_of r i).frame ≡ Some (part_of r i)
+record_at-part l id r laid is i splits one kept = split_at (is_used l.used) r l.records splits (placed_own l id r laid is) 8 i one (omega arith) ∙ kept
 
 -- Breaking.
 
@@ -148,7 +136,7 @@ pub record Narrows (old new : Layout) (frame : ℕ) : Type 0 where
 -- the part that a narrowing names is one of the eight, and has the frame
 pub part_with-has : (l : Layout) (id frame : ℕ) (r : Reservation) → IsLaid l → record_at l id ≡ Some r → 0 < r.size → has_frame frame (Some r) ≡ true → (i : ℕ) × (i < 8) × (part_of r i ≡ part_with frame r) × (has_frame frame (Some (part_of r i)) ≡ true)
 part_with-has l id frame r laid is splits has =
-    let at = which_part (is_used l.used) r l.records splits (placed_own l id r laid is) (alone_own l id r laid is) frame has in
+    let at = which_part r splits frame has in
     let bounds = has_frame_bounds frame (part_of r at.0) at.2 in
     let index = extent_of_frame at.0 (8 ^ (r.size - 1)) (frame - r.frame) (omega (arith, bounds.0)) (omega (arith, bounds.0, bounds.1)) in
     (at.0, at.1, ap (part_of r) (sym index), at.2)
@@ -165,7 +153,7 @@ Narrows-narrow_over (suc n) l id frame r size laid is has used =
     let next = split_layout r l in
     let split = Settles-split l id r laid is splits in
     let part = part_with-has l id frame r laid is splits has in
-    let kept = used_part (is_used l.used) r l.records splits (placed_own l id r laid is) (alone_own l id r laid is) frame part.0 used part.3 in
+    let kept = used_part r (is_used l.used) frame part.0 used part.3 in
     let stands = record_at-part l id r laid is part.0 splits part.1 kept in
     let rest = Narrows-narrow_over n next (part_of r part.0).frame frame (part_of r part.0) (omega arith) split.laid stands part.3 used in
     let step : Option Reservation → Layout = λ o. option_map_or (λ p. split_on (narrows_to frame) n p next) o next in

@@ -14,14 +14,14 @@ use Rattle.reservation_lists.specs.Kept.{KeptLists, is_listed}
 use Rattle.reservations.specs.Kept.{CoversPage, IsPlaced, ArePlaced}
 use Rattle.frame_pool.proofs.PartRecords.{used_part}
 use Rattle.pager_model.proofs.ExtentLemmas.{part_inside, part_of_eight}
-use Rattle.reservations.proofs.FrameIds.{ArePlaced-set, has_frame_bounds, has_frame_from, known_record}
+use Rattle.reservations.proofs.FrameIds.{get_or-set_default, ArePlaced-set, has_frame_bounds, has_frame_from, known_record}
 use Rattle.reservations.proofs.SplitLemmas.{split_records-open}
 use Rattle.frame_pool.specs.Laid.{IsLaid}
 use Rattle.frame_pool.specs.Listed.{AreListed, IsInOrder, WasSplit}
 use Rattle.frame_pool.specs.Mapped.{IsMapped}
 use Rattle.population_map.specs.Populations.{Populations}
-use Rattle.frame_pool.proofs.LayoutBreak.{placed_own, alone_own, record_at-part, part_with-has, yield_less}
-use Rattle.frame_pool.proofs.LayoutRelease.{had}
+use Rattle.frame_pool.proofs.LayoutBreak.{record_at-part, part_with-has, yield_less}
+use Rattle.frame_pool.proofs.LayoutRelease.{not_in_rest}
 use Rattle.frame_pool.proofs.AgeLists.{list_of-used, is_listed-none, AreListed-full}
 use Rattle.frame_pool.proofs.PagePlaces.{covers-CoversPageOf, frame_in-is, used_in-unused}
 use Rattle.frame_pool.proofs.LayoutPlacing.{MayPut-stamped}
@@ -74,15 +74,9 @@ AreListed-used lists used records f b are out =
 
 -- A reservation is taken out of the records.
 module _ (l : Layout) (id : ℕ) (r : Reservation) (laid : IsLaid l) (is : record_at l id ≡ Some r) where
-  -- the others have none of its frames
-  pub not_in_rest : (f j : ℕ) → has_frame f (Some r) ≡ true → has_frame f (get_or (set l.records id None) j None) ≡ true → ⊥
-  not_in_rest f j mine has =
-      let was = had l id r is f j has in
-      was.0 (laid.apart f j id was.1 (ap (has_frame f) is ∙ mine))
-
   -- none stands there
   none_there : get_or (set l.records id None) id None ≡ None
-  none_there = get_or-set_same l.records id None None (known_record l.records id r is)
+  none_there = get_or-set_default l.records id id None refl
 
   -- the others are in their places
   pub rest_placed : ArePlaced (set l.records id None)
@@ -94,7 +88,7 @@ module _ (l : Layout) (id : ℕ) (r : Reservation) (laid : IsLaid l) (is : recor
 
   -- lists of the others stay theirs as a frame of it becomes used or unused
   rest_listed : (lists : Lists) (f : ℕ) (b : Bool) → has_frame f (Some r) ≡ true → AreListed lists l.used (set l.records id None) → AreListed lists (set l.used f b) (set l.records id None)
-  rest_listed lists f b mine are = AreListed-used lists l.used (set l.records id None) f b are (λ j has. not_in_rest f j mine has)
+  rest_listed lists f b mine are = AreListed-used lists l.used (set l.records id None) f b are (λ j has. not_in_rest l id r laid is f j mine has)
 
   -- and from there it was split
   pub WasSplit-from : (lists : KeptLists) (after : Records) → lists.frames ≡ length l.records → AreListed lists.lists l.used (set l.records id None) → after.records ≡ split_records (is_used l.used) r l.records → after.used ≡ l.used → WasSplit lists after r
@@ -106,7 +100,7 @@ module _ (l : Layout) (id : ℕ) (r : Reservation) (laid : IsLaid l) (is : recor
         placed = subst (λ n. IsPlaced n r.frame r) (sym long) (subst (λ k. IsPlaced (length l.records) k r) (sym placed.named) placed);
         others_placed = rest_placed;
         vacant = λ f j mine. elim (cases_Bool (has_frame f (get_or (set l.records id None) j None))) [
-          | inl has ↦ absurd (not_in_rest f j mine has)
+          | inl has ↦ absurd (not_in_rest l id r laid is f j mine has)
           | inr none ↦ none
         ];
         room = room ∙ sym long;
@@ -216,7 +210,7 @@ narrow_step l frame r q laid is has used splits at holds =
     let next = split_layout r l in
     let part = part_with-has l r.frame frame r laid is splits has in
     let mine = part_of r part.0 in
-    let kept = used_part (is_used l.used) r l.records splits (placed_own l r.frame r laid is) (alone_own l r.frame r laid is) frame part.0 used part.3 in
+    let kept = used_part r (is_used l.used) frame part.0 used part.3 in
     let stands = record_at-part l r.frame r laid is part.0 splits part.1 kept in
     let same = same_reservation next mine.frame mine (Settles-split l r.frame r laid is splits).laid stands frame q.frame q part.3 at holds in
     let narrow : Reservation → Layout = λ p. split_on (narrows_to frame) (r.size - 1) p next in

@@ -12,15 +12,14 @@ use Rattle.pager_model.specs.Records.{Records, is_used, split_records}
 use Rattle.population_map.specs.Populations.{Populations}
 use Rattle.reservations.specs.Kept.{IsPlaced}
 use Rattle.pager_model.proofs.ExtentLemmas.{eight_pos}
-use Rattle.reservations.proofs.FrameIds.{has_frame_from, known_record}
+use Rattle.reservations.proofs.FrameIds.{has_frame_from, known_record, none_begins, unset_before}
 use Rattle.reservations.proofs.SplitLemmas.{split_records-open}
 use Rattle.frame_pool.specs.Laid.{IsLaid}
 use Rattle.frame_pool.specs.Mapped.{IsMapped, MayEnter, WasSplitFrom}
 use Rattle.frame_pool.specs.Placed.{with_reservation}
 use Rattle.frame_pool.proofs.FrameCounts.{places_few}
-use Rattle.frame_pool.proofs.LayoutInOrder.{not_in_rest, rest_placed}
-use Rattle.frame_pool.proofs.LayoutRelease.{stood}
-use Rattle.frame_pool.proofs.ListsByFrame.{none_begins}
+use Rattle.frame_pool.proofs.LayoutInOrder.{rest_placed}
+use Rattle.frame_pool.proofs.LayoutRelease.{not_in_rest}
 
 -- a reservation of frames that are in none, with which the layout is sound
 pub MayEnter-added : (l : Layout) (r : Reservation) (page : ℕ) → IsLaid l → IsPlaced (length l.free) r.frame r → r.first < 1048576 → ((frame id : ℕ) → has_frame frame (Some r) ≡ true → has_frame frame (record_at l id) ≡ false) → IsLaid (with_reservation r page l) → MayEnter l.records r
@@ -53,7 +52,7 @@ module _ (l : Layout) (id : ℕ) (r : Reservation) (laid : IsLaid l) (is : recor
           | inl also ↦ absurd (not_in_rest l id r laid is frame frame has also)
           | inr not ↦ not
         ]);
-        apart = λ j p q at has also. let w = stood l id r is j q at in w.0 (laid.one_cover j id r.space p q r w.1 is also has);
+        apart = λ j p q at has also. let w = unset_before l.records id j None (Some q) (none-some q) at in w.0 (laid.one_cover j id r.space p q r w.1 is also has);
         few = omega (arith, sum_by-set places_in l.records id None None (known_record l.records id r is), ap places_in is, places_few l laid, laid.records_long, long);
       }
 

@@ -1,17 +1,19 @@
 -- What giving a frame up, carving it out and putting it back keep.
 use Rattle.std.proofs.Common.{◌≡◌, ◌≢◌, ℕ, ◌+◌, ◌^◌, ◌<◌, ◌≤◌, ◌↔◌, ◌⊎◌, inl, inr, Bool, true, false, cond, List, length, get_or, set, Some, None, refl, sym, ap, ◌∙◌, arith}
-use Rattle.std.proofs.lemmas.List.{get_or-set_same, get_or-set_other, length-set, set_past, get_or_past}
-use Rattle.std.proofs.lemmas.Bool.{cases_eq, cases_lt, false≢true}
+use Rattle.std.proofs.lemmas.List.{get_or-set_other, length-set}
+use Rattle.std.proofs.lemmas.Bool.{cases_Bool, cases_eq, false≢true}
 use Rattle.std.proofs.lemmas.Option.{none-some, same_Some}
+use Rattle.buddy_extents.proofs.BlockMoves.{same_test}
 use Rattle.buddy_extents.proofs.Ranges.{length-with_range, with_range_inside, with_range_outside, range_cases}
 use Rattle.pager_model.specs.declared.reservation.Reservation.{Reservation}
 use Rattle.pager_model.specs.Agreement.{has_frame}
 use Rattle.pager_model.specs.FreeBlocks.{with_range}
 use Rattle.pager_model.specs.Layouts.{Layout, frame_in, vacate_layout, carve_layout, narrow_layout, take_out, put_back, is_last, record_at, is_free}
 use Rattle.pager_model.specs.Records.{is_used}
-use Rattle.reservations.proofs.FrameIds.{has_frame_bounds, has_frame_from, known_record, ArePlaced-set, no_frame, unused_in}
+use Rattle.reservations.proofs.FrameIds.{get_or-set_default, unset_before, has_frame_bounds, has_frame_from, unused_in}
 use Rattle.frame_pool.specs.Laid.{IsLaid, IsIn}
-use Rattle.frame_pool.proofs.PagePlaces.{HasPlace, has_frame_for, frame_in-found, frame_in-from}
+use Rattle.frame_pool.proofs.PagePlaces.{HasPlace, HasPlace-kept, HasPlace-has, frame_in-found, frame_in-from}
+use Rattle.frame_pool.proofs.LayoutReplaced.{IsRegion-own, Replaces, holder, IsLaid-replaced, IsIn-beside}
 use Rattle.frame_pool.proofs.SplitFrames.{some_used_in}
 use Rattle.frame_pool.proofs.LayoutBreak.{Narrows-narrow}
 
@@ -23,26 +25,22 @@ pub record Gives (old new : Layout) (frame : ℕ) (in_after : ℕ → Type 0) : 
   pub within : (f : ℕ) → IsIn new f ↔ in_after f
   pub pages : (s p f : ℕ) → (frame_in new s p ≡ Some f) ↔ ((f ≢ frame) × (frame_in old s p ≡ Some f))
 
--- a page's place is the one that it had, where the reservations with used places but the frame are the same
-pages_by : (old new : Layout) (frame : ℕ) → IsLaid old → IsLaid new → ((s p f : ℕ) → HasPlace new s p f → (f ≢ frame) × HasPlace old s p f) → ((s p f : ℕ) → f ≢ frame → HasPlace old s p f → HasPlace new s p f) → (s p f : ℕ) → (frame_in new s p ≡ Some f) ↔ ((f ≢ frame) × (frame_in old s p ≡ Some f))
-pages_by old new frame was now before after s p f = (
-  λ is. let had = before s p f (frame_in-found new s p f is) in (had.0, frame_in-from old s p f was had.1),
-  λ had. frame_in-from new s p f now (after s p f had.0 (frame_in-found old s p f had.1)),
-)
-
--- a frame that becomes unused is no used place
-pub unused_now : (used : List Bool) (frame f : ℕ) → f ≡ frame → is_used (set used frame false) f ≡ false
-unused_now used frame f same = ap (is_used (set used frame false)) same ∙ elim (cases_lt frame (length used)) [
-  | inl known ↦ get_or-set_same used frame false false known
-  | inr past ↦ ap (λ u. is_used u frame) (set_past used frame false past) ∙ get_or_past used frame false past
-]
-
 -- a used place after a frame became unused was one before, and is another frame
 pub used_before : (used : List Bool) (frame f : ℕ) → is_used (set used frame false) f ≡ true → (f ≢ frame) × (is_used used f ≡ true)
-used_before used frame f is = elim (cases_eq f frame) [
-  | inl here ↦ absurd (false≢true (sym (unused_now used frame f here) ∙ is))
-  | inr other ↦ (other, sym (get_or-set_other used frame f false false other) ∙ is)
-]
+used_before used frame f is = unset_before used frame f false true false≢true is
+
+-- a page's place is the one that it had, where those that stand stood before, and those with used places still stand
+pages_by : (old new : Layout) (frame : ℕ) → IsLaid old → IsLaid new → new.used ≡ set old.used frame false → ((j : ℕ) (q : Reservation) → record_at new j ≡ Some q → record_at old j ≡ Some q) → ((s p f : ℕ) (place : HasPlace old s p f) → is_used new.used f ≡ true → record_at new place.id ≡ Some place.reservation) → (s p f : ℕ) → (frame_in new s p ≡ Some f) ↔ ((f ≢ frame) × (frame_in old s p ≡ Some f))
+pages_by old new frame was now same before after s p f = (
+  λ is.
+      let place = frame_in-found new s p f is in
+      let used = used_before old.used frame f (sym (ap (λ u. is_used u f) same) ∙ place.used) in
+      (used.0, frame_in-from old s p f was (HasPlace-kept new old s p f place (before place.id place.reservation place.is) used.1)),
+  λ had.
+      let place = frame_in-found old s p f had.1 in
+      let used = ap (λ u. is_used u f) same ∙ get_or-set_other old.used frame f false false had.0 ∙ place.used in
+      frame_in-from new s p f now (HasPlace-kept old new s p f place (after s p f place used) used),
+)
 
 -- after a range became free, what is free was free before or is in the range
 pub with_range_free : (free : List Bool) (first count : ℕ) → first + count ≤ length free → (f : ℕ) → (get_or (with_range free first count true) f false ≡ true) ↔ ((get_or free f false ≡ true) ⊎ ((first ≤ f) × (f < first + count)))
@@ -52,83 +50,59 @@ with_range_free free first count fits =
     (λ is. inl (sym same ∙ is), λ was. elim was [ inl is ↦ same ∙ is | inr inside ↦ absurd (elim out [ inl before ↦ omega (arith, inside.0) | inr behind ↦ omega (arith, inside.1) ]) ]))
     (λ f low high. (λ is. inr (low, high), λ was. with_range_inside free first count true fits f low high))
 
--- A reservation is no longer noted.
-module _ (l : Layout) (id : ℕ) (r : Reservation) (is : record_at l id ≡ Some r) where
-  -- what stands after it stood before, at another frame
-  pub stood : (j : ℕ) (q : Reservation) → get_or (set l.records id None) j None ≡ Some q → (j ≢ id) × (record_at l j ≡ Some q)
-  stood j q at = elim (cases_eq j id) [
-    | inl here ↦ absurd (none-some q (sym (ap (λ k. get_or (set l.records id None) k None) here ∙ get_or-set_same l.records id None None (known_record l.records id r is)) ∙ at))
-    | inr other ↦ (other, sym (get_or-set_other l.records id j None None other) ∙ at)
-  ]
-
-  -- and whose place a frame is after, its place it was before
-  pub had : (f j : ℕ) → has_frame f (get_or (set l.records id None) j None) ≡ true → (j ≢ id) × (has_frame f (record_at l j) ≡ true)
-  had f j has = elim (cases_eq j id) [
-    | inl here ↦ absurd (no_frame f _ (ap (λ k. get_or (set l.records id None) k None) here ∙ get_or-set_same l.records id None None (known_record l.records id r is)) has)
-    | inr other ↦ (other, sym (ap (has_frame f) (get_or-set_other l.records id j None None other)) ∙ has)
-  ]
-
-  -- a place of another reservation stays one
-  pub still_has : (f j : ℕ) → j ≢ id → has_frame f (record_at l j) ≡ true → has_frame f (get_or (set l.records id None) j None) ≡ true
-  still_has f j other has = ap (has_frame f) (get_or-set_other l.records id j None None other) ∙ has
-
--- a frame that becomes unused leaves every other reservation a used place
-pub used_elsewhere : (l : Layout) (id frame j : ℕ) (r q : Reservation) → IsLaid l → record_at l id ≡ Some r → has_frame frame (Some r) ≡ true → record_at l j ≡ Some q → j ≢ id → (f : ℕ) × (has_frame f (Some q) ≡ true) × (is_used (set l.used frame false) f ≡ true)
-used_elsewhere l id frame j r q laid is has at other =
-    let u = laid.some_used j q at in
-    let apart_from : u.0 ≢ frame = λ same. other (laid.apart frame j id (ap (has_frame frame) at ∙ ap (λ f. has_frame f (Some q)) (sym same) ∙ u.1) (ap (has_frame frame) is ∙ has)) in
-    (u.0, u.1, get_or-set_other l.used frame u.0 false false apart_from ∙ u.2)
+-- after a reservation went no other one has a frame of it
+pub not_in_rest : (l : Layout) (id : ℕ) (r : Reservation) → IsLaid l → record_at l id ≡ Some r → (f j : ℕ) → has_frame f (Some r) ≡ true → has_frame f (get_or (set l.records id None) j None) ≡ true → ⊥
+not_in_rest l id r laid is f j mine has =
+    let w = holder f (get_or (set l.records id None) j None) has in
+    let was = unset_before l.records id j None (Some w.0) (none-some w.0) w.1 in
+    was.0 (laid.apart f j id (ap (has_frame f) was.1 ∙ w.2) (ap (has_frame f) is ∙ mine))
 
 -- A reservation goes whose one used place, if any, is the frame: its frames are free from then on, or out of the layout.
-pub IsLaid-without : (l : Layout) (free : List Bool) (id frame : ℕ) (r : Reservation) → IsLaid l → record_at l id ≡ Some r → length free ≡ length l.free → ((f : ℕ) → get_or free f false ≡ true → (is_free l f ≡ true) ⊎ (has_frame f (Some r) ≡ true)) → ((f : ℕ) → has_frame f (Some r) ≡ true → is_used (set l.used frame false) f ≡ false) → has_frame frame (Some r) ≡ true → IsLaid (record { free = free; records = set l.records id None; used = set l.used frame false })
-IsLaid-without l free id frame r laid is long freed unused has = record {
-  records_long = length-set l.records id None ∙ laid.records_long ∙ sym long;
-  used_long = length-set l.used frame false ∙ laid.used_long ∙ sym long;
-  placed = ArePlaced-set l.records id None laid.placed (known_record l.records id r is) (λ q e. absurd (none-some q e));
-  apart = λ f j other one two. laid.apart f j other (had l id r is f j one).1 (had l id r is f other two).1;
-  not_free = λ f j free_now has_now.
-      let w = had l id r is f j has_now in
-      elim (freed f free_now) [
-        | inl was_free ↦ laid.not_free f j was_free w.1
-        | inr mine ↦ w.0 (laid.apart f j id w.1 (ap (has_frame f) is ∙ mine))
-      ];
-  places = λ f used.
-      let was = used_before l.used frame f used in
-      let p = laid.places f was.1 in (
-        p.0,
-        elim (cases_eq p.0 id) [
-          | inl here ↦ absurd (false≢true (sym (unused f (sym (ap (has_frame f) (ap (record_at l) here ∙ is)) ∙ p.1)) ∙ used))
-          | inr other ↦ still_has l id r is f p.0 other p.1
-        ],
-      );
-  some_used = λ j q at. let w = stood l id r is j q at in used_elsewhere l id frame j r q laid is has w.1 w.0;
-  one_cover = λ j k space page q s at_j at_k. laid.one_cover j k space page q s (stood l id r is j q at_j).1 (stood l id r is k s at_k).1;
-}
+module _ (l : Layout) (free : List Bool) (id frame : ℕ) (r : Reservation) (laid : IsLaid l) (is : record_at l id ≡ Some r) (long : length free ≡ length l.free) (beside : (f : ℕ) → has_frame f (Some r) ≡ false → get_or free f false ≡ is_free l f) (unused : (f : ℕ) → has_frame f (Some r) ≡ true → is_used (set l.used frame false) f ≡ false) (has : has_frame frame (Some r) ≡ true) where
+  abbrev without : Layout
+  without = record { free = free; records = set l.records id None; used = set l.used frame false }
 
--- and every other place stays its page's
-pages-without : (l : Layout) (free : List Bool) (id frame : ℕ) (r : Reservation) → IsLaid l → record_at l id ≡ Some r → ((f : ℕ) → has_frame f (Some r) ≡ true → is_used (set l.used frame false) f ≡ false) → IsLaid (record { free = free; records = set l.records id None; used = set l.used frame false }) → (s p f : ℕ) → (frame_in (record { free = free; records = set l.records id None; used = set l.used frame false }) s p ≡ Some f) ↔ ((f ≢ frame) × (frame_in l s p ≡ Some f))
-pages-without l free id frame r laid is unused now = pages_by l (record { free = free; records = set l.records id None; used = set l.used frame false }) frame laid now
-    (λ s p f place.
-    let stands = stood l id r is place.id place.reservation place.is in
-    let used = used_before l.used frame f place.used in
-    (used.0, record { id = place.id; reservation = place.reservation; is = stands.1; covers_page = place.covers_page; frame = place.frame; used = used.1 }))
-    (λ s p f apart place.
-    let q = place.reservation in
-    let used = get_or-set_other l.used frame f false false apart ∙ place.used in
-    let mine : has_frame f (Some q) ≡ true = ap (λ g. has_frame g (Some q)) place.frame ∙ has_frame_for s p q place.covers_page in
-    elim (cases_eq place.id id) [
-      | inl here ↦
-          let same : q ≡ r = same_Some q r (sym place.is ∙ ap (record_at l) here ∙ is) in
-          absurd (false≢true (sym (unused f (ap (λ o. has_frame f (Some o)) (sym same) ∙ mine)) ∙ used))
-      | inr other ↦ record {
-        id = place.id;
-        reservation = q;
-        is = get_or-set_other l.records id place.id None None other ∙ place.is;
-        covers_page = place.covers_page;
-        frame = place.frame;
-        used = used;
+  -- what stands then stood before, at another frame
+  stood : (j : ℕ) (q : Reservation) → record_at without j ≡ Some q → (j ≢ id) × (record_at l j ≡ Some q)
+  stood j q at = unset_before l.records id j None (Some q) (none-some q) at
+
+  -- nothing came in its place
+  Replaces-without : Replaces l without r id
+  Replaces-without = record {
+    region = IsRegion-own l id r laid is;
+    records_long = length-set l.records id None;
+    free_long = long;
+    used_long = length-set l.used frame false;
+    who = λ j q at. inl (stood j q at);
+    stays = λ j q other at. get_or-set_other l.records id j None None other ∙ at;
+    free = beside;
+    used = λ f out. get_or-set_other l.used frame f false false (λ same. false≢true (sym out ∙ ap (λ g. has_frame g (Some r)) same ∙ has));
+    one_frame = λ f j k mine one two. absurd (not_in_rest l id r laid is f j mine one);
+    not_free = λ f j mine free_now has_now. not_in_rest l id r laid is f j mine has_now;
+    places = λ f mine used. absurd (false≢true (sym (unused f mine) ∙ used));
+    one_page = λ j k s p q t at_j at_k by_j by_k mine. let w = stood j q at_j in absurd (w.0 (laid.one_cover j id s p q r w.1 is by_j mine));
+  }
+
+  -- so the frame is given up, by which of the reservation's frames are in the layout then
+  Gives-without : (in_after : ℕ → Type 0) → ((f : ℕ) → has_frame f (Some r) ≡ true → IsIn without f ↔ in_after f) → ((f : ℕ) → has_frame f (Some r) ≡ false → IsIn l f ↔ in_after f) → Gives l without frame in_after
+  Gives-without in_after inside outside =
+      let laid_after = IsLaid-replaced l without r id laid Replaces-without in
+      record {
+        laid = laid_after;
+        long = long;
+        used = refl;
+        within = λ f. elim (cases_Bool (has_frame f (Some r))) [
+          | inl mine ↦ inside f mine
+          | inr out ↦
+              let same = IsIn-beside l without r id laid Replaces-without f out in
+              (λ now. (outside f out).0 (same.0 now), λ was. same.1 ((outside f out).1 was))
+        ];
+        pages = pages_by l without frame laid laid_after refl (λ j q at. (stood j q at).1) (λ s p f place used.
+            let other : place.id ≢ id = λ here.
+            (let same : place.reservation ≡ r = same_Some place.reservation r (sym place.is ∙ ap (record_at l) here ∙ is) in
+            false≢true (sym (unused f (ap (λ q. has_frame f (Some q)) (sym same) ∙ HasPlace-has l s p f place)) ∙ used)) in
+            get_or-set_other l.records id place.id None None other ∙ place.is);
       }
-    ])
 
 -- the reservation keeps a used place
 Gives-keeping : (l : Layout) (id frame : ℕ) (r : Reservation) → IsLaid l → record_at l id ≡ Some r → has_frame frame (Some r) ≡ true → is_last frame r l ≡ false → Gives l (record { free = l.free; records = l.records; used = set l.used frame false }) frame (IsIn l)
@@ -146,7 +120,10 @@ Gives-keeping l id frame r laid is has keeps =
             let w = some_used_in (is_used (set l.used frame false)) r.frame (8 ^ r.size) keeps in
             let same : r ≡ q = same_Some r q (sym is ∙ ap (record_at l) (sym here) ∙ at) in
             (w.0, ap (λ s. has_frame w.0 (Some s)) (sym same) ∙ has_frame_from w.0 r w.1 w.2, w.3)
-        | inr other ↦ used_elsewhere l id frame j r q laid is has at other
+        | inr other ↦
+            let u = laid.some_used j q at in
+            let apart_from : u.0 ≢ frame = λ same. other (laid.apart u.0 j id (ap (has_frame u.0) at ∙ u.1) (ap (has_frame u.0) is ∙ ap (λ f. has_frame f (Some r)) same ∙ has)) in
+            (u.0, u.1, get_or-set_other l.used frame u.0 false false apart_from ∙ u.2)
       ];
       one_cover = laid.one_cover;
     } in
@@ -155,18 +132,7 @@ Gives-keeping l id frame r laid is has keeps =
       long = refl;
       used = refl;
       within = λ f. (λ now. now, λ was. was);
-      pages = pages_by l new frame laid laid_after
-          (λ s p f place.
-          let used = used_before l.used frame f place.used in
-          (used.0, record { id = place.id; reservation = place.reservation; is = place.is; covers_page = place.covers_page; frame = place.frame; used = used.1 }))
-          (λ s p f apart place. record {
-            id = place.id;
-            reservation = place.reservation;
-            is = place.is;
-            covers_page = place.covers_page;
-            frame = place.frame;
-            used = get_or-set_other l.used frame f false false apart ∙ place.used;
-          });
+      pages = pages_by l new frame laid laid_after refl (λ j q at. at) (λ s p f place used. place.is);
     }
 
 -- the reservation has no used place left
@@ -178,30 +144,13 @@ Gives-last l frame r laid is has last =
     let freed = with_range_free l.free r.frame (8 ^ r.size) fits in
     let unused : (f : ℕ) → has_frame f (Some r) ≡ true → is_used (set l.used frame false) f ≡ false =
     λ f mine. (let bounds = has_frame_bounds f r mine in unused_in (is_used (set l.used frame false)) r.frame (8 ^ r.size) last f bounds.0 bounds.1) in
-    let laid_after = IsLaid-without l (with_range l.free r.frame (8 ^ r.size) true) r.frame frame r laid is long
-    (λ f now. elim ((freed f).0 now) [ inl was ↦ inl was | inr inside ↦ inr (has_frame_from f r inside.0 inside.1) ]) unused has in
-    record {
-      laid = laid_after;
-      long = long;
-      used = refl;
-      pages = pages-without l (with_range l.free r.frame (8 ^ r.size) true) r.frame frame r laid is unused laid_after;
-      within = λ f. (
-        λ now. elim now [
-          | inl free_now ↦ elim ((freed f).0 free_now) [
-            | inl was ↦ inl was
-            | inr inside ↦ inr (r.frame, ap (has_frame f) is ∙ has_frame_from f r inside.0 inside.1)
-          ]
-          | inr place ↦ inr (place.0, (had l r.frame r is f place.0 place.1).1)
-        ],
-        λ was. elim was [
-          | inl free_before ↦ inl ((freed f).1 (inl free_before))
-          | inr place ↦ elim (cases_eq place.0 r.frame) [
-            | inl here ↦ inl ((freed f).1 (inr (has_frame_bounds f r (sym (ap (has_frame f) (ap (record_at l) here ∙ is)) ∙ place.1))))
-            | inr other ↦ inr (place.0, still_has l r.frame r is f place.0 other place.1)
-          ]
-        ],
-      );
-    }
+    let beside : (f : ℕ) → has_frame f (Some r) ≡ false → get_or (with_range l.free r.frame (8 ^ r.size) true) f false ≡ is_free l f =
+    λ f out. same_test _ _
+    (λ now. elim ((freed f).0 now) [ inl was ↦ was | inr inside ↦ absurd (false≢true (sym out ∙ has_frame_from f r inside.0 inside.1)) ])
+    (λ was. (freed f).1 (inl was)) in
+    Gives-without l (with_range l.free r.frame (8 ^ r.size) true) r.frame frame r laid is long beside unused has (IsIn l)
+    (λ f mine. (λ _. inr (r.frame, ap (has_frame f) is ∙ mine), λ _. inl ((freed f).1 (inr (has_frame_bounds f r mine)))))
+    (λ f out. (λ now. now, λ was. was))
 
 -- a used place is unused from then on, and no frame leaves the layout or comes into it
 pub Gives-vacate : (l : Layout) (id frame : ℕ) (r : Reservation) → IsLaid l → record_at l id ≡ Some r → has_frame frame (Some r) ≡ true → is_used l.used frame ≡ true → Gives l (vacate_layout frame r l) frame (IsIn l)
@@ -218,29 +167,15 @@ Gives-take_out l frame r laid is one =
     let width : 8 ^ r.size ≡ 1 = ap (λ k. 8 ^ k) one in
     let has : has_frame frame (Some r) ≡ true = has_frame_from frame r (omega (arith, named)) (omega (arith, named, width)) in
     let only : (f : ℕ) → has_frame f (Some r) ≡ true → f ≡ frame = λ f mine. (let bounds = has_frame_bounds f r mine in omega (arith, bounds.0, bounds.1, named, width)) in
-    let unused : (f : ℕ) → has_frame f (Some r) ≡ true → is_used (set l.used frame false) f ≡ false = λ f mine. unused_now l.used frame f (only f mine) in
-    let laid_after = IsLaid-without l l.free frame frame r laid is refl (λ f now. inl now) unused has in
-    record {
-      laid = laid_after;
-      long = refl;
-      used = refl;
-      pages = pages-without l l.free frame frame r laid is unused laid_after;
-      within = λ f. (
-        λ now. elim now [
-          | inl free ↦ (inl free, λ same. laid.not_free f frame free (ap (has_frame f) is ∙ ap (λ g. has_frame g (Some r)) same ∙ has))
-          | inr place ↦
-              let w = had l frame r is f place.0 place.1 in
-              (inr (place.0, w.1), λ same. w.0 (laid.apart f place.0 frame w.1 (ap (has_frame f) is ∙ ap (λ g. has_frame g (Some r)) same ∙ has)))
-        ],
-        λ was. elim was.0 [
-          | inl free ↦ inl free
-          | inr place ↦ elim (cases_eq place.0 frame) [
-            | inl here ↦ absurd (was.1 (only f (sym (ap (has_frame f) (ap (record_at l) here ∙ is)) ∙ place.1)))
-            | inr other ↦ inr (place.0, still_has l frame r is f place.0 other place.1)
-          ]
-        ],
-      );
-    }
+    Gives-without l l.free frame frame r laid is refl (λ f out. refl) (λ f mine. get_or-set_default l.used frame f false (only f mine)) has (λ f. IsIn l f × (f ≢ frame))
+    (λ f mine. (
+      λ now. elim now [
+        | inl free ↦ absurd (laid.not_free f frame free (ap (has_frame f) is ∙ mine))
+        | inr place ↦ absurd (not_in_rest l frame r laid is f place.0 mine place.1)
+      ],
+      λ was. absurd (was.1 (only f mine)),
+    ))
+    (λ f out. (λ now. (now, λ same. false≢true (sym out ∙ ap (λ g. has_frame g (Some r)) same ∙ has)), λ was. was.0))
 
 -- a used place is carved out, and this frame alone leaves the layout
 pub Gives-carve : (l : Layout) (id frame : ℕ) (r : Reservation) → IsLaid l → record_at l id ≡ Some r → has_frame frame (Some r) ≡ true → is_used l.used frame ≡ true → Gives l (carve_layout frame r l) frame (λ f. IsIn l f × (f ≢ frame))

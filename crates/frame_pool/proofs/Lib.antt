@@ -5,6 +5,7 @@ pub mod AgeLists
 pub mod SplitFrames
 pub mod ListsByFrame
 pub mod RecordSearch
+pub mod LayoutReplaced
 pub mod LayoutSplit
 pub mod LayoutBreak
 pub mod PartRecords

@@ -4,14 +4,13 @@ use Rattle.std.proofs.lemmas.Bool.{false≢true}
 use Rattle.std.proofs.lemmas.List.{get_or-set_same, set-set, set-get_or}
 use Rattle.pager_model.specs.declared.reservation.Reservation.{Reservation}
 use Rattle.pager_model.specs.Ages.{Lists, Member, list_at, with_list, with_member, without_member}
-use Rattle.pager_model.specs.Agreement.{has_frame}
 use Rattle.pager_model.specs.Headline.{member_of}
 use Rattle.pager_model.specs.Records.{Records, is_used, yield_of, part_of, kept_part}
 use Rattle.reservation_lists.specs.Kept.{KeptLists, is_listed}
 use Rattle.reservations.specs.Kept.{IsPlaced, ArePlaced}
 use Rattle.frame_pool.proofs.PartRecords.{split_suc, length-split, parts_apart, part_known, split_at, split_other}
 use Rattle.pager_model.proofs.ExtentLemmas.{eight_pos, part_of_eight}
-use Rattle.reservations.proofs.FrameIds.{has_frame_from}
+use Rattle.reservations.proofs.FrameIds.{has_frame_from, none_begins}
 use Rattle.reservations.proofs.SplitLemmas.{split_up_to, split_up_to-more, ArePlaced-part}
 use Rattle.frame_pool.specs.Listed.{AreListed, WasSplit}
 use Rattle.frame_pool.proofs.AgeLists.{AreListed-without, AreListed-with, AreListed-full, is_listed-none}
@@ -73,17 +72,6 @@ HasParts-none start after whole was = record { was = was; room = refl; listed = 
 
 pub HasParts-all : (start lists : KeptLists) (after : Records) (whole : Reservation) → HasParts 8 start lists after whole → AreListed lists.lists after.used after.records
 HasParts-all start lists after whole has = subst (AreListed lists.lists after.used) (sym has.was.split) has.listed
-
--- no reservation begins at a frame that none has
-pub none_begins : (records : List (Option Reservation)) (frame : ℕ) → ArePlaced records → has_frame frame (get_or records frame None) ≡ false → get_or records frame None ≡ None
-none_begins records frame are free = at (get_or records frame None) refl
-  where
-    at : (o : Option Reservation) → get_or records frame None ≡ o → get_or records frame None ≡ None
-    at None is = is
-    at (Some r) is =
-        let named = (are frame r is).named in
-        let has = has_frame_from frame r (omega (arith, named)) (omega (arith, named, eight_pos r.size)) in
-        absurd (false≢true (sym free ∙ ap (has_frame frame) is ∙ has))
 
 -- the first parts are in their places
 pub ArePlaced-parts : (records : List (Option Reservation)) (used : List Bool) (whole : Reservation) (n : ℕ) → 0 < whole.size → IsPlaced (length records) whole.frame whole → ArePlaced records → n ≤ 8 → ArePlaced (split_up_to n (is_used used) whole records)

@@ -11,7 +11,7 @@ use Rattle.pager_model.specs.Layouts.{covers}
 use Rattle.pager_model.proofs.Lists.{get_or-alike}
 use Rattle.population_map.specs.Populations.{Populations, page_at, id_of, placed_pages, space_count, frame_count, IsInNone, SameRoom, PlacesOnly}
 use Rattle.pager_model.proofs.ExtentLemmas.{eight_pos}
-use Rattle.reservations.proofs.FrameIds.{has_frame_from, known_record}
+use Rattle.reservations.proofs.FrameIds.{get_or-set_default, unset_before, has_frame_from, known_record}
 use Rattle.frame_pool.specs.Mapped.{IsMapped, MayEnter, places_below}
 use Rattle.frame_pool.proofs.ListsByFrame.{found_record_and}
 use Rattle.frame_pool.proofs.MappedPages.{covered_in, in_covered, page_in}
@@ -170,16 +170,13 @@ module _ (m : Populations) (records : List (Option Reservation)) (id : ℕ) (r :
 
   -- the records without it
   gone : (j : ℕ) → j ≡ id → get_or without_it j None ≡ None
-  gone j same = ap (λ k. get_or without_it k None) same ∙ get_or-set_same records id None None (known_record records id r is)
+  gone j same = get_or-set_default records id j None same
 
   stays : (j : ℕ) → j ≢ id → get_or without_it j None ≡ get_or records j None
   stays j other = get_or-set_other records id j None None other
 
   pages_without : (j : ℕ) (q : Reservation) → get_or without_it j None ≡ Some q → q.first < 1048576
-  pages_without j q at = elim (cases_eq j id) [
-    | inl same ↦ absurd (none-some q (sym (gone j same) ∙ at))
-    | inr other ↦ mapped.pages j q (sym (stays j other) ∙ at)
-  ]
+  pages_without j q at = mapped.pages j q (unset_before records id j None (Some q) (none-some q) at).1
 
   few_without : (spaces : ℕ) → sum_by (places_below spaces) without_it + places_below spaces (Some r) ≡ sum_by (places_below spaces) records
   few_without spaces =

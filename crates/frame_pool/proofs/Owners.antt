@@ -13,7 +13,8 @@ use Rattle.pager_model.specs.Order.{Victim}
 use Rattle.frame_pool.specs.Laid.{IsSound}
 use Rattle.frame_pool.proofs.PageMoves.{GivesPage, GivesPage-give_page, place_in_layout}
 use Rattle.frame_pool.proofs.LayoutPlacing.{WasPlaced, WasPlaced-placing}
-use Rattle.frame_pool.proofs.StateSoundness.{used_if_noted, claim_from, claim_taken, claim_given, claim_claimed, unset_at, taking_from, layout_of-taken, layout_of-claimed, IsSound-give_if_used}
+use Rattle.reservations.proofs.FrameIds.{get_or-set_default}
+use Rattle.frame_pool.proofs.StateSoundness.{used_if_noted, claim_from, claim_taken, claim_given, claim_claimed, taking_from, layout_of-taken, layout_of-claimed, IsSound-give_if_used}
 
 -- What a move leaves of a processor's frame: where it has nothing it still has nothing, a held frame stays held, and a claimed
 -- frame stays claimed, as the place of its page, or is held.
@@ -224,6 +225,6 @@ Keeps-dropped st d c other = by_hand (held_by st d)
 -- a processor that dropped its frame has nothing
 pub nothing-dropped : (frames processors : ℕ) (st : FrameState) (c frame : ℕ) → IsSound frames processors st → held_by st c ≡ Some frame → HasNothing (dropped st c) c
 nothing-dropped frames processors st c frame sound holds =
-    let hand : held_by (dropped_in st c (Some frame)) c ≡ None = unset_at st.held c c refl in
+    let hand : held_by (dropped_in st c (Some frame)) c ≡ None = get_or-set_default st.held c c None refl in
     subst (λ o. HasNothing (dropped_in st c o) c) (sym holds)
     (record { holds_none = hand; claims_none = λ f claims. none-some frame (sym (sound.claims_known f c claims).1 ∙ holds) })

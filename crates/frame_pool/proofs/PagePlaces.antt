@@ -86,6 +86,15 @@ pub record HasPlace (l : Layout) (s p f : ℕ) : Type 0 where
   pub frame : f ≡ frame_for p reservation
   pub used : is_used l.used f ≡ true
 
+-- the frame is a place of the reservation
+pub HasPlace-has : (l : Layout) (s p f : ℕ) (place : HasPlace l s p f) → has_frame f (Some place.reservation) ≡ true
+HasPlace-has l s p f place = ap (λ g. has_frame g (Some place.reservation)) place.frame ∙ has_frame_for s p place.reservation place.covers_page
+
+-- a place stays its page's in a layout where the reservation stands and the frame is used
+pub HasPlace-kept : (l m : Layout) (s p f : ℕ) (place : HasPlace l s p f) → record_at m place.id ≡ Some place.reservation → is_used m.used f ≡ true → HasPlace m s p f
+HasPlace-kept l m s p f place is used =
+    record { id = place.id; reservation = place.reservation; is = is; covers_page = place.covers_page; frame = place.frame; used = used }
+
 pub frame_in-found : (l : Layout) (s p f : ℕ) → frame_in l s p ≡ Some f → HasPlace l s p f
 frame_in-found l s p f found =
     elim (covering s p l.records) as (λ o. covering s p l.records ≡ o → used_in l.used p o ≡ Some f → HasPlace l s p f) [

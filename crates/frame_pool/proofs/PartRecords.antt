@@ -5,16 +5,12 @@ use Rattle.std.proofs.lemmas.List.{get_or-set_same, get_or-set_other, length-set
 use Rattle.std.proofs.lemmas.Bool.{cases_eq, false≢true}
 use Rattle.std.proofs.lemmas.Nat.{div_below, div-add-mod', mod_below, same_from_place}
 use Rattle.pager_model.specs.Agreement.{has_frame}
-use Rattle.pager_model.specs.Records.{part_of, kept_part, split_records}
+use Rattle.pager_model.specs.Records.{part_of, kept_part}
 use Rattle.pager_model.specs.declared.reservation.Reservation.{Reservation}
 use Rattle.reservations.specs.Kept.{IsPlaced}
 use Rattle.pager_model.proofs.ExtentLemmas.{eight_pos, eight_parts, eight_quotient, part_of_eight, extent_of_frame}
 use Rattle.reservations.proofs.FrameIds.{has_frame_bounds, has_frame_from, unused_in}
 use Rattle.reservations.proofs.SplitLemmas.{split_up_to, split_step, split_up_to-more, kept_cases}
-
--- no other record has a frame of the reservation
-abbrev pub IsAlone : Reservation → List (Option Reservation) → Type 0
-IsAlone r records = (frame id : ℕ) → has_frame frame (Some r) ≡ true → has_frame frame (get_or records id None) ≡ true → id ≡ r.frame
 
 -- the number of pages of a part
 pub eighth : (pages size : ℕ) → 0 < size → pages ≡ 8 ^ size → pages / 8 ≡ 8 ^ (size - 1)
@@ -61,9 +57,9 @@ module _ (used : ℕ → Bool) (r : Reservation) (records : List (Option Reserva
       ∙ get_or-set_other (split_up_to n used r records) (part_of r n).frame id (kept_part used r n) None (none n (omega arith))
       ∙ split_other n id (λ i lt. none i (omega arith))
 
--- Which record has a frame after a split of a reservation whose frames no other record has.
+-- Which part has a frame.
 
-module _ (used : ℕ → Bool) (r : Reservation) (records : List (Option Reservation)) (splits : 0 < r.size) (placed : IsPlaced (length records) r.frame r) (alone : IsAlone r records) where
+module _ (r : Reservation) where
   pub find_part : (n id : ℕ) → ((i : ℕ) × (i < n) × (id ≡ (part_of r i).frame)) ⊎ ((i : ℕ) → i < n → id ≡ (part_of r i).frame → ⊥)
   find_part zero id = inr (λ i lt same. omega (arith, lt))
   find_part (suc n) id = elim (cases_eq id (part_of r n).frame) [
@@ -77,8 +73,8 @@ module _ (used : ℕ → Bool) (r : Reservation) (records : List (Option Reserva
     ]
   ]
 
-  pub part_in_whole : (i : ℕ) → i < 8 → (f : ℕ) → has_frame f (Some (part_of r i)) ≡ true → has_frame f (Some r) ≡ true
-  part_in_whole i one f has =
+  pub part_in_whole : 0 < r.size → (i : ℕ) → i < 8 → (f : ℕ) → has_frame f (Some (part_of r i)) ≡ true → has_frame f (Some r) ≡ true
+  part_in_whole splits i one f has =
       let bounds = has_frame_bounds f (part_of r i) has in
       has_frame_from f r (omega (arith, bounds.0)) (omega (arith, bounds.1, part_of_eight i r.size splits one))
 
@@ -90,8 +86,8 @@ module _ (used : ℕ → Bool) (r : Reservation) (records : List (Option Reserva
       sym (extent_of_frame i w (f - r.frame) (omega (arith, by_i.0)) (omega (arith, by_i.0, by_i.1)))
       ∙ extent_of_frame j w (f - r.frame) (omega (arith, by_j.0)) (omega (arith, by_j.0, by_j.1))
 
-  pub which_part : (f : ℕ) → has_frame f (Some r) ≡ true → (j : ℕ) × (j < 8) × (has_frame f (Some (part_of r j)) ≡ true)
-  which_part f has =
+  pub which_part : 0 < r.size → (f : ℕ) → has_frame f (Some r) ≡ true → (j : ℕ) × (j < 8) × (has_frame f (Some (part_of r j)) ≡ true)
+  which_part splits f has =
       let w = 8 ^ (r.size - 1) in
       let pos = eight_pos (r.size - 1) in
       let bounds = has_frame_bounds f r has in
@@ -103,36 +99,16 @@ module _ (used : ℕ → Bool) (r : Reservation) (records : List (Option Reserva
         has_frame_from f (part_of r j) (omega (arith, whole, bounds.0)) (omega (arith, whole, rest, bounds.0)),
       )
 
-  pub who_has : (f id : ℕ) → has_frame f (Some r) ≡ true → has_frame f (get_or (split_records used r records) id None) ≡ true → (j : ℕ) × (j < 8) × (id ≡ (part_of r j).frame) × (has_frame f (Some (part_of r j)) ≡ true)
-  who_has f id whole has = elim (find_part 8 id) [
-    | inl at ↦
-        let is : get_or (split_records used r records) id None ≡ kept_part used r at.0 =
-        ap (λ m. get_or (split_records used r records) m None) at.2 ∙ split_at used r records splits placed 8 at.0 at.1 (omega arith) in
-        elim (kept_cases used r at.0) [
-          | inl empty ↦ absurd (false≢true (sym (ap (has_frame f) (is ∙ empty.0)) ∙ has))
-          | inr kept ↦ (at.0, at.1, at.2, sym (ap (has_frame f) (is ∙ kept)) ∙ has)
-        ]
-    | inr none ↦
-        let same = split_other used r records splits placed 8 id none in
-        let first = alone f id whole (sym (ap (has_frame f) same) ∙ has) in
-        absurd (none 0 (omega arith) (omega (arith, first)))
-  ]
-
-  pub alone_part : (i : ℕ) → i < 8 → IsAlone (part_of r i) (split_records used r records)
-  alone_part i one = λ f id in_part has.
-      let by = who_has f id (part_in_whole i one f in_part) has in
-      by.2 ∙ ap (λ m. (part_of r m).frame) (same_part f by.0 i by.3 in_part)
-
-  pub used_part : (f j : ℕ) → used f ≡ true → has_frame f (Some (part_of r j)) ≡ true → kept_part used r j ≡ Some (part_of r j)
-  used_part f j is has = elim (kept_cases used r j) [
+  pub used_part : (used : ℕ → Bool) (f j : ℕ) → used f ≡ true → has_frame f (Some (part_of r j)) ≡ true → kept_part used r j ≡ Some (part_of r j)
+  used_part used f j is has = elim (kept_cases used r j) [
     | inl empty ↦
         let bounds = has_frame_bounds f (part_of r j) has in
         absurd (false≢true (sym (unused_in used (part_of r j).frame (8 ^ (r.size - 1)) empty.1 f bounds.0 bounds.1) ∙ is))
     | inr kept ↦ kept
   ]
 
-  pub outside_parts : (id : ℕ) → (id < r.frame) ⊎ (r.frame + 8 ^ r.size ≤ id) → (i : ℕ) → i < 8 → id ≡ (part_of r i).frame → ⊥
-  outside_parts id out i one same = elim out [
+  pub outside_parts : 0 < r.size → (id : ℕ) → (id < r.frame) ⊎ (r.frame + 8 ^ r.size ≤ id) → (i : ℕ) → i < 8 → id ≡ (part_of r i).frame → ⊥
+  outside_parts splits id out i one same = elim out [
     | inl before ↦ omega (arith, same)
     | inr past ↦ omega (arith, same, part_of_eight i r.size splits one, eight_pos (r.size - 1))
   ]

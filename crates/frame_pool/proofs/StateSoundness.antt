@@ -17,7 +17,7 @@ use Rattle.pager_model.specs.Agreement.{has_frame}
 use Rattle.pager_model.specs.FrameStates.{FrameState, Taking, layout_of, used_at, held_by, claim_in, frame_of, HasNothing, taken, taking, take_frame, state_taken, layout_given, held_given, given, given_in, give_page, give_if_used, with_claim, claimed, dropped, dropped_in, counted, named_space, moved, moved_by_answer, AllowsAnswer, FramesAllow}
 use Rattle.pager_model.specs.Layouts.{Layout, Placing, placing, frame_for, record_at}
 use Rattle.pager_model.specs.Records.{is_used}
-use Rattle.reservations.proofs.FrameIds.{has_frame_bounds}
+use Rattle.reservations.proofs.FrameIds.{get_or-set_default, unset_before, has_frame_bounds}
 use Rattle.frame_pool.specs.Laid.{IsLaid, IsSound, IsIn}
 use Rattle.frame_pool.proofs.PagePlaces.{has_frame_for, frame_in-found, covering-is}
 use Rattle.frame_pool.proofs.LayoutPlacing.{WasPlaced, WasPlaced-placing}
@@ -66,14 +66,7 @@ set_cases xs i j o x is = elim (cases_eq j i) [
 
 -- after None was written a value that stands somewhere stood there before, and None was written elsewhere
 unset_cases : {A : Type 0} (xs : List (Option A)) (i j : ℕ) (x : A) → get_or (set xs i None) j None ≡ Some x → (j ≢ i) × (get_or xs j None ≡ Some x)
-unset_cases xs i j x is = elim (set_cases xs i j None x is) [ inl here ↦ absurd (none-some x here.1) | inr there ↦ there ]
-
--- None stands where None was written
-pub unset_at : {A : Type 0} (xs : List (Option A)) (i j : ℕ) → j ≡ i → get_or (set xs i None) j None ≡ None
-unset_at xs i j here = ap (λ k. get_or (set xs i None) k None) here ∙ elim (cases_lt i (length xs)) [
-  | inl known ↦ get_or-set_same xs i None None known
-  | inr past ↦ ap (λ ys. get_or ys i None) (set_past xs i None past) ∙ get_or_past xs i None past
-]
+unset_cases xs i j x is = unset_before xs i j None (Some x) (none-some x) is
 
 -- Taking.
 
@@ -395,7 +388,7 @@ IsSound-dropped_in frames processors st c frame sound holds =
           let known = sound.claims_known f d claims in (
             known.0,
             elim (cases_eq d c) [
-              | inl here ↦ unset_at st.held c d here
+              | inl here ↦ get_or-set_default st.held c d None here
               | inr other ↦ get_or-set_other st.held c d None None other ∙ known.1
             ],
           );

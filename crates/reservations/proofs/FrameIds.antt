@@ -1,7 +1,7 @@
 -- Which reservation has a frame, as reservations come and go.
 use Rattle.std.proofs.Common.{◌≡◌, ◌≢◌, ◌<◌, ◌≤◌, ℕ, ◌+◌, ◌^◌, ◌⊎◌, ◌↔◌, Bool, true, false, ltb, leb, Option, Some, None, List, ◌++◌, length, get_or, set, take, drop, replicate, not, refl, ap, sym, subst, ◌∙◌, arith, inl, inr}
 use Rattle.std.proofs.lemmas.List.{get_or-set_same, get_or-set_other, length-set, set-set, set_past, take_at, get_or_past, length-replicate}
-use Rattle.std.proofs.lemmas.Bool.{cases_eq, cases_lt, and_parts, and_from, leb-true, ltb-true, le-leb, lt-ltb, not-true, false≢true}
+use Rattle.std.proofs.lemmas.Bool.{cases_eq, cases_lt, and_parts, and_from, leb-true, ltb-true, le-leb, lt-ltb, not-true, false≢true, false_from_ne_true}
 use Rattle.std.proofs.lemmas.Option.{none-some, same_Some}
 use Rattle.pager_model.specs.Agreement.{has_frame}
 use Rattle.pager_model.specs.Records.{is_used, none_used}
@@ -26,6 +26,20 @@ known_record records id r is = elim (cases_lt id (length records)) [
   | inr past ↦ let none = get_or_past records id None past in absurd (none-some r (sym none ∙ is))
 ]
 
+-- where the default was written it stands
+pub get_or-set_default : {A : Type 0} (xs : List A) (i j : ℕ) (d : A) → j ≡ i → get_or (set xs i d) j d ≡ d
+get_or-set_default xs i j d here = ap (λ k. get_or (set xs i d) k d) here ∙ elim (cases_lt i (length xs)) [
+  | inl known ↦ get_or-set_same xs i d d known
+  | inr past ↦ ap (λ ys. get_or ys i d) (set_past xs i d past) ∙ get_or_past xs i d past
+]
+
+-- another value that stands then stood before, and the default was written elsewhere
+pub unset_before : {A : Type 0} (xs : List A) (i j : ℕ) (d x : A) → d ≢ x → get_or (set xs i d) j d ≡ x → (j ≢ i) × (get_or xs j d ≡ x)
+unset_before xs i j d x apart is = elim (cases_eq j i) [
+  | inl here ↦ absurd (apart (sym (get_or-set_default xs i j d here) ∙ is))
+  | inr other ↦ (other, sym (get_or-set_other xs i j d d other) ∙ is)
+]
+
 pub ArePlaced-set : (records : List (Option Reservation)) (id : ℕ) (o : Option Reservation) → ArePlaced records → id < length records → ((r : Reservation) → o ≡ Some r → IsPlaced (length records) id r) → ArePlaced (set records id o)
 ArePlaced-set records id o are within new = λ j r is. rw length-set (elim (cases_eq j id) [
   | inl here ↦
@@ -38,10 +52,21 @@ ArePlaced-set records id o are within new = λ j r is. rw length-set (elim (case
 pub no_frame : (f : ℕ) (o : Option Reservation) → o ≡ None → has_frame f o ≡ true → ⊥
 no_frame f o none has = false≢true (sym (ap (has_frame f) none) ∙ has)
 
+-- no reservation begins at a frame that none has
+pub none_begins : (records : List (Option Reservation)) (frame : ℕ) → ArePlaced records → has_frame frame (get_or records frame None) ≡ false → get_or records frame None ≡ None
+none_begins records frame are free = at (get_or records frame None) refl
+  where
+    at : (o : Option Reservation) → get_or records frame None ≡ o → get_or records frame None ≡ None
+    at None is = is
+    at (Some r) is =
+        let named = (are frame r is).named in
+        let has = has_frame_from frame r (omega (arith, named)) (omega (arith, named, eight_pos r.size)) in
+        absurd (false≢true (sym free ∙ ap (has_frame frame) is ∙ has))
+
 -- a reservation that is no longer noted leaves a gap
 module _ (records : List (Option Reservation)) (ids : List (Option ℕ)) (used : List Bool) (id : ℕ) (r : Reservation) (noted : AreNoted records ids used 0 0) (placed : IsPlaced (length records) id r) (is : get_or records id None ≡ Some r) where
   pub gone : (j : ℕ) → j ≡ id → get_or (set records id None) j None ≡ None
-  gone j here = ap (λ k. get_or (set records id None) k None) here ∙ get_or-set_same records id None None (known_record records id r is)
+  gone j here = get_or-set_default records id j None here
 
   pub kept : (j : ℕ) → j ≢ id → get_or (set records id None) j None ≡ get_or records j None
   kept j other = get_or-set_other records id j None None other
@@ -175,14 +200,7 @@ AreNoted-gap records ids used low high noted free = record {
 
 -- no reservation begins in a gap
 pub vacant_in_gap : (records : List (Option Reservation)) (ids : List (Option ℕ)) (used : List Bool) (low high : ℕ) → ArePlaced records → AreNoted records ids used low high → low < high → get_or records low None ≡ None
-vacant_in_gap records ids used low high are noted room = at (get_or records low None) refl
-  where
-    at : (o : Option Reservation) → get_or records low None ≡ o → get_or records low None ≡ None
-    at None is = is
-    at (Some r) is =
-        let placed = are low r is in
-        let has = has_frame_from low r (omega (arith, placed.named)) (omega (arith, placed.named, eight_pos r.size)) in
-        absurd (noted.gap low low (omega arith) room (ap (has_frame low) is ∙ has))
+vacant_in_gap records ids used low high are noted room = none_begins records low are (false_from_ne_true _ (noted.gap low low (omega arith) room))
 
 -- nothing is noted at first
 pub AreKept-none : (n : ℕ) → AreKept (replicate n None) (replicate n None) (replicate n false)
@@ -256,10 +274,7 @@ AreKept-vacate records ids used f are = record {
   noted = record {
     exact = are.noted.exact;
     idle = λ g out none. elim (cases_eq g f) [
-      | inl here ↦ elim (cases_lt f (length used)) [
-        | inl known ↦ ap (is_used (set used f false)) here ∙ get_or-set_same used f false false known
-        | inr past ↦ ap (λ l. is_used l g) (set_past used f false past) ∙ are.noted.idle g out none
-      ]
+      | inl here ↦ get_or-set_default used f g false here
       | inr other ↦ get_or-set_other used f g false false other ∙ are.noted.idle g out none
     ];
     gap = are.noted.gap;

@@ -4,11 +4,10 @@ use Rattle.std.proofs.lemmas.List.{get_or-set_same}
 use Rattle.pager_model.specs.declared.reservation.Reservation.{Reservation}
 use Rattle.pager_model.specs.Layouts.{Layout, frame_for}
 use Rattle.pager_model.proofs.ExtentLemmas.{eight_pos}
-use Rattle.reservations.proofs.FrameIds.{has_frame_from}
+use Rattle.reservations.proofs.FrameIds.{has_frame_from, none_begins}
 use Rattle.frame_pool.specs.Listed.{AreListed}
 use Rattle.frame_pool.proofs.LayoutInOrder.{AreListed-used, place_has}
 use Rattle.frame_pool.proofs.LayoutMapped.{MayEnter-added}
-use Rattle.frame_pool.proofs.ListsByFrame.{none_begins}
 use Rattle.frame_pool.proofs.AgeLists.{is_listed-none}
 use Rattle.frame_pool.proofs.layout.Layout.add.Goals as goal
 
