@@ -1,5 +1,5 @@
 -- What becomes of the kept pages when what is kept of one is written, a page is put in, or one is taken out.
-use Rattle.std.proofs.Common.{◌≡◌, ◌≢◌, ℕ, zero, suc, ◌*◌, ◌/◌, ◌<◌, ◌≤◌, Bool, true, false, if◌then◌else◌, eqb, List, Option, Some, None, option_map, is_some, length, replicate, slice_index_or, slice_set, refl, sym, ap, inl, inr, ◌∙◌, arith}
+use Rattle.std.proofs.Common.{◌≡◌, ◌≢◌, ℕ, zero, suc, ◌*◌, ◌/◌, ◌<◌, ◌≤◌, Bool, true, false, if◌then◌else◌, eqb, List, Option, Some, None, option_map, is_some, length, replicate, slice_index_or, slice_set, refl, sym, ap, subst, inl, inr, ◌∙◌, arith}
 use Rattle.std.proofs.lemmas.Bool.{cases_eq, cases_lt, false≢true}
 use Rattle.std.proofs.lemmas.Bool.Decides.{nat_tests}
 use Rattle.std.proofs.lemmas.List.{get_or-set_other, get_or-set_same, length-set, get_or_past, length-replicate}
@@ -10,7 +10,7 @@ use Rattle.extent_tree.proofs.Rows.{row_known, split_alike}
 use Rattle.pager_model.specs.declared.tile.Mapping.{Mapping}
 use Rattle.tiles.specs.declared.pages.Place.{Place}
 use Rattle.tiles.specs.Resident.{Resident, number_at, mapping_in, mapping_of_number, mapping_at, frames_in, frame_of_page, Maps}
-use Rattle.tiles.specs.Kept.{size_in_place, size_of_number, size_kept, place_of_number, said_by, sized, Sizes, ArePages, SizesBut, SameSizes}
+use Rattle.tiles.specs.Kept.{size_in_place, size_of_number, size_kept, sized, Sizes, ArePages, SizesBut, SameSizes}
 use Rattle.tiles.specs.Beside.{SamePages}
 use Rattle.tiles.proofs.Numbering.{room_for_one}
 
@@ -62,10 +62,6 @@ mapping-found r p n o h is = mapping_at-is r p ∙ ap (mapping_of_number r.place
 
 pub size-found : (r : Resident) (p n : ℕ) (o : Option Place) → number_at r p ≡ Some n → slice_index_or r.places n None ≡ o → size_kept r p ≡ size_in_place o
 size-found r p n o h is = size_kept-is r p ∙ ap (size_of_number r.places) h ∙ ap size_in_place is
-
-cases_number : (o : Option ℕ) → (o ≢ None → (n : ℕ) × (o ≡ Some n))
-cases_number None h = absurd (h refl)
-cases_number (Some n) h = (n, refl)
 
 frame_by : (r : Resident) → ArePages r → (p : ℕ) (o : Option ℕ) → number_at r p ≡ o → frame_of_page r p ≡ o
 frame_by r kept p None h = ap (option_map (λ (m : Mapping). m.frame)) (mapping-absent r p h)
@@ -226,6 +222,12 @@ maps_same r page m is = record {
   ];
 }
 
+-- a page that isn't resident has nothing to change
+pub maps_absent : (r : Resident) (page : ℕ) (f : Mapping → Mapping) → number_at r page ≡ None → Maps page (option_map f (mapping_at r page)) r r
+maps_absent r page f absent =
+    let none = mapping-absent r page absent in
+    maps_same r page _ (none ∙ sym (ap (option_map f) none))
+
 pub same_if_maps : (r s : Resident) (page : ℕ) (m : Option Mapping) → mapping_at r page ≡ m → Maps page m r s → SamePages r s
 same_if_maps r s page m is maps = record { frames = maps.frames; at = λ p. maps.at p ∙ sym ((maps_same r page m is).at p) }
 
@@ -242,33 +244,8 @@ sizes_same r page n is p = elim (cases_eq p page) [
 pub same_if_sizes : (r s : Resident) (page n : ℕ) → size_kept r page ≡ sized (mapping_at r page) n → Sizes page n r s → SameSizes r s
 same_if_sizes r s page n is sizes p = sizes p ∙ sym (sizes_same r page n is p)
 
--- This is kept of a page.
-pub record KeepsPlace (r : Resident) (page : ℕ) (place : Place) : Type 0 where
-  pub number : ℕ
-  pub mapping : mapping_at r page ≡ Some (record { frame = number; region = place.region; rights = place.rights; dirty = place.dirty })
-  pub size : size_kept r page ≡ place.size
-
-keeps_by : (r : Resident) (page : ℕ) (place : Place) (o : Option ℕ) → number_at r page ≡ o → place_of_number r.places o ≡ Some place → KeepsPlace r page place
-keeps_by r page place None h is = absurd (none-some place is)
-keeps_by r page place (Some n) h is = record { number = n; mapping = mapping-found r page n (Some place) h is; size = size-found r page n (Some place) h is }
-
-pub keeps_place : (r : Resident) (page : ℕ) (place : Place) → place_of_number r.places (number_at r page) ≡ Some place → KeepsPlace r page place
-keeps_place r page place is = keeps_by r page place (number_at r page) refl is
-
--- nothing is kept of a page that isn't resident
-pub record KeepsNone (r : Resident) (page : ℕ) : Type 0 where
-  pub mapping : mapping_at r page ≡ None
-  pub size : size_kept r page ≡ 0
-
-none_by : (r : Resident) (page : ℕ) (o : Option ℕ) → number_at r page ≡ o → place_of_number r.places o ≡ None → KeepsNone r page
-none_by r page None h is = record { mapping = mapping-absent r page h; size = size-absent r page h }
-none_by r page (Some n) h is = record { mapping = mapping-found r page n None h is; size = size-found r page n None h is }
-
-pub keeps_none : (r : Resident) (page : ℕ) → place_of_number r.places (number_at r page) ≡ None → KeepsNone r page
-keeps_none r page is = none_by r page (number_at r page) refl is
-
--- What is kept of a resident page is written.
-module _ (r : Resident) (kept : ArePages r) (page k : ℕ) (place : Place) (has : number_at r page ≡ Some k) where
+-- What was kept of a resident page is written over.
+module _ (r : Resident) (kept : ArePages r) (page k : ℕ) (was place : Place) (has : number_at r page ≡ Some k) (at : slice_index_or r.places k None ≡ Some was) where
   abbrev pub written : Resident
   written = record { numbers = r.numbers; places = slice_set r.places k (Some place) }
 
@@ -290,24 +267,22 @@ module _ (r : Resident) (kept : ArePages r) (page k : ℕ) (place : Place) (has 
     apart = kept.apart;
   }
 
-  old_mapping : (m : Mapping) × (mapping_at r page ≡ Some m) × (m.frame ≡ k)
-  old_mapping =
-      let there = place_there r kept page k has in
-      (record { frame = k; region = there.0.region; rights = there.0.rights; dirty = there.0.dirty }, mapping-found r page k (Some there.0) has there.1, refl)
+  before : mapping_at r page ≡ mapping_in k (Some was)
+  before = mapping-found r page k (Some was) has at
 
-  pub written_maps : Maps page (option_map (said_by place) (mapping_at r page)) r written
-  unfolding old_mapping number_at
+  written_maps : Maps page (mapping_in k (Some place)) r written
+  unfolding number_at
   written_maps = record {
     frames = length-set r.places k (Some place);
     at = λ p. elim (cases_eq p page) [
       | inl e ↦
           let t : eqb p page ≡ true = grind (arith, nat_tests) in
-          ap (mapping_at written) e ∙ mapping-found written page k (Some place) has at_written ∙ sym (ap (option_map (said_by place)) old_mapping.1)
-          ∙ sym (ap (λ (b : Bool). if b then option_map (said_by place) (mapping_at r page) else mapping_at r p) t)
+          ap (mapping_at written) e ∙ mapping-found written page k (Some place) has at_written
+          ∙ sym (ap (λ (b : Bool). if b then mapping_in k (Some place) else mapping_at r p) t)
       | inr n ↦
           let t : eqb p page ≡ false = grind (arith, nat_tests) in
           mapping_at-is written p ∙ mapping-other r.places k (Some place) (number_at r p) (others_apart r kept page k has p n) ∙ sym (mapping_at-is r p)
-          ∙ sym (ap (λ (b : Bool). if b then option_map (said_by place) (mapping_at r page) else mapping_at r p) t)
+          ∙ sym (ap (λ (b : Bool). if b then mapping_in k (Some place) else mapping_at r p) t)
     ];
   }
 
@@ -316,13 +291,23 @@ module _ (r : Resident) (kept : ArePages r) (page k : ℕ) (place : Place) (has 
   written_sizes p = elim (cases_eq p page) [
     | inl e ↦
         let t : eqb p page ≡ true = grind (arith, nat_tests) in
-        ap (size_kept written) e ∙ size-found written page k (Some place) has at_written ∙ sym (ap (λ o. sized o place.size) old_mapping.1)
+        ap (size_kept written) e ∙ size-found written page k (Some place) has at_written ∙ sym (ap (λ o. sized o place.size) before)
         ∙ sym (ap (λ (b : Bool). if b then sized (mapping_at r page) place.size else size_kept r p) t)
     | inr n ↦
         let t : eqb p page ≡ false = grind (arith, nat_tests) in
         size_kept-is written p ∙ size-other r.places k (Some place) (number_at r p) (others_apart r kept page k has p n) ∙ sym (size_kept-is r p)
         ∙ sym (ap (λ (b : Bool). if b then sized (mapping_at r page) place.size else size_kept r p) t)
   ]
+
+  pub written_by : (f : Mapping → Mapping) → mapping_in k (Some place) ≡ option_map f (mapping_in k (Some was)) → Maps page (option_map f (mapping_at r page)) r written
+  written_by f is = subst (λ (m : Option Mapping). Maps page m r written) (is ∙ sym (ap (option_map f) before)) written_maps
+
+  pub written_same_pages : mapping_in k (Some place) ≡ mapping_in k (Some was) → SamePages r written
+  written_same_pages is = same_if_maps r written page (mapping_in k (Some place)) (before ∙ sym is) written_maps
+
+  pub written_same_sizes : place.size ≡ was.size → SameSizes r written
+  written_same_sizes is =
+      same_if_sizes r written page place.size (size-found r page k (Some was) has at ∙ sym is ∙ sym (ap (λ o. sized o place.size) before)) written_sizes
 
 -- nothing is resident
 module _ (r : Resident) (frames : ℕ) (empty : (size p : ℕ) → row r.numbers size p ≡ None) (places : r.places ≡ replicate frames None) where

@@ -18,15 +18,6 @@ size_of_number places (Some number) = size_in_place (slice_index_or places numbe
 unfoldable pub size_kept : Resident → ℕ → ℕ
 size_kept pages page = size_of_number pages.places (number_at pages page)
 
--- what is kept of a page, where it is resident
-abbrev pub place_of_number : List (Option Place) → Option ℕ → Option Place
-place_of_number places None = None
-place_of_number places (Some number) = slice_index_or places number None
-
--- what is said of a resident page of which this is kept
-abbrev pub said_by : Place → Mapping → Mapping
-said_by place m = record { frame = m.frame; region = place.region; rights = place.rights; dirty = place.dirty }
-
 -- a size is kept of a resident page alone
 abbrev pub sized : Option Mapping → ℕ → ℕ
 sized None size = 0

@@ -62,8 +62,7 @@ impl Base {
     pub fn tile_of(&self, page: u32) -> Option<Tile>
         ensures { result ≡ tile_of (mapping_at self.now) page }
     {
-        let mapping = self.mapping(page)?;
-        let size = self.size(page);
+        let (mapping, size) = self.pages.mapping_and_size(page)?;
         let offset = page % size.pages();
         Some(Tile {
             extent: Extent {
@@ -102,10 +101,9 @@ impl Base {
         ensures maps { Maps page None self.old self.new }
         ensures moves { AreMoves self.old self.new result }
     {
-        if self.pages.mapping(page).is_none() {
+        let Some((_, before)) = self.pages.mapping_and_size(page) else {
             return Moves::NONE;
-        }
-        let before = self.pages.size(page);
+        };
         self.pages.remove(page);
         let size = self.pages.settle(page, before);
         Moves::of_one(before, size)

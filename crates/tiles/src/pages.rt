@@ -1,8 +1,8 @@
 //! The resident pages of a space, and what is kept of each.
 
-ghost use Rattle.std.specs.Prelude.{◌≡◌, ◌≢◌, ◌/◌, ◌<◌, ◌≤◌, ℕ, false, None, Some, IfOk, IfSome, option_map, replicate};
+ghost use Rattle.std.specs.Prelude.{◌≡◌, ◌≢◌, ◌/◌, ◌<◌, ◌≤◌, ℕ, false, None, Some, IfOk, IfNone, IfSome, option_map, replicate, slice_index_or};
 ghost use Rattle.tiles.specs.Resident.{number_at, mapping_at, frames_in, frame_of_page, Maps, with_flag, with_rights};
-ghost use Rattle.tiles.specs.Kept.{size_kept, place_of_number, said_by, Sizes, SizesBut, SameSizes};
+ghost use Rattle.tiles.specs.Kept.{size_kept, Sizes, SizesBut, SameSizes};
 ghost use Rattle.tiles.specs.Beside.{SamePages};
 
 use crate::numbers;
@@ -87,12 +87,35 @@ impl Pages {
         numbers::has_any::<Brand>(&self.numbers, page, Blank::new(1))
     }
 
-    /// What is kept of a page, where it is resident.
-    fn place(&self, page: u32) -> Option<Place>
-        ensures { result ≡ place_of_number self.now.places (number_at self.now page) }
+    /// The number of a page's frame and what is kept of the page, where it is resident.
+    fn found(&self, page: u32) -> Option<(u16, Place)>
+        ensures number { IfSome result (λ found. number_at self.now page ≡ Some found.0) }
+        ensures place { IfSome result (λ found. slice_index_or self.now.places found.0 None ≡ Some found.1) }
+        ensures absent { IfNone result (number_at self.now page ≡ None) }
+        ensures known { IfSome result (λ found. (page < 1048576) × (found.0 < frames_in self.now)) }
+        ensures small { IfSome result (λ found. found.0 < 32768) }
     {
         let number = self.number(page)?;
-        self.places[number as usize]
+        let place = self.places[number as usize]?;
+        Some((number, place))
+    }
+
+    /// What is said of a page and the size that is kept of its tile, where the page is resident.
+    pub(crate) fn mapping_and_size(&self, page: u32) -> Option<(Mapping, Size)>
+        ensures mapping { IfSome result (λ found. mapping_at self.now page ≡ Some found.0) }
+        ensures size { IfSome result (λ found. found.1 ≡ size_kept self.now page) }
+        ensures absent { IfNone result (mapping_at self.now page ≡ None) }
+        ensures in_space { IfSome result (λ found. (page < 1048576) × (found.0.frame < frames_in self.now)) }
+        ensures small { IfSome result (λ found. found.0.frame < 32768) }
+    {
+        let (number, place) = self.found(page)?;
+        let mapping = Mapping {
+            frame: u32::from(number),
+            region: place.region,
+            rights: place.rights,
+            dirty: place.dirty,
+        };
+        Some((mapping, place.size))
     }
 
     /// What is said of a page, where it is resident.
@@ -101,22 +124,16 @@ impl Pages {
         ensures in_space { IfSome result (λ m. (page < 1048576) × (m.frame < frames_in self.now)) }
         ensures small { IfSome result (λ m. m.frame < 32768) }
     {
-        let number = self.number(page)?;
-        let place = self.place(page)?;
-        Some(Mapping {
-            frame: u32::from(number),
-            region: place.region,
-            rights: place.rights,
-            dirty: place.dirty,
-        })
+        let (mapping, _) = self.mapping_and_size(page)?;
+        Some(mapping)
     }
 
     /// The size that is kept of a page's tile, and a page's where it isn't resident.
     pub(crate) fn size(&self, page: u32) -> Size
         ensures { result ≡ size_kept self.now page }
     {
-        match self.place(page) {
-            Some(place) => place.size,
+        match self.found(page) {
+            Some((_, place)) => place.size,
             None => size_of(0),
         }
     }
@@ -150,23 +167,13 @@ impl Pages {
         }
     }
 
-    /// Writes what is kept of a resident page.
-    fn write(&mut self, page: u32, place: Place)
-        ensures maps { Maps page (option_map (said_by place) (mapping_at self.old page)) self.old self.new }
-        ensures sizes { Sizes page place.size self.old self.new }
-    {
-        if let Some(number) = self.number(page) {
-            self.places[number as usize] = Some(place);
-        }
-    }
-
     /// A page has this dirty flag, where it is resident.
     pub(crate) fn set_dirty(&mut self, page: u32, dirty: bool)
         ensures maps { Maps page (option_map (with_flag dirty) (mapping_at self.old page)) self.old self.new }
         ensures sizes { SameSizes self.old self.new }
     {
-        if let Some(place) = self.place(page) {
-            self.write(page, Place { dirty, ..place });
+        if let Some((number, place)) = self.found(page) {
+            self.places[number as usize] = Some(Place { dirty, ..place });
         }
     }
 
@@ -175,8 +182,8 @@ impl Pages {
         ensures maps { Maps page (option_map (with_rights rights) (mapping_at self.old page)) self.old self.new }
         ensures sizes { SameSizes self.old self.new }
     {
-        if let Some(place) = self.place(page) {
-            self.write(page, Place { rights, ..place });
+        if let Some((number, place)) = self.found(page) {
+            self.places[number as usize] = Some(Place { rights, ..place });
         }
     }
 
@@ -185,8 +192,8 @@ impl Pages {
         ensures same { SamePages self.old self.new }
         ensures sizes { Sizes page size self.old self.new }
     {
-        if let Some(place) = self.place(page) {
-            self.write(page, Place { size, ..place });
+        if let Some((number, place)) = self.found(page) {
+            self.places[number as usize] = Some(Place { size, ..place });
         }
     }
 }

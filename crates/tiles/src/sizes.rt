@@ -32,9 +32,11 @@ impl Pages {
     fn goes_on(&self, page: u32, first: u32, part: Size, mapping: Mapping) -> bool
         ensures { IsTrue result ↔ GoesOnAt self.now page first part mapping }
     {
-        self.mapping(first) == Some(mapping)
-            && (first / part.pages() == page / part.pages()
-                || part.level() <= self.size(first).level())
+        let Some((found, size)) = self.mapping_and_size(first) else {
+            return false;
+        };
+        found == mapping
+            && (first / part.pages() == page / part.pages() || part.level() <= size.level())
     }
 
     /// Whether the extent of a level round a page is eligible, where its part round the page is and the sizes of the other parts are kept.

@@ -1,27 +1,26 @@
-use Rattle.std.proofs.Common.{◌≡◌, ◌∙◌, sym, ap, option_map, Option, subst}
-use Rattle.pager_model.specs.declared.tile.Mapping.{Mapping}
+use Rattle.std.proofs.Common.{refl}
 use Rattle.tiles.specs.declared.pages.Place.{Place}
-use Rattle.tiles.specs.Kept.{said_by, sized}
-use Rattle.tiles.specs.Resident.{with_flag, Maps, mapping_at}
-use Rattle.tiles.proofs.KeptPages.{keeps_place, keeps_none, maps_same, same_if_sizes}
+use Rattle.tiles.specs.Resident.{with_flag}
+use Rattle.tiles.specs.contracts.pages.Pages.{the_view}
+use Rattle.tiles.proofs.KeptPages.{written_kept, written_by, written_same_sizes, maps_absent}
 use Rattle.tiles.proofs.pages.Pages.set_dirty.Goals as goal
+
+pub invariant_of-self : goal.invariant_of-self
+invariant_of-self c = written_kept (the_view c.self.inside) c.self.invariant c.args.page c.in-Some.number c.in-Some.place _ (rw (← c.self.view_is) at c.in-Some.ensures.number) (rw (← c.self.view_is) at c.in-Some.ensures.place)
 
 pub returns-in-Some-clause-maps : goal.returns-in-Some-clause-maps
 returns-in-Some-clause-maps c =
-    let r = c.args.self.now in
-    let place = c.in-Some.place in
-    let new : Place = record { region = place.region; rights = place.rights; dirty = c.args.dirty; size = place.size } in
-    let keeps = keeps_place r c.args.page place (sym c.place.ensures ∙ c.in-Some.is) in
-    let same : option_map (said_by new) (mapping_at r c.args.page) ≡ option_map (with_flag c.args.dirty) (mapping_at r c.args.page) = ap (option_map (said_by new)) keeps.mapping ∙ sym (ap (option_map (with_flag c.args.dirty)) keeps.mapping) in
-    subst (λ (m : Option Mapping). Maps c.args.page m r c.write.new.self) same c.write.ensures.maps
+    let was = c.in-Some.place in
+    let new : Place = record { region = was.region; rights = was.rights; dirty = c.args.dirty; size = was.size } in
+    rw (← c.self.view_is)
+    (written_by (the_view c.self.inside) c.self.invariant c.args.page c.in-Some.number was new (rw (← c.self.view_is) at c.in-Some.ensures.number) (rw (← c.self.view_is) at c.in-Some.ensures.place) (with_flag c.args.dirty) refl)
 
 pub returns-in-Some-clause-sizes : goal.returns-in-Some-clause-sizes
 returns-in-Some-clause-sizes c =
-    let r = c.args.self.now in
-    let keeps = keeps_place r c.args.page c.in-Some.place (sym c.place.ensures ∙ c.in-Some.is) in
-    same_if_sizes r c.write.new.self c.args.page c.in-Some.place.size (keeps.size ∙ sym (ap (λ o. sized o c.in-Some.place.size) keeps.mapping)) c.write.ensures.sizes
+    let was = c.in-Some.place in
+    let new : Place = record { region = was.region; rights = was.rights; dirty = c.args.dirty; size = was.size } in
+    rw (← c.self.view_is)
+    (written_same_sizes (the_view c.self.inside) c.self.invariant c.args.page c.in-Some.number was new (rw (← c.self.view_is) at c.in-Some.ensures.number) (rw (← c.self.view_is) at c.in-Some.ensures.place) refl)
 
 pub returns-in_default-clause-maps : goal.returns-in_default-clause-maps
-returns-in_default-clause-maps c =
-    let keeps = keeps_none c.args.self.now c.args.page (sym c.place.ensures ∙ c.in_default.is) in
-    maps_same c.args.self.now c.args.page _ (keeps.mapping ∙ sym (ap (option_map (with_flag c.args.dirty)) keeps.mapping))
+returns-in_default-clause-maps c = maps_absent c.args.self.now c.args.page (with_flag c.args.dirty) c.in_default.ensures.absent

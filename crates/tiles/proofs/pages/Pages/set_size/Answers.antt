@@ -1,22 +1,27 @@
-use Rattle.std.proofs.Common.{◌∙◌, sym, ap, option_map}
+use Rattle.std.proofs.Common.{◌∙◌, sym, ap, refl}
 use Rattle.tiles.specs.declared.pages.Place.{Place}
-use Rattle.tiles.specs.Kept.{said_by, sized}
-use Rattle.tiles.specs.Resident.{mapping_at}
-use Rattle.tiles.proofs.KeptPages.{keeps_place, keeps_none, same_if_maps, sizes_same}
+use Rattle.tiles.specs.Kept.{sized}
+use Rattle.tiles.specs.contracts.pages.Pages.{the_view}
+use Rattle.tiles.proofs.KeptPages.{written_kept, written_same_pages, written_sizes, mapping-absent, size-absent, sizes_same}
 use Rattle.tiles.proofs.pages.Pages.set_size.Goals as goal
+
+pub invariant_of-self : goal.invariant_of-self
+invariant_of-self c = written_kept (the_view c.self.inside) c.self.invariant c.args.page c.in-Some.number c.in-Some.place _ (rw (← c.self.view_is) at c.in-Some.ensures.number) (rw (← c.self.view_is) at c.in-Some.ensures.place)
 
 pub returns-in-Some-clause-same : goal.returns-in-Some-clause-same
 returns-in-Some-clause-same c =
-    let r = c.args.self.now in
-    let place = c.in-Some.place in
-    let new : Place = record { region = place.region; rights = place.rights; dirty = place.dirty; size = c.args.size } in
-    let keeps = keeps_place r c.args.page place (sym c.place.ensures ∙ c.in-Some.is) in
-    same_if_maps r c.write.new.self c.args.page (option_map (said_by new) (mapping_at r c.args.page)) (keeps.mapping ∙ sym (ap (option_map (said_by new)) keeps.mapping)) c.write.ensures.maps
+    let was = c.in-Some.place in
+    let new : Place = record { region = was.region; rights = was.rights; dirty = was.dirty; size = c.args.size } in
+    rw (← c.self.view_is)
+    (written_same_pages (the_view c.self.inside) c.self.invariant c.args.page c.in-Some.number was new (rw (← c.self.view_is) at c.in-Some.ensures.number) (rw (← c.self.view_is) at c.in-Some.ensures.place) refl)
 
 pub returns-in-Some-clause-sizes : goal.returns-in-Some-clause-sizes
-returns-in-Some-clause-sizes c = c.write.ensures.sizes
+returns-in-Some-clause-sizes c =
+    let was = c.in-Some.place in
+    let new : Place = record { region = was.region; rights = was.rights; dirty = was.dirty; size = c.args.size } in
+    rw (← c.self.view_is) (written_sizes (the_view c.self.inside) c.self.invariant c.args.page c.in-Some.number was new (rw (← c.self.view_is) at c.in-Some.ensures.number) (rw (← c.self.view_is) at c.in-Some.ensures.place))
 
 pub returns-in_default-clause-sizes : goal.returns-in_default-clause-sizes
 returns-in_default-clause-sizes c =
-    let keeps = keeps_none c.args.self.now c.args.page (sym c.place.ensures ∙ c.in_default.is) in
-    sizes_same c.args.self.now c.args.page c.args.size (keeps.size ∙ sym (ap (λ o. sized o c.args.size) keeps.mapping))
+    let absent = c.in_default.ensures.absent in
+    sizes_same c.args.self.now c.args.page c.args.size (size-absent c.args.self.now c.args.page absent ∙ sym (ap (λ o. sized o c.args.size) (mapping-absent c.args.self.now c.args.page absent)))

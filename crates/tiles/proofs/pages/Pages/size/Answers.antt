@@ -1,9 +1,9 @@
-use Rattle.std.proofs.Common.{◌∙◌, sym}
-use Rattle.tiles.proofs.KeptPages.{keeps_place, keeps_none}
+use Rattle.std.proofs.Common.{◌∙◌, sym, Some}
+use Rattle.tiles.proofs.KeptPages.{size-found, size-absent}
 use Rattle.tiles.proofs.pages.Pages.size.Goals as goal
 
 pub returns-in-Some : goal.returns-in-Some
-returns-in-Some c = sym (keeps_place c.args.self.now c.args.page c.in-Some.place (sym c.place.ensures ∙ c.in-Some.is)).size
+returns-in-Some c = sym (size-found c.args.self.now c.args.page _ (Some c.in-Some.place) c.in-Some.ensures.number c.in-Some.ensures.place)
 
 pub returns-in-None : goal.returns-in-None
-returns-in-None c = c.size_of.ensures ∙ sym (keeps_none c.args.self.now c.args.page (sym c.place.ensures ∙ c.in-None.is)).size
+returns-in-None c = c.size_of.ensures ∙ sym (size-absent c.args.self.now c.args.page c.in-None.ensures.absent)
