@@ -1,6 +1,6 @@
 //! The resident pages of a space, and what each change does to their tiles.
 
-ghost use Rattle.std.specs.Prelude.{◌≡◌, ◌≢◌, ◌∷◌, [], ℕ, ◌+◌, ◌*◌, ◌<◌, ◌≤◌, true, false, Option, None, Some, IfOk, IfSome, option_map, slice_index};
+ghost use Rattle.std.specs.Prelude.{◌≡◌, ◌≢◌, ◌∷◌, [], ℕ, ◌+◌, ◌*◌, ◌<◌, ◌≤◌, true, false, Option, None, Some, IfOk, IfNone, IfSome, option_map, slice_index};
 ghost use Rattle.pager_model.specs.Tiles.{tile_of, is_tile, size_at, tiles_of_size};
 ghost use Rattle.pager_model.specs.declared.tile.Mapping.{Mapping};
 ghost use Rattle.tiles.specs.Resident.{mapping_at, frames_in, frame_of_page, large_tiles_in, Maps, Protects, AreMoves, with_flag, with_rights, begins_large};
@@ -114,24 +114,22 @@ impl Base {
         ensures maps { Maps page (option_map (with_flag dirty) (mapping_at self.old page)) self.old self.new }
         ensures moves { AreMoves self.old self.new result }
     {
-        if !self.has_other_flag(page, dirty) {
+        let Some(before) = self.size_of_other_flag(page, dirty) else {
             return Moves::NONE;
-        }
-        let before = self.pages.size(page);
+        };
         self.pages.set_dirty(page, dirty);
         let size = self.pages.settle(page, before);
         Moves::of_one(before, size)
     }
 
-    /// Whether a page is resident with another dirty flag.
-    fn has_other_flag(&self, page: u32, dirty: bool) -> bool
-        ensures in_space { result ≡ true → page < 1048576 }
-        ensures keeps { result ≡ false → option_map (with_flag dirty) (mapping_at self.now page) ≡ mapping_at self.now page }
+    /// The size of a page's tile, where the page is resident with another dirty flag.
+    fn size_of_other_flag(&self, page: u32, dirty: bool) -> Option<Size>
+        ensures in_space { IfSome result (λ _. page < 1048576) }
+        ensures size { IfSome result (λ size. size ≡ size_at (mapping_at self.now) page) }
+        ensures keeps { IfNone result (option_map (with_flag dirty) (mapping_at self.now page) ≡ mapping_at self.now page) }
     {
-        match self.pages.mapping(page) {
-            Some(mapping) => mapping.dirty != dirty,
-            None => false,
-        }
+        let (mapping, size) = self.pages.mapping_and_size(page)?;
+        (mapping.dirty != dirty).then_some(size)
     }
 
     /// Whether a page is resident with other rights.
@@ -161,10 +159,12 @@ impl Base {
     fn after_rights_of_one(&mut self, page: u32, rights: Rights)
         ensures { Maps page (option_map (with_rights rights) (mapping_at self.old page)) self.old self.new }
     {
-        if !self.has_other_rights(page, rights) {
+        let Some((mapping, before)) = self.pages.mapping_and_size(page) else {
+            return;
+        };
+        if mapping.rights == rights {
             return;
         }
-        let before = self.pages.size(page);
         self.pages.set_rights(page, rights);
         self.pages.settle(page, before);
     }
