@@ -13,11 +13,11 @@ use Rattle.pager_model.specs.Agreement.{has_frame}
 use Rattle.pager_model.specs.Headline.{member_of}
 use Rattle.pager_model.specs.Layouts.{Layout, list_of, with_listed, oldest_of, oldest_from}
 use Rattle.pager_model.specs.Records.{is_used, yield_of, same_size}
+use Rattle.pager_model.proofs.Lists.{get_or_within}
 use Rattle.reservation_lists.specs.Kept.{has_member_of, is_listed}
 use Rattle.reservation_lists.proofs.Members.{All-with_member}
 use Rattle.reservations.specs.Kept.{ArePlaced}
 use Rattle.frame_pool.proofs.PartYields.{same_size_from}
-use Rattle.reservations.proofs.FrameIds.{known_record}
 use Rattle.frame_pool.specs.Listed.{AreListed}
 use Rattle.frame_pool.proofs.MemberOrder.{with_member-swap, without_member-with}
 use Rattle.frame_pool.proofs.YieldByPlaces.{yield_of-agree}
@@ -117,7 +117,7 @@ oldest_in-none used k records id r none is yields =
 others_of_list : (used : List Bool) (k : ℕ) (records : List (Option Reservation)) (id : ℕ) (r : Reservation) → ArePlaced records → get_or records id None ≡ Some r → All (λ m. m.frame ≢ r.frame) (list_of used k (set records id None))
 others_of_list used k records id r placed is =
     All-list_of (λ m. m.frame ≢ r.frame) used k (set records id None) (λ at q there yields same. elim (cases_eq at id) [
-      | inl here ↦ none-some q (sym (ap (λ n. get_or (set records id None) n None) here ∙ get_or-set_same records id None None (known_record records id r is)) ∙ there)
+      | inl here ↦ none-some q (sym (ap (λ n. get_or (set records id None) n None) here ∙ get_or-set_same records id None None (get_or_within records id r is)) ∙ there)
       | inr other ↦
           let was = sym (get_or-set_other records id at None None other) ∙ there in
           other (sym (placed at q was).named ∙ same ∙ (placed id r is).named)

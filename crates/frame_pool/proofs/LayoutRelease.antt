@@ -9,7 +9,8 @@ use Rattle.pager_model.specs.Agreement.{has_frame}
 use Rattle.pager_model.specs.FreeBlocks.{with_range}
 use Rattle.pager_model.specs.Layouts.{Layout, frame_in, vacate_layout, carve_layout, narrow_layout, take_out, put_back, is_last, record_at, is_free}
 use Rattle.pager_model.specs.Records.{is_used}
-use Rattle.reservations.proofs.FrameIds.{has_frame_bounds, has_frame_from, known_record, ArePlaced-set, no_frame, unused_in}
+use Rattle.pager_model.proofs.Lists.{get_or_within}
+use Rattle.reservations.proofs.FrameIds.{has_frame_bounds, has_frame_from, ArePlaced-set, no_frame, unused_in}
 use Rattle.frame_pool.specs.Laid.{IsLaid, IsIn}
 use Rattle.frame_pool.proofs.PagePlaces.{HasPlace, has_frame_for, frame_in-found, frame_in-from}
 use Rattle.frame_pool.proofs.SplitFrames.{some_used_in}
@@ -57,14 +58,14 @@ module _ (l : Layout) (id : ℕ) (r : Reservation) (is : record_at l id ≡ Some
   -- what stands after it stood before, at another frame
   pub stood : (j : ℕ) (q : Reservation) → get_or (set l.records id None) j None ≡ Some q → (j ≢ id) × (record_at l j ≡ Some q)
   stood j q at = elim (cases_eq j id) [
-    | inl here ↦ absurd (none-some q (sym (ap (λ k. get_or (set l.records id None) k None) here ∙ get_or-set_same l.records id None None (known_record l.records id r is)) ∙ at))
+    | inl here ↦ absurd (none-some q (sym (ap (λ k. get_or (set l.records id None) k None) here ∙ get_or-set_same l.records id None None (get_or_within l.records id r is)) ∙ at))
     | inr other ↦ (other, sym (get_or-set_other l.records id j None None other) ∙ at)
   ]
 
   -- and whose place a frame is after, its place it was before
   pub had : (f j : ℕ) → has_frame f (get_or (set l.records id None) j None) ≡ true → (j ≢ id) × (has_frame f (record_at l j) ≡ true)
   had f j has = elim (cases_eq j id) [
-    | inl here ↦ absurd (no_frame f _ (ap (λ k. get_or (set l.records id None) k None) here ∙ get_or-set_same l.records id None None (known_record l.records id r is)) has)
+    | inl here ↦ absurd (no_frame f _ (ap (λ k. get_or (set l.records id None) k None) here ∙ get_or-set_same l.records id None None (get_or_within l.records id r is)) has)
     | inr other ↦ (other, sym (ap (has_frame f) (get_or-set_other l.records id j None None other)) ∙ has)
   ]
 
@@ -84,7 +85,7 @@ pub IsLaid-without : (l : Layout) (free : List Bool) (id frame : ℕ) (r : Reser
 IsLaid-without l free id frame r laid is long freed unused has = record {
   records_long = length-set l.records id None ∙ laid.records_long ∙ sym long;
   used_long = length-set l.used frame false ∙ laid.used_long ∙ sym long;
-  placed = ArePlaced-set l.records id None laid.placed (known_record l.records id r is) (λ q e. absurd (none-some q e));
+  placed = ArePlaced-set l.records id None laid.placed (get_or_within l.records id r is) (λ q e. absurd (none-some q e));
   apart = λ f j other one two. laid.apart f j other (had l id r is f j one).1 (had l id r is f other two).1;
   not_free = λ f j free_now has_now.
       let w = had l id r is f j has_now in

@@ -1,7 +1,7 @@
 -- What each move keeps true of a pool's fields.
-use Rattle.std.proofs.Common.{◌≡◌, ◌≢◌, ◌&&◌, Bool, not, ℕ, ◌+◌, ◌<◌, ◌≤◌, true, false, cond, List, length, get_or, set, map, Option, Some, None, option_map, replicate, refl, sym, ap, subst, ◌∙◌, inl, inr, arith}
+use Rattle.std.proofs.Common.{◌≡◌, ◌≢◌, ℕ, ◌+◌, ◌<◌, ◌≤◌, true, false, cond, List, length, get_or, set, map, Option, Some, None, option_map, replicate, refl, sym, ap, subst, ◌∙◌, inl, inr, arith}
 use Rattle.std.specs.List.{range_with_len}
-use Rattle.std.specs.Option.{is_some, is_none, IsSome, IfSome}
+use Rattle.std.specs.Option.{is_some, IsSome, IfSome}
 use Rattle.std.proofs.Math.ListN.{get_or-map}
 use Rattle.std.proofs.Math.Seq.{map-set_same}
 use Rattle.std.proofs.lemmas.Bool.{cases_eq, cases_lt, false≢true}
@@ -152,16 +152,6 @@ IsPool-start n processors few few_processors =
 -- what may be paged out is noted
 pub noted_evictable : (st : FrameState) (frame : ℕ) → is_evictable (used_at st frame) ≡ true → used_at st frame ≢ None
 noted_evictable st frame may none = false≢true (sym (ap is_evictable none) ∙ may)
-
--- and no processor claims it
-pub unclaimed_evictable : (o : Option Used) → is_evictable o ≡ true → claim_in o ≡ None
-unclaimed_evictable None may = refl
-unclaimed_evictable (Some u) may = by_claim u.wired u.claim may
-  where
-    by_claim : (wired : Bool) (claim : Option ℕ) → (not wired && is_none claim) ≡ true → claim ≡ None
-    by_claim wired None is = refl
-    by_claim true (Some c) is = absurd (false≢true is)
-    by_claim false (Some c) is = absurd (false≢true is)
 
 -- the page that its reservation joins to a used place has it
 pub page_of : (st : FrameState) (frame page : ℕ) (r : Reservation) → IsLaid (layout_of st) → record_at (layout_of st) r.frame ≡ Some r → used_at st frame ≢ None → IsPageAt r frame page → frame_of st r.space page ≡ Some frame
