@@ -3,7 +3,7 @@ use Rattle.std.proofs.Common.{◌≡◌, ℕ, zero, suc, ◌+◌, ◌-◌, ◌*�
 use Rattle.std.proofs.Math.Nat.{pow-suc}
 use Rattle.std.specs.Cmp.{both_ways}
 use Rattle.std.proofs.lemmas.Bool.{cases_eq, and_parts, and_from, eqb-true, eq-eqb}
-use Rattle.std.proofs.lemmas.Option.{none-some, same_Some}
+use Rattle.std.proofs.lemmas.Option.{none-some, same_Some, cond_some}
 use Rattle.pager_model.specs.declared.region.Rights.{Rights}
 use Rattle.pager_model.specs.declared.tile.Mapping.{Mapping}
 use Rattle.pager_model.specs.declared.tile.Tile.{Tile}
@@ -13,6 +13,7 @@ use Rattle.pager_model.specs.Tiles.{moved_by, same_rights, same_flag, is_mapping
 use Rattle.pager_model.proofs.ExtentLemmas.{eight_pos, part_inside, extent_of_frame, range_of_extent, first_of_extent}
 use Rattle.pager_model.proofs.Ranges.{list_all-range}
 use Rattle.pager_model.proofs.TileParts.{same_rights-true, same_flag-true, same_rights-refl, same_flag-refl}
+use Rattle.pager_model.proofs.Options.{some_from_is_some, none_from_is_some}
 use Rattle.tiles.proofs.Extents.{lies_in, in_part}
 
 -- ---- mappings
@@ -61,18 +62,6 @@ whole_eligible pages k first m w =
     ((list_all-range (λ i. is_mapping (moved_by i m) (pages (first + i))) 0 (8 ^ k)).1
     (λ i _ low. ap (is_mapping (moved_by i m)) (w.uniform i (omega arith)) ∙ mapping_same (moved_by i m)))
 
-some_if : {X : Type 0} (b : Bool) (x y : X) → cond b (Some x) None ≡ Some y → (b ≡ true) × (y ≡ x)
-some_if true x y h = (refl, sym (same_Some x y h))
-some_if false x y h = absurd (none-some y h)
-
-some_there : {X : Type 0} (o : Option X) → is_some o ≡ true → (x : X) × (o ≡ Some x)
-some_there None h = absurd (cc)
-some_there (Some x) h = (x, refl)
-
-none_there : {X : Type 0} (o : Option X) → is_some o ≡ false → o ≡ None
-none_there None h = refl
-none_there (Some x) h = absurd (cc)
-
 -- the extent of a size round a page is eligible, and its first page has this mapping
 pub record HasExtent (pages : ℕ → Option Mapping) (k page : ℕ) : Type 0 where
   pub head : Mapping
@@ -86,7 +75,7 @@ eligible_is pages k page h =
 
 has_with : (pages : ℕ → Option Mapping) (k first : ℕ) (o : Option Mapping) (t : Tile) → eligible_with pages k first o ≡ Some t → (m : Mapping) × (o ≡ Some m) × IsWhole pages k first m
 has_with pages k first None t h = absurd (none-some t h)
-has_with pages k first (Some m) t h = (m, refl, eligible_whole pages k first m (some_if (is_eligible pages k first m) (tile_with k first m) t h).0)
+has_with pages k first (Some m) t h = (m, refl, eligible_whole pages k first m (cond_some (is_eligible pages k first m) (tile_with k first m) t h).0)
 
 pub eligible_has : (pages : ℕ → Option Mapping) (k page : ℕ) (t : Tile) → eligible_at pages k page ≡ Some t → HasExtent pages k page
 eligible_has pages k page t h =
@@ -95,7 +84,7 @@ eligible_has pages k page t h =
 
 pub whole_has : (pages : ℕ → Option Mapping) (k page : ℕ) → whole pages k page ≡ true → HasExtent pages k page
 unfolding whole
-whole_has pages k page h = let t = some_there (eligible_at pages k page) h in eligible_has pages k page t.0 t.1
+whole_has pages k page h = let t = some_from_is_some (eligible_at pages k page) h in eligible_has pages k page t.0 t.1
 
 pub has_whole : (pages : ℕ → Option Mapping) (k page : ℕ) → HasExtent pages k page → whole pages k page ≡ true
 unfolding whole
@@ -103,7 +92,7 @@ has_whole pages k page h = ap is_some (eligible_is pages k page h)
 
 pub whole_none : (pages : ℕ → Option Mapping) (k page : ℕ) → whole pages k page ≡ false → eligible_at pages k page ≡ None
 unfolding whole
-whole_none pages k page h = none_there (eligible_at pages k page) h
+whole_none pages k page h = none_from_is_some (eligible_at pages k page) h
 
 pub none_whole : (pages : ℕ → Option Mapping) (k page : ℕ) → eligible_at pages k page ≡ None → whole pages k page ≡ false
 unfolding whole
