@@ -17,6 +17,7 @@ use Rattle.pager_model.specs.FrameStates.{FrameState, start_frames, layout_of, u
 use Rattle.pager_model.specs.Layouts.{Layout, start_layout, placing, put_back, record_at}
 use Rattle.pager_model.specs.Records.{is_used}
 use Rattle.pager_model.proofs.Lists.{get_or-alike}
+use Rattle.pager_model.proofs.Options.{none_from_is_some}
 use Rattle.frame_pool.specs.declared.pool.Pool.TheInside.{Inside}
 use Rattle.frame_pool.specs.Laid.{IsLaid, IsSound}
 use Rattle.frame_pool.specs.Placed.{IsPageAt, PlacesPage}
@@ -204,11 +205,7 @@ module _ (p : Inside) (space page : ℕ) (want : Want) (m : Layout) (frame broke
   was_unused = sym (is_used-layout_of (state_of p) frame) ∙ ap (λ k. is_used k.used frame) (layout_of-pool p pool) ∙ placed.unused
 
   pub nothing_noted : used_at (state_of p) frame ≡ None
-  nothing_noted = not_some (used_at (state_of p) frame) was_unused
-    where
-      not_some : (o : Option Used) → is_some o ≡ false → o ≡ None
-      not_some None none = refl
-      not_some (Some u) none = absurd (false≢true (sym none))
+  nothing_noted = none_from_is_some (used_at (state_of p) frame) was_unused
 
   pub frame_out : (frame < length (state_of p).free) × (is_some (used_at (state_of p) frame) ≡ false)
   frame_out = (omega (arith, frame_known, pool.frames_known), was_unused)
