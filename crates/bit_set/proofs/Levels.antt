@@ -4,7 +4,7 @@ use Rattle.std.proofs.Math.ListN.{set, length-set}
 use Rattle.std.specs.Bool.{OnTrue, OnFalse}
 use Rattle.std.specs.Option.{is_some}
 use Rattle.std.proofs.lemmas.Bool.{cases_lt, cases_eq, false≢true, false_from_ne_true, OnFalse_at, OnTrue_at, cases_Bool}
-use Rattle.bit_set.proofs.Sets.{get_or-alike}
+use Rattle.pager_model.proofs.Lists.{get_or-alike}
 use Rattle.bit_set.specs.Bits.{HasInWord, LacksWord, IsNextInWord, IsFirstFrom}
 use Rattle.bit_set.specs.Summaries.{Sums, AreLevels}
 

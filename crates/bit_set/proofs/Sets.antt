@@ -4,9 +4,10 @@ use Rattle.std.proofs.Math.ListN.{set, length-set}
 use Rattle.std.specs.Int.{bit_at, trailing_zeros, w64}
 use Rattle.std.specs.List.{range_with_len}
 use Rattle.std.proofs.lemmas.Bool.{cases_lt, cases_eq, false≢true}
-use Rattle.std.proofs.lemmas.List.{ext_get_or, get_or_past, length-replicate, get_or-replicate}
+use Rattle.std.proofs.lemmas.List.{ext_get_or, get_or_past, length-replicate}
 use Rattle.std.proofs.lemmas.List.FromFn.{length-map-range_with_len, get_or-map-range_with_len}
 use Rattle.std.proofs.lemmas.Nat.Bits.{bit_at-zero, bit_at-trailing_zeros}
+use Rattle.pager_model.proofs.Lists.{get_or-alike}
 use Rattle.bit_set.specs.Bits.{has_bit, bits_of, HasInWord, LacksWord, IsNextInWord}
 
 has_bit_in : (words : List ℕ) (n word : ℕ) → get_or words (n / 64) 0 ≡ word → has_bit words n ≡ eqb (bit_at word (n % 64)) 1
@@ -38,13 +39,6 @@ in_by_bit words n b at = get_or-bits_of words n ∙ (has_bit_in words n _ refl �
     test : (b : Bool) → eqb (cond b 1 0) 1 ≡ b
     test true = refl
     test false = refl
-
--- where all are alike, each is, and so is what is past them
-pub get_or-alike : {A : Type 0} (n i : ℕ) (a : A) → get_or (replicate n a) i a ≡ a
-get_or-alike n i a = elim (cases_lt i n) [
-  | inl inside ↦ get_or-replicate n i a a inside
-  | inr past ↦ get_or_past (replicate n a) i a (omega (arith, length-replicate n a))
-]
 
 pub bits_of-replicate : (n : ℕ) → bits_of (replicate n 0) ≡ replicate (64 * n) false
 bits_of-replicate n =

@@ -1,7 +1,8 @@
 -- What becomes of the free blocks as one is taken out, cut, joined with its buddy and put in.
 use Rattle.std.proofs.Common.{◌≡◌, ◌≢◌, ℕ, zero, suc, ◌+◌, ◌-◌, ◌*◌, ◌/◌, ◌^◌, ◌<◌, ◌≤◌, ◌⊎◌, Bool, true, false, ◌||◌, List, [], length, replicate, get_or, inl, inr, refl, sym, ap, subst, ◌∙◌, zero-add, arith, get_or-set_other, get_or-set_same}
+use Rattle.std.specs.Cmp.{both_ways}
 use Rattle.std.proofs.Math.ListN.{set, length-set}
-use Rattle.std.proofs.lemmas.Bool.{cases_eq, cases_lt, cases_Bool, false≢true, or_cases, or_left, or_right, eqb-true, eq-eqb, ne_eqb, false_from_ne_true}
+use Rattle.std.proofs.lemmas.Bool.{cases_eq, cases_lt, false≢true, or_cases, or_left, or_right, eqb-true, eq-eqb, ne_eqb, false_from_ne_true}
 use Rattle.std.proofs.lemmas.List.{ext_get_or, length-replicate, get_or-replicate}
 use Rattle.std.proofs.lemmas.List.FromFn.{length-map-range_with_len, get_or-map-range_with_len}
 use Rattle.std.proofs.lemmas.Nat.{pow_pos}
@@ -10,13 +11,6 @@ use Rattle.pager_model.proofs.ExtentLemmas.{extent_of_frame, range_of_extent}
 use Rattle.buddy_extents.specs.Blocks.{node, is_block, has_block, is_free, free_in, free_with, same_block, AreBlocks, InHand, IsBuddy}
 use Rattle.buddy_extents.proofs.NodeNumbers.{node_below, same_node, node_of_same, wider, halves, known_together}
 use Rattle.buddy_extents.proofs.Ranges.{length-with_range, with_range_inside, with_range_outside, range_cases}
-
--- two tests that hold of each other are one
-pub same_test : (a b : Bool) → (a ≡ true → b ≡ true) → (b ≡ true → a ≡ true) → a ≡ b
-same_test a b there back = elim (cases_Bool a) [
-  | inl holds ↦ holds ∙ sym (there holds)
-  | inr fails ↦ fails ∙ sym (false_from_ne_true b (λ holds. false≢true (sym fails ∙ back holds)))
-]
 
 -- ---- which frames have a block
 
@@ -251,7 +245,7 @@ lift nodes frames n frame most blocks small known is = record {
     same any h =
         let low : any < frames = omega (arith, length-free_with changed frames n frame) in
         get_or-free_with changed frames n frame any low
-        ∙ (same_test _ _ (there any (omega arith)) (back any (omega arith)) ∙ sym (get_or-free_in nodes frames any low))
+        ∙ (both_ways _ _ (there any (omega arith)) (back any (omega arith)) ∙ sym (get_or-free_in nodes frames any low))
 
 -- the block in hand is joined with its buddy, which goes out of the set
 pub join : (nodes : List Bool) (frames n frame other : ℕ) (free : List Bool) → frames ≤ 32768 → InHand nodes frames n frame free → n < 9 → IsBuddy n frame other → is_block nodes n other ≡ true → InHand (set nodes (node n other) false) frames (n + 1) frame free
@@ -316,7 +310,7 @@ join nodes frames n frame other free most hand small buddy is = record {
     same any h =
         let low : any < frames = omega (arith, length-free_with changed frames (n + 1) frame) in
         get_or-free_with changed frames (n + 1) frame any low
-        ∙ (same_test _ _ (there any (omega arith)) (back any (omega arith)) ∙ sym (get_or-free_with nodes frames n frame any low))
+        ∙ (both_ways _ _ (there any (omega arith)) (back any (omega arith)) ∙ sym (get_or-free_with nodes frames n frame any low))
 
 -- the block in hand is cut: the half without the frame goes into the set
 pub cut : (nodes : List Bool) (frames n frame other : ℕ) (free : List Bool) → frames ≤ 32768 → InHand nodes frames (n + 1) frame free → IsBuddy n frame other → InHand (set nodes (node n other) true) frames n frame free
@@ -382,7 +376,7 @@ cut nodes frames n frame other free most hand buddy = record {
     same any h =
         let low : any < frames = omega (arith, length-free_with changed frames n frame) in
         get_or-free_with changed frames n frame any low
-        ∙ (same_test _ _ (there any (omega arith)) (back any (omega arith)) ∙ sym (get_or-free_with nodes frames (n + 1) frame any low))
+        ∙ (both_ways _ _ (there any (omega arith)) (back any (omega arith)) ∙ sym (get_or-free_with nodes frames (n + 1) frame any low))
 
 -- the block in hand goes in: the free frames are those in the set then
 pub put : (nodes : List Bool) (frames n frame : ℕ) (free : List Bool) → frames ≤ 32768 → InHand nodes frames n frame free → free_in (set nodes (node n frame) true) frames ≡ free
@@ -413,7 +407,7 @@ put nodes frames n frame free most hand =
     same any h =
         let low : any < frames = omega (arith, length-free_in changed frames) in
         get_or-free_in changed frames any low
-        ∙ (same_test _ _ (there any (omega arith)) (back any (omega arith)) ∙ sym (get_or-free_with nodes frames n frame any low))
+        ∙ (both_ways _ _ (there any (omega arith)) (back any (omega arith)) ∙ sym (get_or-free_with nodes frames n frame any low))
 
 -- ---- the hand and a range of frames
 

@@ -1,5 +1,6 @@
 -- The blocks in the set are the maximal free ones, and the first node of an order or a larger one leads to the choice.
 use Rattle.std.proofs.Common.{◌≡◌, ℕ, zero, suc, ◌+◌, ◌-◌, ◌*◌, ◌/◌, ◌^◌, ◌<◌, ◌≤◌, Bool, true, false, not, ◌&&◌, eqb, ltb, List, get_or, Some, None, inl, inr, refl, sym, ap, subst, ◌∙◌, bit_xor, arith}
+use Rattle.std.specs.Cmp.{both_ways}
 use Rattle.std.proofs.lemmas.Bool.{le-ltb, cases_eq, cases_lt, cases_Bool, false≢true, and_parts, and_from, and_left, and_right, eqb-true, eq-eqb, lt-ltb, false_from_ne_true, true_from_ne_false, not-true, not_from_false}
 use Rattle.std.proofs.lemmas.List.{get_or_past}
 use Rattle.std.proofs.lemmas.Nat.{pow_pos, shl-shr, div_below, pow-add, shl_below}
@@ -10,7 +11,7 @@ use Rattle.pager_model.proofs.ExtentLemmas.{extent_of_frame, range_of_extent}
 use Rattle.buddy_extents.specs.Blocks.{first_node, node, is_block, is_free, free_in, AreBlocks, IsBuddy}
 use Rattle.buddy_extents.proofs.NodeNumbers.{IsBuddy-xor, node_of_same, next_first_node, later_first_node, wider, wider_up, known_together}
 use Rattle.buddy_extents.proofs.Runs.{run_free_from, run_free_frames, run_free_within, NoneBefore, lowest_block-first, lowest_block-none, least_here, least_later}
-use Rattle.buddy_extents.proofs.BlockMoves.{same_test, is_free-block, is_free-none, length-free_in, get_or-free_in}
+use Rattle.buddy_extents.proofs.BlockMoves.{is_free-block, is_free-none, length-free_in, get_or-free_in}
 
 -- where a block isn't in, nor one round it, some frame of it isn't free
 pub some_not_free : (nodes : List Bool) (frames : ℕ) → AreBlocks nodes frames → (n frame : ℕ) → n ≤ 9 → frame < 32768 → ((m : ℕ) → n ≤ m → m ≤ 9 → is_block nodes m frame ≡ false) → (any : ℕ) × (any < 32768) × (any / 2 ^ n ≡ frame / 2 ^ n) × (is_free nodes any ≡ false)
@@ -89,7 +90,7 @@ larger_not_free nodes frames blocks n first small known is =
 
 -- the blocks in the set are the maximal free ones
 pub maximal_is_block : (nodes : List Bool) (frames : ℕ) → frames ≤ 32768 → AreBlocks nodes frames → (n first : ℕ) → n ≤ 9 → first < 32768 → block_start n first ≡ first → is_maximal (free_in nodes frames) n first ≡ is_block nodes n first
-maximal_is_block nodes frames most blocks n first small known start = same_test _ _ there back
+maximal_is_block nodes frames most blocks n first small known start = both_ways _ _ there back
   where
     free : List Bool
     free = free_in nodes frames

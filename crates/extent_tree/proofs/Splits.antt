@@ -1,9 +1,10 @@
 -- The extents that are split are those with a row in them that is smaller.
-use Rattle.std.proofs.Common.{◌≡◌, ℕ, zero, suc, ◌+◌, ◌-◌, ◌*◌, ◌/◌, ◌^◌, ◌<◌, ◌≤◌, true, Option, Some, None, is_some, inl, inr, refl, sym, ap, ◌∙◌, arith}
+use Rattle.std.proofs.Common.{◌≡◌, ℕ, zero, suc, ◌+◌, ◌-◌, ◌*◌, ◌/◌, ◌^◌, ◌<◌, ◌≤◌, true, Some, is_some, inl, inr, sym, ap, ◌∙◌, arith}
 use Rattle.std.proofs.lemmas.Bool.{cases_eq, false≢true, or_cases}
+use Rattle.pager_model.proofs.Options.{cases_Option, some_from_is_some}
 use Rattle.extent_tree.specs.Rows.{Arena, spot_at, number_at, part_at, place_of, spot_of, row, is_split, SplitsAreRowsBelow}
 use Rattle.extent_tree.specs.Kept.{IsTree}
-use Rattle.extent_tree.proofs.Places.{number_step, place_up, place_down, place_alike, spot_some, spot_none, some_or_none}
+use Rattle.extent_tree.proofs.Places.{number_step, place_up, place_down, place_alike, spot_some, spot_none}
 
 -- a page of a part of the extent round a page
 page_in : (height page part : ℕ) → height < 3 → part < 8 → (in_it : ℕ) × (number_at height in_it ≡ number_at height page) × (part_at (suc height) in_it ≡ part)
@@ -14,20 +15,16 @@ page_in (suc (suc (suc height))) page part low small = absurd (omega arith)
 
 -- what has something at it has a place
 placed_if_split : {V : Type 0} (t : Arena V) (height page : ℕ) → is_some (spot_of t height page).node ≡ true → (place : ℕ) × (place_of t height page ≡ Some place) × (is_some (spot_at t place).node ≡ true)
-placed_if_split t height page split = elim (some_or_none (place_of t height page)) [
+placed_if_split t height page split = elim (cases_Option (place_of t height page)) [
   | inl none ↦ absurd (false≢true (sym (ap (λ s. is_some s.node) (spot_none t height page none)) ∙ split))
   | inr there ↦ (there.0, there.1, sym (ap (λ s. is_some s.node) (spot_some t height page there.0 there.1)) ∙ split)
 ]
 
 pub placed_if_row : {V : Type 0} (t : Arena V) (height page : ℕ) → is_some (spot_of t height page).value ≡ true → (place : ℕ) × (place_of t height page ≡ Some place)
-placed_if_row t height page has = elim (some_or_none (place_of t height page)) [
+placed_if_row t height page has = elim (cases_Option (place_of t height page)) [
   | inl none ↦ absurd (false≢true (sym (ap (λ s. is_some s.value) (spot_none t height page none)) ∙ has))
   | inr there ↦ there
 ]
-
-some_node : (o : Option ℕ) → is_some o ≡ true → (node : ℕ) × (o ≡ Some node)
-some_node None h = absurd (false≢true h)
-some_node (Some node) h = (node, refl)
 
 -- a row in the extent of a height round a page, further down
 RowBelow : {V : Type 0} → Arena V → ℕ → ℕ → Type 0
@@ -42,7 +39,7 @@ row_below t tree zero height page three split =
     absurd (false≢true (sym (ap is_some none) ∙ at.2))
 row_below t tree (suc rest) height page three split =
     let at = placed_if_split t height page split in
-    let node = some_node (spot_at t at.0).node at.2 in
+    let node = some_from_is_some (spot_at t at.0).node at.2 in
     elim (tree.in_use at.0 node.0 node.1) [
       | inr hand ↦ let e = hand.2 in absurd (cc)
       | inl used_by ↦

@@ -14,7 +14,8 @@ use Rattle.pager_model.specs.Layouts.{Layout, to_break, is_full, is_full_record,
 use Rattle.pager_model.specs.Records.{is_used, none_used, has_empty, yield_up_to, yield_of}
 use Rattle.frame_pool.proofs.PartYields.{has_empty_some}
 use Rattle.pager_model.proofs.ExtentLemmas.{eight_pos}
-use Rattle.reservations.proofs.FrameIds.{has_frame_bounds, known_record, unused_in}
+use Rattle.pager_model.proofs.Lists.{get_or_within}
+use Rattle.reservations.proofs.FrameIds.{has_frame_bounds, unused_in}
 use Rattle.reservations.proofs.YieldLemmas.{has_empty-yes}
 use Rattle.frame_pool.specs.Laid.{IsLaid}
 use Rattle.frame_pool.proofs.FoundExtents.{MayBreak-found}
@@ -48,7 +49,7 @@ EachFull-from l full =
       taken = none_taken l.free parts.0;
       full = λ id r is.
           let all = AllPass-from_list_all (is_full_record l.used) l.records parts.1 in
-          yields_none l.used r (sym (ap (is_full_record l.used) is) ∙ all id None (known_record l.records id r is));
+          yields_none l.used r (sym (ap (is_full_record l.used) is) ∙ all id None (get_or_within l.records id r is));
     }
 
 pub is_full-from : (l : Layout) → EachFull l → is_full l ≡ true

@@ -1,6 +1,6 @@
 -- What the calls of a layout keep: it stays sound, and its lists are those of its reservations.
 use Rattle.std.proofs.Common.{◌≡◌, ℕ, suc, ◌-◌, ◌^◌, ◌<◌, ◌≤◌, inl, inr, Bool, true, false, cond, List, length, get_or, set, Option, Some, None, refl, sym, ap, subst, ◌∙◌, arith}
-use Rattle.std.specs.Option.{IfSome, IfNone, IsSome, IsSomeAnd, option_map_or}
+use Rattle.std.specs.Option.{IfNone, IsSome, IsSomeAnd, option_map_or}
 use Rattle.std.proofs.lemmas.Bool.{cases_lt, cases_Bool, cond-true, cond-false, lt-ltb, le-ltb, false≢true}
 use Rattle.std.proofs.lemmas.List.{get_or-set_same, get_or-set_other, length-set, set-set}
 use Rattle.std.proofs.lemmas.Option.{none-some, same_Some}
@@ -14,7 +14,8 @@ use Rattle.reservation_lists.specs.Kept.{KeptLists, is_listed}
 use Rattle.reservations.specs.Kept.{CoversPage, IsPlaced, ArePlaced}
 use Rattle.frame_pool.proofs.PartRecords.{used_part}
 use Rattle.pager_model.proofs.ExtentLemmas.{part_inside, part_of_eight}
-use Rattle.reservations.proofs.FrameIds.{get_or-set_default, ArePlaced-set, has_frame_bounds, has_frame_from, known_record}
+use Rattle.pager_model.proofs.Lists.{get_or_within}
+use Rattle.reservations.proofs.FrameIds.{get_or-set_default, ArePlaced-set, has_frame_bounds, has_frame_from}
 use Rattle.reservations.proofs.SplitLemmas.{split_records-open}
 use Rattle.frame_pool.specs.Laid.{IsLaid}
 use Rattle.frame_pool.specs.Listed.{AreListed, IsInOrder, WasSplit}
@@ -30,11 +31,6 @@ use Rattle.frame_pool.proofs.LayoutSplit.{Settles-split}
 use Rattle.frame_pool.proofs.SplitFrames.{free_up_to, free_up_to-cases}
 
 -- Clauses on an option.
-
--- what holds of each value that it may have
-pub IfSome-from : {X : Type 0} (o : Option X) (P : X → Type 0) → ((x : X) → o ≡ Some x → P x) → IfSome o P
-IfSome-from None P all = tt
-IfSome-from (Some x) P all = all x refl
 
 -- its value, and what holds of it
 pub some_of : {X : Type 0} (o : Option X) (P : X → Type 0) → IsSomeAnd o P → (x : X) × (o ≡ Some x) × P x
@@ -80,7 +76,7 @@ module _ (l : Layout) (id : ℕ) (r : Reservation) (laid : IsLaid l) (is : recor
 
   -- the others are in their places
   pub rest_placed : ArePlaced (set l.records id None)
-  rest_placed = ArePlaced-set l.records id None laid.placed (known_record l.records id r is) (λ q e. absurd (none-some q e))
+  rest_placed = ArePlaced-set l.records id None laid.placed (get_or_within l.records id r is) (λ q e. absurd (none-some q e))
 
   -- lists of the others have no member of it
   pub rest_unlisted : (lists : Lists) → AreListed lists l.used (set l.records id None) → is_listed id lists ≡ false
@@ -120,7 +116,7 @@ module _ (l : Layout) (id : ℕ) (r : Reservation) (laid : IsLaid l) (is : recor
   -- The reservation goes back into the lists as another one may stand in its place, where a frame of it became used or unused.
   pub IsInOrder-again : (frames f : ℕ) (b : Bool) (o : Option Reservation) (new : Layout) (kept without after : KeptLists) (map mapped : Populations) → IsInOrder frames l kept map → has_frame f (Some r) ≡ true → IsLaid new → length new.free ≡ length l.free → new.used ≡ set l.used f b → new.records ≡ set l.records id o → without.frames ≡ kept.frames → after.frames ≡ without.frames → AreListed without.lists l.used (set l.records id None) → ((records : List (Option Reservation)) → get_or records id None ≡ None → id < length records → AreListed without.lists new.used records → AreListed after.lists new.used (set records id (record_at new id))) → IsMapped mapped new.records → IsInOrder frames new after mapped
   IsInOrder-again frames f b o new kept without after map mapped order mine laid_after long used records room last are enlists is_mapped =
-      let known = known_record l.records id r is in
+      let known = get_or_within l.records id r is in
       let rest = subst (λ u. AreListed without.lists u (set l.records id None)) (sym used) (rest_listed without.lists f b mine are) in
       let stands : record_at new id ≡ o = ap (λ rs. get_or rs id None) records ∙ get_or-set_same l.records id o None known in
       let again : set (set l.records id None) id (record_at new id) ≡ new.records =

@@ -12,7 +12,8 @@ use Rattle.pager_model.specs.Records.{Records, is_used, split_records}
 use Rattle.population_map.specs.Populations.{Populations}
 use Rattle.reservations.specs.Kept.{IsPlaced}
 use Rattle.pager_model.proofs.ExtentLemmas.{eight_pos}
-use Rattle.reservations.proofs.FrameIds.{has_frame_from, known_record, none_begins, unset_before}
+use Rattle.pager_model.proofs.Lists.{get_or_within}
+use Rattle.reservations.proofs.FrameIds.{has_frame_from, none_begins, unset_before}
 use Rattle.reservations.proofs.SplitLemmas.{split_records-open}
 use Rattle.frame_pool.specs.Laid.{IsLaid}
 use Rattle.frame_pool.specs.Mapped.{IsMapped, MayEnter, WasSplitFrom}
@@ -53,7 +54,7 @@ module _ (l : Layout) (id : ℕ) (r : Reservation) (laid : IsLaid l) (is : recor
           | inr not ↦ not
         ]);
         apart = λ j p q at has also. let w = unset_before l.records id j None (Some q) (none-some q) at in w.0 (laid.one_cover j id r.space p q r w.1 is also has);
-        few = omega (arith, sum_by-set places_in l.records id None None (known_record l.records id r is), ap places_in is, places_few l laid, laid.records_long, long);
+        few = omega (arith, sum_by-set places_in l.records id None None (get_or_within l.records id r is), ap places_in is, places_few l laid, laid.records_long, long);
       }
 
   -- and is split

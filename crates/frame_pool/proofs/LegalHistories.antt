@@ -24,6 +24,7 @@ use Rattle.pager_model.specs.SpaceStates.{SpaceState, base_after}
 use Rattle.pager_model.proofs.Histories.{space_at-named, space_at-other, frames_at-named, frames_at-other, progress_at-own, progress_at-other, IsLegal-keeps}
 use Rattle.pager_model.proofs.SpaceEntries.{base-unnamed}
 use Rattle.pager_model.proofs.StartFrames.{HasNothing-start}
+use Rattle.pager_model.proofs.Options.{none_from_never}
 use Rattle.frame_pool.specs.Laid.{IsSound}
 use Rattle.frame_pool.proofs.Owners.{Keeps, Keeps-owns, Keeps-same, Keeps-then, Keeps-counted, HasNothing-counted, Keeps-take, Keeps-give_page, holds-given, Keeps-give_each, Keeps-claimed, Keeps-unclaimed, claims-claimed, nothing-unclaimed, Keeps-dropped, nothing-dropped}
 use Rattle.frame_pool.proofs.OrderedOwners.{owns-answer, owns-take, owns-clear, owns-out, owns-failure, owns-refusal, owns-rest, owns-give, owns-claim, owns-got, owns-use, owns-drop, owns-unclaim, nothing-between}
@@ -357,9 +358,5 @@ NothingHeld-legal g history legal whole =
         | inl known ↦ (nothing c known).holds_none
         | inr past ↦ get_or_past st.held c None (omega (arith, past, kept.sound.processors_known))
       ];
-      none_claimed = λ frame. no_claim (claim_in (used_at st frame)) (λ c claims. (nothing c (kept.sound.claims_known frame c claims).0).claims_none frame claims);
+      none_claimed = λ frame. none_from_never (claim_in (used_at st frame)) (λ c claims. (nothing c (kept.sound.claims_known frame c claims).0).claims_none frame claims);
     }
-  where
-    no_claim : (o : Option ℕ) → ((c : ℕ) → o ≡ Some c → ⊥) → o ≡ None
-    no_claim None none = refl
-    no_claim (Some c) none = absurd (none c refl)

@@ -1,5 +1,5 @@
 -- What taking a reservation out of the lists and putting one in leaves, by the reservation that is found at the frame.
-use Rattle.std.proofs.Common.{◌≡◌, ℕ, zero, suc, ◌+◌, ◌-◌, ◌<◌, ◌≤◌, Bool, true, false, List, set, get_or, length, Option, Some, None, is_some, IsSomeAnd, refl, sym, ap, subst, ◌∙◌, arith}
+use Rattle.std.proofs.Common.{◌≡◌, ℕ, zero, suc, ◌+◌, ◌-◌, ◌<◌, ◌≤◌, Bool, false, List, set, get_or, length, Option, Some, None, IsSomeAnd, refl, sym, ap, subst, ◌∙◌, arith}
 use Rattle.std.proofs.lemmas.Bool.{false≢true}
 use Rattle.std.proofs.lemmas.List.{get_or-set_same, set-set, set-get_or}
 use Rattle.pager_model.specs.declared.reservation.Reservation.{Reservation}
@@ -16,14 +16,6 @@ use Rattle.frame_pool.specs.Listed.{AreListed, WasSplit}
 use Rattle.frame_pool.proofs.AgeLists.{AreListed-without, AreListed-with, AreListed-full, is_listed-none}
 
 -- where something stands, it is a reservation
-pub found_record : (o : Option Reservation) → is_some o ≡ true → (r : Reservation) × (o ≡ Some r)
-found_record None some = absurd (false≢true some)
-found_record (Some r) some = (r, refl)
-
-pub no_record : (o : Option Reservation) → is_some o ≡ false → o ≡ None
-no_record None none = refl
-no_record (Some r) none = absurd (false≢true (sym none))
-
 pub found_record_and : (o : Option Reservation) (P : Reservation → Type 0) → IsSomeAnd o P → (r : Reservation) × (o ≡ Some r) × P r
 found_record_and None P some = absurd some
 found_record_and (Some r) P some = (r, refl, some)

@@ -1,5 +1,5 @@
 -- What the map answers of a page, and of an extent of pages.
-use Rattle.std.proofs.Common.{◌≡◌, ℕ, ◌+◌, ◌/◌, ◌^◌, ◌<◌, ◌≤◌, suc, Bool, true, false, eqb, ltb, ◌&&◌, List, [], ◌∷◌, get_or, max, Option, Some, None, is_some, IsSomeAnd, refl, sym, ap, subst, ◌∙◌, inl, inr, arith}
+use Rattle.std.proofs.Common.{◌≡◌, ℕ, ◌+◌, ◌/◌, ◌^◌, ◌<◌, ◌≤◌, suc, Bool, true, false, eqb, ltb, ◌&&◌, List, [], ◌∷◌, get_or, max, Option, Some, None, IsSomeAnd, refl, sym, ap, subst, ◌∙◌, inl, inr, arith}
 use Rattle.std.specs.List.{list_any}
 use Rattle.std.proofs.lemmas.Bool.{or_cases, and_parts, and_from, eq-eqb, eqb-true, lt-ltb, ltb-true, false≢true, false_from_ne_true}
 use Rattle.std.proofs.lemmas.List.Folds.{list_any_at}
@@ -11,7 +11,8 @@ use Rattle.population_map.specs.Populations.{Populations, page_at, id_of, is_pla
 use Rattle.population_map.proofs.Marks.{placed_size}
 use Rattle.reservations.specs.Kept.{ArePlaced}
 use Rattle.pager_model.proofs.ExtentLemmas.{eight_pos}
-use Rattle.reservations.proofs.FrameIds.{known_record}
+use Rattle.pager_model.proofs.Lists.{get_or_within}
+use Rattle.pager_model.proofs.Options.{some_from_is_some}
 use Rattle.frame_pool.specs.Mapped.{IsMapped, OneCovers}
 use Rattle.frame_pool.proofs.ListsByFrame.{found_record_and}
 use Rattle.frame_pool.proofs.MappedPages.{end_in_space, in_page, page_in}
@@ -77,14 +78,10 @@ module _ (m : Populations) (records : List (Option Reservation)) (space size fir
   meets_any-looked page same placed =
       let at = page_in size space first page e low same in
       let by = placed_size m page placed in
-      let id = found_id (id_of m by.0 page) by.2 in
+      let id = some_from_is_some (id_of m by.0 page) by.2 in
       let here : id_of m by.0 (page_at space at.0) ≡ Some id.0 = ap (id_of m by.0) (sym at.1) ∙ id.1 in
       let q = found_record_and (get_or records id.0 None) (λ r. (r.size ≡ by.0) × (covers space at.0 r ≡ true)) ((mapped.exact space at.0 by.0 id.0 known at.2 by.1).0 here) in
-      list_any_at (meets space size first) records id.0 None (known_record records id.0 q.0 q.1) (ap (meets space size first) q.1 ∙ meets_by at.0 q.0 at.3 at.4 q.2.1)
-    where
-      found_id : (o : Option ℕ) → is_some o ≡ true → (id : ℕ) × (o ≡ Some id)
-      found_id None some = absurd (false≢true some)
-      found_id (Some id) some = (id, refl)
+      list_any_at (meets space size first) records id.0 None (get_or_within records id.0 q.0 q.1) (ap (meets space size first) q.1 ∙ meets_by at.0 q.0 at.3 at.4 q.2.1)
 
   pub meets_any-not_looked : ArePlaced records → ((page : ℕ) → page / 8 ^ size ≡ page_at space first / 8 ^ size → IsInNone m page) → meets_any space records size first ≡ false
   meets_any-not_looked placed none = false_from_ne_true _ (λ any.

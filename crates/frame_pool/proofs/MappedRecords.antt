@@ -8,10 +8,10 @@ use Rattle.pager_model.specs.declared.reservation.Reservation.{Reservation}
 use Rattle.pager_model.specs.Extents.{IsExtent}
 use Rattle.pager_model.specs.FrameStates.{places_in}
 use Rattle.pager_model.specs.Layouts.{covers}
-use Rattle.pager_model.proofs.Lists.{get_or-alike}
+use Rattle.pager_model.proofs.Lists.{get_or-alike, get_or_within}
 use Rattle.population_map.specs.Populations.{Populations, page_at, id_of, placed_pages, space_count, frame_count, IsInNone, SameRoom, PlacesOnly}
 use Rattle.pager_model.proofs.ExtentLemmas.{eight_pos}
-use Rattle.reservations.proofs.FrameIds.{get_or-set_default, unset_before, has_frame_from, known_record}
+use Rattle.reservations.proofs.FrameIds.{get_or-set_default, unset_before, has_frame_from}
 use Rattle.frame_pool.specs.Mapped.{IsMapped, MayEnter, places_below}
 use Rattle.frame_pool.proofs.ListsByFrame.{found_record_and}
 use Rattle.frame_pool.proofs.MappedPages.{covered_in, in_covered, page_in}
@@ -147,14 +147,10 @@ module _ (m : Populations) (records : List (Option Reservation)) (r : Reservatio
   entering_apart known page same k small =
       let at = page_in r.size r.space r.first page may.placed.pages_aligned may.within same in
       let covered = covers-CoversPageOf r.space at.0 r (record { space_is = refl; low = at.3; high = at.4 }) in
-      ap (id_of m k) at.1 ∙ none_of (id_of m k (page_at r.space at.0))
+      ap (id_of m k) at.1 ∙ none_from_never (id_of m k (page_at r.space at.0))
       (λ j is.
       let q = found_record_and (get_or records j None) (λ t. (t.size ≡ k) × (covers r.space at.0 t ≡ true)) ((mapped.exact r.space at.0 k j known at.2 small).0 is) in
       may.apart j at.0 q.0 q.1 covered q.2.1)
-    where
-      none_of : (o : Option ℕ) → ((j : ℕ) → o ≡ Some j → ⊥) → o ≡ None
-      none_of None never = refl
-      none_of (Some j) never = absurd (never j refl)
 
   pub entering_room : placed_pages m + 8 ^ r.size ≤ frame_count m
   entering_room = omega (arith, mapped.few, mapped.room, may.few, sum_below (space_count m) records)
@@ -180,7 +176,7 @@ module _ (m : Populations) (records : List (Option Reservation)) (id : ℕ) (r :
 
   few_without : (spaces : ℕ) → sum_by (places_below spaces) without_it + places_below spaces (Some r) ≡ sum_by (places_below spaces) records
   few_without spaces =
-      let change = sum_by-set (places_below spaces) records id None None (known_record records id r is) in
+      let change = sum_by-set (places_below spaces) records id None None (get_or_within records id r is) in
       omega (arith, change, ap (places_below spaces) is)
 
   -- its extent is placed with its id
@@ -259,7 +255,7 @@ IsMapped-alike m records id r q mapped is space first size = record {
       elim (cases_eq j id) [
         | inl same ↦
             let at_old = ap (λ i. get_or records i None) same ∙ is in
-            let at_new = ap (λ i. get_or (set records id (Some q)) i None) same ∙ get_or-set_same records id (Some q) None (known_record records id r is) in (
+            let at_new = ap (λ i. get_or (set records id (Some q)) i None) same ∙ get_or-set_same records id (Some q) None (get_or_within records id r is) in (
               λ h. let own = subst (HasAt k s p) at_old (was.0 h) in subst (HasAt k s p) (sym at_new) (size ∙ own.0, sym (alike s p) ∙ own.1),
               λ h. let own = subst (HasAt k s p) at_new h in was.1 (subst (HasAt k s p) (sym at_old) (sym size ∙ own.0, alike s p ∙ own.1)),
             )
@@ -269,13 +265,13 @@ IsMapped-alike m records id r q mapped is space first size = record {
       ];
   pages = λ j t at. elim (cases_eq j id) [
     | inl same ↦
-        let at_new = ap (λ i. get_or (set records id (Some q)) i None) same ∙ get_or-set_same records id (Some q) None (known_record records id r is) in
+        let at_new = ap (λ i. get_or (set records id (Some q)) i None) same ∙ get_or-set_same records id (Some q) None (get_or_within records id r is) in
         omega (arith, mapped.pages id r is, first, ap (λ (u : Reservation). u.first) (same_Some q t (sym at_new ∙ at)))
     | inr other ↦ mapped.pages j t (sym (get_or-set_other records id j (Some q) None other) ∙ at)
   ];
   room = mapped.room ∙ sym (length-set records id (Some q));
   few =
-      let change = sum_by-set (places_below (space_count m)) records id (Some q) None (known_record records id r is) in
+      let change = sum_by-set (places_below (space_count m)) records id (Some q) None (get_or_within records id r is) in
       let weights : places_below (space_count m) (Some q) ≡ places_below (space_count m) (Some r) = ap (λ n. cond (ltb n (space_count m)) (8 ^ q.size) 0) space ∙ ap (λ k. cond (ltb r.space (space_count m)) (8 ^ k) 0) size in
       omega (arith, change, weights, ap (places_below (space_count m)) is, mapped.few);
 }

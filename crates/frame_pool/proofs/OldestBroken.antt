@@ -24,7 +24,8 @@ use Rattle.pager_model.specs.Settings.{Given}
 use Rattle.pager_model.proofs.Histories.{frames_at-named}
 use Rattle.reservations.specs.Kept.{ArePlaced}
 use Rattle.pager_model.proofs.ExtentLemmas.{eight_pos}
-use Rattle.reservations.proofs.FrameIds.{has_frame_from, known_record}
+use Rattle.pager_model.proofs.Lists.{get_or_within}
+use Rattle.reservations.proofs.FrameIds.{has_frame_from}
 use Rattle.reservation_lists.proofs.StampOrder.{is_before-same}
 use Rattle.frame_pool.specs.Laid.{IsLaid}
 use Rattle.frame_pool.proofs.AgeLists.{with_listed-in, list_of-open, All-list_of, oldest_in-found}
@@ -157,7 +158,7 @@ sized_populated l stamp page id c r laid is stood =
     elim (cases_eq r.frame c.frame) [
       | inl same ↦
           let one : c ≡ r = same_Some c r (sym at ∙ ap (record_at l) (sym same) ∙ stood) in
-          ap size_of (ap (λ n. get_or (set l.records c.frame (Some (stamped c stamp))) n None) same ∙ get_or-set_same l.records c.frame (Some (stamped c stamp)) None (known_record l.records c.frame c at))
+          ap size_of (ap (λ n. get_or (set l.records c.frame (Some (stamped c stamp))) n None) same ∙ get_or-set_same l.records c.frame (Some (stamped c stamp)) None (get_or_within l.records c.frame c at))
           ∙ ap (λ (q : Reservation). Some q.size) one
       | inr other ↦ ap size_of (get_or-set_other l.records c.frame r.frame (Some (stamped c stamp)) None other ∙ stood)
     ]

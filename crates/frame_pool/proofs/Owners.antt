@@ -1,6 +1,5 @@
 -- Which frames processors claim and hold, before a move of the frames' state and after it.
 use Rattle.std.proofs.Common.{◌≡◌, ◌≢◌, ◌⊎◌, inl, inr, ℕ, ◌<◌, Bool, true, false, cond, eqb, ◌&&◌, List, [], ◌∷◌, length, get_or, fold, is_some, Option, Some, None, refl, sym, ap, subst, ◌∙◌, arith}
-use Rattle.std.specs.Option.{is_none}
 use Rattle.std.proofs.lemmas.Bool.{cases_Bool, cases_eq, cases_lt, and_parts, false≢true, cond-false, eqb-true}
 use Rattle.std.proofs.lemmas.List.{get_or-set_same, get_or-set_other, get_or_past}
 use Rattle.std.proofs.lemmas.Option.{none-some, same_Some}
@@ -10,6 +9,7 @@ use Rattle.pager_model.specs.Agreement.{ClaimsOrHolds, OwnsVictim}
 use Rattle.pager_model.specs.FrameStates.{FrameState, Taking, layout_of, used_at, held_by, claim_in, frame_of, HasNothing, IsVictim, taken, take_frame, held_given, give_page, give_if_used, with_claim, claimed, dropped, dropped_in, counted, is_evictable}
 use Rattle.pager_model.specs.Layouts.{Placing, placing, frame_in}
 use Rattle.pager_model.specs.Order.{Victim}
+use Rattle.pager_model.proofs.Options.{none_from_is_none}
 use Rattle.frame_pool.specs.Laid.{IsSound}
 use Rattle.frame_pool.proofs.PageMoves.{GivesPage, GivesPage-give_page, place_in_layout}
 use Rattle.frame_pool.proofs.LayoutPlacing.{WasPlaced, WasPlaced-placing}
@@ -166,13 +166,9 @@ Keeps-reclaimed st frame claim c not_now not_before = record {
 }
 
 -- a used place that may be paged out has no claim
-unclaimed_place : (o : Option Used) → is_evictable o ≡ true → claim_in o ≡ None
+pub unclaimed_place : (o : Option Used) → is_evictable o ≡ true → claim_in o ≡ None
 unclaimed_place None evictable = refl
-unclaimed_place (Some u) evictable = by_claim u.claim (and_parts _ _ evictable).1
-  where
-    by_claim : (claim : Option ℕ) → is_none claim ≡ true → claim ≡ None
-    by_claim None is = refl
-    by_claim (Some c) is = absurd (false≢true is)
+unclaimed_place (Some u) evictable = none_from_is_none u.claim (and_parts _ _ evictable).1
 
 -- another processor claims its victim
 pub Keeps-claimed : (st : FrameState) (space page frame d c : ℕ) → IsVictim st space page frame → c ≢ d → Keeps st (claimed st frame (Some d)) c

@@ -1,7 +1,7 @@
 -- What each move keeps true of a pool's fields.
-use Rattle.std.proofs.Common.{◌≡◌, ◌≢◌, ◌&&◌, Bool, not, ℕ, ◌+◌, ◌<◌, ◌≤◌, true, false, cond, List, length, get_or, set, map, Option, Some, None, option_map, replicate, refl, sym, ap, subst, ◌∙◌, inl, inr, arith}
+use Rattle.std.proofs.Common.{◌≡◌, ◌≢◌, ℕ, ◌+◌, ◌<◌, ◌≤◌, true, false, cond, List, length, get_or, set, map, Option, Some, None, option_map, replicate, refl, sym, ap, subst, ◌∙◌, inl, inr, arith}
 use Rattle.std.specs.List.{range_with_len}
-use Rattle.std.specs.Option.{is_some, is_none, IsSome, IfSome}
+use Rattle.std.specs.Option.{is_some, IsSome, IfSome}
 use Rattle.std.proofs.Math.ListN.{get_or-map}
 use Rattle.std.proofs.Math.Seq.{map-set_same}
 use Rattle.std.proofs.lemmas.Bool.{cases_eq, cases_lt, false≢true}
@@ -17,6 +17,7 @@ use Rattle.pager_model.specs.FrameStates.{FrameState, start_frames, layout_of, u
 use Rattle.pager_model.specs.Layouts.{Layout, start_layout, placing, put_back, record_at}
 use Rattle.pager_model.specs.Records.{is_used}
 use Rattle.pager_model.proofs.Lists.{get_or-alike}
+use Rattle.pager_model.proofs.Options.{none_from_is_some}
 use Rattle.frame_pool.specs.declared.pool.Pool.TheInside.{Inside}
 use Rattle.frame_pool.specs.Laid.{IsLaid, IsSound}
 use Rattle.frame_pool.specs.Placed.{IsPageAt, PlacesPage}
@@ -153,16 +154,6 @@ IsPool-start n processors few few_processors =
 pub noted_evictable : (st : FrameState) (frame : ℕ) → is_evictable (used_at st frame) ≡ true → used_at st frame ≢ None
 noted_evictable st frame may none = false≢true (sym (ap is_evictable none) ∙ may)
 
--- and no processor claims it
-pub unclaimed_evictable : (o : Option Used) → is_evictable o ≡ true → claim_in o ≡ None
-unclaimed_evictable None may = refl
-unclaimed_evictable (Some u) may = by_claim u.wired u.claim may
-  where
-    by_claim : (wired : Bool) (claim : Option ℕ) → (not wired && is_none claim) ≡ true → claim ≡ None
-    by_claim wired None is = refl
-    by_claim true (Some c) is = absurd (false≢true is)
-    by_claim false (Some c) is = absurd (false≢true is)
-
 -- the page that its reservation joins to a used place has it
 pub page_of : (st : FrameState) (frame page : ℕ) (r : Reservation) → IsLaid (layout_of st) → record_at (layout_of st) r.frame ≡ Some r → used_at st frame ≢ None → IsPageAt r frame page → frame_of st r.space page ≡ Some frame
 page_of st frame page r laid is noted at =
@@ -214,11 +205,7 @@ module _ (p : Inside) (space page : ℕ) (want : Want) (m : Layout) (frame broke
   was_unused = sym (is_used-layout_of (state_of p) frame) ∙ ap (λ k. is_used k.used frame) (layout_of-pool p pool) ∙ placed.unused
 
   pub nothing_noted : used_at (state_of p) frame ≡ None
-  nothing_noted = not_some (used_at (state_of p) frame) was_unused
-    where
-      not_some : (o : Option Used) → is_some o ≡ false → o ≡ None
-      not_some None none = refl
-      not_some (Some u) none = absurd (false≢true (sym none))
+  nothing_noted = none_from_is_some (used_at (state_of p) frame) was_unused
 
   pub frame_out : (frame < length (state_of p).free) × (is_some (used_at (state_of p) frame) ≡ false)
   frame_out = (omega (arith, frame_known, pool.frames_known), was_unused)

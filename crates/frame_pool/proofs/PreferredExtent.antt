@@ -10,7 +10,7 @@ use Rattle.pager_model.specs.Layouts.{Layout, covers, covering, meets, meets_any
 use Rattle.pager_model.specs.PreferredSize.{fits}
 use Rattle.size_policy.proofs.Sizes.{Suits-from_fits}
 use Rattle.pager_model.proofs.ExtentLemmas.{eight_pos, eight_split}
-use Rattle.reservations.proofs.FrameIds.{known_record}
+use Rattle.pager_model.proofs.Lists.{get_or_within}
 use Rattle.frame_pool.proofs.PagePlaces.{CoversPageOf-covers, covering-none}
 
 -- no reservation of the space has a page of the extent of the size round the page
@@ -46,7 +46,7 @@ Misses-test l space page size none id p r is has low high =
     let at = CoversPageOf-covers space p r has in
     let start = extent_start size page in
     let here : meets space size start (Some r) ≡ true = and_from _ _ (eq-eqb r.space space at.space_is) (and_from _ _ (lt-ltb r.first (start + 8 ^ size) (omega (arith, at.low))) (lt-ltb start (r.first + 8 ^ r.size) (omega (arith, at.high)))) in
-    let any : meets_any space l.records size start ≡ true = list_any_at (meets space size start) l.records id None (known_record l.records id r is) (ap (meets space size start) is ∙ here) in
+    let any : meets_any space l.records size start ≡ true = list_any_at (meets space size start) l.records id None (get_or_within l.records id r is) (ap (meets space size start) is ∙ here) in
     false≢true (sym none ∙ any)
 
 -- nor does any meet the page alone, where none has it

@@ -20,6 +20,7 @@ use Rattle.pager_model.specs.Order.{Progress, progress_by}
 use Rattle.pager_model.specs.Settings.{Given, mark_of}
 use Rattle.pager_model.specs.Showing.{answers_in, answer_in}
 use Rattle.pager_model.proofs.Histories.{IsLegal-push, progress_at-own, progress_at-other, filter-push_in, filter-push_out}
+use Rattle.pager_model.proofs.Lists.{get_or_within}
 use Rattle.pager_model.proofs.Ranges.{range_with_len-more}
 use Rattle.frame_pool.proofs.LegalHistories.{IsKept-legal, Agrees-legal}
 use Rattle.space_core.specs.Standing.{Kept}
@@ -30,7 +31,7 @@ use Rattle.pager_core.specs.Machines.{CanFly, all_left, IsFlying, IsSpaceOf, IsM
 use Rattle.pager_core.specs.Rows.{row_of, row_in, is_between, space_under}
 use Rattle.pager_core.specs.Running.{Running, calls_at, flight_at, progress_by_flight, progress_of_actor, kept_by, IsKeptByOther, entries_left, left_at, IsNumbered, IsLawful}
 use Rattle.pager_core.specs.Steps.{Makes, after_named, answer_made}
-use Rattle.pager_core.proofs.Lists.{slice_get-set_same, slice_get-set_other, enumerate-push, within, sum_by-lower}
+use Rattle.pager_core.proofs.Lists.{slice_get-set_same, slice_get-set_other, enumerate-push, sum_by-lower}
 use Rattle.pager_core.proofs.LegalSteps.{MayFollow-step, space_at-elsewhere, space_at-here, frames_at-step, base-unknown, victim_resident}
 use Rattle.pager_core.proofs.NextFlights.{Lands, made_going, under_cases, keeps_under, ended_by}
 
@@ -129,7 +130,7 @@ module _ (run : Running) (spaces : List Kept) (pool after : FrameState) (capacit
   flying machine turns = machine.flights c f turns.flies
 
   actor_in : M → T → c < length run.flights
-  actor_in machine turns = within run.flights c f turns.flies
+  actor_in machine turns = get_or_within run.flights c f turns.flies
 
   processor_in : M → T → c < length run.calls
   processor_in machine turns = (let at = actor_in machine turns in let known = machine.known in omega (arith, at, known))

@@ -13,6 +13,7 @@ use Rattle.pager_model.specs.FrameStates.{FrameState, start_frames, frames_after
 use Rattle.pager_model.specs.Legal.{space_at, frames_at, entries_in}
 use Rattle.pager_model.specs.Settings.{Given}
 use Rattle.pager_model.proofs.FrameEntries.{frames_after-entries}
+use Rattle.pager_model.proofs.Lists.{get_or_within}
 use Rattle.frame_pool.specs.Laid.{IsSound}
 use Rattle.frame_pool.proofs.LegalHistories.{IsKept-legal, OwnsBy-legal}
 use Rattle.space_core.specs.Standing.{Kept}
@@ -23,7 +24,6 @@ use Rattle.pager_core.specs.Rows.{row_of, space_under}
 use Rattle.pager_core.specs.Running.{Running, calls_at, flight_at, progress_by_flight, IsKeptByOther}
 use Rattle.pager_core.specs.Steps.{AreAgreed, Makes}
 use Rattle.pager_core.proofs.NextFlights.{under_some, keeps_under, anywhere, lands}
-use Rattle.pager_core.proofs.Lists.{within}
 use Rattle.pager_core.proofs.MachineTurns.{Turns, marked, all_left-turn}
 
 -- each entry on the frames is counted once
@@ -39,7 +39,7 @@ entries-few g h =
 
 module _ (run : Running) (spaces : List Kept) (pool : FrameState) (capacity c s : ℕ) (f : Flight) (machine : IsMachine run spaces pool capacity) (flies : flight_at run.flights c ≡ Some f) where
   processor_within : c < length run.calls
-  processor_within = (let at = within run.flights c f flies in let known = machine.known in omega (arith, at, known))
+  processor_within = (let at = get_or_within run.flights c f flies in let known = machine.known in omega (arith, at, known))
 
   pub is_under : (t : ℕ) × (space_under (row_of f).needs ≡ Some t)
   is_under = under_some f.processor f.number (space_of_call f.call) f.call f.claimed f.phase (machine.flights c f flies).going

@@ -18,6 +18,7 @@ use Rattle.pager_model.specs.Plans.{Plan}
 use Rattle.pager_model.specs.Settings.{Given, is_told, faults_at_entry}
 use Rattle.pager_model.specs.Showing.{calls_of}
 use Rattle.pager_model.specs.TraceText.{HasText, IsCall}
+use Rattle.pager_model.proofs.Lists.{get_or_within}
 use Rattle.frame_pool.proofs.LegalHistories.{Agrees-legal}
 use Rattle.space_core.specs.Standing.{Kept}
 use Rattle.store_core.specs.Stored.{Stored}
@@ -26,7 +27,7 @@ use Rattle.pager_core.specs.declared.flight.Phase.TheVariants.{Start}
 use Rattle.pager_core.specs.Machines.{CanFly, IsNew, all_left, IsFlying, IsMachine}
 use Rattle.pager_core.specs.Rows.{row_of, is_between}
 use Rattle.pager_core.specs.Running.{Running, calls_at, flight_at, flight_of, first_flights, progress_by_flight, setting_over, entries_left, left_at, IsLawful}
-use Rattle.pager_core.proofs.Lists.{within, sum_by-same, map_range-push}
+use Rattle.pager_core.proofs.Lists.{sum_by-same, map_range-push}
 use Rattle.pager_core.proofs.Stores.{marks-start}
 use Rattle.pager_core.proofs.MachineTurns.{mark-zero}
 
@@ -172,7 +173,7 @@ module _ (plan : Plan) (trace : HasText plan) (stores : List Stored) (enough : p
   -- a flight is of its processor's first call
   first : (c : ℕ) (f : Flight) → flight_at (first_flights calls) c ≡ Some f → (call : Call) × (slice_get (calls_at calls c) 0 ≡ Some call) × (record { processor = c; number = 0; call = call; phase = Start; claimed = false } ≡ f)
   first c f flies =
-      let below = within (first_flights calls) c f flies in
+      let below = get_or_within (first_flights calls) c f flies in
       let all = known in
       first_in c (slice_get (calls_at calls c) 0) f (sym (first_flight c (omega (arith, below, all))) ∙ flies)
 

@@ -8,6 +8,7 @@ use Rattle.pager_model.specs.declared.entry.Entry.{Entry}
 use Rattle.pager_model.specs.declared.entry.Numbered.{Numbered}
 use Rattle.pager_model.specs.FrameStates.{FrameState}
 use Rattle.pager_model.specs.Legal.{space_at, entries_in}
+use Rattle.pager_model.proofs.Lists.{get_or_within}
 use Rattle.space_core.specs.Standing.{Kept}
 use Rattle.pager_core.specs.declared.flight.Flight.{Flight}
 use Rattle.pager_core.specs.Flights.{IsReady}
@@ -16,7 +17,6 @@ use Rattle.pager_core.specs.Rows.{row_of, space_under}
 use Rattle.pager_core.specs.Running.{Running, calls_at, flight_at, flight_of, IsKeptByOther, entries_left, left_at, WentOn, OneMore, IsLawful}
 use Rattle.pager_core.specs.Steps.{AreAgreed, Makes}
 use Rattle.pager_core.proofs.NextFlights.{Lands-on}
-use Rattle.pager_core.proofs.Lists.{within}
 use Rattle.pager_core.proofs.ReadyFlights.{space_within, IsReady-machine, AreAgreed-machine, image-machine, room_left}
 use Rattle.pager_core.proofs.MachineTurns.{Turns, run_after, left_own, IsMachine-turn}
 
@@ -93,7 +93,7 @@ module _ (run : Running) (spaces : List Kept) (pool after : FrameState) (capacit
   went_on : IsMachine run spaces pool capacity → Turns run spaces pool after c s number f f' was now e o → (self new : Running) → run ≡ self → new.calls ≡ run.calls → new.flights ≡ set run.flights c o → (g : Flight) → flight_at self.flights c ≡ Some g → WentOn new c g.number
   went_on machine turns self new same calls flights g flies =
       let is : f ≡ g = (let x : Some f ≡ Some g = sym turns.flies ∙ ap (λ (r : Running). flight_at r.flights c) same ∙ flies in cc) in
-      let at : flight_at new.flights c ≡ o = ap (λ l. flight_at l c) flights ∙ get_or-set_same run.flights c o None (within run.flights c f turns.flies) in
+      let at : flight_at new.flights c ≡ o = ap (λ l. flight_at l c) flights ∙ get_or-set_same run.flights c o None (get_or_within run.flights c f turns.flies) in
       let call = turns.makes.same_call in
       let number_is : f'.number ≡ g.number = call.number ∙ ap (λ (x : Flight). x.number) is in
       let processor_is : f'.processor ≡ c = call.processor ∙ (machine.flights c f turns.flies).processor in

@@ -4,6 +4,8 @@ pub mod SpaceEntries
 pub mod StartFrames
 pub mod Texts
 pub mod Lists
+pub mod Options
+pub mod TileParts
 pub mod Ranges
 pub mod CountLemmas
 pub mod ExtentLemmas

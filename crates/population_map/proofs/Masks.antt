@@ -1,5 +1,5 @@
 -- Masks of eight bits: when one has a bit, and when it has all.
-use Rattle.std.proofs.Common.{◌≡◌, ◌≢◌, ℕ, ◌/◌, ◌%◌, ◌<◌, ◌↔◌, Bool, true, false, cond, inl, inr, refl, ap, ◌∙◌, arith}
+use Rattle.std.proofs.Common.{◌≡◌, ◌≢◌, ℕ, ◌/◌, ◌%◌, ◌<◌, ◌↔◌, ◌==◌, Bool, true, false, cond, inl, inr, refl, ap, ◌∙◌, arith}
 use Rattle.std.specs.Int.{bit_at, trailing_zeros, w8}
 use Rattle.std.proofs.lemmas.Bool.{cases_lt}
 use Rattle.std.proofs.lemmas.Nat.Bits.{bit_at-zero, bit_at-trailing_zeros, bit_at_above, bit_at_ones}
@@ -32,6 +32,11 @@ is_all_bits mask small all =
     let g : mask / 64 % 2 ≡ 1 = all 6 (omega arith) in
     let h : mask / 128 % 2 ≡ 1 = all 7 (omega arith) in
     omega arith
+
+-- a bit that was set by a test is set if the test is true
+pub bit_of_test : (b : Bool) → (cond b 1 0 == 1) ≡ b
+bit_of_test true = refl
+bit_of_test false = refl
 
 -- a bit that was set by a test says what the test says
 bit_by : (P : Type 0) (bit : ℕ) (test : Bool) → bit ≡ cond test 1 0 → (test ≡ true → P) → (P → test ≡ true) → (bit ≡ 1) ↔ P

@@ -1,5 +1,6 @@
 -- What becomes of the marks as an extent is placed, or taken out once its pages are evicted; and what a walk finds.
 use Rattle.std.proofs.Common.{◌≡◌, ◌≢◌, ℕ, zero, suc, ◌+◌, ◌-◌, ◌*◌, ◌/◌, ◌%◌, ◌^◌, ◌<◌, ◌≤◌, ◌⊎◌, ◌↔◌, ◌==◌, ◌||◌, Bool, true, false, Option, Some, None, unwrap_or, is_some, MatchOption, inl, inr, refl, sym, ap, subst, ◌∙◌, arith}
+use Rattle.std.specs.Cmp.{both_ways}
 use Rattle.std.specs.Int.{bit_at}
 use Rattle.std.specs.List.{range_with_len, count_by}
 use Rattle.std.proofs.lemmas.Bool.{cases_eq, cases_lt, false≢true, false_from_ne_true, or_left, or_right, eq-eqb, eqb-true}
@@ -8,6 +9,7 @@ use Rattle.extent_tree.specs.Rows.{Arena, row, spot_of, is_split, ChangesOnly, S
 use Rattle.extent_tree.specs.Counts.{splits_with}
 use Rattle.pager_model.proofs.CountLemmas.{count_block, count-agree, count-none}
 use Rattle.pager_model.proofs.ExtentLemmas.{coarser, in_extent, of_extent, extent_within}
+use Rattle.pager_model.proofs.Options.{none_from_is_some}
 use Rattle.extent_tree.proofs.Rooms.{room_for}
 use Rattle.extent_tree.proofs.Rows.{split_alike}
 use Rattle.pager_model.specs.Extents.{IsExtent}
@@ -71,13 +73,8 @@ marks_with_ids m n marks c = record {
 -- the same pages are populated
 same_pages : (m n : Arena Mark) (page : ℕ) → (bit_at (mark_of n 1 page).some (page % 8) ≡ 1) ↔ (bit_at (mark_of m 1 page).some (page % 8) ≡ 1) → is_populated n page ≡ is_populated m page
 same_pages m n page bit =
-    same_test (is_populated n page) (is_populated m page)
+    both_ways (is_populated n page) (is_populated m page)
     (λ h. page_of_bit m page (bit.0 (bit_of_page n page h))) (λ h. page_of_bit n page (bit.1 (bit_of_page m page h)))
-  where
-    same_test : (a b : Bool) → (a ≡ true → b ≡ true) → (b ≡ true → a ≡ true) → a ≡ b
-    same_test true b f g = sym (f refl)
-    same_test false true f g = g refl
-    same_test false false f g = refl
 
 -- ---- the marks after one row changed
 
@@ -407,13 +404,9 @@ found_last m page None is none = all
 pub none_further : (m : Arena Mark) (page below : ℕ) (id : Option ℕ) → below < 3 → id ≡ id_of m (3 - below) page → is_some id ≡ false → ((size : ℕ) → 3 < size + below → size ≤ 3 → id_of m size page ≡ None)
     → (size : ℕ) → 3 < size + (below + 1) → size ≤ 3 → id_of m size page ≡ None
 none_further m page below id low is fails none size far small = elim (cases_eq size (3 - below)) [
-  | inl here ↦ ap (λ k. id_of m k page) here ∙ (sym is ∙ none_of id fails)
+  | inl here ↦ ap (λ k. id_of m k page) here ∙ (sym is ∙ none_from_is_some id fails)
   | inr apart ↦ none size (omega arith) small
 ]
-  where
-    none_of : (o : Option ℕ) → is_some o ≡ false → o ≡ None
-    none_of None h = refl
-    none_of (Some n) h = absurd (false≢true (sym h))
 
 -- where the same extents are placed, as many pages are
 pub same_count : (m n : Arena Mark) → n.roots ≡ m.roots → ((size page : ℕ) → size ≤ 3 → id_of n size page ≡ id_of m size page) → placed_pages n ≡ placed_pages m
@@ -426,10 +419,6 @@ same_count m n roots ids =
 pub spot_split : (m : Arena Mark) (size height page : ℕ) (s : Spot Mark) (b : Bool) → height ≡ 3 - size → s ≡ spot_of m height page → b ≡ is_some s.node → b ≡ is_split m size page
 unfolding is_split
 spot_split m size height page s b at seen is = is ∙ (ap (λ s. is_some s.node) seen ∙ ap (λ h. is_some (spot_of m h page).node) at)
-
-pub no_id : (o : Option ℕ) → is_some o ≡ false → o ≡ None
-no_id None h = refl
-no_id (Some n) h = absurd (false≢true (sym h))
 
 -- ---- the map
 

@@ -1,15 +1,16 @@
 -- What becomes of the marks over a page as it is populated or evicted.
 use Rattle.std.proofs.Common.{◌≡◌, ◌≢◌, ℕ, zero, suc, ◌/◌, ◌%◌, ◌^◌, ◌<◌, ◌≤◌, ◌⊎◌, ◌↔◌, ◌==◌, ◌&&◌, ◌||◌, Bool, true, false, not, cond, Option, Some, None, unwrap_or, is_some, is_none, inl, inr, refl, sym, ap, subst, ◌∙◌, arith}
 use Rattle.std.specs.Int.{bit_at}
-use Rattle.std.proofs.lemmas.Bool.{cases_eq, cases_Bool, false≢true, eqb-true, eq-eqb}
+use Rattle.std.proofs.lemmas.Bool.{and_parts, cases_eq, cases_Bool, false≢true, eqb-true, eq-eqb}
 use Rattle.extent_tree.specs.Rows.{Arena, row, ChangesOnly, SplitsAreRowsBelow}
 use Rattle.pager_model.proofs.ExtentLemmas.{coarser}
+use Rattle.pager_model.proofs.Options.{none_from_is_none}
 use Rattle.extent_tree.proofs.Rooms.{RowsIn}
 use Rattle.population_map.specs.declared.mark.Mark.{Mark}
 use Rattle.population_map.specs.Bits.{HasBit, HasAllBits, WithBit}
 use Rattle.population_map.specs.Kept.{AreMarks, IsCarried, WritesWay, kept}
 use Rattle.population_map.specs.Populations.{mark_of, id_of, is_placed, is_populated, unmarked, PopulatesOnly}
-use Rattle.population_map.proofs.Masks.{has_bit, no_bit}
+use Rattle.population_map.proofs.Masks.{bit_of_test, has_bit, no_bit}
 use Rattle.population_map.proofs.Marks.{mark_alike, bits_over, row_if_bit}
 
 -- ---- three marks are written
@@ -45,19 +46,11 @@ kept_mark : (mark : Mark) → unwrap_or (kept mark) unmarked ≡ mark
 kept_mark mark = elim (cases_Bool (is_none mark.id && mark.some == 0 && mark.full == 0)) [
   | inr says ↦ ap (λ b. unwrap_or (cond b None (Some mark)) unmarked) says
   | inl nothing ↦
-      let parts = and_both (is_none mark.id && mark.some == 0) (mark.full == 0) nothing in
-      let more = and_both (is_none mark.id) (mark.some == 0) parts.0 in
-      ap (λ b. unwrap_or (cond b None (Some mark)) unmarked) nothing ∙ sym (all_none mark (none_of mark.id more.0) (eqb-true _ _ more.1) (eqb-true _ _ parts.1))
+      let parts = and_parts (is_none mark.id && mark.some == 0) (mark.full == 0) nothing in
+      let more = and_parts (is_none mark.id) (mark.some == 0) parts.0 in
+      ap (λ b. unwrap_or (cond b None (Some mark)) unmarked) nothing ∙ sym (all_none mark (none_from_is_none mark.id more.0) (eqb-true _ _ more.1) (eqb-true _ _ parts.1))
 ]
   where
-    and_both : (a b : Bool) → (a && b) ≡ true → (a ≡ true) × (b ≡ true)
-    and_both true b both = (refl, both)
-    and_both false b both = absurd (false≢true both)
-
-    none_of : (o : Option ℕ) → is_none o ≡ true → o ≡ None
-    none_of None h = refl
-    none_of (Some n) h = absurd (false≢true h)
-
     all_none : (v : Mark) → v.id ≡ None → v.some ≡ 0 → v.full ≡ 0 → v ≡ unmarked
     all_none v a b c =
         ap (λ i. record { id = i; some = v.some; full = v.full }) a ∙ (ap (λ s. record { id = None; some = s; full = v.full }) b ∙ ap (λ f. record { id = None; some = 0; full = f }) c)
@@ -140,7 +133,7 @@ placed_alike m n other ids =
 pub populates : (m n : Arena Mark) (page : ℕ) (is_in : Bool) (small middle large : Mark) → ChangesPage m n page is_in small middle large → PopulatesOnly m n page is_in
 unfolding is_populated
 populates m n page is_in small middle large c = record {
-  changed = ap (λ v. bit_at v.some (page % 8) == 1) (here_8 m n page small middle large c.writes page refl) ∙ (ap (λ b. b == 1) c.asks.small_some.same ∙ test_of is_in);
+  changed = ap (λ v. bit_at v.some (page % 8) == 1) (here_8 m n page small middle large c.writes page refl) ∙ (ap (λ b. b == 1) c.asks.small_some.same ∙ bit_of_test is_in);
   others = λ other apart. elim (cases_eq (other / 8) (page / 8)) [
     | inr elsewhere' ↦ ap (λ v. bit_at v.some (other % 8) == 1) (elsewhere m n page small middle large c.writes 1 other (omega arith) (λ _ same. elsewhere' same))
     | inl same ↦
@@ -150,10 +143,6 @@ populates m n page is_in small middle large c = record {
   ];
   ids = same_ids m n page is_in small middle large c;
 }
-  where
-    test_of : (b : Bool) → (cond b 1 0 == 1) ≡ b
-    test_of true = refl
-    test_of false = refl
 
 -- the bits of the marks of a size say what the marks of their parts say
 record StepOver (m n : Arena Mark) (page size : ℕ) : Type 0 where

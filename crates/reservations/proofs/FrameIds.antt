@@ -7,7 +7,7 @@ use Rattle.pager_model.specs.Agreement.{has_frame}
 use Rattle.pager_model.specs.Records.{is_used, none_used}
 use Rattle.pager_model.specs.declared.reservation.Reservation.{Reservation}
 use Rattle.pager_model.proofs.ExtentLemmas.{eight_pos}
-use Rattle.pager_model.proofs.Lists.{get_or-alike}
+use Rattle.pager_model.proofs.Lists.{get_or-alike, get_or_within}
 use Rattle.pager_model.proofs.Ranges.{list_all-range}
 use Rattle.reservations.specs.Kept.{IsPlaced, ArePlaced, AreNoted, AreKept, IsFilled, first_frame}
 use Rattle.reservations.proofs.CountLemmas.{is_used-replicate}
@@ -19,12 +19,6 @@ has_frame_bounds f r has =
 
 pub has_frame_from : (f : ℕ) (r : Reservation) → r.frame ≤ f → f < r.frame + 8 ^ r.size → has_frame f (Some r) ≡ true
 has_frame_from f r low high = and_from _ _ (le-leb _ _ low) (lt-ltb _ _ high)
-
-pub known_record : (records : List (Option Reservation)) (id : ℕ) (r : Reservation) → get_or records id None ≡ Some r → id < length records
-known_record records id r is = elim (cases_lt id (length records)) [
-  | inl within ↦ within
-  | inr past ↦ let none = get_or_past records id None past in absurd (none-some r (sym none ∙ is))
-]
 
 -- where the default was written it stands
 pub get_or-set_default : {A : Type 0} (xs : List A) (i j : ℕ) (d : A) → j ≡ i → get_or (set xs i d) j d ≡ d
@@ -238,7 +232,7 @@ module _ (records : List (Option Reservation)) (ids : List (Option ℕ)) (used :
   pub same_frames : (new : Reservation) → new.frame ≡ r.frame → new.size ≡ r.size → (f j : ℕ) → has_frame f (get_or (set records id (Some new)) j None) ≡ has_frame f (get_or records j None)
   same_frames new frame size f j = elim (cases_eq j id) [
     | inl here ↦
-        ap (has_frame f) (ap (λ k. get_or (set records id (Some new)) k None) here ∙ get_or-set_same records id (Some new) None (known_record records id r is))
+        ap (has_frame f) (ap (λ k. get_or (set records id (Some new)) k None) here ∙ get_or-set_same records id (Some new) None (get_or_within records id r is))
         ∙ rw (frame, size) refl ∙ sym (ap (has_frame f) (ap (λ k. get_or records k None) here ∙ is))
     | inr other ↦ ap (has_frame f) (get_or-set_other records id j (Some new) None other)
   ]
@@ -251,7 +245,7 @@ module _ (records : List (Option Reservation)) (ids : List (Option ℕ)) (used :
       record {
         ids_long = are.ids_long ∙ sym (length-set records id (Some new));
         used_long = length-set used f true ∙ are.used_long ∙ sym (length-set records id (Some new));
-        placed = ArePlaced-set records id (Some new) are.placed (known_record records id r is) (λ q e.
+        placed = ArePlaced-set records id (Some new) are.placed (get_or_within records id r is) (λ q e.
             subst (λ p. IsPlaced (length records) id p) (same_Some new q e) (record {
               named = frame ∙ placed.named;
               aligned = rw (frame, size) placed.aligned;
@@ -298,7 +292,7 @@ unused_if_free records ids used f are free = at (get_or ids f None) refl
 pub AreKept-dissolve : (records : List (Option Reservation)) (ids after : List (Option ℕ)) (used : List Bool) (id : ℕ) (r : Reservation) → AreKept records ids used → get_or records id None ≡ Some r → none_used (is_used used) r.frame (8 ^ r.size) ≡ true → IsFilled ids after id (8 ^ r.size) None → length after ≡ length ids → AreKept (set records id None) after used
 AreKept-dissolve records ids after used id r are is none filled long =
     let placed = are.placed id r is in
-    let known = known_record records id r is in
+    let known = get_or_within records id r is in
     let open_gap = AreNoted-open records ids used id r are.noted placed is in
     let vacant : get_or (set records id None) id None ≡ None = get_or-set_same records id None None known in
     let belongs : Belongs used id (8 ^ r.size) None =

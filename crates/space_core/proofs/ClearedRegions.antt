@@ -16,6 +16,7 @@ use Rattle.pager_model.specs.Images.{still_tiles}
 use Rattle.pager_model.specs.Regions.{has_page, in_range, region_at, without_region, unmap_reply_at}
 use Rattle.pager_model.specs.SpaceStates.{SpaceState, SpaceAllows, IsClearedAt, pages_of, space_after}
 use Rattle.region_table.specs.Table.{IsTable}
+use Rattle.pager_model.proofs.Lists.{get_or-alike}
 use Rattle.space_core.specs.Beginning.{SameRegions, IsRange, ClearsOne, ClearsNone, Unmapped as IsUnmapped}
 use Rattle.space_core.specs.NewPages.{IsNew, done}
 use Rattle.space_core.specs.Pages.{Maps, Forgets, IsFirstResident, NoneFrom}
@@ -24,7 +25,7 @@ use Rattle.space_core.specs.Tables.{Table, mapping_in, frame_in, own_in, dirty_i
 use Rattle.space_core.specs.Translating.{BeginsClear, counted_up}
 use Rattle.store_core.specs.Stored.{Stored, copy_at, zero_words, DropsCopies}
 use Rattle.space_core.proofs.RegionSearch.{in_bounds, bounds_in, found_has, found_from, found_same, found_page, found_without}
-use Rattle.space_core.proofs.ServedPages.{kept, AreMapped, zero_at}
+use Rattle.space_core.proofs.ServedPages.{kept, AreMapped}
 use Rattle.space_core.proofs.TableLemmas.{dirty_in-absent, frame-same, dirty-same, frame-mapped, mapping-absent, maps_frame}
 use Rattle.space_core.proofs.Translations.{same_translates, stays, translates_cleared, pages_from, said_gone, said_region}
 use Rattle.tiles.specs.Cleared.{Clears}
@@ -355,7 +356,7 @@ module _ (number : ℕ) (regions : List Region) (t u : Table) (page : ℕ) (r : 
       word_gone : (p i : ℕ) → has_page p r ≡ true → word_at left p i ≡ 0
       word_gone p i has =
           let unsettled : is_settled left p ≡ false = settled_rest p ∙ ap (λ o. is_some o && true) (none p has) in
-          cond-false _ _ _ unsettled ∙ rw (copy_gone p has) (zero_at 1024 i)
+          cond-false _ _ _ unsettled ∙ rw (copy_gone p has) (get_or-alike 1024 i 0)
 
       word_left : (p i : ℕ) → has_page p r ≡ false → word_at left p i ≡ word_at cleared p i
       word_left p i hasnt =
@@ -374,14 +375,14 @@ module _ (number : ℕ) (regions : List Region) (t u : Table) (page : ℕ) (r : 
       copies_rest : (o : Option (ℕ → ℕ)) (p : ℕ) → (has_page p r ≡ false → IsCopy o (copy_at old p)) → IsCopy (if has_page p r then Some (λ i. 0) else o) (copy_at new p)
       copies_rest o p was =
           elim (cases_Bool (has_page p r)) [
-            | inl has ↦ rw (has, copy_gone p has) (λ i. sym (zero_at 1024 i))
+            | inl has ↦ rw (has, copy_gone p has) (λ i. sym (get_or-alike 1024 i 0))
             | inr hasnt ↦ rw (hasnt, copy_left p hasnt) (was hasnt)
           ]
 
       copied_rest : (p : ℕ) → (has_page p r ≡ false → IsCopied cleared p) → IsCopied left p
       copied_rest p was =
           elim (cases_Bool (has_page p r)) [
-            | inl has ↦ record { words = zero_words; known = copy_gone p has; equal = λ i. word_gone p i has ∙ sym (zero_at 1024 i) }
+            | inl has ↦ record { words = zero_words; known = copy_gone p has; equal = λ i. word_gone p i has ∙ sym (get_or-alike 1024 i 0) }
             | inr hasnt ↦ let is = was hasnt in record { words = is.words; known = copy_left p hasnt ∙ is.known; equal = λ i. word_left p i hasnt ∙ is.equal i }
           ]
 

@@ -1,9 +1,8 @@
 -- What becomes of a space when a page gets a frame, and when a load or a store is served.
 use Rattle.std.proofs.Common.{◌≡◌, ◌≢◌, ℕ, ◌+◌, ◌<◌, ◌≤◌, Bool, true, false, ◌&&◌, ◌==◌, not, if◌then◌else◌, List, [], Option, Some, None, is_some, option_map, length, replicate, slice_index_or, refl, sym, ap, inl, inr, ◌∙◌, ◌⊎◌, arith, subst}
-use Rattle.std.proofs.lemmas.Bool.{cases_Bool, cases_eq, cases_lt, and_parts, cond-true, cond-false, true≢false, eq-eqb, ne_eqb}
+use Rattle.std.proofs.lemmas.Bool.{cases_Bool, cases_eq, and_parts, cond-true, cond-false, true≢false, eq-eqb, ne_eqb}
 use Rattle.std.proofs.lemmas.Bool.Decides.{nat_tests}
 use Rattle.std.proofs.lemmas.Option.{none-some, same_Some}
-use Rattle.std.proofs.lemmas.List.{get_or-replicate, get_or_past, length-replicate}
 use Rattle.pager_model.specs.declared.call.Call.TheVariants.{Load, Store}
 use Rattle.pager_model.specs.declared.region.Region.{Region}
 use Rattle.pager_model.specs.declared.reply.Answered.{Answered}
@@ -16,6 +15,7 @@ use Rattle.pager_model.specs.Images.{is_in_image}
 use Rattle.pager_model.specs.Regions.{region_at}
 use Rattle.pager_model.specs.SpaceStates.{SpaceState, IsResident, IsValue, IsWord, empty_state, pages_of, answered_flat, space_after}
 use Rattle.pager_model.specs.Tiles.{mapping_with, mappings, tile_of}
+use Rattle.pager_model.proofs.Lists.{get_or-alike}
 use Rattle.space_core.specs.Beginning.{Places, Finishes, SameRegions}
 use Rattle.space_core.specs.Keeping.{IsKept, IsMapped}
 use Rattle.space_core.specs.Pages.{SameOwn, IsFresh, Maps, Refills, Writes, Cleans}
@@ -537,10 +537,6 @@ same_stored t u page index word writes dirty p =
     flagged None h = absurd (true≢false (sym h))
     flagged (Some m) h = ap (λ d. Some (with_flag d m)) (sym h)
 
-pub zero_at : (n i : ℕ) → slice_index_or {A = ℕ} (replicate n 0) i 0 ≡ 0
-zero_at n i =
-    elim (cases_lt i n) [ inl within ↦ get_or-replicate n i 0 0 within | inr past ↦ get_or_past (replicate n 0) i 0 (omega (arith, length-replicate {A = ℕ} n 0)) ]
-
 -- a space begins with no region, no resident page and no right
 module _ (number frames processors : ℕ) (t : Table) (store : Stored) (fresh : IsFresh frames t) where
   abbrev begun : Kept
@@ -550,13 +546,13 @@ module _ (number frames processors : ℕ) (t : Table) (store : Stored) (fresh : 
   frame_none p = frame-absent t p (fresh.none_resident p)
 
   no_image : (c : ℕ) → slice_index_or (replicate {A = List Tile} processors []) c [] ≡ []
-  no_image c = elim (cases_lt c processors) [ inl within ↦ get_or-replicate processors c [] [] within | inr past ↦ get_or_past (replicate processors []) c [] (omega (arith, length-replicate {A = List Tile} processors [])) ]
+  no_image c = get_or-alike {A = List Tile} processors c []
 
   unsettled : (p : ℕ) → is_settled begun p ≡ false
   unsettled p = ap (λ o. is_some o && true) (frame_none p)
 
   zero_word : (i : ℕ) → 0 ≡ slice_index_or zero_words i 0
-  zero_word i = sym (zero_at 1024 i)
+  zero_word i = sym (get_or-alike 1024 i 0)
 
   pub begins_empty : (told : Bool) → (told ≡ true → TellsZero store) → StandsFor begun (empty_state told store.faults)
   begins_empty told zero =

@@ -7,12 +7,12 @@ use Rattle.std.proofs.lemmas.Bool.Decides.{nat_tests}
 use Rattle.std.proofs.lemmas.Grind.{common_steps}
 use borrow.Rule.Slice.PartMut.{put_mid}
 use Rattle.pager_model.specs.Regions.{in_range}
-use Rattle.std.proofs.lemmas.List.{get_or-set_other, get_or-set_same, length-set, get_or_past, get_or_read, get_or-replicate, length-replicate, length-take, get_or_append_left, get_or-append_right, get_or-take, take_at, get_or-drop, length-append, length-drop}
+use Rattle.std.proofs.lemmas.List.{get_or-set_other, get_or-set_same, length-set, get_or_read, get_or-replicate, length-replicate, length-take, get_or_append_left, get_or-append_right, get_or-take, take_at, get_or-drop, length-append, length-drop}
 use Rattle.std.proofs.lemmas.Option.{none-some, same_Some}
 use Rattle.pager_model.specs.declared.region.Rights.{Rights}
 use Rattle.pager_model.specs.declared.tile.Mapping.{Mapping}
 use Rattle.pager_model.specs.Frame.{Framed}
-use Rattle.pager_model.proofs.Lists.{get_or-alike}
+use Rattle.pager_model.proofs.Lists.{get_or-alike, get_or_within}
 use Rattle.space_core.specs.Pages.{IsFrameAt, IsPaged, IsFresh, Maps, Refills, HasWords, Writes, Cleans, OwnsRights, Protects, Forgets}
 use Rattle.space_core.specs.Tables.{Table, mapping_in, frame_in, word_in, word_in_frame, own_in, flag_in, dirty_in}
 use Rattle.tiles.specs.Resident.{Resident, mapping_at, frames_in, with_flag, with_rights, Maps as MapsTo, Protects as ProtectsIn}
@@ -154,10 +154,6 @@ word-other : (frames : List (Option Framed)) (k : ℕ) (f : Option Framed) (o : 
 word-other frames k f None i h = refl
 word-other frames k f (Some n) i h = ap (λ x. word_in_frame x i) (get_or-set_other frames k n f None (λ e. h (ap Some e)))
 
-pub within : {X : Type 0} (xs : List (Option X)) (i : ℕ) (x : X) → slice_index_or xs i None ≡ Some x → i < length xs
-within xs i x h =
-    elim (cases_lt i (length xs)) [ inl l ↦ l | inr past ↦ absurd (none-some x (sym (get_or_past xs i None past) ∙ h)) ]
-
 -- what is read at a page
 pub own_in-read : (t : Table) (p : ℕ) (x : Option Rights) → IsPaged t → p < 1048576 → x ≡ slice_index_or t.own p x → own_in t p ≡ x
 own_in-read t p x paged in_space read = own_in-is t p ∙ sym (get_or_read t.own p x (omega (arith, paged.own)) read None)
@@ -166,7 +162,7 @@ pub frame-read : (t : Table) (number : ℕ) (x : Option Framed) → number < len
 frame-read t number x known read = sym (get_or_read t.frames number x known read None)
 
 pub found_within : (t : Table) → IsPaged t → (p number : ℕ) → frame_in t p ≡ Some number → number < length t.frames
-found_within t paged p number h = within t.frames number _ (paged.found p number h).is
+found_within t paged p number h = get_or_within t.frames number _ (paged.found p number h).is
 
 -- a resident page's number names a frame of that number
 pub frame-number : (t : Table) → IsPaged t → (p number : ℕ) (f : Framed) → frame_in t p ≡ Some number → slice_index_or t.frames number None ≡ Some f → f.number ≡ number

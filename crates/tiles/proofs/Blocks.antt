@@ -1,7 +1,7 @@
 -- A change of rights in the blocks of a range, and how its moves are counted.
 use Rattle.std.proofs.Common.{◌≡◌, ◌≢◌, ℕ, zero, suc, ◌+◌, ◌-◌, ◌*◌, ◌/◌, ◌%◌, ◌^◌, ◌<◌, ◌≤◌, Bool, true, false, eqb, ltb, if◌then◌else◌, ◌&&◌, nat_lt, List, [], ◌∷◌, length, slice_index, slice_set, Option, Some, None, option_map, refl, sym, ap, inl, inr, ◌∙◌, arith}
 use Rattle.std.specs.Int.{div_ceil}
-use Rattle.std.proofs.lemmas.Bool.{cases_eq, cases_lt}
+use Rattle.std.proofs.lemmas.Bool.{cases_eq, cases_lt, eq-eqb, ne_eqb}
 use Rattle.std.proofs.lemmas.Bool.Decides.{nat_tests}
 use Rattle.std.proofs.lemmas.List.{get_or-set_other, get_or-set_same, length-set}
 use Rattle.pager_model.specs.declared.region.Rights.{Rights}
@@ -18,7 +18,6 @@ use Rattle.tiles.proofs.Counting.{count, count-zero, count-suc, count-more, coun
 use Rattle.tiles.proofs.Extents.{StartsBelow, starts_below}
 use Rattle.tiles.proofs.Largest.{size_small, none_size, tile_absent, tile_begins}
 use Rattle.tiles.proofs.MoveCounts.{size_local, promoted_test, promoted_none, promotions_add, demotions_add}
-use Rattle.tiles.proofs.SettledSizes.{eqb_yes, eqb_no}
 
 -- ---- the pages that get rights
 
@@ -27,7 +26,7 @@ protected b rights m = if b then option_map (with_rights rights) m else m
 
 pub outside_same : (block first len : ℕ) (rights : Rights) (r s : Resident) → ProtectsInBlock block first len rights r s → OutsideSame block (mapping_at r) (mapping_at s)
 outside_same block first len rights r s protects p apart =
-    protects.at p ∙ ap (λ b. protected b rights (mapping_at r p)) (no_right (in_range first len p) (eqb (p / 512) block) (eqb_no (p / 512) block apart))
+    protects.at p ∙ ap (λ b. protected b rights (mapping_at r p)) (no_right (in_range first len p) (eqb (p / 512) block) (ne_eqb (p / 512) block apart))
   where
     no_right : (a b : Bool) → b ≡ false → (a && b) ≡ false
     no_right true b h = h
@@ -53,7 +52,7 @@ blocks_more to first len rights r s t so_far protects = record {
   at = λ p. elim (cases_eq (p / 512) to) [
     | inl e ↦
         let before : (in_range first len p && nat_lt (p / 512) to) ≡ false = right_no (in_range first len p) (p / 512) to (omega arith) in
-        let after : (in_range first len p && eqb (p / 512) to) ≡ (in_range first len p && nat_lt (p / 512) (to + 1)) = right_same (in_range first len p) (eqb (p / 512) to) (nat_lt (p / 512) (to + 1)) (eqb_yes (p / 512) to e ∙ sym (lt_yes (p / 512) (to + 1) (omega arith))) in
+        let after : (in_range first len p && eqb (p / 512) to) ≡ (in_range first len p && nat_lt (p / 512) (to + 1)) = right_same (in_range first len p) (eqb (p / 512) to) (nat_lt (p / 512) (to + 1)) (eq-eqb (p / 512) to e ∙ sym (lt_yes (p / 512) (to + 1) (omega arith))) in
         let here : mapping_at s p ≡ mapping_at r p = so_far.at p ∙ ap (λ b. protected b rights (mapping_at r p)) before in
         protects.at p ∙ ap (λ m. protected (in_range first len p && eqb (p / 512) to) rights m) here ∙ ap (λ b. protected b rights (mapping_at r p)) after
     | inr apart ↦
@@ -359,7 +358,7 @@ sizes_one pages to level counts so_far small is = record {
           so_far.at level (omega arith),
           ap (λ k. count (begins_tile pages k) 0 (to + 1)) e,
           count-more (begins_tile pages level) 0 to to (omega arith),
-          ap weight (begins_by pages level to (Some level) is ∙ eqb_yes level level refl),
+          ap weight (begins_by pages level to (Some level) is ∙ eq-eqb level level refl),
         )
     | inr other ↦
         omega (
@@ -367,7 +366,7 @@ sizes_one pages to level counts so_far small is = record {
           get_or-set_other counts level size (slice_index counts level + 1) 0 other,
           so_far.at size low,
           count-more (begins_tile pages size) 0 to to (omega arith),
-          ap weight (begins_by pages size to (Some level) is ∙ eqb_no level size (λ e. other (sym e))),
+          ap weight (begins_by pages size to (Some level) is ∙ ne_eqb level size (λ e. other (sym e))),
         )
   ];
   few = λ size low. elim (cases_eq size level) [

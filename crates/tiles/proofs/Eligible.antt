@@ -1,11 +1,10 @@
 -- Eligible extents: each of their pages has its first page's mapping, moved. Eight that continue each other make a larger one.
 use Rattle.std.proofs.Common.{◌≡◌, ℕ, zero, suc, ◌+◌, ◌-◌, ◌*◌, ◌/◌, ◌%◌, ◌^◌, ◌<◌, ◌≤◌, Bool, true, false, cond, ◌&&◌, eqb, Option, Some, None, is_some, refl, sym, ap, inl, inr, ◌∙◌, arith, subst}
 use Rattle.std.proofs.Math.Nat.{pow-suc}
-use Rattle.std.proofs.lemmas.Bool.{cases_eq}
-use Rattle.std.proofs.lemmas.Bool.Decides.{nat_tests}
-use Rattle.std.proofs.lemmas.Option.{none-some, same_Some}
+use Rattle.std.specs.Cmp.{both_ways}
+use Rattle.std.proofs.lemmas.Bool.{cases_eq, and_parts, and_from, eqb-true, eq-eqb}
+use Rattle.std.proofs.lemmas.Option.{none-some, same_Some, cond_some}
 use Rattle.pager_model.specs.declared.region.Rights.{Rights}
-use Rattle.pager_model.specs.declared.region.Rights.TheVariants.{NoAccess, Read, Write}
 use Rattle.pager_model.specs.declared.tile.Mapping.{Mapping}
 use Rattle.pager_model.specs.declared.tile.Tile.{Tile}
 use Rattle.pager_model.specs.Extents.{extent_start}
@@ -13,54 +12,11 @@ use Rattle.tiles.specs.Beside.{whole}
 use Rattle.pager_model.specs.Tiles.{moved_by, same_rights, same_flag, is_mapping, is_eligible, tile_with, eligible_with, eligible_at}
 use Rattle.pager_model.proofs.ExtentLemmas.{eight_pos, part_inside, extent_of_frame, range_of_extent, first_of_extent}
 use Rattle.pager_model.proofs.Ranges.{list_all-range}
+use Rattle.pager_model.proofs.TileParts.{same_rights-true, same_flag-true, same_rights-refl, same_flag-refl}
+use Rattle.pager_model.proofs.Options.{some_from_is_some, none_from_is_some}
 use Rattle.tiles.proofs.Extents.{lies_in, in_part}
 
--- ---- tests of equality
-
-rights_one : (a b : Rights) → same_rights a b ≡ true → a ≡ b
-rights_one NoAccess NoAccess h = refl
-rights_one NoAccess Read h = absurd (cc)
-rights_one NoAccess Write h = absurd (cc)
-rights_one Read NoAccess h = absurd (cc)
-rights_one Read Read h = refl
-rights_one Read Write h = absurd (cc)
-rights_one Write NoAccess h = absurd (cc)
-rights_one Write Read h = absurd (cc)
-rights_one Write Write h = refl
-
-rights_same : (a : Rights) → same_rights a a ≡ true
-rights_same NoAccess = refl
-rights_same Read = refl
-rights_same Write = refl
-
-flag_one : (a b : Bool) → same_flag a b ≡ true → a ≡ b
-flag_one true true h = refl
-flag_one true false h = absurd (cc)
-flag_one false true h = absurd (cc)
-flag_one false false h = refl
-
-flag_same : (a : Bool) → same_flag a a ≡ true
-flag_same true = refl
-flag_same false = refl
-
-and_left : (a b : Bool) → (a && b) ≡ true → a ≡ true
-and_left true b h = refl
-and_left false b h = absurd (cc)
-
-and_right : (a b : Bool) → (a && b) ≡ true → b ≡ true
-and_right true b h = h
-and_right false b h = absurd (cc)
-
-and_both : (a b : Bool) → a ≡ true → b ≡ true → (a && b) ≡ true
-and_both true true h k = refl
-and_both true false h k = k
-and_both false b h k = h
-
-eqb_one : (a b : ℕ) → eqb a b ≡ true → a ≡ b
-eqb_one a b h = grind (arith, nat_tests)
-
-eqb_same : (a b : ℕ) → a ≡ b → eqb a b ≡ true
-eqb_same a b h = grind (arith, nat_tests)
+-- ---- mappings
 
 same_mapping : (n m : Mapping) → n.frame ≡ m.frame → n.region ≡ m.region → n.rights ≡ m.rights → n.dirty ≡ m.dirty → n ≡ m
 same_mapping n m a b c d =
@@ -72,17 +28,18 @@ same_mapping n m a b c d =
 mapping_one : (m : Mapping) (o : Option Mapping) → is_mapping m o ≡ true → o ≡ Some m
 mapping_one m None h = absurd (cc)
 mapping_one m (Some n) h =
-    let ab = and_left (eqb n.frame m.frame && eqb n.region m.region) (same_rights n.rights m.rights && same_flag n.dirty m.dirty) h in
-    let cd = and_right (eqb n.frame m.frame && eqb n.region m.region) (same_rights n.rights m.rights && same_flag n.dirty m.dirty) h in
-    let a = eqb_one n.frame m.frame (and_left (eqb n.frame m.frame) (eqb n.region m.region) ab) in
-    let b = eqb_one n.region m.region (and_right (eqb n.frame m.frame) (eqb n.region m.region) ab) in
-    let c = rights_one n.rights m.rights (and_left (same_rights n.rights m.rights) (same_flag n.dirty m.dirty) cd) in
-    let d = flag_one n.dirty m.dirty (and_right (same_rights n.rights m.rights) (same_flag n.dirty m.dirty) cd) in
+    let parts = and_parts (eqb n.frame m.frame && eqb n.region m.region) (same_rights n.rights m.rights && same_flag n.dirty m.dirty) h in
+    let places = and_parts (eqb n.frame m.frame) (eqb n.region m.region) parts.0 in
+    let flags = and_parts (same_rights n.rights m.rights) (same_flag n.dirty m.dirty) parts.1 in
+    let a = eqb-true n.frame m.frame places.0 in
+    let b = eqb-true n.region m.region places.1 in
+    let c = same_rights-true n.rights m.rights flags.0 in
+    let d = same_flag-true n.dirty m.dirty flags.1 in
     ap Some (same_mapping n m a b c d)
 
 mapping_same : (m : Mapping) → is_mapping m (Some m) ≡ true
 mapping_same m =
-    and_both _ _ (and_both _ _ (eqb_same m.frame m.frame refl) (eqb_same m.region m.region refl)) (and_both _ _ (rights_same m.rights) (flag_same m.dirty))
+    and_from _ _ (and_from _ _ (eq-eqb m.frame m.frame refl) (eq-eqb m.region m.region refl)) (and_from _ _ (same_rights-refl m.rights) (same_flag-refl m.dirty))
 
 -- ---- an eligible extent round a page
 
@@ -93,29 +50,17 @@ pub record IsWhole (pages : ℕ → Option Mapping) (k first : ℕ) (m : Mapping
 
 eligible_whole : (pages : ℕ → Option Mapping) (k first : ℕ) (m : Mapping) → is_eligible pages k first m ≡ true → IsWhole pages k first m
 eligible_whole pages k first m h = record {
-  aligned = eqb_one _ _ (and_left _ _ h);
+  aligned = eqb-true _ _ (and_parts _ _ h).0;
   uniform = λ i low.
-      let all = (list_all-range (λ i. is_mapping (moved_by i m) (pages (first + i))) 0 (8 ^ k)).0 (and_right (eqb (m.frame % 8 ^ k) 0) _ h) in
+      let all = (list_all-range (λ i. is_mapping (moved_by i m) (pages (first + i))) 0 (8 ^ k)).0 (and_parts (eqb (m.frame % 8 ^ k) 0) _ h).1 in
       mapping_one (moved_by i m) (pages (first + i)) (all i (omega arith) (omega arith));
 }
 
 whole_eligible : (pages : ℕ → Option Mapping) (k first : ℕ) (m : Mapping) → IsWhole pages k first m → is_eligible pages k first m ≡ true
 whole_eligible pages k first m w =
-    and_both _ _ (eqb_same _ _ w.aligned)
+    and_from _ _ (eq-eqb _ _ w.aligned)
     ((list_all-range (λ i. is_mapping (moved_by i m) (pages (first + i))) 0 (8 ^ k)).1
     (λ i _ low. ap (is_mapping (moved_by i m)) (w.uniform i (omega arith)) ∙ mapping_same (moved_by i m)))
-
-some_if : {X : Type 0} (b : Bool) (x y : X) → cond b (Some x) None ≡ Some y → (b ≡ true) × (y ≡ x)
-some_if true x y h = (refl, sym (same_Some x y h))
-some_if false x y h = absurd (none-some y h)
-
-some_there : {X : Type 0} (o : Option X) → is_some o ≡ true → (x : X) × (o ≡ Some x)
-some_there None h = absurd (cc)
-some_there (Some x) h = (x, refl)
-
-none_there : {X : Type 0} (o : Option X) → is_some o ≡ false → o ≡ None
-none_there None h = refl
-none_there (Some x) h = absurd (cc)
 
 -- the extent of a size round a page is eligible, and its first page has this mapping
 pub record HasExtent (pages : ℕ → Option Mapping) (k page : ℕ) : Type 0 where
@@ -130,7 +75,7 @@ eligible_is pages k page h =
 
 has_with : (pages : ℕ → Option Mapping) (k first : ℕ) (o : Option Mapping) (t : Tile) → eligible_with pages k first o ≡ Some t → (m : Mapping) × (o ≡ Some m) × IsWhole pages k first m
 has_with pages k first None t h = absurd (none-some t h)
-has_with pages k first (Some m) t h = (m, refl, eligible_whole pages k first m (some_if (is_eligible pages k first m) (tile_with k first m) t h).0)
+has_with pages k first (Some m) t h = (m, refl, eligible_whole pages k first m (cond_some (is_eligible pages k first m) (tile_with k first m) t h).0)
 
 pub eligible_has : (pages : ℕ → Option Mapping) (k page : ℕ) (t : Tile) → eligible_at pages k page ≡ Some t → HasExtent pages k page
 eligible_has pages k page t h =
@@ -139,7 +84,7 @@ eligible_has pages k page t h =
 
 pub whole_has : (pages : ℕ → Option Mapping) (k page : ℕ) → whole pages k page ≡ true → HasExtent pages k page
 unfolding whole
-whole_has pages k page h = let t = some_there (eligible_at pages k page) h in eligible_has pages k page t.0 t.1
+whole_has pages k page h = let t = some_from_is_some (eligible_at pages k page) h in eligible_has pages k page t.0 t.1
 
 pub has_whole : (pages : ℕ → Option Mapping) (k page : ℕ) → HasExtent pages k page → whole pages k page ≡ true
 unfolding whole
@@ -147,7 +92,7 @@ has_whole pages k page h = ap is_some (eligible_is pages k page h)
 
 pub whole_none : (pages : ℕ → Option Mapping) (k page : ℕ) → whole pages k page ≡ false → eligible_at pages k page ≡ None
 unfolding whole
-whole_none pages k page h = none_there (eligible_at pages k page) h
+whole_none pages k page h = none_from_is_some (eligible_at pages k page) h
 
 pub none_whole : (pages : ℕ → Option Mapping) (k page : ℕ) → eligible_at pages k page ≡ None → whole pages k page ≡ false
 unfolding whole
@@ -238,11 +183,6 @@ page_whole pages page m at = record {
   };
 }
 
-pub both_true : (a b : Bool) → (a ≡ true → b ≡ true) → (b ≡ true → a ≡ true) → a ≡ b
-both_true true b f g = sym (f refl)
-both_true false true f g = g refl
-both_true false false f g = refl
-
 -- an extent is eligible by its pages alone
 local_one : (old new : ℕ → Option Mapping) (k page : ℕ) → k ≤ 3 → ((other : ℕ) → other / 8 ^ k ≡ page / 8 ^ k → old other ≡ new other) → whole old k page ≡ true → whole new k page ≡ true
 local_one old new k page low same is =
@@ -255,4 +195,4 @@ local_one old new k page low same is =
 
 pub whole_local : (old new : ℕ → Option Mapping) (k page : ℕ) → k ≤ 3 → ((other : ℕ) → other / 8 ^ k ≡ page / 8 ^ k → old other ≡ new other) → whole old k page ≡ whole new k page
 whole_local old new k page low same =
-    both_true (whole old k page) (whole new k page) (local_one old new k page low same) (local_one new old k page low (λ other at. sym (same other at)))
+    both_ways (whole old k page) (whole new k page) (local_one old new k page low same) (local_one new old k page low (λ other at. sym (same other at)))

@@ -2,12 +2,13 @@
 use Rattle.std.proofs.Common.{◌≡◌, ◌≢◌, ℕ, zero, suc, ◌*◌, ◌/◌, ◌<◌, ◌≤◌, Bool, true, false, if◌then◌else◌, eqb, List, Option, Some, None, option_map, is_some, length, replicate, slice_index_or, slice_set, refl, sym, ap, subst, inl, inr, ◌∙◌, arith}
 use Rattle.std.proofs.lemmas.Bool.{cases_eq, cases_lt, false≢true}
 use Rattle.std.proofs.lemmas.Bool.Decides.{nat_tests}
-use Rattle.std.proofs.lemmas.List.{get_or-set_other, get_or-set_same, length-set, get_or_past, length-replicate}
+use Rattle.std.proofs.lemmas.List.{get_or-set_other, get_or-set_same, length-set, length-replicate}
 use Rattle.std.proofs.lemmas.Option.{none-some, same_Some}
 use Rattle.extent_tree.specs.Counts.{splits_with}
 use Rattle.extent_tree.specs.Rows.{Arena, row, is_split, ChangesOnly, SplitsAreRowsBelow}
 use Rattle.extent_tree.proofs.Rows.{row_known, split_alike}
 use Rattle.pager_model.specs.declared.tile.Mapping.{Mapping}
+use Rattle.pager_model.proofs.Lists.{get_or_within}
 use Rattle.tiles.specs.declared.pages.Place.{Place}
 use Rattle.tiles.specs.Resident.{Resident, number_at, mapping_in, mapping_of_number, mapping_at, frames_in, frame_of_page, Maps}
 use Rattle.tiles.specs.Kept.{size_in_place, size_of_number, size_kept, sized, Sizes, ArePages, SizesBut, SameSizes}
@@ -27,10 +28,6 @@ pub size_kept-is : (r : Resident) (p : ℕ) → size_kept r p ≡ size_of_number
 unfolding size_kept
 size_kept-is r p = refl
 
-pub within : {X : Type 0} (xs : List (Option X)) (i : ℕ) (x : X) → slice_index_or xs i None ≡ Some x → i < length xs
-within xs i x h =
-    elim (cases_lt i (length xs)) [ inl l ↦ l | inr past ↦ absurd (none-some x (sym (get_or_past xs i None past) ∙ h)) ]
-
 cases_place : (o : Option Place) → o ≢ None → (place : Place) × (o ≡ Some place)
 cases_place None h = absurd (h refl)
 cases_place (Some place) h = (place, refl)
@@ -40,7 +37,7 @@ pub place_there : (r : Resident) → ArePages r → (p n : ℕ) → number_at r 
 place_there r kept p n h = cases_place (slice_index_or r.places n None) (kept.found p n h)
 
 pub number_within : (r : Resident) → ArePages r → (p n : ℕ) → number_at r p ≡ Some n → n < length r.places
-number_within r kept p n h = let at = place_there r kept p n h in within r.places n at.0 at.1
+number_within r kept p n h = let at = place_there r kept p n h in get_or_within r.places n at.0 at.1
 
 -- and the page has a row
 pub numbered : (r : Resident) (p n : ℕ) → number_at r p ≡ Some n → is_some (row r.numbers 0 p) ≡ true

@@ -12,10 +12,6 @@ use Rattle.tiles.specs.Beside.{whole}
 use Rattle.tiles.proofs.Eligible.{HasExtent, whole_has, has_whole, whole_none, eligible_is, page_in, smaller, page_whole}
 use Rattle.tiles.proofs.Extents.{StartsBelow, starts_below}
 
-cases_Option : {X : Type 0} (o : Option X) → (o ≡ None) ⊎ ((x : X) × (o ≡ Some x))
-cases_Option None = inl refl
-cases_Option (Some x) = inr (x, refl)
-
 -- the largest eligible extent round a page has this size, up to one
 record IsLargest (pages : ℕ → Option Mapping) (page top k : ℕ) : Type 0 where
   pub low : k ≤ top

@@ -1,6 +1,6 @@
 -- The moves of a change of one page, and of changes in blocks that lie apart.
 use Rattle.std.proofs.Common.{◌≡◌, ℕ, ◌+◌, ◌/◌, ◌%◌, ◌^◌, ◌<◌, ◌≤◌, Bool, true, false, cond, eqb, ltb, if◌then◌else◌, ◌&&◌, nat_lt, Option, refl, sym, ap, inl, inr, ◌∙◌, arith}
-use Rattle.std.proofs.lemmas.Bool.{cases_eq}
+use Rattle.std.proofs.lemmas.Bool.{cases_eq, ne_eqb}
 use Rattle.std.proofs.lemmas.Bool.Decides.{nat_tests}
 use Rattle.pager_model.specs.declared.tile.Mapping.{Mapping}
 use Rattle.pager_model.specs.Extents.{extent_start}
@@ -17,14 +17,13 @@ use Rattle.tiles.proofs.Counting.{count_pages-is, count-sum}
 use Rattle.tiles.proofs.Eligible.{whole_local}
 use Rattle.tiles.proofs.Extents.{StartsBelow, starts_below}
 use Rattle.tiles.proofs.Largest.{size_small, size_is, whole_within, whole_beyond, none_size, tile_begins}
-use Rattle.tiles.proofs.SettledSizes.{eqb_no}
 
 -- ---- one page
 
 -- one page changed, and of the others the sizes are kept
 pub kept_but : (r s : Resident) (page : ℕ) (given : Option Mapping) → AreSizes r → Maps page given r s → SizesBut page r s → AreKeptBut page (mapping_at r) s
 kept_but r s page given sizes maps but = record {
-  others = λ p apart. maps.at p ∙ ap (λ (b : Bool). if b then given else mapping_at r p) (eqb_no p page apart);
+  others = λ p apart. maps.at p ∙ ap (λ (b : Bool). if b then given else mapping_at r p) (ne_eqb p page apart);
   sizes = λ p apart. but p apart ∙ sizes p;
 }
 

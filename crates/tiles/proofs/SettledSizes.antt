@@ -1,6 +1,6 @@
 -- How the sizes of the tiles are settled after a change of one page.
 use Rattle.std.proofs.Common.{◌≡◌, ◌≢◌, ℕ, zero, suc, ◌+◌, ◌-◌, ◌*◌, ◌/◌, ◌%◌, ◌^◌, ◌<◌, ◌≤◌, Bool, true, false, eqb, if◌then◌else◌, ◌&&◌, nat_le, nat_lt, max, Option, Some, None, refl, sym, ap, inl, inr, ◌∙◌, arith, subst}
-use Rattle.std.proofs.lemmas.Bool.{cases_Bool, cases_eq, cases_lt}
+use Rattle.std.proofs.lemmas.Bool.{cases_Bool, cases_eq, cases_lt, eq-eqb, ne_eqb}
 use Rattle.std.proofs.lemmas.Bool.Decides.{nat_tests}
 use Rattle.std.proofs.lemmas.Option.{none-some, same_Some}
 use Rattle.pager_model.specs.declared.tile.Mapping.{Mapping}
@@ -14,12 +14,6 @@ use Rattle.tiles.proofs.SizeChanges.{IsOver, whole_other, size_settled, size_sta
 use Rattle.tiles.proofs.Eligible.{HasExtent, GoesOn, whole_has, has_whole, whole_alike, eight_join, whole_parts, page_whole, smaller}
 use Rattle.tiles.proofs.Extents.{starts_below}
 use Rattle.tiles.proofs.Largest.{size_absent, within_size, whole_within}
-
-pub eqb_yes : (a b : ℕ) → a ≡ b → eqb a b ≡ true
-eqb_yes a b h = grind (arith, nat_tests)
-
-pub eqb_no : (a b : ℕ) → a ≢ b → eqb a b ≡ false
-eqb_no a b h = grind (arith, nat_tests)
 
 -- ---- whether an extent joins
 
@@ -123,10 +117,10 @@ spread_sizes old r s page over kept is low same spreads p =
     let n = size_beside page p (size_at (mapping_at r) page) in
     let sizes : size_kept s p ≡ size_at (mapping_at r) p = elim (cases_eq (p / 8 ^ over) (page / 8 ^ over)) [
       | inl joins ↦
-          let t = eqb_yes (p / 8 ^ over) (page / 8 ^ over) joins in
+          let t = eq-eqb (p / 8 ^ over) (page / 8 ^ over) joins in
           spreads p ∙ ap (λ (b : Bool). if b then sized (mapping_at r p) n else size_kept r p) t ∙ sized_is p joins (mapping_at r p) refl
       | inr apart ↦
-          let t = eqb_no (p / 8 ^ over) (page / 8 ^ over) apart in
+          let t = ne_eqb (p / 8 ^ over) (page / 8 ^ over) apart in
           let other : p ≢ page = λ e. apart (ap (λ m. m / 8 ^ over) e) in
           spreads p ∙ ap (λ (b : Bool). if b then sized (mapping_at r p) n else size_kept r p) t ∙ kept.sizes p other ∙ sym (size_stays old (mapping_at r) page p over kept.others is low apart)
     ] in

@@ -11,38 +11,12 @@ use Rattle.std.proofs.lemmas.List.Folds.{list_any_none}
 use Rattle.std.proofs.lemmas.List.Sums.{length-filter, count_by-le-length}
 use Rattle.std.proofs.lemmas.List.Kept.{AllPairs-cons, AllPairs-filter}
 use Rattle.std.proofs.lemmas.List.Quantifiers.{position-Some}
-use Rattle.pager_model.specs.declared.region.Rights.{Rights}
-use Rattle.pager_model.specs.declared.region.Rights.TheVariants.{NoAccess, Read, Write}
+use Rattle.pager_model.specs.declared.region.Rights.TheVariants.{NoAccess}
 use Rattle.pager_model.specs.declared.tile.Tile.{Tile}
 use Rattle.pager_model.specs.Images.{image_room, touched}
-use Rattle.pager_model.specs.Tiles.{same_tile, same_rights, same_flag}
+use Rattle.pager_model.specs.Tiles.{same_tile}
+use Rattle.pager_model.proofs.TileParts.{same_rights-true, same_flag-true, same_rights-refl, same_flag-refl}
 use Rattle.tlb_images.specs.Image.{IsImage}
-
-same_rights-true : (a b : Rights) → same_rights a b ≡ true → a ≡ b
-same_rights-true NoAccess NoAccess h = refl
-same_rights-true NoAccess Read h = absurd (false≢true h)
-same_rights-true NoAccess Write h = absurd (false≢true h)
-same_rights-true Read NoAccess h = absurd (false≢true h)
-same_rights-true Read Read h = refl
-same_rights-true Read Write h = absurd (false≢true h)
-same_rights-true Write NoAccess h = absurd (false≢true h)
-same_rights-true Write Read h = absurd (false≢true h)
-same_rights-true Write Write h = refl
-
-same_flag-true : (a b : Bool) → same_flag a b ≡ true → a ≡ b
-same_flag-true true true h = refl
-same_flag-true true false h = sym h
-same_flag-true false true h = h
-same_flag-true false false h = refl
-
-same_rights-refl : (a : Rights) → same_rights a a ≡ true
-same_rights-refl NoAccess = refl
-same_rights-refl Read = refl
-same_rights-refl Write = refl
-
-same_flag-refl : (a : Bool) → same_flag a a ≡ true
-same_flag-refl true = refl
-same_flag-refl false = refl
 
 -- the test of equal tiles passes just where they are equal
 pub same_tile-true : (t u : Tile) → same_tile t u ≡ true → t ≡ u

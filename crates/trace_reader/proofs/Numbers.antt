@@ -4,6 +4,7 @@ use Rattle.std.specs.Fmt.{digits}
 use Rattle.std.specs.Result.{result_ok}
 use Rattle.std.specs.Str.{IsUtf8, bytes_eq}
 use Rattle.std.specs.Str.Parse.{AllDigits, digits_value, ParsesUnsigned}
+use Rattle.pager_model.proofs.Options.{none_from_never}
 use Rattle.trace_reader.specs.Forms.{number_of, in_range, number_in}
 use Rattle.trace_reader.specs.Words.{IsPlain}
 use Rattle.trace_reader.specs.declared.fault.LineCause.TheVariants as causes
@@ -60,12 +61,8 @@ number_again n small =
     let same : bytes_eq (decimal n) (decimal n) ≡ true = (bytes_eq-Decides (decimal n) (decimal n)).1 refl in
     rw (value, low, same) refl
 
-pub is_none : {A : Type 0} (o : Option A) → ((x : A) → o ≡ Some x → ⊥) → o ≡ None
-is_none None h = refl
-is_none (Some x) h = absurd (h x refl)
-
 pub no_number : (word : List ℕ) → ((n : ℕ) → n < 2 ^ 64 → word ≡ decimal n → ⊥) → number_of word ≡ None
-no_number word none = is_none (number_of word) (λ n e. let t = number_takes word n e in none n t.0 t.1)
+no_number word none = none_from_never (number_of word) (λ n e. let t = number_takes word n e in none n t.0 t.1)
 
 -- what `parse` makes of a word with no sign and no leading zero
 pub parsed : {E : Type 0} (word : List ℕ) (r : Result ℕ E) → IsPlain word → ParsesUnsigned 64 10 word r → result_ok r ≡ number_of word

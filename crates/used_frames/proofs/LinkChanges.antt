@@ -3,6 +3,7 @@ use Rattle.std.proofs.Common.{◌≡◌, ◌≢◌, ◌<◌, ◌≤◌, ◌⊎�
 use Rattle.std.proofs.lemmas.List.{get_or-set_same, get_or-set_other, length-set, get_or-replicate, get_or_past, length-replicate}
 use Rattle.std.proofs.lemmas.Bool.{cases_eq, cases_lt, ne_eqb, eq-eqb}
 use Rattle.std.specs.Bool.{then_some}
+use Rattle.pager_model.proofs.Options.{cases_Option}
 use Rattle.used_frames.specs.AgeOrders.{Links, AreLinks, IsInOrder, IsLeastFrom, IsNextFrom, IsStop, age_of, least_after, linked, next_of, prev_of}
 
 -- what links say after two were linked
@@ -32,11 +33,6 @@ module _ (links : Links) (before after : ℕ) (are : AreLinks links) (before_kno
       | inr other ↦ rw prev-linked_other (are.prev_known at)
     ];
   }
-
--- an age that is there is not missing
-pub some_or_none : (o : Option ℕ) → ((age : ℕ) × (o ≡ Some age)) ⊎ (o ≡ None)
-some_or_none None = inr refl
-some_or_none (Some age) = inl (age, refl)
 
 -- the end has no age
 pub no_age_at_end : (links : Links) (ages : List (Option ℕ)) → IsInOrder links ages → age_of ages links.end ≡ None
@@ -156,9 +152,9 @@ module _ (links : Links) (ages : List (Option ℕ)) (frame age : ℕ) (are : Are
         stop = stop_more (next_of links at) was.stop;
         from = λ old has. was.from old (sym (other_age (next_of links at) apart) ∙ has);
         least = λ at' old has above. elim (age_cases at' old has) [
-          | inl own ↦ elim (some_or_none (age_of ages (next_of links at))) [
-            | inl some ↦ (some.0, other_age (next_of links at) apart ∙ some.1, omega (arith, youngest (next_of links at) some.0 some.1))
-            | inr none ↦ absurd (next_inside at stop before (was.stop none))
+          | inl own ↦ elim (cases_Option (age_of ages (next_of links at))) [
+            | inl none ↦ absurd (next_inside at stop before (was.stop none))
+            | inr some ↦ (some.0, other_age (next_of links at) apart ∙ some.1, omega (arith, youngest (next_of links at) some.0 some.1))
           ]
           | inr other ↦
               let least = was.least at' old other.1 above in
@@ -352,9 +348,9 @@ IsLeastFrom-next links ages low at is next = elim (cases_eq at links.end) [
         cc;
   })
   | inr apart ↦ rw (ne_eqb at links.end apart) (record {
-    from = elim (some_or_none (age_of ages at)) [
-      | inl some ↦ (some.0, some.1, next.from some.0 some.1)
-      | inr none ↦ absurd (apart (next.stop none))
+    from = elim (cases_Option (age_of ages at)) [
+      | inl none ↦ absurd (apart (next.stop none))
+      | inr some ↦ (some.0, some.1, next.from some.0 some.1)
     ];
     least = next.least;
   })

@@ -1,21 +1,16 @@
 -- What stays true of the notes as one changes.
-use Rattle.std.proofs.Common.{◌≡◌, ◌<◌, ℕ, zero, suc, List, ◌∷◌, length, get_or, set, map, replicate, Option, Some, None, IfSome, IfNone, is_some, true, false, refl, ap, sym, ◌∙◌, subst, inl, inr, arith}
-use Rattle.std.proofs.lemmas.List.{get_or-replicate, get_or_past, length-replicate, length-map, map-set}
-use Rattle.std.proofs.lemmas.Bool.{cases_lt, cases_Bool}
+use Rattle.std.proofs.Common.{◌≡◌, ◌<◌, ℕ, zero, suc, List, ◌∷◌, length, get_or, set, map, replicate, Option, Some, None, IfNone, is_some, true, false, refl, ap, sym, ◌∙◌, subst, inl, inr, arith}
+use Rattle.std.proofs.lemmas.List.{length-map, map-set}
+use Rattle.std.proofs.lemmas.Bool.{cases_Bool}
 use Rattle.std.proofs.lemmas.Grind.{common_steps}
 use Rattle.std.proofs.Math.ListN.{get_or-map}
 use Rattle.std.proofs.Math.Seq.{map-set_same}
 use Rattle.pager_model.specs.declared.reservation.Used.{Used}
 use Rattle.pager_model.specs.FrameStates.{claim_in, with_claim}
+use Rattle.pager_model.proofs.Lists.{get_or-alike, get_or_within}
+use Rattle.pager_model.proofs.Options.{none_from_never}
 use Rattle.used_frames.specs.AgeOrders.{Links, IsInOrder}
-use Rattle.used_frames.proofs.LinkChanges.{some_or_none}
 use Rattle.used_frames.specs.Kept.{AreKept, AreMutual, link_age}
-
-none_of : (n i : ℕ) → get_or {A = Option ℕ} (replicate n None) i None ≡ None
-none_of n i = elim (cases_lt i n) [
-  | inl within ↦ get_or-replicate n i None None within
-  | inr past ↦ get_or_past (replicate n None) i None (omega (arith, length-replicate {A = Option ℕ} n None))
-]
 
 pub claim_at : (notes : List (Option Used)) (frame : ℕ) → get_or (map claim_in notes) frame None ≡ claim_in (get_or notes frame None)
 claim_at notes frame = get_or-map claim_in notes frame None
@@ -42,17 +37,13 @@ link_age_noted notes frame age is =
     let cases = link_age_cases (get_or notes frame None) age (sym (link_age_at notes frame) ∙ is) in
     (cases.0, cases.1, cases.3)
 
-pub if_some : {X : Type 0} (o : Option X) (P : X → Type 0) → ((x : X) → o ≡ Some x → P x) → IfSome o P
-if_some None P p = tt
-if_some (Some x) P p = p x refl
-
 pub if_none : {X : Type 0} (o : Option X) {P : Type 0} → (o ≡ None → P) → IfNone o P
 if_none None p = p refl
 if_none (Some x) p = tt
 
 AreMutual-none : (n m : ℕ) → AreMutual (replicate n None) (replicate m None)
 AreMutual-none n m = λ frame processor.
-    (λ has. let none = none_of n frame in cc, λ has. let none = none_of m processor in cc)
+    (λ has. let none = get_or-alike {A = Option ℕ} n frame None in cc, λ has. let none = get_or-alike {A = Option ℕ} m processor None in cc)
 
 -- a claim is noted on one side
 module _ (xs ys : List (Option ℕ)) (i j : ℕ) (i_in : i < length xs) (j_in : j < length ys) where
@@ -121,17 +112,7 @@ module _ (notes : List (Option Used)) (order : Links) (claims : List (Option ℕ
 -- who claims nothing has no entry
 pub unlisted : (notes : List (Option Used)) (order : Links) (claims : List (Option ℕ)) → AreKept notes order claims → (processor : ℕ)
     → ((frame : ℕ) → claim_in (get_or notes frame None) ≡ Some processor → ⊥) → get_or claims processor None ≡ None
-unlisted notes order claims are processor nothing = elim (some_or_none (get_or claims processor None)) [
-  | inl some ↦ absurd (nothing some.0 (listed_claim notes order claims are some.0 processor some.1))
-  | inr none ↦ none
-]
-
--- what is at an index is within the list
-pub index_within : {X : Type 0} (xs : List (Option X)) (i : ℕ) (x : X) → get_or xs i None ≡ Some x → i < length xs
-index_within xs i x is = elim (cases_lt i (length xs)) [
-  | inl within ↦ within
-  | inr past ↦ let none = get_or_past xs i None past in absurd (cc)
-]
+unlisted notes order claims are processor nothing = none_from_never (get_or claims processor None) (λ frame listed. nothing frame (listed_claim notes order claims are frame processor listed))
 
 link_age-with_claim : (claim : Option ℕ) (note : Option Used) → link_age (with_claim claim note) ≡ link_age note
 link_age-with_claim claim None = refl
@@ -144,7 +125,7 @@ claim_in-with_claim claim (Some u) some = refl
 -- a claim or none in place of another leaves the order
 module _ (notes : List (Option Used)) (order : Links) (claims : List (Option ℕ)) (are : AreKept notes order claims) (frame processor : ℕ) (u : Used) (is : get_or notes frame None ≡ Some u) (known : processor < length claims) where
   frame_within : frame < length (map claim_in notes)
-  frame_within = omega (arith, index_within notes frame u is, length-map notes claim_in)
+  frame_within = omega (arith, get_or_within notes frame u is, length-map notes claim_in)
 
   reclaimed : (claim : Option ℕ) → map link_age (set notes frame (with_claim claim (get_or notes frame None))) ≡ map link_age notes
   reclaimed claim = map-set_same link_age notes frame _ None (link_age-with_claim claim (get_or notes frame None))

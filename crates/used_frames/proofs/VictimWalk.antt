@@ -6,11 +6,12 @@ use Rattle.std.proofs.lemmas.List.Folds.{Any-from_list_any}
 use Rattle.std.proofs.lemmas.List.{get_or_default}
 use Rattle.pager_model.specs.declared.reservation.Used.{Used}
 use Rattle.pager_model.specs.FrameStates.{age_in, is_claimed_place, is_evictable}
+use Rattle.pager_model.proofs.Lists.{get_or_within}
 use Rattle.used_frames.specs.AgeOrders.{Links, IsInOrder, IsLeastFrom, age_of, least_after, prev_of}
 use Rattle.used_frames.specs.Kept.{link_age}
 use Rattle.used_frames.specs.Victims.{IsLeast}
 use Rattle.used_frames.proofs.LinkChanges.{no_age_at_end}
-use Rattle.used_frames.proofs.NoteChanges.{index_within, link_age_at, link_age_cases, link_age-unwired, link_age-wired}
+use Rattle.used_frames.proofs.NoteChanges.{link_age_at, link_age_cases, link_age-unwired, link_age-wired}
 
 -- the ages of the frames that aren't wired
 abbrev pub ages_of : List (Option Used) → List (Option ℕ)
@@ -83,7 +84,7 @@ IsLeast-reached notes frame reached unclaimed =
     let age = reached.in_order in
     let own : link_age (get_or notes frame None) ≡ Some age.0 = sym (link_age_at notes frame) ∙ age.1 in
     record {
-      known = let cases = link_age_cases (get_or notes frame None) age.0 own in index_within notes frame cases.0 cases.1;
+      known = let cases = link_age_cases (get_or notes frame None) age.0 own in get_or_within notes frame cases.0 cases.1;
       evictable = unclaimed_evictable (get_or notes frame None) age.0 own unclaimed;
       least = λ other evictable.
           let noted = evictable_noted (get_or notes other None) evictable in

@@ -1,6 +1,6 @@
 use Rattle.std.proofs.Common.{◌*◌, ◌+◌, ◌≤◌, false, true, length, get_or, replicate, ap, ◌∙◌, arith}
 use Rattle.std.proofs.lemmas.List.{length-replicate}
-use Rattle.bit_set.proofs.Sets.{get_or-alike}
+use Rattle.pager_model.proofs.Lists.{get_or-alike}
 use Rattle.buddy_extents.proofs.BlockMoves.{AreBlocks-none, free_in-none, next_largest, put_largest}
 use Rattle.buddy_extents.proofs.hand.put_all_in.Goals as goal
 

@@ -1,7 +1,8 @@
 use Rattle.std.proofs.Common.{◌≡◌, ◌+◌, ◌-◌, ◌*◌, ◌/◌, is_some, arith, ap, sym, subst, ◌∙◌}
 use Rattle.reservations.specs.Kept.{reservation_at}
 use Rattle.pager_model.proofs.ExtentLemmas.{eight_pos, part_of_eight, aligned_end}
-use Rattle.frame_pool.proofs.ListsByFrame.{no_record, HasParts, HasParts-none, HasParts-all, HasParts-more, HasParts-skip, part_in_room, part_unlisted, none_before, known_before}
+use Rattle.pager_model.proofs.Options.{none_from_is_some}
+use Rattle.frame_pool.proofs.ListsByFrame.{HasParts, HasParts-none, HasParts-all, HasParts-more, HasParts-skip, part_in_room, part_unlisted, none_before, known_before}
 use Rattle.frame_pool.proofs.PartRecords.{eighth}
 use Rattle.frame_pool.proofs.lists.enlist_parts.Goals as goal
 use Rattle.frame_pool.proofs.lists.enlist_parts.Goals.{then-is_some, else-is_some}
@@ -48,7 +49,7 @@ loop-i-preserved c =
           let known = known_before i start lists st r splits small has in
           rw w.lists-is (HasParts-more i start lists st r splits small has w.enlist.new.lists (listed _ none known has.listed) w.enlist.ensures.room)
       | else-is_some w ↦
-          let none = no_record (reservation_at st (r.frame + i * (c.pages-pages.result / 8))) (ap is_some (sym c.get.ensures.record) ∙ sym c.is_some.ensures ∙ w.if-is_some.false) in
+          let none = none_from_is_some (reservation_at st (r.frame + i * (c.pages-pages.result / 8))) (ap is_some (sym c.get.ensures.record) ∙ sym c.is_some.ensures ∙ w.if-is_some.false) in
           rw w.lists-is (HasParts-skip i start lists st r splits small has (rw pages at none))
     ]
 

@@ -1,9 +1,10 @@
 use Rattle.std.proofs.Common.{◌≡◌, ◌+◌, ◌-◌, ◌≤◌, is_some, inl, inr, refl, ap, sym, ◌∙◌, arith}
 use Rattle.std.proofs.lemmas.Bool.{OnTrue_from, OnFalse_from, cases_eq}
 use Rattle.extent_tree.specs.Rows.{spot_of, is_split}
+use Rattle.pager_model.proofs.Options.{none_from_is_some}
 use Rattle.population_map.specs.Populations.{id_of}
 use Rattle.population_map.proofs.Marks.{placed_by}
-use Rattle.population_map.proofs.Placings.{spot_id, spot_split, none_further, split_is_placed, none_met, no_id}
+use Rattle.population_map.proofs.Placings.{spot_id, spot_split, none_further, split_is_placed, none_met}
 use Rattle.population_map.proofs.placing.is_met.Goals as goal
 use Rattle.population_map.proofs.placing.is_met.Goals.{After-is_split}
 use Rattle.population_map.proofs.placing.is_met.Given.{Over}
@@ -46,7 +47,7 @@ returns-clause-apart g c =
     let id = spot_id m c.loop-above.above c.args.page c.loop-above.spot c.mark_at-2.result (omega arith) c.loop-above.invariant.seen c.mark_at-2.ensures in
     OnFalse_from _ _ (λ is. none_met m c.args.size c.args.page c.requires (omega (arith, c.level-above_it.ensures.level, c.level-above_it.ensures.small))
     (λ whole from less. elim (cases_eq whole (3 - c.loop-above.above)) [
-      | inl here ↦ ap (λ k. id_of m k c.args.page) here ∙ (sym id ∙ no_id c.mark_at-2.result.id (sym c.is_some-2.ensures ∙ c.if-is_some-2.false))
+      | inl here ↦ ap (λ k. id_of m k c.args.page) here ∙ (sym id ∙ none_from_is_some c.mark_at-2.result.id (sym c.is_some-2.ensures ∙ c.if-is_some-2.false))
       | inr apart ↦ c.loop-above.invariant.none whole (omega (arith, c.level-above_it.ensures.level)) less
     ])
     (sym (split g c) ∙ is))

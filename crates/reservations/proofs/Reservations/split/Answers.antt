@@ -1,8 +1,9 @@
 use Rattle.std.proofs.Common.{◌≡◌, Some, None, length, set, arith, sym, ap, subst, ◌∙◌}
 use Rattle.std.proofs.lemmas.Option.{none-some}
 use Rattle.pager_model.specs.Records.{is_used, split_records}
+use Rattle.pager_model.proofs.Lists.{get_or_within}
 use Rattle.reservations.specs.Kept.{reservation_at, ArePlaced}
-use Rattle.reservations.proofs.FrameIds.{ArePlaced-set, AreNoted-open, known_record, whole_slice}
+use Rattle.reservations.proofs.FrameIds.{ArePlaced-set, AreNoted-open, whole_slice}
 use Rattle.reservations.proofs.SplitLemmas.{split_records-open}
 use Rattle.reservations.proofs.Reservations.split.Goals as goal
 
@@ -12,7 +13,7 @@ write_parts-requires-clause-placed c =
     let records = c.self.inside.records.items in
     let found : reservation_at c.args.self.now c.args.id ≡ Some r = sym c.get.ensures.record ∙ c.unwrap-whole.ensures in
     let is = rw (← c.self.view_is) at found in
-    let known = known_record records c.args.id r is in
+    let known = get_or_within records c.args.id r is in
     subst ArePlaced (sym c.as_mut_slice.ensures.value) (ArePlaced-set records c.args.id None c.self.invariant.placed known (λ q e. absurd (none-some q e)))
 
 pub write_parts-requires-clause-noted : goal.write_parts-requires-clause-noted

@@ -1,7 +1,8 @@
 use Rattle.std.proofs.Common.{◌≡◌, get_or, None, sym, ◌∙◌, arith}
 use Rattle.std.proofs.lemmas.Grind.{common_steps}
+use Rattle.pager_model.proofs.Options.{IfSome-from}
 use Rattle.used_frames.specs.Noted.{Claims}
-use Rattle.used_frames.proofs.NoteChanges.{claim_listed, listed_claim, if_some, if_none}
+use Rattle.used_frames.proofs.NoteChanges.{claim_listed, listed_claim, if_none}
 use Rattle.used_frames.proofs.UsedFrames.claimed_by.Goals as goal
 
 read : (c : goal.After-flatten) → c.flatten.result ≡ get_or c.self.inside.claims.items c.args.processor None
@@ -9,7 +10,7 @@ read c = grind (arith, common_steps)
 
 pub returns-clause-found : goal.returns-clause-found
 returns-clause-found c =
-    if_some c.flatten.result (Claims c.args.self.now c.args.processor)
+    IfSome-from c.flatten.result (Claims c.args.self.now c.args.processor)
     (λ frame is. rw (← c.self.view_is) (listed_claim _ _ _ c.self.invariant frame c.args.processor (sym (read c) ∙ is)))
 
 pub returns-clause-none : goal.returns-clause-none

@@ -4,10 +4,11 @@ use Rattle.std.proofs.lemmas.Bool.{not-true, not-false}
 use Rattle.std.proofs.Math.Seq.{map-set_same}
 use Rattle.pager_model.specs.declared.reservation.Used.{Used}
 use Rattle.pager_model.specs.FrameStates.{claim_in}
+use Rattle.pager_model.proofs.Lists.{get_or_within}
 use Rattle.used_frames.specs.AgeOrders.{Links}
 use Rattle.used_frames.specs.declared.UsedFrames.TheInside.{Inside}
 use Rattle.used_frames.specs.Kept.{AreMutual, link_age}
-use Rattle.used_frames.proofs.NoteChanges.{AreMutual-cleared, AreMutual-same, claim_listed, index_within, link_age_at, link_age-unwired, link_age-wired}
+use Rattle.used_frames.proofs.NoteChanges.{AreMutual-cleared, AreMutual-same, claim_listed, link_age_at, link_age-unwired, link_age-wired}
 use Rattle.used_frames.proofs.UsedFrames.remove.Goals as goal
 use Rattle.used_frames.proofs.UsedFrames.remove.Goals.{in-Some, in_default, After-set}
 
@@ -17,7 +18,7 @@ noted c = sym c.get.ensures ∙ c.unwrap-used.ensures
 -- whoever claimed the frame is among the processors
 listed : (c : After-set) (processor : ℕ) → c.unwrap-used.result.claim ≡ Some processor → processor < length c.self.inside.claims.items
 listed c processor claims_it =
-    index_within c.self.inside.claims.items processor c.args.frame
+    get_or_within c.self.inside.claims.items processor c.args.frame
     (claim_listed _ _ _ c.self.invariant c.args.frame processor (ap claim_in (noted c) ∙ claims_it))
 
 cleared : (c : After-set) (processor : ℕ) → c.unwrap-used.result.claim ≡ Some processor → AreMutual (map claim_in (set c.self.inside.notes c.args.frame None)) (set c.self.inside.claims.items processor None)

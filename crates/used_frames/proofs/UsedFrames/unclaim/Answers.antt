@@ -1,6 +1,7 @@
 use Rattle.std.proofs.Common.{◌≡◌, ◌<◌, Some, None, length, get_or, arith}
 use Rattle.pager_model.specs.FrameStates.{claim_in}
-use Rattle.used_frames.proofs.NoteChanges.{AreKept-unclaim, claim_listed, index_within, some_from_claim}
+use Rattle.pager_model.proofs.Lists.{get_or_within}
+use Rattle.used_frames.proofs.NoteChanges.{AreKept-unclaim, claim_listed, some_from_claim}
 use Rattle.used_frames.proofs.UsedFrames.unclaim.Goals as goal
 use Rattle.used_frames.proofs.UsedFrames.unclaim.Goals.{After-unwrap-frame}
 
@@ -8,7 +9,7 @@ claims_it : (c : After-unwrap-frame) → claim_in (get_or c.self.inside.notes c.
 claims_it c = rw (← c.self.view_is) at (rw c.unwrap-frame.ensures at c.claimed_by.ensures.found)
 
 known : (c : After-unwrap-frame) → c.args.processor < length c.self.inside.claims.items
-known c = index_within c.self.inside.claims.items c.args.processor c.unwrap-frame.result (claim_listed _ _ _ c.self.invariant c.unwrap-frame.result c.args.processor (claims_it c))
+known c = get_or_within c.self.inside.claims.items c.args.processor c.unwrap-frame.result (claim_listed _ _ _ c.self.invariant c.unwrap-frame.result c.args.processor (claims_it c))
 
 pub index_mut-requires : goal.index_mut-requires
 index_mut-requires c = omega (arith, known (goal.at.index_mut-requires c).After-unwrap-frame, c.self.inside.claims.ok.0)

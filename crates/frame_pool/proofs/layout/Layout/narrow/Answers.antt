@@ -1,6 +1,7 @@
 use Rattle.std.proofs.Common.{◌≡◌, ◌∙◌, ◌<◌, refl, sym, ap, arith}
 use Rattle.pager_model.specs.Layouts.{split_layout, narrows_to, narrow_layout, split_on, record_at}
-use Rattle.frame_pool.proofs.LayoutInOrder.{IfSome-from, narrow_step, only_frame, reservation_is, same_reservation}
+use Rattle.pager_model.proofs.Options.{IfSome-from}
+use Rattle.frame_pool.proofs.LayoutInOrder.{narrow_step, only_frame, reservation_is, same_reservation}
 use Rattle.frame_pool.proofs.LayoutSplit.{Settles-split}
 use Rattle.frame_pool.proofs.layout.Layout.narrow.Goals as goal
 

@@ -2,12 +2,13 @@ use Rattle.std.proofs.Common.{◌≡◌, ◌∙◌, None, true, false, length, r
 use Rattle.std.proofs.lemmas.List.{set-get_or}
 use Rattle.pager_model.specs.Layouts.{Layout, vacate_layout, record_at}
 use Rattle.pager_model.specs.Records.{Records}
+use Rattle.pager_model.proofs.Options.{IfSome-from}
 use Rattle.reservations.specs.Kept.{with_record, with_used}
 use Rattle.reservations.proofs.FrameIds.{has_frame_from}
 use Rattle.frame_pool.specs.Laid.{IsLaid}
 use Rattle.frame_pool.specs.Mapped.{IsMapped}
 use Rattle.frame_pool.proofs.LayoutRelease.{Gives-vacate}
-use Rattle.frame_pool.proofs.LayoutInOrder.{IfSome-from, IsInOrder-again, IsInOrder-gone, not_free_there, rest_unlisted, same_reservation, vacated}
+use Rattle.frame_pool.proofs.LayoutInOrder.{IsInOrder-again, IsInOrder-gone, not_free_there, rest_unlisted, same_reservation, vacated}
 use Rattle.frame_pool.proofs.layout.Layout.vacate.Goals as goal
 
 pub page_at-requires-clause-pages : goal.page_at-requires-clause-pages

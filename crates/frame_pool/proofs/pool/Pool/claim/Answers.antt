@@ -3,7 +3,8 @@ use Rattle.pager_model.specs.FrameStates.{layout_of, IsVictim}
 use Rattle.frame_pool.specs.PoolState.{state_of}
 use Rattle.frame_pool.proofs.LayoutInOrder.{reservation_is}
 use Rattle.frame_pool.proofs.StateSoundness.{is_used-layout_of, used_if_noted}
-use Rattle.frame_pool.proofs.PoolFields.{noted_evictable, unclaimed_evictable, page_of, IsPool-claimed}
+use Rattle.frame_pool.proofs.Owners.{unclaimed_place}
+use Rattle.frame_pool.proofs.PoolFields.{noted_evictable, page_of, IsPool-claimed}
 use Rattle.frame_pool.proofs.pool.Pool.claim.Goals as goal
 
 pub unwrap-reservation-requires : goal.unwrap-reservation-requires
@@ -19,7 +20,7 @@ claim-requires-clause-used c =
     sym (is_used-layout_of st c.in-Some.frame) ∙ used_if_noted st c.in-Some.frame noted
 
 pub claim-requires-clause-unclaimed : goal.claim-requires-clause-unclaimed
-claim-requires-clause-unclaimed c = unclaimed_evictable _ c.in-Some.ensures.found.evictable
+claim-requires-clause-unclaimed c = unclaimed_place _ c.in-Some.ensures.found.evictable
 
 pub claim-requires-clause-known : goal.claim-requires-clause-known
 claim-requires-clause-known c = omega (arith, rw (← c.self.view_is) at c.requires.known, c.self.invariant.claimers_known)
