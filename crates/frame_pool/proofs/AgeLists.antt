@@ -12,7 +12,6 @@ use Rattle.pager_model.specs.Agreement.{has_frame}
 use Rattle.pager_model.specs.Headline.{member_of}
 use Rattle.pager_model.specs.Layouts.{Layout, list_of, with_listed, oldest_of, oldest_from}
 use Rattle.pager_model.specs.Records.{is_used, yield_of, same_size}
-use Rattle.pager_model.proofs.Lists.{get_or_within}
 use Rattle.reservation_lists.specs.Kept.{has_member_of, is_listed}
 use Rattle.reservation_lists.proofs.Members.{All-with_member}
 use Rattle.reservations.specs.Kept.{ArePlaced}

@@ -3,7 +3,7 @@ use Rattle.std.proofs.Common.{◌≡◌, ◌≢◌, ℕ, ◌+◌, ◌^◌, ◌<�
 use Rattle.std.proofs.lemmas.List.{get_or-set_other, length-set}
 use Rattle.std.proofs.lemmas.Bool.{cases_Bool, cases_eq, false≢true}
 use Rattle.std.proofs.lemmas.Option.{none-some, same_Some}
-use Rattle.buddy_extents.proofs.BlockMoves.{same_test}
+use Rattle.std.specs.Cmp.{both_ways}
 use Rattle.buddy_extents.proofs.Ranges.{length-with_range, with_range_inside, with_range_outside, range_cases}
 use Rattle.pager_model.specs.declared.reservation.Reservation.{Reservation}
 use Rattle.pager_model.specs.Agreement.{has_frame}
@@ -145,7 +145,7 @@ Gives-last l frame r laid is has last =
     let unused : (f : ℕ) → has_frame f (Some r) ≡ true → is_used (set l.used frame false) f ≡ false =
     λ f mine. (let bounds = has_frame_bounds f r mine in unused_in (is_used (set l.used frame false)) r.frame (8 ^ r.size) last f bounds.0 bounds.1) in
     let beside : (f : ℕ) → has_frame f (Some r) ≡ false → get_or (with_range l.free r.frame (8 ^ r.size) true) f false ≡ is_free l f =
-    λ f out. same_test _ _
+    λ f out. both_ways _ _
     (λ now. elim ((freed f).0 now) [ inl was ↦ was | inr inside ↦ absurd (false≢true (sym out ∙ has_frame_from f r inside.0 inside.1)) ])
     (λ was. (freed f).1 (inl was)) in
     Gives-without l (with_range l.free r.frame (8 ^ r.size) true) r.frame frame r laid is long beside unused has (IsIn l)

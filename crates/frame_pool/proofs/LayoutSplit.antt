@@ -2,7 +2,7 @@
 use Rattle.std.proofs.Common.{◌≡◌, ◌≢◌, ℕ, ◌-◌, ◌^◌, ◌<◌, ◌⊎◌, ◌↔◌, inl, inr, true, false, length, Some, None, sym, ap, subst, ◌∙◌, arith}
 use Rattle.std.proofs.lemmas.Bool.{cases_Bool, cond-true, cond-false, false≢true}
 use Rattle.std.proofs.lemmas.Option.{none-some, same_Some}
-use Rattle.buddy_extents.proofs.BlockMoves.{same_test}
+use Rattle.std.specs.Cmp.{both_ways}
 use Rattle.pager_model.specs.declared.reservation.Reservation.{Reservation}
 use Rattle.pager_model.specs.Agreement.{has_frame}
 use Rattle.pager_model.specs.Layouts.{Layout, covers, frame_for, frame_in, split_layout, record_at}
@@ -125,7 +125,7 @@ module _ (l new : Layout) (id : ℕ) (r : Reservation) (laid : IsLaid l) (is : r
     used_long = ap length split.used;
     who = λ j q stands. elim (who_stands j q stands) [ inl still ↦ inl still | inr part ↦ inr (subst (CameIn l new r j) part.2 (part_came j part.0 part.1)) ];
     stays = stands_still;
-    free = λ f out. same_test _ _
+    free = λ f out. both_ways _ _
         (λ now. elim (split.free_cases f now) [ inl was ↦ was | inr emptied ↦ absurd (false≢true (sym out ∙ part_in_whole r splits emptied.part emptied.below f emptied.has)) ])
         (split.free_before f);
     used = λ f out. ap (λ u. is_used u f) split.used;

@@ -3,7 +3,7 @@ use Rattle.std.proofs.Common.{◌≡◌, ◌≢◌, ℕ, ◌<◌, ◌↔◌, ◌
 use Rattle.std.proofs.lemmas.Bool.{cases_eq, cases_Bool, cond-true, cond-false, and_parts, and_from, eqb-true, eq-eqb, false≢true, false_from_ne_true}
 use Rattle.std.proofs.lemmas.List.{get_or-set_same, get_or-set_other, length-set}
 use Rattle.std.proofs.lemmas.Option.{same_Some}
-use Rattle.buddy_extents.proofs.BlockMoves.{same_test}
+use Rattle.std.specs.Cmp.{both_ways}
 use Rattle.pager_model.specs.declared.reservation.Reservation.{Reservation}
 use Rattle.pager_model.specs.Agreement.{has_frame}
 use Rattle.pager_model.specs.Layouts.{Layout, covers, frame_for, used_in, frame_in, record_at, is_free}
@@ -94,7 +94,7 @@ module _ (l : Layout) (space page : ℕ) (q : Reservation) (free : List Bool) (m
       | inr other ↦ inl (other, sym (there_is id other) ∙ is)
     ];
     stays = λ id r other is. there_is id other ∙ is;
-    free = λ f out. same_test _ _ (λ now. (may.taken f now).0) (λ was. elim (may.left f was) [ inl left ↦ left | inr mine ↦ absurd (false≢true (sym out ∙ mine)) ]);
+    free = λ f out. both_ways _ _ (λ now. (may.taken f now).0) (λ was. elim (may.left f was) [ inl left ↦ left | inr mine ↦ absurd (false≢true (sym out ∙ mine)) ]);
     used = λ f out. as_used f (λ same. false≢true (sym out ∙ ap (λ g. has_frame g (Some q)) same ∙ used_frame));
     one_frame = λ f id other mine a b. only_frame f id mine a ∙ sym (only_frame f other mine b);
     not_free = λ f id mine free _. (may.taken f free).1 mine;

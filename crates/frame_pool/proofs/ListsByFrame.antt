@@ -1,6 +1,5 @@
 -- What taking a reservation out of the lists and putting one in leaves, by the reservation that is found at the frame.
 use Rattle.std.proofs.Common.{◌≡◌, ℕ, zero, suc, ◌+◌, ◌-◌, ◌<◌, ◌≤◌, Bool, false, List, set, get_or, length, Option, Some, None, IsSomeAnd, refl, sym, ap, subst, ◌∙◌, arith}
-use Rattle.std.proofs.lemmas.Bool.{false≢true}
 use Rattle.std.proofs.lemmas.List.{get_or-set_same, set-set, set-get_or}
 use Rattle.pager_model.specs.declared.reservation.Reservation.{Reservation}
 use Rattle.pager_model.specs.Ages.{Lists, Member, list_at, with_list, with_member, without_member}

@@ -9,6 +9,7 @@ use Rattle.pager_model.specs.Extents.{IsExtent}
 use Rattle.pager_model.specs.FrameStates.{places_in}
 use Rattle.pager_model.specs.Layouts.{covers}
 use Rattle.pager_model.proofs.Lists.{get_or-alike, get_or_within}
+use Rattle.pager_model.proofs.Options.{none_from_never}
 use Rattle.population_map.specs.Populations.{Populations, page_at, id_of, placed_pages, space_count, frame_count, IsInNone, SameRoom, PlacesOnly}
 use Rattle.pager_model.proofs.ExtentLemmas.{eight_pos}
 use Rattle.reservations.proofs.FrameIds.{get_or-set_default, unset_before, has_frame_from}

@@ -9,7 +9,8 @@ use std::test::Fail;
 const CALLS: u32 = 262_144;
 
 /// Two spaces of four times the pages that there are frames, so that most calls find their page paged out.
-const HEAD: &[u8] = b"trace 1 32768 4 2\n0 map 0 0 65536 fixed write\n1 map 1 0 65536 fixed write\n";
+const HEAD: &[u8] =
+    b"trace 1 32768 4 2\n0 map 0 0 65536 fixed write\n1 map 1 0 65536 fixed write\n";
 
 /// A line of a drawn processor, which loads from a drawn page, or in one of 64 cases stores to it.
 fn push_access(trace: &mut Vec<u8>, draw: u64) -> Result<(), AllocError> {
