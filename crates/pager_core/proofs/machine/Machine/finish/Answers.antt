@@ -1,4 +1,4 @@
-use Rattle.std.proofs.Common.{◌≡◌, ℕ, ◌^◌, ◌<◌, [], ◌∷◌, ◌++◌, drop, length, map, reverse, subst, sym, ap, ◌∙◌, arith}
+use Rattle.std.proofs.Common.{◌≡◌, ℕ, ◌^◌, ◌<◌, [], ◌∷◌, drop, length, map, subst, sym, ap, ◌∙◌, arith}
 use Rattle.pager_model.specs.declared.summary.Summary.{Summary}
 use Rattle.pager_model.specs.Counts.{counts, hits_in, misses_in}
 use Rattle.pager_model.specs.Legal.{entries_in}
@@ -8,7 +8,6 @@ use Rattle.pager_core.specs.Sums.{tiles_in, promotions_in, demotions_in}
 use Rattle.pager_core.proofs.RunCounts.{promotions_small, demotions_small, counts_are}
 use Rattle.pager_core.proofs.WholeRuns.{IsWholeRun-ended}
 use Rattle.pager_core.proofs.Stores.{in_order, StoresEnd-ended, unused-ended}
-use Rattle.pager_core.proofs.machine.Machine.finish.Given.{Over}
 use Rattle.pager_core.proofs.machine.Machine.finish.Goals as goal
 
 pub returns-clause-run : goal.returns-clause-run
