@@ -20,7 +20,7 @@ IsSound-from g st (e ∷ es) sound allowed =
     IsSound-from g (frames_after st e) es (IsSound-moved g.frames (length g.marks) st (mark_of g e.processor) e.processor e.space e.what sound allowed.0 allowed.1) allowed.2
 
 pub IsSound-allowed : (g : Given) (entries : List Entry) → AreFrameEntries g entries → IsSound g.frames (length g.marks) (frames_state g entries)
-IsSound-allowed g entries allowed = IsSound-from g (start_frames g.frames (length g.marks)) entries (IsSound-start g.frames (length g.marks)) allowed
+IsSound-allowed g entries allowed = IsSound-from g (start_frames g.sizes g.frames (length g.marks)) entries (IsSound-start g.sizes g.frames (length g.marks)) allowed
 
 -- where nothing is taken there was no place
 none-placing : (st : FrameState) (want : Want) (o : Option Placing) → option_map (taking st want) o ≡ None → o ≡ None

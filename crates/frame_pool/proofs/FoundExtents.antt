@@ -1,11 +1,12 @@
 -- The extent of free frames that is found for a new reservation, and when there is none.
-use Rattle.std.proofs.Common.{◌≡◌, ◌≤◌, ℕ, zero, suc, ◌-◌, Some, None, option_map, refl, sym, ap, subst, ◌∙◌, arith}
+use Rattle.std.proofs.Common.{◌≡◌, ◌≤◌, ℕ, zero, suc, ◌-◌, true, false, cond, Some, None, option_map, refl, sym, ap, subst, ◌∙◌, arith}
 use Rattle.std.specs.Option.{option_or, option_and_then, option_map_or}
 use Rattle.std.proofs.lemmas.Option.{none-some, same_Some}
 use Rattle.pager_model.specs.declared.reservation.Reservation.{Reservation}
 use Rattle.pager_model.specs.FreeBlocks.{choice}
 use Rattle.pager_model.specs.Layouts.{Layout, Found, break_layout, to_break, broken_at, chosen, extent_of, largest_extent, record_at}
-use Rattle.pager_model.specs.Records.{is_used, yield_of}
+use Rattle.pager_model.specs.Records.{is_used, yield_in}
+use Rattle.pager_model.specs.SizeSets.{has_size}
 use Rattle.frame_pool.specs.Laid.{IsLaid}
 use Rattle.frame_pool.proofs.LayoutBreak.{Settles-same, Settles-break}
 use Rattle.frame_pool.proofs.BreakYield.{choice-break}
@@ -17,7 +18,7 @@ pub record MayBreak (l : Layout) (size id : ℕ) : Type 0 where
   pub reservation : Reservation
   pub is : record_at l id ≡ Some reservation
   pub yields : ℕ
-  pub yield_is : yield_of (is_used l.used) reservation ≡ Some yields
+  pub yield_is : yield_in l.sizes (is_used l.used) reservation ≡ Some yields
   pub enough : size ≤ yields
   pub broken : broken_at id l ≡ break_layout reservation l
 
@@ -69,12 +70,15 @@ IsFound-extent_of l size found laid is =
 pub IsFound-largest_extent : (l : Layout) (size : ℕ) (found : Found) → IsLaid l → largest_extent size l ≡ Some found → IsFound l size found
 IsFound-largest_extent l zero found laid is = IsFound-extent_of l 0 found laid is
 IsFound-largest_extent l (suc size) found laid is =
-    elim (extent_of (suc size) l) as (λ o. extent_of (suc size) l ≡ o → option_or o (largest_extent size l) ≡ Some found → IsFound l (suc size) found) [
-      | Some first ↦ λ here h. IsFound-extent_of l (suc size) found laid (here ∙ h)
-      | None ↦ λ _ h.
-          let smaller = IsFound-largest_extent l size found laid h in
-          record { settles = smaller.settles; is = smaller.is; small = omega (arith, smaller.small) }
-    ] refl is
+    let smaller : largest_extent size l ≡ Some found → IsFound l (suc size) found =
+    λ h. let rest = IsFound-largest_extent l size found laid h in record { settles = rest.settles; is = rest.is; small = omega (arith, rest.small) } in
+    elim (has_size l.sizes (suc size)) as (λ b. cond b (option_or (extent_of (suc size) l) (largest_extent size l)) (largest_extent size l) ≡ Some found → IsFound l (suc size) found) [
+      | true ↦ λ e. elim (extent_of (suc size) l) as (λ o. extent_of (suc size) l ≡ o → option_or o (largest_extent size l) ≡ Some found → IsFound l (suc size) found) [
+        | Some first ↦ λ here h. IsFound-extent_of l (suc size) found laid (here ∙ h)
+        | None ↦ λ _ h. smaller h
+      ] refl e
+      | false ↦ λ e. smaller e
+    ] is
 
 -- where no extent is found of any size, there is no choice for one frame, and nothing to break
 chosen-none : (l : Layout) (size broken : ℕ) → chosen size broken l ≡ None → choice l.free size ≡ None
@@ -102,9 +106,12 @@ extent_of-none l size laid none =
 pub largest_extent-none : (l : Layout) (size : ℕ) → IsLaid l → largest_extent size l ≡ None → (choice l.free 0 ≡ None) × (to_break l 0 ≡ None)
 largest_extent-none l zero laid none = extent_of-none l 0 laid none
 largest_extent-none l (suc size) laid none =
-    elim (extent_of (suc size) l) as (λ o. option_or o (largest_extent size l) ≡ None → (choice l.free 0 ≡ None) × (to_break l 0 ≡ None)) [
-      | Some first ↦ λ h. absurd (none-some first (sym h))
-      | None ↦ λ h. largest_extent-none l size laid h
+    elim (has_size l.sizes (suc size)) as (λ b. cond b (option_or (extent_of (suc size) l) (largest_extent size l)) (largest_extent size l) ≡ None → (choice l.free 0 ≡ None) × (to_break l 0 ≡ None)) [
+      | true ↦ λ e. elim (extent_of (suc size) l) as (λ o. option_or o (largest_extent size l) ≡ None → (choice l.free 0 ≡ None) × (to_break l 0 ≡ None)) [
+        | Some first ↦ λ h. absurd (none-some first (sym h))
+        | None ↦ λ h. largest_extent-none l size laid h
+      ] e
+      | false ↦ λ e. largest_extent-none l size laid e
     ] none
 
 -- where there is no choice and nothing to break for any size, no extent is found
@@ -118,4 +125,8 @@ none-largest_extent l size no_choice no_break = at size
 
     at : (k : ℕ) → largest_extent k l ≡ None
     at zero = here 0
-    at (suc k) = ap (λ o. option_or o (largest_extent k l)) (here (suc k)) ∙ at k
+    at (suc k) =
+        elim (has_size l.sizes (suc k)) as (λ b. cond b (option_or (extent_of (suc k) l) (largest_extent k l)) (largest_extent k l) ≡ None) [
+          | true ↦ ap (λ o. option_or o (largest_extent k l)) (here (suc k)) ∙ at k
+          | false ↦ at k
+        ]

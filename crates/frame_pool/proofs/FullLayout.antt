@@ -1,5 +1,5 @@
 -- When a layout is full: no frame is free, and every reservation is full.
-use Rattle.std.proofs.Common.{◌≡◌, ◌<◌, ◌≤◌, ℕ, zero, suc, ◌+◌, ◌-◌, ◌*◌, ◌%◌, ◌^◌, Bool, true, false, cond, not, List, length, get_or, Option, Some, None, refl, sym, ap, ◌∙◌, inl, inr, arith}
+use Rattle.std.proofs.Common.{◌≡◌, ◌<◌, ◌≤◌, ℕ, zero, suc, ◌+◌, ◌-◌, ◌*◌, ◌%◌, ◌^◌, Bool, true, false, cond, not, List, length, get_or, Option, Some, None, option_map, refl, sym, ap, ◌∙◌, inl, inr, arith}
 use Rattle.std.specs.List.{list_all}
 use Rattle.std.specs.Option.{is_none}
 use Rattle.std.proofs.lemmas.Bool.{cases_Bool, cases_lt, and_parts, and_from, not-true, not_from_false, false≢true, false_from_ne_true}
@@ -11,8 +11,9 @@ use Rattle.pager_model.specs.declared.reservation.Reservation.{Reservation}
 use Rattle.pager_model.specs.Agreement.{has_frame}
 use Rattle.pager_model.specs.FreeBlocks.{choice, run_free}
 use Rattle.pager_model.specs.Layouts.{Layout, to_break, is_full, is_full_record, record_at, is_free}
-use Rattle.pager_model.specs.Records.{is_used, none_used, has_empty, yield_up_to, yield_of}
-use Rattle.frame_pool.proofs.PartYields.{has_empty_some}
+use Rattle.pager_model.specs.Records.{is_used, none_used, has_empty, yield_up_to, yield_of, yield_in}
+use Rattle.pager_model.specs.SizeSets.{SizeSet, size_within}
+use Rattle.frame_pool.proofs.PartYields.{yield_in-within, yield_less}
 use Rattle.pager_model.proofs.ExtentLemmas.{eight_pos}
 use Rattle.pager_model.proofs.Lists.{get_or_within}
 use Rattle.reservations.proofs.FrameIds.{has_frame_bounds, unused_in}
@@ -24,7 +25,7 @@ use Rattle.frame_pool.proofs.AgeLists.{oldest_from-none}
 -- what is_full says of each frame and each reservation
 pub record EachFull (l : Layout) : Type 0 where
   pub taken : (frame : ℕ) → is_free l frame ≡ false
-  pub full : (id : ℕ) (r : Reservation) → record_at l id ≡ Some r → yield_of (is_used l.used) r ≡ None
+  pub full : (id : ℕ) (r : Reservation) → record_at l id ≡ Some r → yield_in l.sizes (is_used l.used) r ≡ None
 
 -- where the test passes, no frame is free, known or not
 none_taken : (free : List Bool) → list_all not free ≡ true → (frame : ℕ) → get_or free frame false ≡ false
@@ -34,9 +35,9 @@ none_taken free all frame = elim (cases_lt frame (length free)) [
 ]
 
 -- a reservation that passes the test has no yield
-yields_none : (used : List Bool) (r : Reservation) → is_full_record used (Some r) ≡ true → yield_of (is_used used) r ≡ None
-yields_none used r full =
-    elim (yield_of (is_used used) r) as (λ o. is_none o ≡ true → o ≡ None) [
+yields_none : (z : SizeSet) (used : List Bool) (r : Reservation) → is_full_record z used (Some r) ≡ true → yield_in z (is_used used) r ≡ None
+yields_none z used r full =
+    elim (yield_in z (is_used used) r) as (λ o. is_none o ≡ true → o ≡ None) [
       | None ↦ λ _. refl
       | Some k ↦ λ h. absurd (false≢true h)
     ] full
@@ -48,18 +49,18 @@ EachFull-from l full =
     record {
       taken = none_taken l.free parts.0;
       full = λ id r is.
-          let all = AllPass-from_list_all (is_full_record l.used) l.records parts.1 in
-          yields_none l.used r (sym (ap (is_full_record l.used) is) ∙ all id None (get_or_within l.records id r is));
+          let all = AllPass-from_list_all (is_full_record l.sizes l.used) l.records parts.1 in
+          yields_none l.sizes l.used r (sym (ap (is_full_record l.sizes l.used) is) ∙ all id None (get_or_within l.records id r is));
     }
 
 pub is_full-from : (l : Layout) → EachFull l → is_full l ≡ true
 is_full-from l full =
     and_from _ _
     (list_all-from_AllPass not l.free (λ frame d known. not_from_false _ (get_or_default l.free frame d false known ∙ full.taken frame)))
-    (list_all-from_AllPass (is_full_record l.used) l.records (λ id d known.
-    ap (is_full_record l.used) (get_or_default l.records id d None known) ∙ at id (record_at l id) refl))
+    (list_all-from_AllPass (is_full_record l.sizes l.used) l.records (λ id d known.
+    ap (is_full_record l.sizes l.used) (get_or_default l.records id d None known) ∙ at id (record_at l id) refl))
   where
-    at : (id : ℕ) (o : Option Reservation) → record_at l id ≡ o → is_full_record l.used o ≡ true
+    at : (id : ℕ) (o : Option Reservation) → record_at l id ≡ o → is_full_record l.sizes l.used o ≡ true
     at id None is = refl
     at id (Some r) is = ap is_none (full.full id r is)
 
@@ -79,19 +80,7 @@ choice-none free none frame = false_from_ne_true _ (λ is.
     let all : frame % 1 ≡ 0 = omega arith in
     false≢true (sym (no_choice free 0 (omega arith) none frame all) ∙ run))
 
--- the yield is a size of an extent without a used place, and where there is no yield no size up to the reservation's has one
-pub yield_up_to-found : (used : ℕ → Bool) (r : Reservation) (n k : ℕ) → yield_up_to used r n ≡ Some k → (k ≤ n) × (has_empty used r k ≡ true)
-yield_up_to-found used r zero k found =
-    elim (has_empty used r 0) as (λ b. has_empty used r 0 ≡ b → cond b (Some 0) None ≡ Some k → (k ≤ 0) × (has_empty used r k ≡ true)) [
-      | true ↦ λ is h. let same = same_Some 0 k h in (omega (arith, same), ap (has_empty used r) (sym same) ∙ is)
-      | false ↦ λ _ h. absurd (none-some k h)
-    ] refl found
-yield_up_to-found used r (suc n) k found =
-    elim (has_empty used r (suc n)) as (λ b. has_empty used r (suc n) ≡ b → cond b (Some (suc n)) (yield_up_to used r n) ≡ Some k → (k ≤ suc n) × (has_empty used r k ≡ true)) [
-      | true ↦ λ is h. let same = same_Some (suc n) k h in (omega (arith, same), ap (has_empty used r) (sym same) ∙ is)
-      | false ↦ λ _ h. let rest = yield_up_to-found used r n k h in (omega (arith, rest.0), rest.1)
-    ] refl found
-
+-- where there is no yield no size up to the reservation's has an extent without a used place
 pub yield_up_to-none : (used : ℕ → Bool) (r : Reservation) (n : ℕ) → yield_up_to used r n ≡ None → has_empty used r 0 ≡ false
 yield_up_to-none used r zero none =
     elim (has_empty used r 0) as (λ b. cond {A = Option ℕ} b (Some 0) None ≡ None → b ≡ false) [
@@ -105,29 +94,24 @@ yield_up_to-none used r (suc n) none =
     ] none
 
 -- a reservation of the layout has a yield below 3, or none
-yields_small : (l : Layout) (id k : ℕ) (r : Reservation) → IsLaid l → record_at l id ≡ Some r → yield_of (is_used l.used) r ≡ Some k → k < 3
+yields_small : (l : Layout) (id k : ℕ) (r : Reservation) → IsLaid l → record_at l id ≡ Some r → yield_in l.sizes (is_used l.used) r ≡ Some k → k < 3
 yields_small l id k r laid is yields =
-    let placed = laid.placed id r is in
-    let sized = placed.aligned.0 in
-    let found = yield_up_to-found (is_used l.used) r r.size k yields in
-    elim (cases_lt k r.size) [
-      | inl below ↦ omega (arith, sized)
-      | inr whole ↦
-          let some = laid.some_used id r is in
-          let bounds = has_frame_bounds some.0 r some.1 in
-          let empty = has_empty_some (is_used l.used) r k found.1 in
-          let same : k ≡ r.size = omega (arith, found.0) in
-          let count : 8 ^ (r.size - k) ≡ 1 = (let none : r.size - k ≡ 0 = omega arith in ap (λ n. 8 ^ n) none) in
-          let first : r.frame + empty.0 * 8 ^ k ≡ r.frame = (let zero_th : empty.0 ≡ 0 = omega (arith, empty.1, count) in ap (λ i. r.frame + i * 8 ^ k) zero_th ∙ omega arith) in
-          let size : 8 ^ k ≡ 8 ^ r.size = ap (λ n. 8 ^ n) same in
-          absurd (false≢true (sym (unused_in (is_used l.used) (r.frame + empty.0 * 8 ^ k) (8 ^ k) empty.2 some.0 (omega (arith, first, bounds.0)) (omega (arith, first, size, bounds.1))) ∙ some.2))
-    ]
+    let some = laid.some_used id r is in
+    omega (arith, (laid.placed id r is).aligned.0, yield_less l.sizes (is_used l.used) r k some.0 some.1 some.2 yields)
+
+-- a reservation without a yield has none by all four sizes
+pub yield_of-none : (z : SizeSet) (used : ℕ → Bool) (r : Reservation) → yield_in z used r ≡ None → yield_of used r ≡ None
+yield_of-none z used r none = at (yield_of used r) (sym (yield_in-within z used r) ∙ none)
+  where
+    at : (o : Option ℕ) → option_map (size_within z) o ≡ None → o ≡ None
+    at None h = refl
+    at (Some k) h = absurd (none-some (size_within z k) (sym h))
 
 -- where there is no choice for one frame and nothing to break, the layout is full
 pub EachFull-none : (l : Layout) → IsLaid l → choice l.free 0 ≡ None → to_break l 0 ≡ None → EachFull l
-EachFull-none l laid none nothing = record { taken = choice-none l.free none; full = λ id r is. at id r is (yield_of (is_used l.used) r) refl }
+EachFull-none l laid none nothing = record { taken = choice-none l.free none; full = λ id r is. at id r is (yield_in l.sizes (is_used l.used) r) refl }
   where
-    at : (id : ℕ) (r : Reservation) → record_at l id ≡ Some r → (o : Option ℕ) → yield_of (is_used l.used) r ≡ o → yield_of (is_used l.used) r ≡ None
+    at : (id : ℕ) (r : Reservation) → record_at l id ≡ Some r → (o : Option ℕ) → yield_in l.sizes (is_used l.used) r ≡ o → yield_in l.sizes (is_used l.used) r ≡ None
     at id r is None yields = yields
     at id r is (Some k) yields =
         let small = yields_small l id k r laid is yields in
@@ -148,7 +132,7 @@ pub used-full : (l : Layout) (frame id : ℕ) (r : Reservation) → EachFull l �
 used-full l frame id r full is has =
     let bounds = has_frame_bounds frame r has in
     let i = frame - r.frame in
-    let none = yield_up_to-none (is_used l.used) r r.size (full.full id r is) in
+    let none = yield_up_to-none (is_used l.used) r r.size (yield_of-none l.sizes (is_used l.used) r (full.full id r is)) in
     let size : 8 ^ (r.size - 0) ≡ 8 ^ r.size = (let same : r.size - 0 ≡ r.size = omega arith in ap (λ n. 8 ^ n) same) in
     let at : r.frame + i * 1 ≡ frame = omega (arith, bounds.0) in
     elim (cases_Bool (is_used l.used frame)) [

@@ -8,12 +8,13 @@ use Rattle.pager_model.specs.declared.reservation.Reservation.{Reservation}
 use Rattle.pager_model.specs.Ages.{Lists}
 use Rattle.pager_model.specs.Agreement.{has_frame}
 use Rattle.pager_model.specs.Layouts.{Layout, frame_for, stamped, populated, split_layout, part_with, narrows_to, narrow_layout, vacate_layout, is_last, split_on, record_at, is_free}
-use Rattle.pager_model.specs.Records.{Records, is_used, yield_of, part_of, split_records}
+use Rattle.pager_model.specs.Records.{Records, is_used, yield_in, part_size, part_count, part_at, split_records}
+use Rattle.pager_model.specs.SizeSets.{SizeSet}
 use Rattle.pager_model.specs.FreeBlocks.{with_range}
 use Rattle.reservation_lists.specs.Kept.{KeptLists, is_listed}
 use Rattle.reservations.specs.Kept.{CoversPage, IsPlaced, ArePlaced}
-use Rattle.frame_pool.proofs.PartRecords.{used_part}
-use Rattle.pager_model.proofs.ExtentLemmas.{part_inside, part_of_eight}
+use Rattle.frame_pool.proofs.PartsAt.{part_ends, used_part}
+use Rattle.pager_model.proofs.ExtentLemmas.{part_inside}
 use Rattle.pager_model.proofs.Lists.{get_or_within}
 use Rattle.reservations.proofs.FrameIds.{get_or-set_default, ArePlaced-set, has_frame_bounds, has_frame_from}
 use Rattle.reservations.proofs.SplitLemmas.{split_records-open}
@@ -21,13 +22,13 @@ use Rattle.frame_pool.specs.Laid.{IsLaid}
 use Rattle.frame_pool.specs.Listed.{AreListed, IsInOrder, WasSplit}
 use Rattle.frame_pool.specs.Mapped.{IsMapped}
 use Rattle.population_map.specs.Populations.{Populations}
-use Rattle.frame_pool.proofs.LayoutBreak.{record_at-part, part_with-has, yield_less}
+use Rattle.frame_pool.proofs.LayoutBreak.{record_at-part, part_with-has, part_size-most, part_size-less, Settles-split, Falls-narrows, split_on-enough}
+use Rattle.frame_pool.proofs.PartYields.{yield_less}
 use Rattle.frame_pool.proofs.LayoutRelease.{not_in_rest}
 use Rattle.frame_pool.proofs.AgeLists.{list_of-used, is_listed-none, AreListed-full}
 use Rattle.frame_pool.proofs.PagePlaces.{covers-CoversPageOf, frame_in-is, used_in-unused}
 use Rattle.frame_pool.proofs.LayoutPlacing.{MayPut-stamped}
 use Rattle.frame_pool.proofs.LayoutWithRecord.{IsLaid-put}
-use Rattle.frame_pool.proofs.LayoutSplit.{Settles-split}
 use Rattle.frame_pool.proofs.SplitFrames.{free_up_to, free_up_to-cases}
 
 -- Clauses on an option.
@@ -62,11 +63,11 @@ IsLaid-populated l r stamp page laid is has unused =
 -- Lists, as a frame becomes used or unused.
 
 -- lists stay those of reservations that don't have the frame
-pub AreListed-used : (lists : Lists) (used : List Bool) (records : List (Option Reservation)) (f : ℕ) (b : Bool) → AreListed lists used records → ((id : ℕ) → has_frame f (get_or records id None) ≡ true → ⊥) → AreListed lists (set used f b) records
-AreListed-used lists used records f b are out =
+pub AreListed-used : (z : SizeSet) (lists : Lists) (used : List Bool) (records : List (Option Reservation)) (f : ℕ) (b : Bool) → AreListed z lists used records → ((id : ℕ) → has_frame f (get_or records id None) ≡ true → ⊥) → AreListed z lists (set used f b) records
+AreListed-used z lists used records f b are out =
     let same : (g id : ℕ) → has_frame g (get_or records id None) ≡ true → is_used (set used f b) g ≡ is_used used g =
     λ g id has. get_or-set_other used f g b false (λ here. out id (ap (λ h. has_frame h (get_or records id None)) (sym here) ∙ has)) in
-    λ k small. are k small ∙ sym (list_of-used used (set used f b) k records same)
+    λ k small. are k small ∙ sym (list_of-used z used (set used f b) k records same)
 
 -- A reservation is taken out of the records.
 module _ (l : Layout) (id : ℕ) (r : Reservation) (laid : IsLaid l) (is : record_at l id ≡ Some r) where
@@ -79,15 +80,15 @@ module _ (l : Layout) (id : ℕ) (r : Reservation) (laid : IsLaid l) (is : recor
   rest_placed = ArePlaced-set l.records id None laid.placed (get_or_within l.records id r is) (λ q e. absurd (none-some q e))
 
   -- lists of the others have no member of it
-  pub rest_unlisted : (lists : Lists) → AreListed lists l.used (set l.records id None) → is_listed id lists ≡ false
-  rest_unlisted lists are = is_listed-none lists l.used (set l.records id None) id are rest_placed none_there
+  pub rest_unlisted : (lists : Lists) → AreListed l.sizes lists l.used (set l.records id None) → is_listed id lists ≡ false
+  rest_unlisted lists are = is_listed-none l.sizes lists l.used (set l.records id None) id are rest_placed none_there
 
   -- lists of the others stay theirs as a frame of it becomes used or unused
-  rest_listed : (lists : Lists) (f : ℕ) (b : Bool) → has_frame f (Some r) ≡ true → AreListed lists l.used (set l.records id None) → AreListed lists (set l.used f b) (set l.records id None)
-  rest_listed lists f b mine are = AreListed-used lists l.used (set l.records id None) f b are (λ j has. not_in_rest l id r laid is f j mine has)
+  rest_listed : (lists : Lists) (f : ℕ) (b : Bool) → has_frame f (Some r) ≡ true → AreListed l.sizes lists l.used (set l.records id None) → AreListed l.sizes lists (set l.used f b) (set l.records id None)
+  rest_listed lists f b mine are = AreListed-used l.sizes lists l.used (set l.records id None) f b are (λ j has. not_in_rest l id r laid is f j mine has)
 
   -- and from there it was split
-  pub WasSplit-from : (lists : KeptLists) (after : Records) → lists.frames ≡ length l.records → AreListed lists.lists l.used (set l.records id None) → after.records ≡ split_records (is_used l.used) r l.records → after.used ≡ l.used → WasSplit lists after r
+  pub WasSplit-from : (lists : KeptLists) (after : Records) → lists.frames ≡ length l.records → AreListed l.sizes lists.lists l.used (set l.records id None) → after.records ≡ split_records (is_used l.used) r l.records → after.used ≡ l.used → WasSplit l.sizes lists after r
   WasSplit-from lists after room are split used =
       let long = length-set l.records id None in
       let placed = laid.placed id r is in
@@ -103,7 +104,7 @@ module _ (l : Layout) (id : ℕ) (r : Reservation) (laid : IsLaid l) (is : recor
         split =
             split ∙ sym (split_records-open (is_used l.used) r id l.records placed.named)
             ∙ ap (λ u. split_records (is_used u) r (set l.records id None)) (sym used);
-        listed = subst (λ u. AreListed lists.lists u (set l.records id None)) (sym used) are;
+        listed = subst (λ u. AreListed l.sizes lists.lists u (set l.records id None)) (sym used) are;
       }
 
   -- no frame of it is free
@@ -114,10 +115,10 @@ module _ (l : Layout) (id : ℕ) (r : Reservation) (laid : IsLaid l) (is : recor
   ]
 
   -- The reservation goes back into the lists as another one may stand in its place, where a frame of it became used or unused.
-  pub IsInOrder-again : (frames f : ℕ) (b : Bool) (o : Option Reservation) (new : Layout) (kept without after : KeptLists) (map mapped : Populations) → IsInOrder frames l kept map → has_frame f (Some r) ≡ true → IsLaid new → length new.free ≡ length l.free → new.used ≡ set l.used f b → new.records ≡ set l.records id o → without.frames ≡ kept.frames → after.frames ≡ without.frames → AreListed without.lists l.used (set l.records id None) → ((records : List (Option Reservation)) → get_or records id None ≡ None → id < length records → AreListed without.lists new.used records → AreListed after.lists new.used (set records id (record_at new id))) → IsMapped mapped new.records → IsInOrder frames new after mapped
-  IsInOrder-again frames f b o new kept without after map mapped order mine laid_after long used records room last are enlists is_mapped =
+  pub IsInOrder-again : (frames f : ℕ) (b : Bool) (o : Option Reservation) (new : Layout) (kept without after : KeptLists) (map mapped : Populations) → IsInOrder frames l kept map → has_frame f (Some r) ≡ true → IsLaid new → new.sizes ≡ l.sizes → length new.free ≡ length l.free → new.used ≡ set l.used f b → new.records ≡ set l.records id o → without.frames ≡ kept.frames → after.frames ≡ without.frames → AreListed l.sizes without.lists l.used (set l.records id None) → ((records : List (Option Reservation)) → get_or records id None ≡ None → id < length records → AreListed l.sizes without.lists new.used records → AreListed l.sizes after.lists new.used (set records id (record_at new id))) → IsMapped mapped new.records → IsInOrder frames new after mapped
+  IsInOrder-again frames f b o new kept without after map mapped order mine laid_after sizes long used records room last are enlists is_mapped =
       let known = get_or_within l.records id r is in
-      let rest = subst (λ u. AreListed without.lists u (set l.records id None)) (sym used) (rest_listed without.lists f b mine are) in
+      let rest = subst (λ u. AreListed l.sizes without.lists u (set l.records id None)) (sym used) (rest_listed without.lists f b mine are) in
       let stands : record_at new id ≡ o = ap (λ rs. get_or rs id None) records ∙ get_or-set_same l.records id o None known in
       let again : set (set l.records id None) id (record_at new id) ≡ new.records =
       set-set l.records id None (record_at new id) ∙ ap (set l.records id) stands ∙ sym records in
@@ -125,20 +126,21 @@ module _ (l : Layout) (id : ℕ) (r : Reservation) (laid : IsLaid l) (is : recor
         known = long ∙ order.known;
         few = order.few;
         laid = laid_after;
-        listed = subst (AreListed after.lists new.used) again (enlists (set l.records id None) none_there (omega (arith, known, length-set l.records id None)) rest);
+        listed = subst (λ z. AreListed z after.lists new.used new.records) (sym sizes) (subst (AreListed l.sizes after.lists new.used) again (enlists (set l.records id None) none_there (omega (arith, known, length-set l.records id None)) rest));
         room = last ∙ room ∙ order.room;
         mapped = is_mapped;
       }
 
   -- The reservation goes, and a frame of it became unused.
-  pub IsInOrder-gone : (frames f : ℕ) (new : Layout) (kept without : KeptLists) (map mapped : Populations) → IsInOrder frames l kept map → has_frame f (Some r) ≡ true → IsLaid new → length new.free ≡ length l.free → new.used ≡ set l.used f false → new.records ≡ set l.records id None → without.frames ≡ kept.frames → AreListed without.lists l.used (set l.records id None) → IsMapped mapped new.records → IsInOrder frames new without mapped
-  IsInOrder-gone frames f new kept without map mapped order mine laid_after long used records room are is_mapped = record {
+  pub IsInOrder-gone : (frames f : ℕ) (new : Layout) (kept without : KeptLists) (map mapped : Populations) → IsInOrder frames l kept map → has_frame f (Some r) ≡ true → IsLaid new → new.sizes ≡ l.sizes → length new.free ≡ length l.free → new.used ≡ set l.used f false → new.records ≡ set l.records id None → without.frames ≡ kept.frames → AreListed l.sizes without.lists l.used (set l.records id None) → IsMapped mapped new.records → IsInOrder frames new without mapped
+  IsInOrder-gone frames f new kept without map mapped order mine laid_after sizes long used records room are is_mapped = record {
     known = long ∙ order.known;
     few = order.few;
     laid = laid_after;
     listed =
-        subst (λ u. AreListed without.lists u new.records) (sym used)
-        (subst (AreListed without.lists (set l.used f false)) (sym records) (rest_listed without.lists f false mine are));
+        subst (λ z. AreListed z without.lists new.used new.records) (sym sizes)
+        (subst (λ u. AreListed l.sizes without.lists u new.records) (sym used)
+        (subst (AreListed l.sizes without.lists (set l.used f false)) (sym records) (rest_listed without.lists f false mine are)));
     room = room ∙ order.room;
     mapped = is_mapped;
   }
@@ -152,17 +154,17 @@ module _ (l : Layout) (id : ℕ) (r : Reservation) (laid : IsLaid l) (is : recor
 -- Splitting.
 
 -- a frame of the next part isn't free yet, where none of the whole was
-pub free_up_to-later : (used : ℕ → Bool) (r : Reservation) (free : List Bool) (n f : ℕ) → 0 < r.size → IsPlaced (length free) r.frame r → n < 8 → ((g : ℕ) → has_frame g (Some r) ≡ true → get_or free g false ≡ false) → has_frame f (Some (part_of r n)) ≡ true → get_or (free_up_to n used r free) f false ≡ false
-free_up_to-later used r free n f splits placed below taken has =
-    let bounds = has_frame_bounds f (part_of r n) has in
-    elim (cases_Bool (get_or (free_up_to n used r free) f false)) [
-      | inl free_now ↦ elim (free_up_to-cases used r free splits placed.within n f (omega arith) free_now) [
+pub free_up_to-later : (k : ℕ) (used : ℕ → Bool) (r : Reservation) (free : List Bool) (n f : ℕ) → k ≤ r.size → IsPlaced (length free) r.frame r → n < part_count k r → ((g : ℕ) → has_frame g (Some r) ≡ true → get_or free g false ≡ false) → has_frame f (Some (part_at k r n)) ≡ true → get_or (free_up_to n k used r free) f false ≡ false
+free_up_to-later k used r free n f le placed below taken has =
+    let bounds = has_frame_bounds f (part_at k r n) has in
+    elim (cases_Bool (get_or (free_up_to n k used r free) f false)) [
+      | inl free_now ↦ elim (free_up_to-cases k used r free le placed.within n f (omega arith) free_now) [
         | inl was ↦
-            let mine = has_frame_from f r (omega (arith, bounds.0)) (omega (arith, bounds.1, part_of_eight n r.size splits below)) in
+            let mine = has_frame_from f r (omega (arith, bounds.0)) (omega (arith, bounds.1, part_ends k n r le below)) in
             absurd (false≢true (sym (taken f mine) ∙ was))
         | inr emptied ↦
-            let earlier = has_frame_bounds f (part_of r emptied.part) emptied.has in
-            absurd (omega (arith, bounds.0, earlier.1, part_inside emptied.part (8 ^ (r.size - 1)) n emptied.below))
+            let earlier = has_frame_bounds f (part_at k r emptied.part) emptied.has in
+            absurd (omega (arith, bounds.0, earlier.1, part_inside emptied.part (8 ^ k) n emptied.below))
       ]
       | inr not_yet ↦ not_yet
     ]
@@ -170,12 +172,12 @@ free_up_to-later used r free n f splits placed below taken has =
 -- Vacating.
 
 -- a reservation whose last used place this was becomes free, and another one stays
-pub vacated : (l : Layout) (frame : ℕ) (r : Reservation) (last : Bool) (free : List Bool) (st : Records) → is_last frame r l ≡ last → free ≡ cond last (with_range l.free r.frame (8 ^ r.size) true) l.free → st ≡ record { records = cond last (set l.records r.frame None) l.records; used = set l.used frame false } → record { free = free; records = st.records; used = st.used } ≡ vacate_layout frame r l
+pub vacated : (l : Layout) (frame : ℕ) (r : Reservation) (last : Bool) (free : List Bool) (st : Records) → is_last frame r l ≡ last → free ≡ cond last (with_range l.free r.frame (8 ^ r.size) true) l.free → st ≡ record { records = cond last (set l.records r.frame None) l.records; used = set l.used frame false } → record { sizes = l.sizes; free = free; records = st.records; used = st.used } ≡ vacate_layout frame r l
 vacated l frame r last free st is freed kept =
-    let with_free : List Bool → Layout = λ f. record { free = f; records = st.records; used = st.used } in
+    let with_free : List Bool → Layout = λ f. record { sizes = l.sizes; free = f; records = st.records; used = st.used } in
     let freed_as : Bool → List Bool = λ b. cond b (with_range l.free r.frame (8 ^ r.size) true) l.free in
-    let with_records : Records → Layout = λ k. record { free = freed_as last; records = k.records; used = k.used } in
-    let by_last : Bool → Layout = λ b. record { free = freed_as b; records = cond b (set l.records r.frame None) l.records; used = set l.used frame false } in
+    let with_records : Records → Layout = λ k. record { sizes = l.sizes; free = freed_as last; records = k.records; used = k.used } in
+    let by_last : Bool → Layout = λ b. record { sizes = l.sizes; free = freed_as b; records = cond b (set l.records r.frame None) l.records; used = set l.used frame false } in
     ap with_free freed ∙ ap with_records kept ∙ sym (ap by_last is)
 
 -- Narrowing.
@@ -188,40 +190,48 @@ only_frame r frame one has =
     omega (arith, bounds.0, bounds.1, width)
 
 -- a narrowing begins with a split, and goes on at the part with the frame
-narrow_suc : (n frame : ℕ) (r : Reservation) (l : Layout) → r.size ≡ suc n → narrow_layout frame r l ≡ split_on (narrows_to frame) n (part_with frame r) (split_layout r l)
+narrow_suc : (n frame : ℕ) (r : Reservation) (l : Layout) → r.size ≡ suc n → narrow_layout frame r l ≡ narrow_layout frame (part_with (part_size l.sizes r) frame r) (split_layout r l)
 narrow_suc n frame r l size =
+    let z = l.sizes in
+    let k = part_size z r in
     let next = split_layout r l in
-    let narrow : ℕ → Reservation → Layout → Layout = split_on (narrows_to frame) in
+    let part = part_with k frame r in
+    let narrow : ℕ → Reservation → Layout → Layout = split_on (narrows_to z frame) in
     let step : Option Reservation → Layout = λ o. option_map_or (λ p. narrow n p next) o next in
-    ap (λ k. narrow k r l) size ∙ elim (cases_lt 1 r.size) [
-      | inl more ↦ ap step (cond-true _ _ _ (lt-ltb 1 r.size more))
+    let less = part_size-less z r (omega arith) in
+    ap (λ k. narrow k r l) size ∙ elim (cases_lt 0 k) [
+      | inl more ↦
+          ap step (cond-true _ _ _ (lt-ltb 0 k more))
+          ∙ split_on-enough (narrows_to z frame) (Falls-narrows z frame) n k part next more (omega arith) (omega arith)
       | inr most ↦
-          let last : n ≡ 0 = omega arith in
-          ap step (cond-false _ _ _ (le-ltb 1 r.size most)) ∙ sym (ap (λ k. narrow k (part_with frame r) next) last)
+          let last : k ≡ 0 = omega arith in
+          ap step (cond-false _ _ _ (le-ltb 0 k most)) ∙ sym (ap (λ m. narrow m part next) last)
     ]
 
 -- the reservation that has the frame after a split is smaller, and narrowing it ends where narrowing the whole does
 pub narrow_step : (l : Layout) (frame : ℕ) (r q : Reservation) → IsLaid l → record_at l r.frame ≡ Some r → has_frame frame (Some r) ≡ true → is_used l.used frame ≡ true → 0 < r.size → record_at (split_layout r l) q.frame ≡ Some q → has_frame frame (Some q) ≡ true → (q.size < r.size) × (narrow_layout frame q (split_layout r l) ≡ narrow_layout frame r l)
 narrow_step l frame r q laid is has used splits at holds =
+    let z = l.sizes in
+    let k = part_size z r in
+    let le = part_size-most z r in
     let next = split_layout r l in
-    let part = part_with-has l r.frame frame r laid is splits has in
-    let mine = part_of r part.0 in
-    let kept = used_part r (is_used l.used) frame part.0 used part.3 in
-    let stands = record_at-part l r.frame r laid is part.0 splits part.1 kept in
-    let same = same_reservation next mine.frame mine (Settles-split l r.frame r laid is splits).laid stands frame q.frame q part.3 at holds in
-    let narrow : Reservation → Layout = λ p. split_on (narrows_to frame) (r.size - 1) p next in
+    let part = part_with-has k l r.frame frame r le has in
+    let mine = part_at k r part.0 in
+    let kept = used_part k r (is_used l.used) frame part.0 used part.3 in
+    let stands = record_at-part k l r.frame r laid is part.0 le part.1 kept in
+    let same = same_reservation next mine.frame mine (Settles-split l r.frame r laid is).laid stands frame q.frame q part.3 at holds in
     subst (λ p. (p.size < r.size) × (narrow_layout frame p next ≡ narrow_layout frame r l)) same
-    (omega arith, ap narrow part.2 ∙ sym (narrow_suc (r.size - 1) frame r l (omega arith)))
+    (part_size-less z r splits, ap (λ p. narrow_layout frame p next) part.2 ∙ sym (narrow_suc (r.size - 1) frame r l (omega arith)))
 
 -- Carving.
 
 -- a reservation of one frame is full, and stands in no list: without it the lists stay
-pub AreListed-take_out : (l : Layout) (frame : ℕ) (r : Reservation) (lists : Lists) → IsLaid l → record_at l frame ≡ Some r → r.size ≡ 0 → AreListed lists l.used l.records → AreListed lists (set l.used frame false) (set l.records frame None)
+pub AreListed-take_out : (l : Layout) (frame : ℕ) (r : Reservation) (lists : Lists) → IsLaid l → record_at l frame ≡ Some r → r.size ≡ 0 → AreListed l.sizes lists l.used l.records → AreListed l.sizes lists (set l.used frame false) (set l.records frame None)
 AreListed-take_out l frame r lists laid is one are =
     let named = (laid.placed frame r is).named in
     let width : 8 ^ r.size ≡ 1 = ap (λ k. 8 ^ k) one in
     let some = laid.some_used frame r is in
-    let full : (k : ℕ) → yield_of (is_used l.used) r ≡ Some k → 3 ≤ k =
-    λ k yields. absurd (omega (arith, yield_less (is_used l.used) r k some.0 some.1 some.2 yields)) in
+    let full : (k : ℕ) → yield_in l.sizes (is_used l.used) r ≡ Some k → 3 ≤ k =
+    λ k yields. absurd (omega (arith, yield_less l.sizes (is_used l.used) r k some.0 some.1 some.2 yields)) in
     let mine = has_frame_from frame r (omega (arith, named)) (omega (arith, named, width)) in
-    rest_listed l frame r laid is lists frame false mine ((AreListed-full lists l.used l.records frame r is full).0 are)
+    rest_listed l frame r laid is lists frame false mine ((AreListed-full l.sizes lists l.used l.records frame r is full).0 are)

@@ -60,7 +60,7 @@ not_in_rest l id r laid is f j mine has =
 -- A reservation goes whose one used place, if any, is the frame: its frames are free from then on, or out of the layout.
 module _ (l : Layout) (free : List Bool) (id frame : ℕ) (r : Reservation) (laid : IsLaid l) (is : record_at l id ≡ Some r) (long : length free ≡ length l.free) (beside : (f : ℕ) → has_frame f (Some r) ≡ false → get_or free f false ≡ is_free l f) (unused : (f : ℕ) → has_frame f (Some r) ≡ true → is_used (set l.used frame false) f ≡ false) (has : has_frame frame (Some r) ≡ true) where
   abbrev without : Layout
-  without = record { free = free; records = set l.records id None; used = set l.used frame false }
+  without = record { sizes = l.sizes; free = free; records = set l.records id None; used = set l.used frame false }
 
   -- what stands then stood before, at another frame
   stood : (j : ℕ) (q : Reservation) → record_at without j ≡ Some q → (j ≢ id) × (record_at l j ≡ Some q)
@@ -105,9 +105,9 @@ module _ (l : Layout) (free : List Bool) (id frame : ℕ) (r : Reservation) (lai
       }
 
 -- the reservation keeps a used place
-Gives-keeping : (l : Layout) (id frame : ℕ) (r : Reservation) → IsLaid l → record_at l id ≡ Some r → has_frame frame (Some r) ≡ true → is_last frame r l ≡ false → Gives l (record { free = l.free; records = l.records; used = set l.used frame false }) frame (IsIn l)
+Gives-keeping : (l : Layout) (id frame : ℕ) (r : Reservation) → IsLaid l → record_at l id ≡ Some r → has_frame frame (Some r) ≡ true → is_last frame r l ≡ false → Gives l (record { sizes = l.sizes; free = l.free; records = l.records; used = set l.used frame false }) frame (IsIn l)
 Gives-keeping l id frame r laid is has keeps =
-    let new : Layout = record { free = l.free; records = l.records; used = set l.used frame false } in
+    let new : Layout = record { sizes = l.sizes; free = l.free; records = l.records; used = set l.used frame false } in
     let laid_after : IsLaid new = record {
       records_long = laid.records_long;
       used_long = length-set l.used frame false ∙ laid.used_long;
@@ -136,7 +136,7 @@ Gives-keeping l id frame r laid is has keeps =
     }
 
 -- the reservation has no used place left
-Gives-last : (l : Layout) (frame : ℕ) (r : Reservation) → IsLaid l → record_at l r.frame ≡ Some r → has_frame frame (Some r) ≡ true → is_last frame r l ≡ true → Gives l (record { free = with_range l.free r.frame (8 ^ r.size) true; records = set l.records r.frame None; used = set l.used frame false }) frame (IsIn l)
+Gives-last : (l : Layout) (frame : ℕ) (r : Reservation) → IsLaid l → record_at l r.frame ≡ Some r → has_frame frame (Some r) ≡ true → is_last frame r l ≡ true → Gives l (record { sizes = l.sizes; free = with_range l.free r.frame (8 ^ r.size) true; records = set l.records r.frame None; used = set l.used frame false }) frame (IsIn l)
 Gives-last l frame r laid is has last =
     let placed = laid.placed r.frame r is in
     let fits : r.frame + 8 ^ r.size ≤ length l.free = omega (arith, placed.within, laid.records_long) in
@@ -155,7 +155,7 @@ Gives-last l frame r laid is has last =
 -- a used place is unused from then on, and no frame leaves the layout or comes into it
 pub Gives-vacate : (l : Layout) (id frame : ℕ) (r : Reservation) → IsLaid l → record_at l id ≡ Some r → has_frame frame (Some r) ≡ true → is_used l.used frame ≡ true → Gives l (vacate_layout frame r l) frame (IsIn l)
 Gives-vacate l id frame r laid is has used =
-    elim (is_last frame r l) as (λ b. is_last frame r l ≡ b → Gives l (record { free = cond b (with_range l.free r.frame (8 ^ r.size) true) l.free; records = cond b (set l.records r.frame None) l.records; used = set l.used frame false }) frame (IsIn l)) [
+    elim (is_last frame r l) as (λ b. is_last frame r l ≡ b → Gives l (record { sizes = l.sizes; free = cond b (with_range l.free r.frame (8 ^ r.size) true) l.free; records = cond b (set l.records r.frame None) l.records; used = set l.used frame false }) frame (IsIn l)) [
       | true ↦ λ last. Gives-last l frame r laid (ap (record_at l) (laid.placed id r is).named ∙ is) has last
       | false ↦ λ keeps. Gives-keeping l id frame r laid is has keeps
     ] refl

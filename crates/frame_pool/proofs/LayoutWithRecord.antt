@@ -16,7 +16,7 @@ use Rattle.frame_pool.proofs.PagePlaces.{CoversPageOf-covers, has_frame_for, fra
 
 -- the layout with the reservation at its first frame, these free frames, and one more used place
 abbrev pub put : Layout → Reservation → ℕ → List Bool → Layout
-put l q frame free = record { free = free; records = set l.records q.frame (Some q); used = set l.used frame true }
+put l q frame free = record { sizes = l.sizes; free = free; records = set l.records q.frame (Some q); used = set l.used frame true }
 
 -- The reservation has the page, at a frame that is no used place. It may be put into the layout: it takes the place of a
 -- reservation with the same frames and pages, or of free frames and of pages that no reservation has.

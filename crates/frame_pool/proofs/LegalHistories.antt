@@ -5,6 +5,7 @@ use Rattle.std.specs.List.{range_with_len}
 use Rattle.std.proofs.lemmas.Bool.{cases_lt, eq-eqb, eqb-true, eqb-false, false≢true}
 use Rattle.std.proofs.lemmas.List.{get_or_past}
 use Rattle.std.proofs.lemmas.Option.{none-some, same_Some}
+use Rattle.pager_model.specs.SizeSets.{SizeSet}
 use Rattle.pager_model.specs.declared.call.Call.{Call}
 use Rattle.pager_model.specs.declared.call.Call.TheVariants.{Map, Grow, Unmap, Protect, Load, Store, Sync, Evict}
 use Rattle.pager_model.specs.declared.entry.Entry.{Entry}
@@ -311,8 +312,8 @@ uncovered : (n s p : ℕ) → covering s p (replicate n None) ≡ None
 uncovered zero s p = refl
 uncovered (suc n) s p = uncovered n s p
 
-pub frame_of-start : (frames processors s p : ℕ) → frame_of (start_frames frames processors) s p ≡ None
-frame_of-start frames processors s p = ap (used_in (layout_of (start_frames frames processors)).used p) (uncovered frames s p)
+pub frame_of-start : (z : SizeSet) (frames processors s p : ℕ) → frame_of (start_frames z frames processors) s p ≡ None
+frame_of-start z frames processors s p = ap (used_in (layout_of (start_frames z frames processors)).used p) (uncovered frames s p)
 
 -- what owns nothing owns by the place before the first call or turn
 owns-start : (st : FrameState) (c mark : ℕ) → HasNothing st c → OwnsBy st c (between mark)
@@ -322,11 +323,11 @@ owns-start st c (suc n) nothing = nothing
 -- before the first entry nobody claims or holds a frame, and no page has one
 IsKept-start : (g : Given) → IsKept g []
 IsKept-start g = record {
-  sound = IsSound-start g.frames (length g.marks);
-  agrees = λ s p. sym (frame_of-start g.frames (length g.marks) s p);
+  sound = IsSound-start g.sizes g.frames (length g.marks);
+  agrees = λ s p. sym (frame_of-start g.sizes g.frames (length g.marks) s p);
   owns = λ c p is.
       subst (λ (q : Progress). OwnsBy (frames_at g []) c q.doing) (same_Some (at_rest (mark_of g c) 0) p is)
-      (owns-start (frames_at g []) c (mark_of g c) (HasNothing-start g.frames (length g.marks) c));
+      (owns-start (frames_at g []) c (mark_of g c) (HasNothing-start g.sizes g.frames (length g.marks) c));
 }
 
 pub IsKept-legal : (g : Given) (history : List Entry) → IsLegal g history → IsKept g history

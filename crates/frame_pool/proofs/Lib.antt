@@ -2,6 +2,9 @@ pub mod PagePlaces
 pub mod MemberOrder
 pub mod YieldByPlaces
 pub mod AgeLists
+pub mod PartsAt
+pub mod EightParts
+pub mod PartedOnce
 pub mod SplitFrames
 pub mod ListsByFrame
 pub mod RecordSearch

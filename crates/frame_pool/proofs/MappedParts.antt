@@ -18,6 +18,7 @@ use Rattle.frame_pool.specs.Mapped.{IsMapped, MayEnter, WasSplitFrom}
 use Rattle.frame_pool.proofs.ListsByFrame.{set-none}
 use Rattle.frame_pool.proofs.MappedPages.{end_in_space}
 use Rattle.frame_pool.proofs.PartRecords.{split_suc, length-split, part_known, split_at, split_other}
+use Rattle.frame_pool.proofs.EightParts.{eight_count}
 use Rattle.frame_pool.proofs.SplitFrames.{covers_whole, one_part_covers}
 
 -- From this map on, the first n parts that the reservation was split into are in the map.
@@ -89,9 +90,9 @@ module _ (used : ℕ → Bool) (r : Reservation) (records : List (Option Reserva
         none = λ frame has. none_yet n frame one has;
         apart = λ id page q is has also. elim (who_stands n id q (omega arith) is) [
           | inl part ↦
-              let same = one_part_covers r.space page n part.0 r has (ap (covers r.space page) part.2 ∙ also) in
+              let same = one_part_covers (r.size - 1) r.space page n part.0 r has (ap (covers r.space page) part.2 ∙ also) in
               omega (arith, same, part.1)
-          | inr was ↦ may.apart id page q was (covers_whole r.space page n r splits one has) also
+          | inr was ↦ may.apart id page q was (covers_whole (r.size - 1) r.space page n r (omega arith) (omega (arith, one, eight_count r splits)) has) also
         ];
         few = omega (arith, long, few_places n (omega arith), may.few, in_whole, eight_parts r.size splits);
       }

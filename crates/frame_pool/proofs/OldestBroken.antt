@@ -1,5 +1,5 @@
 -- The reservation that a taking preempts is the oldest of its list: only one is broken, and the others stand.
-use Rattle.std.proofs.Common.{◌≡◌, ◌≢◌, ◌⊎◌, inl, inr, ℕ, zero, suc, ◌+◌, ◌-◌, ◌^◌, ◌<◌, ◌≤◌, Bool, true, false, List, [], ◌∷◌, ◌++◌, length, get_or, set, Option, Some, None, IsSomeAnd, option_map, refl, sym, ap, subst, ◌∙◌, arith}
+use Rattle.std.proofs.Common.{◌≡◌, ◌≢◌, ◌⊎◌, inl, inr, ℕ, zero, suc, ◌+◌, ◌-◌, ◌^◌, ◌<◌, ◌≤◌, Bool, true, false, cond, List, [], ◌∷◌, ◌++◌, length, get_or, set, Option, Some, None, IsSomeAnd, option_map, refl, sym, ap, subst, ◌∙◌, arith}
 use Rattle.std.specs.List.{All}
 use Rattle.std.specs.Option.{option_or, option_and_then}
 use Rattle.std.proofs.lemmas.Bool.{cases_Bool, cases_eq, cases_lt, false≢true}
@@ -19,7 +19,8 @@ use Rattle.pager_model.specs.FreeBlocks.{choice}
 use Rattle.pager_model.specs.Headline.{is_taking, size_at, member_of, IsPreempted, IsOldest, PreemptsOldest}
 use Rattle.pager_model.specs.Layouts.{Layout, Found, Placing, break_layout, list_of, oldest_of, oldest_from, to_break, broken_at, chosen, extent_of, largest_extent, covering, stamped, populated, new_reservation, reserved, preferred_in, placing_in, placing, record_at}
 use Rattle.pager_model.specs.Legal.{IsLegal, MayFollow, frames_at}
-use Rattle.pager_model.specs.Records.{is_used, yield_of}
+use Rattle.pager_model.specs.Records.{is_used, yield_in}
+use Rattle.pager_model.specs.SizeSets.{SizeSet, has_size}
 use Rattle.pager_model.specs.Settings.{Given}
 use Rattle.pager_model.proofs.Histories.{frames_at-named}
 use Rattle.reservations.specs.Kept.{ArePlaced}
@@ -58,14 +59,14 @@ first_before P new (m ∷ ms) id all other found = elim (cases_Bool (is_before n
 ]
 
 -- the first reservation of a list is before every other one of the list
-pub oldest_in-before : (used : List Bool) (k : ℕ) (records : List (Option Reservation)) (id other : ℕ) (r q : Reservation) → ArePlaced records → oldest_in (list_of used k records) ≡ Some id → get_or records id None ≡ Some r → get_or records other None ≡ Some q → yield_of (is_used used) q ≡ Some k → other ≢ id → is_before (member_of r) (member_of q) ≡ true
-oldest_in-before used k records id other r q placed found is stands yields apart =
+pub oldest_in-before : (z : SizeSet) (used : List Bool) (k : ℕ) (records : List (Option Reservation)) (id other : ℕ) (r q : Reservation) → ArePlaced records → oldest_in (list_of z used k records) ≡ Some id → get_or records id None ≡ Some r → get_or records other None ≡ Some q → yield_in z (is_used used) q ≡ Some k → other ≢ id → is_before (member_of r) (member_of q) ≡ true
+oldest_in-before z used k records id other r q placed found is stands yields apart =
     let IsOf : Member → Type 0 = λ m. (s : Reservation) → get_or records m.frame None ≡ Some s → m ≡ member_of s in
-    let each : All IsOf (list_of used k records) =
-    All-list_of IsOf used k records (λ at s here _ t there.
+    let each : All IsOf (list_of z used k records) =
+    All-list_of z IsOf used k records (λ at s here _ t there.
     ap member_of (same_Some s t (sym here ∙ ap (λ n. get_or records n None) (sym (placed at s here).named) ∙ there))) in
-    let rest = list_of used k (set records other None) in
-    let whole = list_of-open used k records other q stands ∙ with_listed-in used k q rest yields in
+    let rest = list_of z used k (set records other None) in
+    let whole = list_of-open z used k records other q stands ∙ with_listed-in z used k q rest yields in
     let first = first_before IsOf (member_of q) rest id (subst (All IsOf) whole each) (λ same. apart (sym (placed other q stands).named ∙ same)) (sym (ap oldest_in whole) ∙ found) in
     subst (λ m. is_before m (member_of q) ≡ true) (first.1 r (ap (λ n. get_or records n None) first.2 ∙ is)) first.3
 
@@ -83,17 +84,17 @@ pub IsOldest-to_break : (st : FrameState) (size id : ℕ) (r : Reservation) → 
 IsOldest-to_break st size id r laid breaks is =
     let l = layout_of st in
     let list = oldest_from-in l size (3 - size) id breaks in
-    let found = oldest_in-found l.used list.0 l.records id laid.placed list.1 in
+    let found = oldest_in-found l.sizes l.used list.0 l.records id laid.placed list.1 in
     record {
       list = list.0;
-      listed = ap (yield_of (is_used l.used)) (same_Some r found.0 (sym is ∙ found.1)) ∙ found.2;
-      oldest = λ other q stands yields apart. oldest_in-before l.used list.0 l.records id other r q laid.placed list.1 is stands yields (λ same. apart (same ∙ sym (laid.placed id r is).named));
+      listed = ap (yield_in l.sizes (is_used l.used)) (same_Some r found.0 (sym is ∙ found.1)) ∙ found.2;
+      oldest = λ other q stands yields apart. oldest_in-before l.sizes l.used list.0 l.records id other r q laid.placed list.1 is stands yields (λ same. apart (same ∙ sym (laid.placed id r is).named));
     }
 
 -- The others stand.
 
 -- beside the reservation that is broken each stands as it stood
-pub stands_broken : (l : Layout) (id other k : ℕ) (r q : Reservation) → IsLaid l → record_at l id ≡ Some r → yield_of (is_used l.used) r ≡ Some k → record_at l other ≡ Some q → other ≢ id → record_at (break_layout r l) other ≡ Some q
+pub stands_broken : (l : Layout) (id other k : ℕ) (r q : Reservation) → IsLaid l → record_at l id ≡ Some r → yield_in l.sizes (is_used l.used) r ≡ Some k → record_at l other ≡ Some q → other ≢ id → record_at (break_layout r l) other ≡ Some q
 stands_broken l id other k r q laid is yields stands apart =
     let breaks = Breaks-break l r k laid (ap (record_at l) (laid.placed id r is).named ∙ is) yields in
     let own = (laid.placed other q stands).named in
@@ -134,10 +135,13 @@ extent_in l size found is =
 largest_in : (l : Layout) (size : ℕ) (found : Found) → largest_extent size l ≡ Some found → IsFoundIn l found
 largest_in l zero found is = extent_in l 0 found is
 largest_in l (suc size) found is =
-    elim (extent_of (suc size) l) as (λ o. extent_of (suc size) l ≡ o → option_or o (largest_extent size l) ≡ Some found → IsFoundIn l found) [
-      | Some first ↦ λ here h. extent_in l (suc size) found (here ∙ h)
-      | None ↦ λ _ h. largest_in l size found h
-    ] refl is
+    elim (has_size l.sizes (suc size)) as (λ b. cond b (option_or (extent_of (suc size) l) (largest_extent size l)) (largest_extent size l) ≡ Some found → IsFoundIn l found) [
+      | true ↦ λ e. elim (extent_of (suc size) l) as (λ o. extent_of (suc size) l ≡ o → option_or o (largest_extent size l) ≡ Some found → IsFoundIn l found) [
+        | Some first ↦ λ here h. extent_in l (suc size) found (here ∙ h)
+        | None ↦ λ _ h. largest_in l size found h
+      ] refl e
+      | false ↦ λ e. largest_in l size found e
+    ] is
 
 -- a reservation of the layout that the extent is found in stands beside the new one
 stands_reserved : (stamp space page id : ℕ) (found : Found) (q : Reservation) → IsLaid found.layout → choice found.layout.free found.size ≡ Some found.first → record_at found.layout id ≡ Some q → record_at (reserved stamp space page found).layout id ≡ Some q

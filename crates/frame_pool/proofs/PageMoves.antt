@@ -44,11 +44,11 @@ pub record GivesPage (st after : FrameState) (frame : ℕ) : Type 0 where
 GivesPage-given : (st : FrameState) (id frame : ℕ) (r : Reservation) → IsLaid (layout_of st) → record_at (layout_of st) id ≡ Some r → has_frame frame (Some r) ≡ true → is_used (layout_of st).used frame ≡ true → GivesPage st (given st frame r) frame
 GivesPage-given st id frame r laid is has used = record { pages = by_claim (claim_in (used_at st frame)); used = refl; held = refl }
   where
-    same : (in_after : ℕ → Type 0) (l : Layout) → Gives (layout_of st) l frame in_after → (s p f : ℕ) → (frame_in (record { free = l.free; records = l.records; used = map is_some (set st.used frame None) }) s p ≡ Some f) ↔ ((f ≢ frame) × (frame_of st s p ≡ Some f))
+    same : (in_after : ℕ → Type 0) (l : Layout) → Gives (layout_of st) l frame in_after → (s p f : ℕ) → (frame_in (record { sizes = l.sizes; free = l.free; records = l.records; used = map is_some (set st.used frame None) }) s p ≡ Some f) ↔ ((f ≢ frame) × (frame_of st s p ≡ Some f))
     same in_after l gives s p f =
         subst (λ m. (frame_in m s p ≡ Some f) ↔ ((f ≢ frame) × (frame_of st s p ≡ Some f))) (sym (layout_of-given l st frame in_after gives)) (gives.pages s p f)
 
-    by_claim : (claim : Option ℕ) (s p f : ℕ) → (frame_in (record { free = (layout_given claim frame r (layout_of st)).free; records = (layout_given claim frame r (layout_of st)).records; used = map is_some (set st.used frame None) }) s p ≡ Some f) ↔ ((f ≢ frame) × (frame_of st s p ≡ Some f))
+    by_claim : (claim : Option ℕ) (s p f : ℕ) → (frame_in (record { sizes = (layout_given claim frame r (layout_of st)).sizes; free = (layout_given claim frame r (layout_of st)).free; records = (layout_given claim frame r (layout_of st)).records; used = map is_some (set st.used frame None) }) s p ≡ Some f) ↔ ((f ≢ frame) × (frame_of st s p ≡ Some f))
     by_claim None = same _ _ (Gives-vacate (layout_of st) id frame r laid is has used)
     by_claim (Some c) = same _ _ (Gives-carve (layout_of st) id frame r laid is has used)
 

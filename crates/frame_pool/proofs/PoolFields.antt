@@ -8,6 +8,7 @@ use Rattle.std.proofs.lemmas.Bool.{cases_eq, cases_lt, false≢true}
 use Rattle.std.proofs.lemmas.List.{get_or-set_same, get_or-set_other, get_or_past, get_or_read, length-map, length-replicate, length-set, map-set}
 use Rattle.std.proofs.lemmas.List.{get_or-map as get_or_map_within}
 use Rattle.std.proofs.lemmas.List.FromFn.{get_or-map-range_with_len, length-range_with_len}
+use Rattle.pager_model.specs.SizeSets.{SizeSet}
 use Rattle.pager_model.specs.Frame.{Framed, zero_frame}
 use Rattle.pager_model.specs.declared.entry.Want.{Want}
 use Rattle.pager_model.specs.declared.reservation.Reservation.{Reservation}
@@ -58,7 +59,7 @@ AreHere-same frames used after here same = λ f known.
 
 -- the layout of a pool is that of its state
 pub layout_of-pool : (p : Inside) → IsPool p.frames.items p.layout p.used.processors (state_of p) → layout_of (state_of p) ≡ p.layout
-layout_of-pool p pool = ap (λ us. record { free = p.layout.free; records = p.layout.records; used = us }) (sym pool.same_used)
+layout_of-pool p pool = ap (λ us. record { sizes = p.layout.sizes; free = p.layout.free; records = p.layout.records; used = us }) (sym pool.same_used)
 
 -- so this layout is sound
 laid : (p : Inside) → IsPool p.frames.items p.layout p.used.processors (state_of p) → IsLaid p.layout
@@ -131,14 +132,14 @@ AreHere-start n = λ f known.
     ∙ ap (λ g. Some g) (get_or-map-range_with_len zero_frame 0 n f f (zero_frame 0) below (omega arith)) in
     ap number_in at ∙ ap (λ o. cond (is_some o) None (Some f)) (sym (get_or-alike n f None))
 
-pub IsPool-start : (n processors : ℕ) → n ≤ 32768 → processors ≤ 17 → IsPool (all_frames n) (start_layout n) processors (start_frames n processors)
-IsPool-start n processors few few_processors =
+pub IsPool-start : (z : SizeSet) (n processors : ℕ) → n ≤ 32768 → processors ≤ 17 → IsPool (all_frames n) (start_layout z n) processors (start_frames z n processors)
+IsPool-start z n processors few few_processors =
     let frames_long = length-replicate n true in
     let held_long = length-replicate {A = Option ℕ} processors None in
     record {
       sound =
-          subst (λ k. IsSound k (length (start_frames n processors).held) (start_frames n processors)) (sym frames_long)
-          (subst (λ k. IsSound n k (start_frames n processors)) (sym held_long) (IsSound-start n processors));
+          subst (λ k. IsSound k (length (start_frames z n processors).held) (start_frames z n processors)) (sym frames_long)
+          (subst (λ k. IsSound n k (start_frames z n processors)) (sym held_long) (IsSound-start z n processors));
       same_used = sym (nothing_used n);
       few_frames = omega (arith, frames_long);
       few_processors = omega (arith, held_long);
@@ -172,6 +173,7 @@ page_of st frame page r laid is noted at =
 abbrev pub state_taken : FrameState → Layout → Want → ℕ → ℕ → FrameState
 state_taken st m want frame broken =
     record {
+      sizes = m.sizes;
       free = m.free;
       records = m.records;
       used = set st.used frame (Some (record { age = st.entries; wired = want.wired; claim = None }));
@@ -232,7 +234,7 @@ module _ (p : Inside) (space page : ℕ) (want : Want) (m : Layout) (frame broke
 -- the state once a frame was given up in this layout, with these held frames
 abbrev pub state_given : FrameState → Layout → ℕ → List (Option ℕ) → FrameState
 state_given st m frame held =
-    record { free = m.free; records = m.records; used = set st.used frame None; held = held; entries = st.entries; preemptions = st.preemptions }
+    record { sizes = m.sizes; free = m.free; records = m.records; used = set st.used frame None; held = held; entries = st.entries; preemptions = st.preemptions }
 
 -- A page gives its frame up, and the layout is moved by the claim that was read.
 module _ (p : Inside) (space page frame : ℕ) (pool : IsPool p.frames.items p.layout p.used.processors (state_of p)) (is : frame_of (state_of p) space page ≡ Some frame) where

@@ -1,13 +1,15 @@
 -- The extent of pages that a new reservation has: it is round the page, and no reservation of the space has a page of it.
-use Rattle.std.proofs.Common.{◌≡◌, ◌<◌, ◌≤◌, ℕ, ◌+◌, ◌-◌, ◌*◌, ◌/◌, ◌^◌, true, false, Some, None, sym, ap, ◌∙◌, arith}
-use Rattle.std.proofs.Math.Nat.{div-mul-le_self, lt-div-mul-add, div-lt_iff_lt-mul, le-div_iff_mul-le, mul-le-mul_right, mul_assoc, add-mul}
-use Rattle.std.proofs.lemmas.Bool.{cond_both, and_from, eq-eqb, lt-ltb, false≢true}
+use Rattle.std.proofs.Common.{◌≡◌, ◌<◌, ◌≤◌, ℕ, zero, suc, ◌+◌, ◌-◌, ◌*◌, ◌/◌, ◌^◌, Bool, true, false, ◌&&◌, ◌||◌, List, [], ◌∷◌, Option, Some, None, refl, inl, inr, sym, ap, ◌∙◌, arith}
+use Rattle.std.proofs.Math.Nat.{pow-le-pow_right, div-mul-le_self, lt-div-mul-add, div-lt_iff_lt-mul, le-div_iff_mul-le, mul-le-mul_right, mul_assoc, add-mul}
+use Rattle.std.proofs.lemmas.Bool.{cases_Bool, cond_both, cond-true, cond-false, and_from, and_parts, or_from, eq-eqb, lt-ltb, le-leb, ltb-true, leb-true, not-true, not_from_false, false_from_ne_true, false≢true}
 use Rattle.std.proofs.lemmas.List.Folds.{list_any_at}
 use Rattle.pager_model.specs.declared.entry.Want.{Want}
 use Rattle.pager_model.specs.declared.reservation.Reservation.{Reservation}
 use Rattle.pager_model.specs.Extents.{extent_start}
 use Rattle.pager_model.specs.Layouts.{Layout, covers, covering, meets, meets_any, preferred_in, record_at}
-use Rattle.pager_model.specs.PreferredSize.{fits}
+use Rattle.pager_model.specs.PreferredSize.{fits, preferred_size, largest_fitting, preferred_among}
+use Rattle.pager_model.specs.SizeSets.{SizeSet, has_size, size_within}
+use Rattle.pager_model.proofs.SizeFloors.{within_has, within_skips, within_at_most}
 use Rattle.size_policy.proofs.Sizes.{Suits-from_fits}
 use Rattle.pager_model.proofs.ExtentLemmas.{eight_pos, eight_split}
 use Rattle.pager_model.proofs.Lists.{get_or_within}
@@ -56,16 +58,96 @@ Misses-alone l space page none id p r is has low high =
     false≢true (sym (covering-none space page l.records none id r is) ∙ ap (λ n. covers space n r) (sym same) ∙ has)
 
 -- the extent of the preferred size meets none
-pub Misses-preferred : (l : Layout) (space page : ℕ) (want : Want) → covering space page l.records ≡ None → Misses l space page (preferred_in l space page want)
-Misses-preferred l space page want none =
+pub Misses-fitting : (z : SizeSet) (l : Layout) (space page : ℕ) (want : Want) → covering space page l.records ≡ None → (k : ℕ) → Misses l space page (largest_fitting z (meets_any space l.records) page want k)
+Misses-fitting z l space page want none zero = Misses-alone l space page none
+Misses-fitting z l space page want none (suc k) =
     let test = meets_any space l.records in
-    let here : (k : ℕ) → fits test page want k ≡ true → Misses l space page k = λ k passes. Misses-test l space page k (Suits-from_fits test page want k passes).1 in
-    cond_both (fits test page want 3) 3 _ (Misses l space page) (here 3)
-    (λ _. cond_both (fits test page want 2) 2 _ (Misses l space page) (here 2)
-    (λ _. cond_both (fits test page want 1) 1 0 (Misses l space page) (here 1) (λ _. Misses-alone l space page none)))
+    cond_both (has_size z (suc k) && fits test page want (suc k)) (suc k) (largest_fitting z test page want k) (Misses l space page)
+    (λ both. Misses-test l space page (suc k) (Suits-from_fits test page want (suc k) (and_parts _ _ both).1).1)
+    (λ _. Misses-fitting z l space page want none k)
+
+pub Misses-preferred : (l : Layout) (space page : ℕ) (want : Want) → covering space page l.records ≡ None → Misses l space page (preferred_in l space page want)
+Misses-preferred l space page want none = Misses-fitting l.sizes l space page want none 3
 
 -- nor does a smaller one
 pub Misses-smaller : (l : Layout) (space page k size : ℕ) → k ≤ size → Misses l space page size → Misses l space page k
 Misses-smaller l space page k size le misses id p r is has low high =
     let within = extent_inside k size page le in
     misses id p r is has (omega (arith, within.0)) (omega (arith, within.1))
+
+-- The preferred size of some sizes.
+
+-- an extent that meets nothing has no smaller one that does
+meets_smaller : (space j k page : ℕ) (o : Option Reservation) → j ≤ k → meets space k (extent_start k page) o ≡ false → meets space j (extent_start j page) o ≡ false
+meets_smaller space j k page None le none = refl
+meets_smaller space j k page (Some r) le none = false_from_ne_true _ (λ is.
+    let within = extent_inside j k page le in
+    let parts = and_parts _ _ is in
+    let ends = and_parts _ _ parts.1 in
+    let low = ltb-true r.first (extent_start j page + 8 ^ j) ends.0 in
+    let high = ltb-true (extent_start j page) (r.first + 8 ^ r.size) ends.1 in
+    false≢true (sym none ∙ and_from _ _ parts.0 (and_from _ _ (lt-ltb r.first (extent_start k page + 8 ^ k) (omega (arith, low, within.1))) (lt-ltb (extent_start k page) (r.first + 8 ^ r.size) (omega (arith, high, within.0))))))
+
+any_smaller : (space j k page : ℕ) (records : List (Option Reservation)) → j ≤ k → meets_any space records k (extent_start k page) ≡ false → meets_any space records j (extent_start j page) ≡ false
+any_smaller space j k page [] le none = refl
+any_smaller space j k page (o ∷ rs) le none =
+    let parts = or_parts (meets space k (extent_start k page) o) (meets_any space rs k (extent_start k page)) none in
+    or_from _ _ (meets_smaller space j k page o le parts.0) (any_smaller space j k page rs le parts.1)
+  where
+    or_parts : (a b : Bool) → (a || b) ≡ false → (a ≡ false) × (b ≡ false)
+    or_parts true b fails = absurd (false≢true (sym fails))
+    or_parts false b fails = (refl, fails)
+
+fits_smaller : (space j k page : ℕ) (records : List (Option Reservation)) (want : Want) → j ≤ k → fits (meets_any space records) page want k ≡ true → fits (meets_any space records) page want j ≡ true
+fits_smaller space j k page records want le passes =
+    let within = extent_inside j k page le in
+    let both = and_parts _ _ passes in
+    let ends = and_parts _ _ both.0 in
+    let rest = and_parts _ _ both.1 in
+    let low = leb-true want.low (extent_start k page) ends.0 in
+    let high = leb-true (extent_start k page + 8 ^ k) want.high ends.1 in
+    let cap = leb-true (8 ^ k) want.cap rest.0 in
+    let positive : 0 < 8 = omega arith in
+    let smaller : 8 ^ j ≤ 8 ^ k = pow-le-pow_right positive le in
+    and_from _ _ (and_from _ _ (le-leb want.low (extent_start j page) (omega (arith, low, within.0))) (le-leb (extent_start j page + 8 ^ j) want.high (omega (arith, high, within.1))))
+    (and_from _ _ (le-leb (8 ^ j) want.cap (omega (arith, cap, smaller))) (not_from_false _ (any_smaller space j k page records le (not-true _ rest.1))))
+
+module _ (z : SizeSet) (space page : ℕ) (records : List (Option Reservation)) (want : Want) where
+  abbrev fit : ℕ → Bool
+  fit k = fits (meets_any space records) page want k
+
+  abbrev fitting : ℕ → ℕ
+  fitting k = largest_fitting z (meets_any space records) page want k
+
+  -- where a size fits, the largest of the others up to it fits
+  fitting_all : (k : ℕ) → (0 < k → fit k ≡ true) → fitting k ≡ size_within z k
+  fitting_all zero passes = refl
+  fitting_all (suc k) passes = elim (cases_Bool (has_size z (suc k))) [
+    | inl is ↦ cond-true _ _ _ (and_from _ _ is (passes (omega arith))) ∙ sym (within_has z (suc k) is)
+    | inr not ↦
+        cond-false _ _ _ (ap (λ b. b && fit (suc k)) not)
+        ∙ fitting_all k (λ _. fits_smaller space k (suc k) page records want (omega arith) (passes (omega arith)))
+        ∙ sym (within_skips z k not)
+  ]
+
+  fitting_less : (k : ℕ) → fit (suc k) ≡ false → fitting (suc k) ≡ fitting k
+  fitting_less k missed = cond-false _ _ _ (right_false (has_size z (suc k)) (fit (suc k)) missed)
+    where
+      right_false : (a b : Bool) → b ≡ false → (a && b) ≡ false
+      right_false true b fails = fails
+      right_false false b fails = refl
+
+  -- the preferred size of some sizes is the largest of them that is at most the one of all four
+  pub preferred_among-within : preferred_among z (meets_any space records) page want ≡ size_within z (preferred_size (meets_any space records) page want)
+  preferred_among-within = elim (cases_Bool (fit 3)) [
+    | inl three ↦ fitting_all 3 (λ _. three) ∙ ap (size_within z) (sym (cond-true _ _ _ three))
+    | inr not_three ↦ fitting_less 2 not_three ∙ elim (cases_Bool (fit 2)) [
+      | inl two ↦ fitting_all 2 (λ _. two) ∙ ap (size_within z) (sym (cond-false _ _ _ not_three ∙ cond-true _ _ _ two))
+      | inr not_two ↦ fitting_less 1 not_two ∙ elim (cases_Bool (fit 1)) [
+        | inl one ↦ fitting_all 1 (λ _. one) ∙ ap (size_within z) (sym (cond-false _ _ _ not_three ∙ cond-false _ _ _ not_two ∙ cond-true _ _ _ one))
+        | inr not_one ↦
+            fitting_less 0 not_one
+            ∙ ap (size_within z) (sym (cond-false _ _ _ not_three ∙ cond-false _ _ _ not_two ∙ cond-false _ _ _ not_one))
+      ]
+    ]
+  ]

@@ -7,6 +7,7 @@ use Rattle.pager_model.specs.declared.reservation.Used.{Used}
 use Rattle.pager_model.specs.Ages.{list_at}
 use Rattle.pager_model.specs.FrameStates.{start_frames, claim_in}
 use Rattle.pager_model.specs.Layouts.{start_layout, list_of}
+use Rattle.pager_model.specs.SizeSets.{SizeSet}
 use Rattle.pager_model.proofs.Lists.{get_or-alike}
 use Rattle.reservation_lists.specs.Kept.{no_members}
 use Rattle.reservations.proofs.CountLemmas.{is_used-replicate}
@@ -15,8 +16,8 @@ use Rattle.frame_pool.specs.Laid.{IsLaid, IsSound}
 use Rattle.frame_pool.specs.Listed.{AreListed}
 
 -- without a reservation and with all frames free a layout is sound
-pub IsLaid-start : (frames : ℕ) → IsLaid (start_layout frames)
-IsLaid-start frames = record {
+pub IsLaid-start : (z : SizeSet) (frames : ℕ) → IsLaid (start_layout z frames)
+IsLaid-start z frames = record {
   records_long = length-replicate frames None ∙ sym (length-replicate frames true);
   used_long = length-replicate frames false ∙ sym (length-replicate frames true);
   placed = λ id r is. absurd (none-some r (sym (get_or-alike frames id None) ∙ is));
@@ -28,9 +29,9 @@ IsLaid-start frames = record {
 }
 
 -- no reservation, no member
-list_of-nothing : (used : List Bool) (k n : ℕ) → list_of used k (replicate n None) ≡ []
-list_of-nothing used k zero = refl
-list_of-nothing used k (suc n) = list_of-nothing used k n
+list_of-nothing : (z : SizeSet) (used : List Bool) (k n : ℕ) → list_of z used k (replicate n None) ≡ []
+list_of-nothing z used k zero = refl
+list_of-nothing z used k (suc n) = list_of-nothing z used k n
 
 -- each of the three lists is empty
 no_member_at : (k : ℕ) → list_at no_members k ≡ []
@@ -39,8 +40,8 @@ no_member_at (suc zero) = refl
 no_member_at (suc (suc k)) = refl
 
 -- empty lists are those of no reservations
-pub AreListed-start : (frames : ℕ) → AreListed no_members (replicate frames false) (replicate frames None)
-AreListed-start frames k small = no_member_at k ∙ sym (list_of-nothing (replicate frames false) k frames)
+pub AreListed-start : (z : SizeSet) (frames : ℕ) → AreListed z no_members (replicate frames false) (replicate frames None)
+AreListed-start z frames k small = no_member_at k ∙ sym (list_of-nothing z (replicate frames false) k frames)
 
 -- what is noted of no frame makes no used place
 pub nothing_used : (n : ℕ) → map is_some (replicate {A = Option Used} n None) ≡ replicate n false
@@ -48,11 +49,11 @@ nothing_used zero = refl
 nothing_used (suc n) = ap (λ used. false ∷ used) (nothing_used n)
 
 -- at first the state of the frames is sound: each frame is free, and none is used, claimed or held
-pub IsSound-start : (frames processors : ℕ) → IsSound frames processors (start_frames frames processors)
-IsSound-start frames processors = record {
+pub IsSound-start : (z : SizeSet) (frames processors : ℕ) → IsSound frames processors (start_frames z frames processors)
+IsSound-start z frames processors = record {
   known = length-replicate frames true;
   processors_known = length-replicate processors None;
-  laid = subst (λ used. IsLaid (record { free = replicate frames true; records = replicate frames None; used = used })) (sym (nothing_used frames)) (IsLaid-start frames);
+  laid = subst (λ used. IsLaid (record { sizes = z; free = replicate frames true; records = replicate frames None; used = used })) (sym (nothing_used frames)) (IsLaid-start z frames);
   accounted = λ f known. inl (inl (get_or-replicate frames f true false known));
   held_apart = λ c f holds. absurd (none-some f (sym (get_or-alike processors c None) ∙ holds));
   held_once = λ c other f holds _. absurd (none-some f (sym (get_or-alike processors c None) ∙ holds));

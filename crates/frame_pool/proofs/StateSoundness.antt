@@ -42,8 +42,8 @@ pub noted_if_used : (st : FrameState) (f : ℕ) → is_used (layout_of st).used 
 noted_if_used st f used none = false≢true (sym (is_used-layout_of st f ∙ ap is_some none) ∙ used)
 
 -- a layout with other used places is the same where these are the same
-same_used : (l : Layout) (used : List Bool) → used ≡ l.used → record { free = l.free; records = l.records; used = used } ≡ l
-same_used l used same = ap (λ u. record { free = l.free; records = l.records; used = u }) same
+same_used : (l : Layout) (used : List Bool) → used ≡ l.used → record { sizes = l.sizes; free = l.free; records = l.records; used = used } ≡ l
+same_used l used same = ap (λ u. record { sizes = l.sizes; free = l.free; records = l.records; used = u }) same
 
 -- a claim is noted of a used place
 pub claim_from : (o : Option Used) (c : ℕ) → claim_in o ≡ Some c → (u : Used) × (o ≡ Some u) × (u.claim ≡ Some c)
@@ -163,6 +163,7 @@ IsSound-take frames processors st space page want t sound none takes =
 abbrev given_by : Option ℕ → FrameState → ℕ → Reservation → FrameState
 given_by claim st frame r =
     record {
+      sizes = (layout_given claim frame r (layout_of st)).sizes;
       free = (layout_given claim frame r (layout_of st)).free;
       records = (layout_given claim frame r (layout_of st)).records;
       used = set st.used frame None;
@@ -179,7 +180,7 @@ claim_given st frame f c claims =
     (before.0, ap claim_in before.1 ∙ noted.2)
 
 -- the layout after a frame was given up is the one that the giving makes
-pub layout_of-given : (l : Layout) (st : FrameState) (frame : ℕ) (in_after : ℕ → Type 0) → Gives (layout_of st) l frame in_after → record { free = l.free; records = l.records; used = map is_some (set st.used frame None) } ≡ l
+pub layout_of-given : (l : Layout) (st : FrameState) (frame : ℕ) (in_after : ℕ → Type 0) → Gives (layout_of st) l frame in_after → record { sizes = l.sizes; free = l.free; records = l.records; used = map is_some (set st.used frame None) } ≡ l
 layout_of-given l st frame in_after gives = same_used l (map is_some (set st.used frame None)) (map-set is_some st.used frame None ∙ sym gives.used)
 
 module _ (frames processors : ℕ) (st : FrameState) (id frame : ℕ) (r : Reservation) (sound : IsSound frames processors st) (is : record_at (layout_of st) id ≡ Some r) (has : has_frame frame (Some r) ≡ true) (noted : used_at st frame ≢ None) where

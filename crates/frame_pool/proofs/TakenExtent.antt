@@ -1,19 +1,20 @@
 -- What finding an extent of free frames for a reservation gives, and what taking it out leaves.
-use Rattle.std.proofs.Common.{◌≡◌, ℕ, zero, suc, ◌+◌, ◌-◌, ◌^◌, ◌<◌, ◌≤◌, true, false, length, Option, Some, None, option_map, refl, sym, ap, subst, ◌∙◌, arith}
+use Rattle.std.proofs.Common.{◌≡◌, ℕ, zero, suc, ◌+◌, ◌-◌, ◌^◌, ◌<◌, ◌≤◌, true, false, cond, length, Option, Some, None, option_map, refl, sym, ap, subst, ◌∙◌, arith}
 use Rattle.std.specs.Option.{option_or, option_and_then, option_map_or, is_some, IsSome, IsSomeAnd}
-use Rattle.std.proofs.lemmas.Bool.{false≢true}
+use Rattle.std.proofs.lemmas.Bool.{cond-true, cond-false, false≢true}
 use Rattle.buddy_extents.proofs.Runs.{IsExtent-choice, choice_within, run_free-choice, run_free_exactly}
 use Rattle.buddy_extents.proofs.Ranges.{length-with_range, with_range_inside, with_range_outside, range_cases}
 use Rattle.pager_model.specs.Agreement.{has_frame}
 use Rattle.pager_model.specs.FreeBlocks.{choice}
 use Rattle.pager_model.specs.Layouts.{Layout, Found, break_layout, broken_at, to_break, chosen, extent_of, largest_extent, record_at, is_free}
-use Rattle.pager_model.specs.Records.{is_used, yield_of}
+use Rattle.pager_model.specs.Records.{is_used, yield_in}
+use Rattle.pager_model.specs.SizeSets.{has_size}
 use Rattle.reservation_lists.specs.Kept.{KeptLists}
 use Rattle.frame_pool.specs.Laid.{IsLaid}
 use Rattle.population_map.specs.Populations.{Populations}
 use Rattle.frame_pool.specs.Listed.{IsInOrder}
-use Rattle.frame_pool.specs.Placed.{CanBreak, FindsExtent, without_extent}
-use Rattle.frame_pool.proofs.LayoutBreak.{yield_less}
+use Rattle.frame_pool.specs.Placed.{CanBreak, FindsExtent, without_extent, extent_there}
+use Rattle.frame_pool.proofs.PartYields.{yield_less}
 use Rattle.frame_pool.proofs.BreakYield.{choice-break}
 use Rattle.frame_pool.proofs.AgeLists.{oldest_from-found}
 use Rattle.frame_pool.proofs.BreakSteps.{option_or-some, option_or-none}
@@ -103,8 +104,8 @@ module _ (l : Layout) (size id : ℕ) (laid : IsLaid l) (oldest : to_break l siz
   CanBreak-oldest =
       let w = oldest_from-found l size (3 - size) id laid.placed oldest in
       let some = laid.some_used id w.0 w.4 in
-      let less = yield_less (is_used l.used) w.0 w.1 some.0 some.1 some.2 w.5 in
-      subst (λ o. IsSomeAnd o (λ r. (0 < r.size) × IsSome (yield_of (is_used l.used) r))) (sym w.4) (omega (arith, less), ap is_some w.5)
+      let less = yield_less l.sizes (is_used l.used) w.0 w.1 some.0 some.1 some.2 w.5 in
+      subst (λ o. IsSomeAnd o (λ r. (0 < r.size) × IsSome (yield_in l.sizes (is_used l.used) r))) (sym w.4) (omega (arith, less), ap is_some w.5)
 
   -- and then there is a choice
   pub choice-oldest : is_some (choice (broken_at id l).free size) ≡ true
@@ -123,14 +124,24 @@ abbrev pub largest_below : ℕ → Layout → Option Found
 largest_below zero l = None
 largest_below (suc size) l = largest_extent size l
 
-pub largest_below-found : (l : Layout) (n size : ℕ) (found : Found) → n ≡ suc size → extent_of size l ≡ Some found → extent_of size l ≡ largest_below n l
+-- size by size
+largest_step : (size : ℕ) (l : Layout) → largest_extent (suc size) l ≡ option_or (extent_there (suc size) l) (largest_extent size l)
+largest_step size l =
+    elim (has_size l.sizes (suc size)) as (λ b. cond b (option_or (extent_of (suc size) l) (largest_extent size l)) (largest_extent size l) ≡ option_or (cond b (extent_of (suc size) l) None) (largest_extent size l)) [
+      | true ↦ refl
+      | false ↦ refl
+    ]
+
+pub largest_below-found : (l : Layout) (n size : ℕ) (found : Found) → n ≡ suc size → extent_there size l ≡ Some found → extent_there size l ≡ largest_below n l
 largest_below-found l n zero found next is = sym (ap (λ m. largest_below m l) next)
 largest_below-found l n (suc size) found next is =
-    sym (option_or-some (extent_of (suc size) l) (largest_extent size l) (ap is_some is))
+    sym (option_or-some (extent_there (suc size) l) (largest_extent size l) (ap is_some is))
+    ∙ sym (largest_step size l)
     ∙ sym (ap (λ m. largest_below m l) next)
 
-pub largest_below-missed : (l : Layout) (n size : ℕ) → n ≡ suc size → extent_of size l ≡ None → largest_below n l ≡ largest_below size l
+pub largest_below-missed : (l : Layout) (n size : ℕ) → n ≡ suc size → extent_there size l ≡ None → largest_below n l ≡ largest_below size l
 largest_below-missed l n zero next none = ap (λ m. largest_below m l) next ∙ none
 largest_below-missed l n (suc size) next none =
     ap (λ m. largest_below m l) next
-    ∙ option_or-none (extent_of (suc size) l) (largest_extent size l) (ap is_some none)
+    ∙ largest_step size l
+    ∙ option_or-none (extent_there (suc size) l) (largest_extent size l) (ap is_some none)

@@ -1,9 +1,11 @@
 -- A reservation's yield is told by which of its own places are used.
-use Rattle.std.proofs.Common.{◌≡◌, ◌<◌, ◌≤◌, ℕ, zero, suc, ◌+◌, ◌-◌, ◌*◌, ◌^◌, Bool, true, ◌&&◌, ◌||◌, not, cond, Some, None, refl, ap, ◌∙◌, arith}
+use Rattle.std.proofs.Common.{◌≡◌, ◌<◌, ◌≤◌, ℕ, zero, suc, ◌+◌, ◌-◌, ◌*◌, ◌^◌, Bool, true, ◌&&◌, ◌||◌, not, cond, Some, None, option_map, refl, ap, sym, ◌∙◌, arith}
 use Rattle.std.specs.List.{range_with_len, list_any, list_all}
 use Rattle.pager_model.specs.declared.reservation.Reservation.{Reservation}
 use Rattle.pager_model.specs.Agreement.{has_frame}
-use Rattle.pager_model.specs.Records.{none_used, has_empty, yield_up_to, yield_of}
+use Rattle.pager_model.specs.Records.{none_used, has_empty, yield_up_to, yield_of, yield_in}
+use Rattle.pager_model.specs.SizeSets.{SizeSet, size_within}
+use Rattle.frame_pool.proofs.PartYields.{yield_in-within}
 use Rattle.pager_model.proofs.ExtentLemmas.{eight_split, part_inside}
 use Rattle.reservations.proofs.FrameIds.{has_frame_from}
 
@@ -43,3 +45,6 @@ module _ (p q : ℕ → Bool) (r : Reservation) (agree : (f : ℕ) → has_frame
 
   pub yield_of-agree : yield_of p r ≡ yield_of q r
   yield_of-agree = yield_up_to-agree r.size (omega arith)
+
+  pub yield_in-agree : (z : SizeSet) → yield_in z p r ≡ yield_in z q r
+  yield_in-agree z = yield_in-within z p r ∙ ap (option_map (size_within z)) yield_of-agree ∙ sym (yield_in-within z q r)

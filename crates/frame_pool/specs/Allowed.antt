@@ -12,4 +12,4 @@ AreAllowed g st (e ∷ es) =
 
 -- the entries are allowed from the beginning on
 abbrev pub AreFrameEntries : Given → List Entry → Type 0
-AreFrameEntries g entries = AreAllowed g (start_frames g.frames (length g.marks)) entries
+AreFrameEntries g entries = AreAllowed g (start_frames g.sizes g.frames (length g.marks)) entries

@@ -5,6 +5,7 @@ use Rattle.pager_model.specs.Ages.{Lists, list_at}
 use Rattle.pager_model.specs.Layouts.{Layout, list_of}
 use Rattle.pager_model.specs.Agreement.{has_frame}
 use Rattle.pager_model.specs.Records.{Records, is_used, split_records}
+use Rattle.pager_model.specs.SizeSets.{SizeSet}
 use Rattle.population_map.specs.Populations.{Populations}
 use Rattle.reservation_lists.specs.Kept.{KeptLists}
 use Rattle.reservations.specs.Kept.{IsPlaced, ArePlaced}
@@ -12,24 +13,24 @@ use Rattle.frame_pool.specs.Laid.{IsLaid}
 use Rattle.frame_pool.specs.Mapped.{IsMapped}
 
 -- the three lists are those of these reservations
-abbrev pub AreListed : Lists → List Bool → List (Option Reservation) → Type 0
-AreListed lists used records = (k : ℕ) → k < 3 → list_at lists k ≡ list_of used k records
+abbrev pub AreListed : SizeSet → Lists → List Bool → List (Option Reservation) → Type 0
+AreListed z lists used records = (k : ℕ) → k < 3 → list_at lists k ≡ list_of z used k records
 
 -- the layout of so many frames is sound, and the lists and the map are its
 pub record IsInOrder (frames : ℕ) (l : Layout) (kept : KeptLists) (map : Populations) : Type 0 where
   pub known : length l.free ≡ frames
   pub few : frames ≤ 32768
   pub laid : IsLaid l
-  pub listed : AreListed kept.lists l.used l.records
+  pub listed : AreListed l.sizes kept.lists l.used l.records
   pub room : kept.frames ≡ frames
   pub mapped : IsMapped map l.records
 
 -- From records in which the reservation was none any more, and whose lists these are, the reservation was split.
-pub record WasSplit (lists : KeptLists) (after : Records) (whole : Reservation) : Type 0 where
+pub record WasSplit (z : SizeSet) (lists : KeptLists) (after : Records) (whole : Reservation) : Type 0 where
   pub records : List (Option Reservation)
   pub placed : IsPlaced (length records) whole.frame whole
   pub others_placed : ArePlaced records
   pub vacant : (frame id : ℕ) → has_frame frame (Some whole) ≡ true → has_frame frame (slice_index_or records id None) ≡ false
   pub room : lists.frames ≡ length records
   pub split : after.records ≡ split_records (is_used after.used) whole records
-  pub listed : AreListed lists.lists after.used records
+  pub listed : AreListed z lists.lists after.used records

@@ -1,11 +1,12 @@
 -- What finding an extent and placing a page give.
-use Rattle.std.specs.Prelude.{ℕ, ◌≡◌, ◌+◌, ◌^◌, ◌<◌, ◌≤◌, true, false, length, slice_set, option_map, Option, Some, IsSome, IsSomeAnd}
+use Rattle.std.specs.Prelude.{ℕ, ◌≡◌, ◌+◌, ◌^◌, ◌<◌, ◌≤◌, Bool, true, false, nat_lt, if◌then◌else◌, length, slice_set, option_map, Option, Some, None, IsSome, IsSomeAnd}
 use Rattle.pager_model.specs.declared.reservation.Reservation.{Reservation}
 use Rattle.pager_model.specs.Agreement.{has_frame}
 use Rattle.pager_model.specs.Extents.{IsExtent}
 use Rattle.pager_model.specs.FreeBlocks.{with_range}
-use Rattle.pager_model.specs.Layouts.{Layout, Found, Placing, frame_for, record_at}
-use Rattle.pager_model.specs.Records.{is_used, yield_of}
+use Rattle.pager_model.specs.Layouts.{Layout, Found, Placing, frame_for, record_at, extent_of}
+use Rattle.pager_model.specs.SizeSets.{has_size}
+use Rattle.pager_model.specs.Records.{is_used, yield_in}
 use Rattle.reservations.specs.Kept.{CoversPage}
 
 -- the first frame of a reservation
@@ -14,17 +15,17 @@ first_of r = option_map (λ (q : Reservation). q.frame) r
 
 -- a reservation of more than one frame begins at the frame, and isn't full
 abbrev pub CanBreak : Layout → ℕ → Type 0
-CanBreak l id = IsSomeAnd (record_at l id) (λ r. (0 < r.size) × IsSome (yield_of (is_used l.used) r))
+CanBreak l id = IsSomeAnd (record_at l id) (λ r. (0 < r.size) × IsSome (yield_in l.sizes (is_used l.used) r))
 
 -- the layout without the frames of the extent that was found in it
 abbrev pub without_extent : Found → Layout
 without_extent found =
-    record { free = with_range found.layout.free found.first (8 ^ found.size) false; records = found.layout.records; used = found.layout.used }
+    record { sizes = found.layout.sizes; free = with_range found.layout.free found.first (8 ^ found.size) false; records = found.layout.records; used = found.layout.used }
 
 -- the layout with one reservation more, whose used place is the page's
 abbrev pub with_reservation : Reservation → ℕ → Layout → Layout
 with_reservation r page l =
-    record { free = l.free; records = slice_set l.records r.frame (Some r); used = slice_set l.used (frame_for page r) true }
+    record { sizes = l.sizes; free = l.free; records = slice_set l.records r.frame (Some r); used = slice_set l.used (frame_for page r) true }
 
 -- The extent is the one that the definition finds: its frames are free no more, and in no reservation yet.
 pub record FindsExtent (new : Layout) (finds : Option Found) (size first broken : ℕ) : Type 0 where
@@ -55,3 +56,12 @@ pub record PlacesPage (old new : Layout) (places : Option Placing) (frame broken
 pub record IsPageAt (r : Reservation) (frame page : ℕ) : Type 0 where
   pub has : CoversPage r page
   pub joined : frame_for page r ≡ frame
+
+-- it is a reservation of more than this size
+abbrev pub is_larger : ℕ → Option Reservation → Bool
+is_larger size None = false
+is_larger size (Some r) = nat_lt size r.size
+
+-- the extent of a size, where there is the size
+abbrev pub extent_there : ℕ → Layout → Option Found
+extent_there size l = if has_size l.sizes size then extent_of size l else None

@@ -1,23 +1,23 @@
-ghost use Rattle.std.specs.Prelude.{◌≡◌, ℕ, Bool, ◌+◌, ◌%◌, ◌^◌, ◌<◌, ◌≤◌, Some, true, false, length, slice_index_or, count_by, IfOk, IfSome, IfNone, IsSomeAnd};
+ghost use Rattle.std.specs.Prelude.{◌≡◌, ℕ, Bool, ◌+◌, ◌-◌, ◌%◌, ◌^◌, ◌<◌, ◌≤◌, Some, true, false, length, slice_index_or, count_by, IfOk, IfSome, IfNone, IsSome, IsSomeAnd, None};
 ghost use Rattle.std.specs.List.{list_any};
 ghost use Rattle.std.specs.Option.{option_and_then};
 ghost use Rattle.pager_model.specs.Agreement.{has_frame};
-ghost use Rattle.pager_model.specs.Layouts.{start_layout, frame_for, frame_in, split_layout, split_free, broken_at, to_break, record_at};
+ghost use Rattle.pager_model.specs.Layouts.{start_layout, frame_for, frame_in, parted, parted_free, split_layout, broken_at, to_break, record_at};
 ghost use Rattle.pager_model.specs.Layouts.{carve_layout, narrow_layout, take_out, vacate_layout, put_back};
 ghost use Rattle.pager_model.specs.Layouts.{extent_of, largest_extent, populated, placing};
 ghost use Rattle.pager_model.specs.PreferredSize.{IsWanted};
-ghost use Rattle.pager_model.specs.Records.{is_used, goes_on_at};
+ghost use Rattle.pager_model.specs.Records.{is_used, yield_in, part_size, same_size, goes_on_at};
 ghost use Rattle.reservations.specs.Kept.{CoversPage, IsPlaced};
 ghost use Rattle.reservations.specs.Parts.{told_parts};
 ghost use Rattle.frame_pool.specs.Laid.{IsIn, IsLaid};
-ghost use Rattle.frame_pool.specs.Placed.{CanBreak, FindsExtent, PlacesPage, with_reservation};
+ghost use Rattle.frame_pool.specs.Placed.{CanBreak, extent_there, is_larger, FindsExtent, PlacesPage, with_reservation};
 
 use crate::free::{give, take};
 use crate::lists::{enlist, enlist_parts, unlist};
 use crate::mapped;
-use crate::records::{covering, lowest_as_wide, page_at, preferred};
+use crate::records::{covering, lowest_as_wide, page_at, preferred, width_of};
 use buddy_extents::Free;
-use pager_model::{Extent, NoMemory, Reservation, Size, Want};
+use pager_model::{Extent, NoMemory, Reservation, Size, Sizes, Want};
 use population_map::PopulationMap;
 use reservation_lists::Lists;
 use reservations::{Part, Reservations, frame_for};
@@ -36,6 +36,7 @@ const MOST_MAPPED: u32 = 1024;
 #[derive(Debug, Drop)]
 pub(crate) struct Layout {
     frames: u32,
+    sizes: Sizes,
     free: Free,
     reservations: Reservations,
     lists: Lists,
@@ -70,14 +71,20 @@ pub(crate) struct Place {
 }
 
 impl Layout {
-    /// All frames are free, and so many spaces are announced.
-    pub(crate) fn create(alloc: Global, frames: u32, spaces: u32) -> Result<Layout, NoMemory>
+    /// All frames are free, there are these sizes, and so many spaces are announced.
+    pub(crate) fn create(
+        alloc: Global,
+        frames: u32,
+        spaces: u32,
+        sizes: Sizes,
+    ) -> Result<Layout, NoMemory>
         requires whole { frames % 512 ≡ 0 }
         requires most { frames ≤ 32768 }
-        ensures { IfOk result (λ l. l ≡ start_layout frames) }
+        ensures { IfOk result (λ l. l ≡ start_layout sizes frames) }
     {
         Ok(Layout {
             frames,
+            sizes,
             free: Free::create(alloc, frames)?,
             reservations: Reservations::create(alloc, frames)?,
             lists: Lists::create(alloc, frames)?,
@@ -123,7 +130,7 @@ impl Layout {
             let frame = self.populate(&reservation, page, stamp);
             return Some(Place { frame, broken: 0 });
         }
-        let size = preferred(
+        let wide = preferred(
             &self.reservations,
             &self.map,
             self.frames,
@@ -131,6 +138,7 @@ impl Layout {
             page,
             want,
         );
+        let size = self.sizes.within(wide);
         let found = self.largest_extent(size)?;
         let pages = extent_round(found.size, page);
         let reservation = Reservation {
@@ -156,9 +164,9 @@ impl Layout {
         ensures frame { result ≡ frame_for page reservation.now }
     {
         let id = reservation.frame;
-        unlist(&mut self.lists, &self.reservations, id);
+        unlist(&mut self.lists, &self.reservations, self.sizes, id);
         self.reservations.populate(id, page, stamp);
-        enlist(&mut self.lists, &self.reservations, id);
+        enlist(&mut self.lists, &self.reservations, self.sizes, id);
         frame_for(reservation, page)
     }
 
@@ -177,7 +185,7 @@ impl Layout {
         let frame = frame_for(&reservation, page);
         self.reservations.add(reservation, page);
         mapped::insert(&mut self.map, &reservation);
-        enlist(&mut self.lists, &self.reservations, id);
+        enlist(&mut self.lists, &self.reservations, self.sizes, id);
         frame
     }
 
@@ -188,12 +196,24 @@ impl Layout {
         ensures none { IfNone result ((largest_extent size self.old ≡ None) × (self.new ≡ self.old)) }
     {
         for level in (0..size.level() + 1).rev() {
-            let found = self.extent_of(Size::of(level).unwrap());
+            let size = Size::of(level).unwrap();
+            let found = self.extent_there(size);
             if found.is_some() {
                 return found;
             }
         }
         None
+    }
+
+    /// The same for a size that there may not be: of such a size there is no extent.
+    fn extent_there(&mut self, size: Size) -> Option<Found>
+        ensures found { IfSome result (λ f. FindsExtent self.new (extent_there size self.old) f.size f.first f.broken) }
+        ensures none { IfNone result ((extent_there size self.old ≡ None) × (self.new ≡ self.old)) }
+    {
+        if !self.sizes.has(size) {
+            return None;
+        }
+        self.extent_of(size)
     }
 
     /// Takes an extent of this size out of the free frames. Where none is free, the oldest reservation of the first list that can
@@ -249,33 +269,90 @@ impl Layout {
         requires { CanBreak self.old id }
         ensures split { IfSome (record_at self.old id) (λ r. self.new ≡ split_layout r self.old) }
         ensures next { IfSome (record_at self.old id)
-            (λ r. option_and_then (record_at self.new) result ≡ goes_on_at (is_used self.old.used) r) }
+            (λ r. option_and_then (record_at self.new) result ≡ goes_on_at self.old.sizes (is_used self.old.used) r) }
         ensures breaks { IfSome result (CanBreak self.new) }
     {
         let whole = self.reservations.get(id).unwrap();
-        let width = self.reservations.yields(id);
-        let parts = self.split(id);
-        if any_empty(&parts) {
+        let width = self.width(id);
+        let size = self.part_size(&whole);
+        self.split_down(id);
+        if size.level() == 0 {
             return None;
         }
-        lowest_as_wide(&self.reservations, &whole, width)
+        if is_size(&width, size) {
+            return None;
+        }
+        let sizes = self.sizes;
+        lowest_as_wide(&self.reservations, sizes, &whole, size, width)
+    }
+
+    /// The yield of the reservation that begins at the frame `id`.
+    fn width(&self, id: u32) -> Option<Size>
+        requires { IsSome (record_at self.now id) }
+        ensures { IfSome (record_at self.now id) (λ r. result ≡ yield_in self.now.sizes (is_used self.now.used) r) }
+    {
+        width_of(&self.reservations, self.sizes, id)
+    }
+
+    /// The size of the parts into which a reservation is split.
+    fn part_size(&self, whole: &Reservation) -> Size
+        requires { 0 < whole.now.size }
+        ensures { result ≡ part_size self.now.sizes whole.now }
+    {
+        self.sizes.within(Size::of(whole.size.level() - 1).unwrap())
+    }
+
+    /// Splits the reservation that begins at the frame `id` into its extents of the next smaller size: those with a used place are
+    /// reservations, and the frames of the others are free.
+    fn split_down(&mut self, id: u32)
+        requires { IsSomeAnd (record_at self.old id) (λ r. 0 < r.size) }
+        ensures { IfSome (record_at self.old id) (λ r. self.new ≡ split_layout r self.old) }
+    {
+        let whole = self.reservations.get(id).unwrap();
+        let size = self.part_size(&whole);
+        self.split_to(id, size);
+    }
+
+    /// Splits the reservation that begins at the frame `id` into its extents of a smaller size, by eight parts at a time.
+    fn split_to(&mut self, id: u32, size: Size)
+        requires { IsSomeAnd (record_at self.old id) (λ r. size < r.size) }
+        ensures { IfSome (record_at self.old id) (λ r. self.new ≡ parted size r self.old) }
+    {
+        let whole = self.reservations.get(id).unwrap();
+        let end = id + whole.size.pages();
+        let mut next = id;
+        while next < end {
+            if self.is_larger(next, size) {
+                self.split(next);
+            } else {
+                next += size.pages();
+            }
+        }
+    }
+
+    /// Whether a reservation of more than this size begins at the frame.
+    fn is_larger(&self, frame: u32, size: Size) -> bool
+        ensures { result ≡ is_larger size (record_at self.now frame) }
+    {
+        match self.reservations.get(frame) {
+            Some(reservation) => reservation.size.level() > size.level(),
+            None => false,
+        }
     }
 
     /// Splits the reservation that begins at the frame `id` into its eight parts: those with a used place are reservations, and
     /// the frames of the others are free.
-    fn split(&mut self, id: u32) -> [Part; 8]
+    fn split(&mut self, id: u32)
         requires { IsSomeAnd (record_at self.old id) (λ r. 0 < r.size) }
-        ensures split { IfSome (record_at self.old id) (λ r. self.new ≡ split_layout r self.old) }
-        ensures parts { IfSome (record_at self.old id) (λ r. result ≡ told_parts (is_used self.old.used) r) }
+        ensures { IfSome (record_at self.old id) (λ r. self.new ≡ parted (r.size - 1) r self.old) }
     {
         let whole = self.reservations.get(id).unwrap();
-        unlist(&mut self.lists, &self.reservations, id);
+        unlist(&mut self.lists, &self.reservations, self.sizes, id);
         mapped::remove(&mut self.map, &self.reservations, id);
         let parts = self.reservations.split(id);
         give_parts(&mut self.free, &whole, &parts);
-        enlist_parts(&mut self.lists, &self.reservations, &whole);
+        enlist_parts(&mut self.lists, &self.reservations, self.sizes, &whole);
         mapped::insert_parts(&mut self.map, &self.reservations, &whole);
-        parts
     }
 
     /// The used frame is a used place no more, and where its reservation has no other used place, all its frames are free.
@@ -285,7 +362,7 @@ impl Layout {
     {
         let reservation = self.reservation_of(frame).unwrap();
         let id = reservation.frame;
-        unlist(&mut self.lists, &self.reservations, id);
+        unlist(&mut self.lists, &self.reservations, self.sizes, id);
         if self.reservations.vacate(id, page_at(&reservation, frame)) {
             mapped::remove(&mut self.map, &self.reservations, id);
             self.reservations.dissolve(id);
@@ -298,7 +375,7 @@ impl Layout {
             );
             return;
         }
-        enlist(&mut self.lists, &self.reservations, id);
+        enlist(&mut self.lists, &self.reservations, self.sizes, id);
     }
 
     /// The used frame is carved out: it is neither free nor a place then, and the rest of its reservation is free or reserved.
@@ -320,7 +397,7 @@ impl Layout {
     {
         let mut part = self.reservation_of(frame).unwrap();
         while part.size.level() > 0 {
-            self.split(part.frame);
+            self.split_down(part.frame);
             part = self.reservation_of(frame).unwrap();
         }
         part.first
@@ -342,11 +419,11 @@ impl Layout {
     }
 }
 
-/// Whether some part has no used place.
-fn any_empty(parts: &[Part]) -> bool
-    ensures { result ≡ list_any (λ part. part.empty) parts.now }
+/// Whether the width is this size.
+fn is_size(width: &Option<Size>, size: Size) -> bool
+    ensures { result ≡ same_size width.now (Some size) }
 {
-    parts.iter().any(|part| part.empty)
+    *width == Some(size)
 }
 
 /// Frees the frames of those parts of a reservation that have no used place.
@@ -355,7 +432,7 @@ fn give_parts(free: &mut Free, whole: &Reservation, parts: &[Part])
     requires splits { 0 < whole.now.size }
     requires taken { (frame : ℕ) → has_frame frame (Some whole.now) ≡ true → slice_index_or free.old frame false ≡ false }
     requires parts { (used : ℕ → Bool) × (parts.now ≡ told_parts used whole.now) }
-    ensures { (used : ℕ → Bool) → parts.now ≡ told_parts used whole.now → free.new ≡ split_free used whole.now free.old }
+    ensures { (used : ℕ → Bool) → parts.now ≡ told_parts used whole.now → free.new ≡ parted_free (whole.now.size - 1) used whole.now free.old }
 {
     for part in parts {
         if part.empty {

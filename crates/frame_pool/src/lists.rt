@@ -4,19 +4,20 @@ ghost use Rattle.reservation_lists.specs.Kept.{is_listed};
 ghost use Rattle.reservations.specs.Kept.{reservation_at, ArePlaced};
 ghost use Rattle.frame_pool.specs.Listed.{AreListed, WasSplit};
 
-use pager_model::Reservation;
+use crate::records::width_of;
+use pager_model::{Reservation, Sizes};
 use reservation_lists::Lists;
 use reservations::Reservations;
 
 /// Takes the reservation that begins at the frame `id` out of its list, where it stands in one.
-pub(crate) fn unlist(lists: &mut Lists, reservations: &Reservations, id: u32)
+pub(crate) fn unlist(lists: &mut Lists, reservations: &Reservations, sizes: Sizes, id: u32)
     requires there { IsSome (reservation_at reservations.now id) }
     requires placed { ArePlaced reservations.now.records }
-    requires listed { AreListed lists.old.lists reservations.now.used reservations.now.records }
-    ensures listed { AreListed lists.new.lists reservations.now.used (slice_set reservations.now.records id None) }
+    requires listed { AreListed sizes lists.old.lists reservations.now.used reservations.now.records }
+    ensures listed { AreListed sizes lists.new.lists reservations.now.used (slice_set reservations.now.records id None) }
     ensures room { lists.new.frames ≡ lists.old.frames }
 {
-    if let Some(size) = reservations.yields(id) {
+    if let Some(size) = width_of(reservations, sizes, id) {
         if size.level() < 3 {
             let reservation = reservations.get(id).unwrap();
             lists.remove(size, reservation.stamp, id);
@@ -25,16 +26,16 @@ pub(crate) fn unlist(lists: &mut Lists, reservations: &Reservations, id: u32)
 }
 
 /// Puts the reservation that begins at the frame `id` into its list, where it isn't full.
-pub(crate) fn enlist(lists: &mut Lists, reservations: &Reservations, id: u32)
+pub(crate) fn enlist(lists: &mut Lists, reservations: &Reservations, sizes: Sizes, id: u32)
     requires there { IsSomeAnd (reservation_at reservations.now id) (λ r. r.frame ≡ id) }
     requires known { id < lists.old.frames }
     requires unlisted { is_listed id lists.old.lists ≡ false }
     ensures listed { (records : List (Option Reservation)) → slice_index_or records id None ≡ None → id < length records
-        → AreListed lists.old.lists reservations.now.used records
-        → AreListed lists.new.lists reservations.now.used (slice_set records id (reservation_at reservations.now id)) }
+        → AreListed sizes lists.old.lists reservations.now.used records
+        → AreListed sizes lists.new.lists reservations.now.used (slice_set records id (reservation_at reservations.now id)) }
     ensures room { lists.new.frames ≡ lists.old.frames }
 {
-    if let Some(size) = reservations.yields(id) {
+    if let Some(size) = width_of(reservations, sizes, id) {
         if size.level() < 3 {
             let reservation = reservations.get(id).unwrap();
             lists.insert(size, reservation.stamp, id);
@@ -44,17 +45,22 @@ pub(crate) fn enlist(lists: &mut Lists, reservations: &Reservations, id: u32)
 
 /// Puts the parts of a reservation that was split, and was in these records no more, into their lists, where they are reservations
 /// and not full.
-pub(crate) fn enlist_parts(lists: &mut Lists, reservations: &Reservations, whole: &Reservation)
+pub(crate) fn enlist_parts(
+    lists: &mut Lists,
+    reservations: &Reservations,
+    sizes: Sizes,
+    whole: &Reservation,
+)
     requires splits { 0 < whole.now.size }
-    requires split { WasSplit lists.old reservations.now whole.now }
-    ensures listed { AreListed lists.new.lists reservations.now.used reservations.now.records }
+    requires split { WasSplit sizes lists.old reservations.now whole.now }
+    ensures listed { AreListed sizes lists.new.lists reservations.now.used reservations.now.records }
     ensures room { lists.new.frames ≡ lists.old.frames }
 {
     let pages = whole.size.pages() / 8;
     for i in 0..8 {
         let first = whole.frame + i * pages;
         if reservations.get(first).is_some() {
-            enlist(lists, reservations, first);
+            enlist(lists, reservations, sizes, first);
         }
     }
 }

@@ -8,7 +8,7 @@ ghost use Rattle.pager_model.specs.PreferredSize.{IsWanted};
 
 use crate::layout::Layout;
 use crate::records::page_at;
-use pager_model::{Frame, NoMemory, Want, frames_of};
+use pager_model::{Frame, NoMemory, Sizes, Want, frames_of};
 use std::alloc::Global;
 use std::marker::Model;
 use used_frames::UsedFrames;
@@ -88,15 +88,16 @@ impl Pool {
         frames: u32,
         spaces: u32,
         processors: u32,
+        sizes: Sizes,
     ) -> Result<Pool, NoMemory>
         requires whole { frames % 512 ≡ 0 }
         requires frames { frames ≤ 32768 }
         requires processors { processors ≤ 17 }
-        ensures { IfOk result (λ pool. pool ≡ start_frames frames processors) }
+        ensures { IfOk result (λ pool. pool ≡ start_frames sizes frames processors) }
     {
         Ok(Pool {
             frames: every_frame(alloc, frames)?,
-            layout: Layout::create(alloc, frames, spaces)?,
+            layout: Layout::create(alloc, frames, spaces, sizes)?,
             used: UsedFrames::create(alloc, frames, processors)?,
             held: vec![in alloc; None; processors as usize]?,
             entries: 0,

@@ -1,15 +1,15 @@
-ghost use Rattle.std.specs.Prelude.{◌≡◌, ℕ, ◌<◌, ◌≤◌, Some, true, length, option_map};
+ghost use Rattle.std.specs.Prelude.{◌≡◌, ℕ, ◌<◌, ◌≤◌, Some, true, length, option_map, IsSome, IfSome};
 ghost use Rattle.pager_model.specs.Layouts.{covers, covering, frame_for, meets, meets_any};
 ghost use Rattle.pager_model.specs.PreferredSize.{IsWanted, preferred_size};
 ghost use Rattle.pager_model.specs.Agreement.{has_frame};
 ghost use Rattle.pager_model.specs.Extents.{IsExtent};
-ghost use Rattle.pager_model.specs.Records.{is_used, part_of, yield_of, lowest_as_wide};
+ghost use Rattle.pager_model.specs.Records.{is_used, part_at, part_count, yield_in, lowest_as_wide};
 ghost use Rattle.reservations.specs.Kept.{ArePlaced, CoversPage, IsPlaced, reservation_at};
 ghost use Rattle.frame_pool.specs.Mapped.{IsMapped, OneCovers};
 ghost use Rattle.frame_pool.specs.Placed.{IsPageAt, first_of};
 
 use crate::mapped;
-use pager_model::{Extent, Reservation, Size, Want};
+use pager_model::{Extent, Reservation, Size, Sizes, Want};
 use population_map::PopulationMap;
 use reservations::Reservations;
 
@@ -135,22 +135,33 @@ pub(crate) fn preferred(
     size_policy::preferred(page, want, meets)
 }
 
-/// The first frame of the lowest of the eight parts of a reservation that has this yield, where each is a reservation.
+/// The yield, by these sizes, of the reservation that begins at the frame `id`.
+pub(crate) fn width_of(reservations: &Reservations, sizes: Sizes, id: u32) -> Option<Size>
+    requires { IsSome (reservation_at reservations.now id) }
+    ensures { IfSome (reservation_at reservations.now id) (λ r. result ≡ yield_in sizes (is_used reservations.now.used) r) }
+{
+    let widest = reservations.yields(id)?;
+    Some(sizes.within(widest))
+}
+
+/// The first frame of the lowest of the parts of a size of a reservation that has this yield, where each is a reservation.
 pub(crate) fn lowest_as_wide(
     reservations: &Reservations,
+    sizes: Sizes,
     whole: &Reservation,
+    size: Size,
     width: Option<Size>,
 ) -> Option<u32>
-    requires splits { 0 < whole.now.size }
+    requires splits { size < whole.now.size }
     requires placed { IsPlaced (length reservations.now.records) whole.now.frame whole.now }
-    requires parts { (i : ℕ) → i < 8 → reservation_at reservations.now (part_of whole.now i).frame ≡ Some (part_of whole.now i) }
-    requires width { width ≡ yield_of (is_used reservations.now.used) whole.now }
-    ensures { result ≡ first_of (option_map (part_of whole.now) (lowest_as_wide (is_used reservations.now.used) whole.now)) }
+    requires parts { (i : ℕ) → i < part_count size whole.now → reservation_at reservations.now (part_at size whole.now i).frame ≡ Some (part_at size whole.now i) }
+    requires width { width ≡ yield_in sizes (is_used reservations.now.used) whole.now }
+    ensures { result ≡ first_of (option_map (part_at size whole.now) (lowest_as_wide sizes size (is_used reservations.now.used) whole.now)) }
 {
-    let pages = whole.size.pages() / 8;
-    for i in 0..8 {
+    let pages = size.pages();
+    for i in 0..whole.size.pages() / pages {
         let first = whole.frame + i * pages;
-        if reservations.yields(first) == width {
+        if width_of(reservations, sizes, first) == width {
             return Some(first);
         }
     }

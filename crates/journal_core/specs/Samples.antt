@@ -1,5 +1,6 @@
 -- Entries of a small history, for the tests.
 use Rattle.std.specs.Prelude.{ℕ, ◌≡◌, true, false, length, Some, None, [], ◌∷◌}
+use Rattle.pager_model.specs.SizeSets.{all_sizes}
 use Rattle.pager_model.specs.Settings.{Given}
 use Rattle.pager_model.specs.declared.call.Call.TheVariants.{Load, Map}
 use Rattle.pager_model.specs.declared.entry.Entry.{Entry}
@@ -25,11 +26,11 @@ unmapped processor number =
 
 -- two processors that make calls, two spaces whose stores aren't told, and 512 frames
 abbrev pub sample : Given
-sample = record { frames = 512; marks = 0 ∷ 0 ∷ []; told = false ∷ false ∷ []; faults = 0 ∷ 0 ∷ [] }
+sample = record { sizes = all_sizes; frames = 512; marks = 0 ∷ 0 ∷ []; told = false ∷ false ∷ []; faults = 0 ∷ 0 ∷ [] }
 
 -- one processor, one space whose store isn't told, and one frame
 abbrev pub small : Given
-small = record { frames = 1; marks = 0 ∷ []; told = false ∷ []; faults = 0 ∷ [] }
+small = record { sizes = all_sizes; frames = 1; marks = 0 ∷ []; told = false ∷ []; faults = 0 ∷ [] }
 
 -- the answer to the mapping of a space's first page
 abbrev pub mapped : Entry
@@ -53,7 +54,7 @@ taking =
 
 -- a processor that makes calls and a daemon of mark 2, one space whose store isn't told, and eight frames
 abbrev pub watched : Given
-watched = record { frames = 8; marks = 0 ∷ 2 ∷ []; told = false ∷ []; faults = 0 ∷ [] }
+watched = record { sizes = all_sizes; frames = 8; marks = 0 ∷ 2 ∷ []; told = false ∷ []; faults = 0 ∷ [] }
 
 -- the daemon finds enough frames free, and rests
 abbrev pub rest : Entry

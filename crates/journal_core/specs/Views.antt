@@ -9,6 +9,7 @@ use Rattle.pager_model.specs.declared.entry.Entry.{Entry}
 use Rattle.pager_model.specs.declared.entry.What.TheVariants.{DropHeld}
 use Rattle.pager_model.specs.Entries.{entries_of}
 use Rattle.pager_model.specs.Legal.{IsLegal, MayFollow}
+use Rattle.pager_model.specs.SizeSets.{all_sizes}
 use Rattle.pager_model.specs.Settings.{Given}
 use Rattle.journal_core.specs.declared.view.View.{View}
 use Rattle.journal_core.specs.declared.view.Part.{Part}
@@ -93,7 +94,7 @@ abbrev pub joined : View → View → View
 joined v w = record { live = v.live; setting = v.setting; authors = v.authors ++ w.authors; passes = v.passes ++ w.passes }
 
 abbrev pub spent : View
-spent = record { live = false; setting = record { frames = 0; marks = []; told = []; faults = [] }; authors = []; passes = [] }
+spent = record { live = false; setting = record { sizes = all_sizes; frames = 0; marks = []; told = []; faults = [] }; authors = []; passes = [] }
 
 -- the lists grown by an entry at this place of the history
 abbrev pub part_grown : Entry → Part → Part

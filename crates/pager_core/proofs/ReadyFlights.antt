@@ -33,7 +33,7 @@ fold-entries (e ∷ es) st = fold-entries es (frames_after st e) ∙ (let one = 
 
 entries-few : (g : Given) (h : List Entry) → (frames_at g h).entries ≤ length h
 entries-few g h =
-    let all : (frames_at g h).entries ≡ 0 + length (frames_part h) = fold-entries (frames_part h) (start_frames g.frames (length g.marks)) in
+    let all : (frames_at g h).entries ≡ 0 + length (frames_part h) = fold-entries (frames_part h) (start_frames g.sizes g.frames (length g.marks)) in
     let both = length-filter_both names_frames (λ e. not (names_frames e)) (λ e. refl) h in
     omega (arith, all, both)
 

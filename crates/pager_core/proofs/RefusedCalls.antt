@@ -49,11 +49,11 @@ module _ (f : Flight) (phase : Phase) (reply : Reply) (kept : Kept) (st : SpaceS
       (record {
         reply = allowed;
         parts = frees-unlawful st f.call reply unlawful;
-        hit = ap (λ (o : Option ℕ). is_in_image (st.images f.processor) (tile_at (pages_of st) o)) (sym (served-unlawful f.call reply unlawful));
-        size = ap (λ (o : Option ℕ). option_map (λ (t : Tile). t.extent.size) (tile_at (pages_after st false (Answer f.number f.call (refusal reply))) o)) (sym (served-unlawful f.call reply unlawful));
+        hit = ap (λ (o : Option ℕ). is_in_image (st.images f.processor) (tile_at st.sizes (pages_of st) o)) (sym (served-unlawful f.call reply unlawful));
+        size = ap (λ (o : Option ℕ). option_map (λ (t : Tile). t.extent.size) (tile_at st.sizes (pages_after st false (Answer f.number f.call (refusal reply))) o)) (sym (served-unlawful f.call reply unlawful));
       })
       (unchanged_stands kept st (answer_entry f.processor f.number f.call (refusal reply)) ready.stands same (base-unnamed st.base f.call) (λ p i. said-unlawful p i f.call reply (st.tied p i) unlawful) refl
-      (ap (tile_at (pages_after st false (Answer f.number f.call (refusal reply)))) (served-unlawful f.call reply unlawful)))
+      (ap (tile_at st.sizes (pages_after st false (Answer f.number f.call (refusal reply)))) (served-unlawful f.call reply unlawful)))
       made may some
 
 -- No frame could be had.

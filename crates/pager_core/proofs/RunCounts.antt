@@ -15,8 +15,9 @@ use Rattle.pager_model.specs.Entries.{names_space, space_part}
 use Rattle.pager_model.specs.FrameStates.{FrameState, free_count, reserved_count, used_count}
 use Rattle.pager_model.specs.Legal.{space_at, frames_at, entries_in}
 use Rattle.pager_model.specs.Settings.{is_told, faults_at_entry}
+use Rattle.pager_model.specs.SizeSets.{SizeSet}
 use Rattle.pager_model.specs.SpaceStates.{SpaceState, empty_state, space_after, pages_of, pages_after}
-use Rattle.pager_model.specs.Tiles.{tiles_of_size, begins_tile, is_promoted, promotions_between, demotions_between}
+use Rattle.pager_model.specs.Tiles.{tiles_of_size, tiles_of_size_in, begins_tile, count_pages, is_promoted_in}
 use Rattle.space_core.specs.Standing.{Kept}
 use Rattle.space_core.specs.Tables.{mapping_in}
 use Rattle.tiles.proofs.Counting.{count_pages_most}
@@ -81,16 +82,16 @@ promotions_few : (es : List Entry) (st : SpaceState) → (fold space_after st es
 promotions_few [] st = omega arith
 promotions_few (e ∷ es) st =
     let rest = promotions_few es (space_after st e) in
-    let one : promotions_between (pages_of st) (pages_after st e.frames e.what) ≤ 1048576 = count_pages_most (is_promoted (pages_of st) (pages_after st e.frames e.what)) in
-    let total : (space_after st e).promotions ≡ st.promotions + promotions_between (pages_of st) (pages_after st e.frames e.what) = refl in
+    let one : count_pages (is_promoted_in st.sizes (pages_of st) (pages_after st e.frames e.what)) ≤ 1048576 = count_pages_most (is_promoted_in st.sizes (pages_of st) (pages_after st e.frames e.what)) in
+    let total : (space_after st e).promotions ≡ st.promotions + count_pages (is_promoted_in st.sizes (pages_of st) (pages_after st e.frames e.what)) = refl in
     omega (arith, rest, one, total)
 
 demotions_few : (es : List Entry) (st : SpaceState) → (fold space_after st es).demotions ≤ st.demotions + 1048576 * length es
 demotions_few [] st = omega arith
 demotions_few (e ∷ es) st =
     let rest = demotions_few es (space_after st e) in
-    let one : demotions_between (pages_of st) (pages_after st e.frames e.what) ≤ 1048576 = count_pages_most (is_promoted (pages_after st e.frames e.what) (pages_of st)) in
-    let total : (space_after st e).demotions ≡ st.demotions + demotions_between (pages_of st) (pages_after st e.frames e.what) = refl in
+    let one : count_pages (is_promoted_in st.sizes (pages_after st e.frames e.what) (pages_of st)) ≤ 1048576 = count_pages_most (is_promoted_in st.sizes (pages_after st e.frames e.what) (pages_of st)) in
+    let total : (space_after st e).demotions ≡ st.demotions + count_pages (is_promoted_in st.sizes (pages_after st e.frames e.what) (pages_of st)) = refl in
     omega (arith, rest, one, total)
 
 -- a space's entries are some of the history's
@@ -106,14 +107,14 @@ module _ (run : Running) (spaces : List Kept) (pool : FrameState) (capacity : �
 
   promotions_at : (s : ℕ) → (space_at run.given h s).promotions ≤ 2199023255552
   promotions_at s =
-      let few = promotions_few (space_part s h) (empty_state (is_told run.given s) (faults_at_entry run.given s)) in
+      let few = promotions_few (space_part s h) (empty_state run.given.sizes (is_told run.given s) (faults_at_entry run.given s)) in
       let part = part_few s h in
       let all = history_few in
       omega (arith, few, part, all)
 
   demotions_at : (s : ℕ) → (space_at run.given h s).demotions ≤ 2199023255552
   demotions_at s =
-      let few = demotions_few (space_part s h) (empty_state (is_told run.given s) (faults_at_entry run.given s)) in
+      let few = demotions_few (space_part s h) (empty_state run.given.sizes (is_told run.given s) (faults_at_entry run.given s)) in
       let part = part_few s h in
       let all = history_few in
       omega (arith, few, part, all)
@@ -131,8 +132,9 @@ module _ (run : Running) (spaces : List Kept) (pool : FrameState) (capacity : �
 
     pub tiles_summed : (size : ℕ) → tiles_in spaces size ≡ tiles_after run.given h size
     tiles_summed size =
-        summed (λ (k : Kept). tiles_of_size (mapping_in k.table) size) (λ st. tiles_of_size (pages_of st) size)
-        (λ s kept at. ap (λ (ps : ℕ → Option Mapping). tiles_of_size ps size) (let same : mapping_in kept.table ≡ pages_of (space_at run.given h s) = λ i p. sym ((rests s kept at).stands.pages p) i in same))
+        summed (λ (k : Kept). tiles_of_size (mapping_in k.table) size) (λ st. tiles_of_size_in st.sizes (pages_of st) size)
+        (λ s kept at. ap (λ (ps : ℕ → Option Mapping). tiles_of_size ps size) (let same : mapping_in kept.table ≡ pages_of (space_at run.given h s) = λ i p. sym ((rests s kept at).stands.pages p) i in same)
+        ∙ ap (λ (z : SizeSet). tiles_of_size_in z (pages_of (space_at run.given h s)) size) (sym (rests s kept at).stands.translates.sizes))
 
     pub promotions_summed : promotions_in spaces ≡ over_spaces run.given h (λ st. st.promotions)
     promotions_summed =

@@ -21,6 +21,7 @@ use Rattle.pager_model.specs.TraceText.{HasText, IsCall}
 use Rattle.pager_model.proofs.Lists.{get_or_within}
 use Rattle.frame_pool.proofs.LegalHistories.{Agrees-legal}
 use Rattle.space_core.specs.Standing.{Kept}
+use Rattle.pager_model.specs.SizeSets.{all_sizes}
 use Rattle.store_core.specs.Stored.{Stored}
 use Rattle.pager_core.specs.declared.flight.Flight.{Flight}
 use Rattle.pager_core.specs.declared.flight.Phase.TheVariants.{Start}
@@ -230,7 +231,7 @@ module _ (plan : Plan) (trace : HasText plan) (stores : List Stored) (enough : p
         one_keeper = λ s c d f g flies flies' keeps keeps'. absurd (keeps_none c f s flies keeps);
       }
 
-  IsMachine-start : (capacity : ℕ) → 8 * length plan.calls ≤ capacity → IsMachine start spaces (start_frames plan.frames plan.processors) capacity
+  IsMachine-start : (capacity : ℕ) → 8 * length plan.calls ≤ capacity → IsMachine start spaces (start_frames all_sizes plan.frames plan.processors) capacity
   IsMachine-start capacity enough =
       record {
         lawful = lawful;
@@ -238,7 +239,7 @@ module _ (plan : Plan) (trace : HasText plan) (stores : List Stored) (enough : p
         told = as_many (λ (s : Stored). s.told);
         faults = as_many (λ (s : Stored). s.faults);
         known = known;
-        frames = ap (start_frames plan.frames) (sym (ap length marks ∙ length-replicate (length calls) 0 ∙ processors));
+        frames = ap (start_frames all_sizes plan.frames) (sym (ap length marks ∙ length-replicate (length calls) 0 ∙ processors));
         few_calls = λ c. (let own = length-at c in let lines = length-calls c plan.calls in omega (arith, own, lines, trace.few));
         few_spaces = (let few = trace.spaces_in.1 in omega (arith, few, count));
         calls = can_fly;
@@ -250,7 +251,7 @@ module _ (plan : Plan) (trace : HasText plan) (stores : List Stored) (enough : p
       }
 
 -- whatever its parts are called
-pub IsMachine-started : (plan : Plan) → HasText plan → (stores : List Stored) → plan.spaces ≤ length stores → (run : Running) (spaces : List Kept) (pool : FrameState) (capacity : ℕ) → run.given ≡ setting_over plan stores → run.calls ≡ map (λ c. calls_of c plan.calls) (range_with_len 0 plan.processors) → run.flights ≡ first_flights run.calls → run.history ≡ [] → length spaces ≡ plan.spaces → ((s : ℕ) (kept : Kept) → slice_get spaces s ≡ Some kept → IsNew plan.frames plan.processors s (is_told run.given s) (faults_at_entry run.given s) kept) → pool ≡ start_frames plan.frames plan.processors → 8 * length plan.calls ≤ capacity → IsMachine run spaces pool capacity
+pub IsMachine-started : (plan : Plan) → HasText plan → (stores : List Stored) → plan.spaces ≤ length stores → (run : Running) (spaces : List Kept) (pool : FrameState) (capacity : ℕ) → run.given ≡ setting_over plan stores → run.calls ≡ map (λ c. calls_of c plan.calls) (range_with_len 0 plan.processors) → run.flights ≡ first_flights run.calls → run.history ≡ [] → length spaces ≡ plan.spaces → ((s : ℕ) (kept : Kept) → slice_get spaces s ≡ Some kept → IsNew plan.frames plan.processors s (is_told run.given s) (faults_at_entry run.given s) kept) → pool ≡ start_frames all_sizes plan.frames plan.processors → 8 * length plan.calls ≤ capacity → IsMachine run spaces pool capacity
 IsMachine-started plan trace stores enough run spaces pool capacity given calls same_flights none count new same_pool room =
     let new' = subst (λ (g : Given). (s : ℕ) (kept : Kept) → slice_get spaces s ≡ Some kept → IsNew plan.frames plan.processors s (is_told g s) (faults_at_entry g s) kept) given new in
     let same : run ≡ start plan trace stores enough run.unused run.calls calls spaces count new' =

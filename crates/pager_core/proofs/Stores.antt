@@ -12,6 +12,7 @@ use Rattle.pager_model.specs.Legal.{space_at, entries_in}
 use Rattle.pager_model.specs.Plans.{Plan}
 use Rattle.pager_model.specs.Settings.{Given, is_told, faults_at_entry}
 use Rattle.pager_model.specs.Showing.{daemon_marks}
+use Rattle.pager_model.specs.SizeSets.{all_sizes}
 use Rattle.pager_model.specs.SpaceStates.{SpaceState, empty_state, space_after}
 use Rattle.pager_model.specs.TraceText.{HasText}
 use Rattle.space_core.specs.Standing.{Kept, is_in, is_page}
@@ -98,9 +99,9 @@ left_over spaces others all n are count =
 pub marks-start : (plan : Plan) → HasText plan → replicate plan.processors 0 ≡ replicate plan.processors 0 ++ daemon_marks plan.daemon
 marks-start plan trace = sym (append-nil (replicate plan.processors 0)) ∙ ap (λ d. replicate plan.processors 0 ++ daemon_marks d) (sym trace.no_daemon)
 
-pub setting_read : (plan : Plan) (stores : List Stored) → HasText plan → (g : Given) (frames : ℕ) (marks faults : List ℕ) (told : List Bool) → g ≡ record { frames = frames; marks = marks; told = told; faults = faults } → frames ≡ plan.frames → marks ≡ replicate plan.processors 0 → told ≡ map (λ (s : Stored). s.told) (take plan.spaces stores) → faults ≡ map (λ (s : Stored). s.faults) (take plan.spaces stores) → g ≡ setting_over plan stores
+pub setting_read : (plan : Plan) (stores : List Stored) → HasText plan → (g : Given) (frames : ℕ) (marks faults : List ℕ) (told : List Bool) → g ≡ record { sizes = all_sizes; frames = frames; marks = marks; told = told; faults = faults } → frames ≡ plan.frames → marks ≡ replicate plan.processors 0 → told ≡ map (λ (s : Stored). s.told) (take plan.spaces stores) → faults ≡ map (λ (s : Stored). s.faults) (take plan.spaces stores) → g ≡ setting_over plan stores
 setting_read plan stores trace g frames marks faults told is same_frames same_marks same_told same_faults =
-    is ∙ (λ i. record { frames = same_frames i; marks = (same_marks ∙ marks-start plan trace) i; told = same_told i; faults = same_faults i })
+    is ∙ (λ i. record { sizes = all_sizes; frames = same_frames i; marks = (same_marks ∙ marks-start plan trace) i; told = same_told i; faults = same_faults i })
 
 pub read_more : {X Y : Type 0} (f : X → Y) (xs xs' : List X) (x : X) (ys ys' : List Y) (y : Y) → xs' ≡ xs ++ x ∷ [] → ys' ≡ ys ++ y ∷ [] → ys ≡ map f xs → y ≡ f x → ys' ≡ map f xs'
 read_more f xs xs' x ys ys' y more read are is =
@@ -157,7 +158,7 @@ told_from st [] = refl
 told_from st (e ∷ entries) = told_from (space_after st e) entries
 
 told_still : (g : Given) (h : List Entry) (s : ℕ) → (space_at g h s).told ≡ is_told g s
-told_still g h s = told_from (empty_state (is_told g s) (faults_at_entry g s)) (space_part s h)
+told_still g h s = told_from (empty_state g.sizes (is_told g s) (faults_at_entry g s)) (space_part s h)
 
 module _ (run : Running) (spaces : List Kept) (pool : FrameState) (capacity : ℕ) (machine : IsMachine run spaces pool capacity) (ended : HasEnded run) (others all : List Stored) (are : all ≡ map (λ (k : Kept). k.store) spaces ++ others) where
   EndsWith-kept : (s : ℕ) (kept : Kept) → slice_get spaces s ≡ Some kept → EndsWith run.given run.history s kept.store

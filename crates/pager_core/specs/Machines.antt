@@ -5,6 +5,7 @@ use Rattle.pager_model.specs.declared.call.Call.{Call}
 use Rattle.pager_model.specs.FrameStates.{FrameState}
 use Rattle.pager_model.specs.Flat.{space_of_call}
 use Rattle.pager_model.specs.Legal.{space_at, frames_at, entries_in}
+use Rattle.pager_model.specs.SizeSets.{all_sizes}
 use Rattle.pager_model.specs.SpaceStates.{empty_state}
 use Rattle.space_core.specs.Standing.{Kept, IsResting, StandsFor, CanBegin}
 use Rattle.pager_core.specs.declared.flight.Flight.{Flight}
@@ -27,7 +28,7 @@ pub record IsNew (frames processors number : ℕ) (told : Bool) (faults : ℕ) (
   pub frames_are : kept.frames ≡ frames
   pub processors_are : length kept.images ≡ processors
   pub resting : IsResting kept
-  pub stands : StandsFor kept (empty_state told faults)
+  pub stands : StandsFor kept (empty_state all_sizes told faults)
 
 -- a processor's flight: it is of this processor's call of its number, and isn't ended; and where it keeps a space it is ready there
 pub record IsFlying (run : Running) (spaces : List Kept) (c : ℕ) (f : Flight) : Type 0 where

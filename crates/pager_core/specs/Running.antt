@@ -9,6 +9,7 @@ use Rattle.pager_model.specs.Entries.{entries_of}
 use Rattle.pager_model.specs.Legal.{IsLegal, space_at, frames_at, progress_at, entries_in}
 use Rattle.pager_model.specs.Order.{Progress, at_rest, IsWhole}
 use Rattle.pager_model.specs.Plans.{Plan}
+use Rattle.pager_model.specs.SizeSets.{all_sizes}
 use Rattle.pager_model.specs.Settings.{Given, is_told}
 use Rattle.pager_model.specs.Showing.{answers_in, daemon_marks}
 use Rattle.pager_model.specs.SpaceStates.{last_count}
@@ -27,11 +28,12 @@ pub record Running : Type 0 where
   pub history : List Numbered
   pub unused : List Stored
 
--- The setting of a trace over the stores that are handed in, of which each space uses the one of its number: its frames, a mark of 0
+-- The setting of a trace over the stores that are handed in, of which each space uses the one of its number: its frames, all four page sizes, a mark of 0
 -- for each processor and the daemon's low mark for one more, and what each store said at the start of its copies and its faults.
 abbrev pub setting_over : Plan → List Stored → Given
 setting_over plan stores =
     record {
+      sizes = all_sizes;
       frames = plan.frames;
       marks = replicate plan.processors 0 ++ daemon_marks plan.daemon;
       told = map (λ (s : Stored). s.told) (take plan.spaces stores);

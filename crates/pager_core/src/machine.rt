@@ -3,6 +3,7 @@ ghost use Rattle.std.specs.List.{range_with_len};
 ghost use Rattle.pager_model.specs.Agreement.{OwnsBy};
 ghost use Rattle.pager_model.specs.Counts.{counts, hits_in, misses_in, is_hit_in, is_miss_in};
 ghost use Rattle.pager_model.specs.FrameStates.{start_frames};
+ghost use Rattle.pager_model.specs.SizeSets.{all_sizes};
 ghost use Rattle.pager_model.specs.Laws.{KeepsLaws};
 ghost use Rattle.pager_model.specs.Legal.{entries_in, frames_at};
 ghost use Rattle.pager_model.specs.Settings.{is_told, faults_at_entry};
@@ -20,7 +21,7 @@ ghost use Rattle.store_core.specs.Stored.{Stored, TellsZero};
 
 use crate::flight::{Flight, Needs};
 use frame_pool::Pool;
-use pager_model::{Call, Entry, Line, NoMemory, Numbered, Setting, Summary, Trace, What};
+use pager_model::{Call, Entry, Line, NoMemory, Numbered, Setting, Sizes, Summary, Trace, What};
 use space_core::Space;
 use std::alloc::Global;
 use std::marker::Model;
@@ -252,7 +253,7 @@ fn parts_of<S: Store + Send + Drop>(
     ensures setting { IfOk result (λ p. p.setting ≡ setting_over trace.now (map S.seen (reverse stores.old.items))) }
     ensures calls { IfOk result (λ p. map (λ v. v.items) p.calls.items ≡ map (λ c. calls_of c trace.now.calls) (range_with_len 0 trace.now.processors)) }
     ensures flights { IfOk result (λ p. p.flights.items ≡ first_flights (map (λ v. v.items) p.calls.items)) }
-    ensures pool { IfOk result (λ p. p.pool ≡ start_frames trace.now.frames trace.now.processors) }
+    ensures pool { IfOk result (λ p. p.pool ≡ start_frames all_sizes trace.now.frames trace.now.processors) }
     ensures history { IfOk result (λ p. (p.history.items ≡ []) × (8 * length trace.now.calls ≤ vec_capacity p.history)) }
     ensures count { IfOk result (λ p. length p.spaces.items ≡ trace.now.spaces) }
     ensures new { IfOk result (λ p. (s : ℕ) (kept : Kept) → slice_get p.spaces.items s ≡ Some kept
@@ -269,7 +270,13 @@ fn parts_of<S: Store + Send + Drop>(
     let history = Vec::with_capacity(alloc, ENTRIES_OF_CALL * trace.calls().len())?;
     let calls = calls_by_processor(alloc, processors, trace.calls())?;
     let flights = first_of_each(alloc, calls.as_slice())?;
-    let pool = Pool::create(alloc, frames, trace.spaces(), processors)?;
+    let pool = Pool::create(
+        alloc,
+        frames,
+        trace.spaces(),
+        processors,
+        Sizes::of(true, true, true),
+    )?;
     let setting = setting_of(alloc, trace, stores.as_slice())?;
     let spaces = spaces_over(alloc, trace, stores)?;
     Ok(Parts {

@@ -26,14 +26,14 @@ progress_from-append p (x ∷ xs) ys = progress_from-append (progress_by p x) xs
 pub space_at-named : (g : Given) (history : List Entry) (e : Entry) (s : ℕ) → names_space s e ≡ true → space_at g (history ++ e ∷ []) s ≡ space_after (space_at g history s) e
 space_at-named g history e s h =
     ap (state_of_space g s) (filter-push_in (names_space s) history e h)
-    ∙ fold-append space_after (empty_state (is_told g s) (faults_at_entry g s)) (space_part s history) (e ∷ [])
+    ∙ fold-append space_after (empty_state g.sizes (is_told g s) (faults_at_entry g s)) (space_part s history) (e ∷ [])
 
 pub space_at-other : (g : Given) (history : List Entry) (e : Entry) (s : ℕ) → names_space s e ≡ false → space_at g (history ++ e ∷ []) s ≡ space_at g history s
 space_at-other g history e s h = ap (state_of_space g s) (filter-push_out (names_space s) history e h)
 
 -- and to the state of the frames
 pub frames_at-named : (g : Given) (history : List Entry) (e : Entry) → e.frames ≡ true → frames_at g (history ++ e ∷ []) ≡ frames_after (frames_at g history) e
-frames_at-named g history e h = ap (frames_state g) (filter-push_in names_frames history e h) ∙ fold-append frames_after (start_frames g.frames (length g.marks)) (frames_part history) (e ∷ [])
+frames_at-named g history e h = ap (frames_state g) (filter-push_in names_frames history e h) ∙ fold-append frames_after (start_frames g.sizes g.frames (length g.marks)) (frames_part history) (e ∷ [])
 
 pub frames_at-other : (g : Given) (history : List Entry) (e : Entry) → e.frames ≡ false → frames_at g (history ++ e ∷ []) ≡ frames_at g history
 frames_at-other g history e h = ap (frames_state g) (filter-push_out names_frames history e h)

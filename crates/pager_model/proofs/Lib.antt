@@ -9,3 +9,4 @@ pub mod TileParts
 pub mod Ranges
 pub mod CountLemmas
 pub mod ExtentLemmas
+pub mod SizeFloors

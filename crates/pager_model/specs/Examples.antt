@@ -15,6 +15,7 @@ use Rattle.pager_model.specs.Flat.{Flat, empty_space, after_call}
 use Rattle.pager_model.specs.FrameStates.{FrameState, start_frames, take_frame, state_taken, give_page, claimed, counted}
 use Rattle.pager_model.specs.Plans.{Plan}
 use Rattle.pager_model.specs.Settings.{Given}
+use Rattle.pager_model.specs.SizeSets.{all_sizes}
 use Rattle.pager_model.specs.SpaceStates.{SpaceState, empty_state, space_after}
 use Rattle.pager_model.specs.Tiles.{tile_with}
 use Rattle.pager_model.specs.declared.tile.Mapping.{Mapping}
@@ -37,7 +38,7 @@ after_taking st space page = counted (state_taken st (take_frame st space page w
 
 -- eight frames, of which the first taking reserves all, and one that a second space's page takes from them
 abbrev pub eight_frames : FrameState
-eight_frames = start_frames 8 1
+eight_frames = start_frames all_sizes 8 1
 
 abbrev pub one_taken : FrameState
 one_taken = after_taking eight_frames 0 3
@@ -54,13 +55,13 @@ one_carved = counted (give_page (counted (claimed one_taken 3 (Some 0))) 0 3)
 
 -- two frames, which are too few for a reservation of eight
 abbrev pub two_frames : FrameState
-two_frames = start_frames 2 1
+two_frames = start_frames all_sizes 2 1
 
 abbrev pub both_taken : FrameState
 both_taken = after_taking (after_taking two_frames 0 3) 0 5
 
 abbrev pub small_setting : Given
-small_setting = record { frames = 2; marks = 0 ∷ []; told = true ∷ []; faults = 0 ∷ [] }
+small_setting = record { sizes = all_sizes; frames = 2; marks = 0 ∷ []; told = true ∷ []; faults = 0 ∷ [] }
 
 abbrev pub answer_with : Option ℕ → ℕ → Call → Reply → Entry
 answer_with size number call reply =
@@ -107,7 +108,7 @@ abbrev pub after_taking_all : FrameState → ℕ → FrameState
 after_taking_all st page = counted (state_taken st (take_frame st 0 page want_all))
 
 abbrev pub eight_parts_used : FrameState
-eight_parts_used = fold after_taking_all (start_frames 64 1) (0 ∷ 8 ∷ 16 ∷ 24 ∷ 32 ∷ 40 ∷ 48 ∷ 56 ∷ [])
+eight_parts_used = fold after_taking_all (start_frames all_sizes 64 1) (0 ∷ 8 ∷ 16 ∷ 24 ∷ 32 ∷ 40 ∷ 48 ∷ 56 ∷ [])
 
 -- an entry on the frames alone, on a space alone, and on both
 abbrev pub on_frames : What → Entry
@@ -144,7 +145,7 @@ made_up_fault =
 
 -- a space whose store tells nothing, with a page that was stored to after it was filled
 abbrev pub untold_space : SpaceState
-untold_space = fold space_after (empty_state false 0) (answer 0 map_eight Done ∷ take_page_one ∷ missed 1 (Store 0 8192 5) Done ∷ [])
+untold_space = fold space_after (empty_state all_sizes false 0) (answer 0 map_eight Done ∷ take_page_one ∷ missed 1 (Store 0 8192 5) Done ∷ [])
 
 -- a page of one region that may be written, in this frame
 abbrev pub writable : ℕ → Bool → Mapping

@@ -10,9 +10,12 @@ use Rattle.pager_model.specs.declared.entry.What.{What}
 use Rattle.pager_model.specs.declared.entry.What.TheVariants.{Answer, Take, Give, Clear, Claim, UseHeld, DropHeld, Got, Unclaim, Refused, Rest}
 use Rattle.pager_model.specs.declared.reservation.Reservation.{Reservation}
 use Rattle.pager_model.specs.declared.reservation.Used.{Used}
+use Rattle.pager_model.specs.SizeSets.{SizeSet}
 use Rattle.pager_model.specs.Layouts.{Layout, Placing, covering, frame_for, frame_in, placing, is_full, vacate_layout, carve_layout, put_back}
 
 pub record FrameState : Type 0 where
+  -- which page sizes there are
+  pub sizes : SizeSet
   -- for each frame whether it is free
   pub free : List Bool
   -- for each frame the reservation that begins at it, where one does
@@ -27,13 +30,13 @@ pub record FrameState : Type 0 where
   pub preemptions : ℕ
 
 -- at first all frames are free
-abbrev pub start_frames : ℕ → ℕ → FrameState
-start_frames frames processors =
-    record { free = replicate frames true; records = replicate frames None; used = replicate frames None; held = replicate processors None; entries = 0; preemptions = 0 }
+abbrev pub start_frames : SizeSet → ℕ → ℕ → FrameState
+start_frames z frames processors =
+    record { sizes = z; free = replicate frames true; records = replicate frames None; used = replicate frames None; held = replicate processors None; entries = 0; preemptions = 0 }
 
 -- the layout of the frames
 abbrev pub layout_of : FrameState → Layout
-layout_of st = record { free = st.free; records = st.records; used = map is_some st.used }
+layout_of st = record { sizes = st.sizes; free = st.free; records = st.records; used = map is_some st.used }
 
 abbrev pub used_at : FrameState → ℕ → Option Used
 used_at st frame = slice_index_or st.used frame None
@@ -57,7 +60,7 @@ pub record HasNothing (st : FrameState) (processor : ℕ) : Type 0 where
 
 -- one entry more
 abbrev pub counted : FrameState → FrameState
-counted st = record { free = st.free; records = st.records; used = st.used; held = st.held; entries = st.entries + 1; preemptions = st.preemptions }
+counted st = record { sizes = st.sizes; free = st.free; records = st.records; used = st.used; held = st.held; entries = st.entries + 1; preemptions = st.preemptions }
 
 -- Taking.
 
@@ -70,6 +73,7 @@ pub record Taking : Type 0 where
 abbrev pub taken : FrameState → Want → Placing → FrameState
 taken st want place =
     record {
+      sizes = place.layout.sizes;
       free = place.layout.free;
       records = place.layout.records;
       used = slice_set st.used place.frame (Some (record { age = st.entries; wired = want.wired; claim = None }));
@@ -110,6 +114,7 @@ held_given (Some processor) frame held = slice_set held processor (Some frame)
 abbrev pub given : FrameState → ℕ → Reservation → FrameState
 given st frame r =
     record {
+      sizes = (layout_given (claim_in (used_at st frame)) frame r (layout_of st)).sizes;
       free = (layout_given (claim_in (used_at st frame)) frame r (layout_of st)).free;
       records = (layout_given (claim_in (used_at st frame)) frame r (layout_of st)).records;
       used = slice_set st.used frame None;
@@ -142,12 +147,12 @@ with_claim claim (Some u) = Some (record { age = u.age; wired = u.wired; claim =
 -- the used frame is claimed by this processor, or by none
 abbrev pub claimed : FrameState → ℕ → Option ℕ → FrameState
 claimed st frame claim =
-    record { free = st.free; records = st.records; used = slice_set st.used frame (with_claim claim (used_at st frame)); held = st.held; entries = st.entries; preemptions = st.preemptions }
+    record { sizes = st.sizes; free = st.free; records = st.records; used = slice_set st.used frame (with_claim claim (used_at st frame)); held = st.held; entries = st.entries; preemptions = st.preemptions }
 
 abbrev pub dropped_in : FrameState → ℕ → Option ℕ → FrameState
 dropped_in st processor None = st
 dropped_in st processor (Some frame) =
-    record { free = (put_back frame (layout_of st)).free; records = st.records; used = st.used; held = slice_set st.held processor None; entries = st.entries; preemptions = st.preemptions }
+    record { sizes = st.sizes; free = (put_back frame (layout_of st)).free; records = st.records; used = st.used; held = slice_set st.held processor None; entries = st.entries; preemptions = st.preemptions }
 
 -- the frame that the processor holds is free
 abbrev pub dropped : FrameState → ℕ → FrameState

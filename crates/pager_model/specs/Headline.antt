@@ -16,7 +16,7 @@ use Rattle.pager_model.specs.Flat.{space_of_call}
 use Rattle.pager_model.specs.FrameStates.{FrameState, layout_of, used_at, held_by}
 use Rattle.pager_model.specs.Layouts.{record_at}
 use Rattle.pager_model.specs.Legal.{space_at, frames_at}
-use Rattle.pager_model.specs.Records.{is_used, yield_of}
+use Rattle.pager_model.specs.Records.{is_used, yield_in}
 use Rattle.pager_model.specs.Settings.{Given}
 use Rattle.pager_model.specs.SpaceStates.{SpaceState, IsAsked}
 
@@ -50,7 +50,7 @@ size_at st frame = option_map (λ (r : Reservation). r.size) (record_at (layout_
 
 -- the yield of a reservation: its list, where it isn't full
 abbrev pub list_in : FrameState → Reservation → Option ℕ
-list_in st r = yield_of (is_used (layout_of st).used) r
+list_in st r = yield_in st.sizes (is_used (layout_of st).used) r
 
 abbrev pub member_of : Reservation → Member
 member_of r = record { stamp = r.stamp; frame = r.frame }

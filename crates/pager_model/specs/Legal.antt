@@ -14,11 +14,11 @@ use Rattle.pager_model.specs.SpaceStates.{SpaceState, space_state, SpaceAllows}
 
 -- the entries of a space
 abbrev pub state_of_space : Given → ℕ → List Entry → SpaceState
-state_of_space g s entries = space_state (is_told g s) (faults_at_entry g s) entries
+state_of_space g s entries = space_state g.sizes (is_told g s) (faults_at_entry g s) entries
 
 -- the entries on the frames
 abbrev pub frames_state : Given → List Entry → FrameState
-frames_state g entries = fold frames_after (start_frames g.frames (length g.marks)) entries
+frames_state g entries = fold frames_after (start_frames g.sizes g.frames (length g.marks)) entries
 
 -- the entries of a processor
 abbrev pub progress_in : Given → ℕ → List Entry → Option Progress

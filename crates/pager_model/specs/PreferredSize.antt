@@ -1,7 +1,8 @@
 -- The preferred size of a reservation for a page.
-use Rattle.std.specs.Prelude.{ℕ, ◌+◌, ◌^◌, ◌<◌, ◌≤◌, Bool, ◌&&◌, not, nat_le, if◌then◌else◌}
+use Rattle.std.specs.Prelude.{ℕ, zero, suc, ◌+◌, ◌^◌, ◌<◌, ◌≤◌, Bool, ◌&&◌, not, nat_le, if◌then◌else◌}
 use Rattle.pager_model.specs.declared.entry.Want.{Want}
 use Rattle.pager_model.specs.Extents.{extent_start}
+use Rattle.pager_model.specs.SizeSets.{SizeSet, has_size}
 
 -- the want is one for the page, in a space of pages
 pub record IsWanted (want : Want) (page : ℕ) : Type 0 where
@@ -21,3 +22,12 @@ fits meets page want k =
 abbrev pub preferred_size : (ℕ → ℕ → Bool) → ℕ → Want → ℕ
 preferred_size meets page want =
     if fits meets page want 3 then 3 else (if fits meets page want 2 then 2 else (if fits meets page want 1 then 1 else 0))
+
+-- The preferred size of some sizes: the largest of them, up to this one, whose extent round the page fits.
+abbrev pub largest_fitting : SizeSet → (ℕ → ℕ → Bool) → ℕ → Want → ℕ → ℕ
+largest_fitting z meets page want zero = 0
+largest_fitting z meets page want (suc k) =
+    if has_size z (suc k) && fits meets page want (suc k) then suc k else largest_fitting z meets page want k
+
+abbrev pub preferred_among : SizeSet → (ℕ → ℕ → Bool) → ℕ → Want → ℕ
+preferred_among z meets page want = largest_fitting z meets page want 3

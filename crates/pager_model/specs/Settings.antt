@@ -1,9 +1,12 @@
 -- What a history is legal for.
 use Rattle.std.specs.Prelude.{ℕ, Bool, false, List, slice_index_or}
+use Rattle.pager_model.specs.SizeSets.{SizeSet}
 
 pub record Given : Type 0 where
   -- how many frames there are
   pub frames : ℕ
+  -- which page sizes there are
+  pub sizes : SizeSet
   -- for each processor 0 where it makes calls, and a daemon's low mark
   pub marks : List ℕ
   -- for each space whether its store tells its copies, which were zero at entry

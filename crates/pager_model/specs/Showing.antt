@@ -10,6 +10,7 @@ use Rattle.pager_model.specs.declared.trace.Daemon.{Daemon}
 use Rattle.pager_model.specs.Entries.{entries_of}
 use Rattle.pager_model.specs.Order.{progress_from, at_rest, IsWhole}
 use Rattle.pager_model.specs.Plans.{Plan}
+use Rattle.pager_model.specs.SizeSets.{all_sizes}
 use Rattle.pager_model.specs.Settings.{Given}
 
 -- a daemon is one processor more, with its low mark
@@ -22,6 +23,7 @@ daemon_marks (Some d) = d.low ∷ []
 abbrev pub setting_of : Plan → Given
 setting_of plan =
     record {
+      sizes = all_sizes;
       frames = plan.frames;
       marks = replicate plan.processors 0 ++ daemon_marks plan.daemon;
       told = replicate plan.spaces true;

@@ -17,7 +17,8 @@ use Rattle.pager_model.specs.declared.tile.Tile.{Tile}
 use Rattle.pager_model.specs.Flat.{Flat, empty_space, after_call, reply_of, is_lawful, out, lost, page_of, word_of, can_read, can_write}
 use Rattle.pager_model.specs.Images.{is_in_image, images_with}
 use Rattle.pager_model.specs.Regions.{in_range, region_at, wanted}
-use Rattle.pager_model.specs.Tiles.{mappings, tile_of, promotions_between, demotions_between}
+use Rattle.pager_model.specs.SizeSets.{SizeSet}
+use Rattle.pager_model.specs.Tiles.{mappings, tile_in, promotions_in, demotions_in}
 
 -- Who makes the next entry of a space: anyone; where an entry left the space in the middle of a sequence, its processor; and after
 -- the pages of a range gave their frames up, the unmap of that range, which is done.
@@ -27,6 +28,8 @@ pub data Next : Type 0 where
   Unmaps : (processor first len : ℕ) → Next
 
 pub record SpaceState : Type 0 where
+  -- which page sizes there are
+  pub sizes : SizeSet
   pub flat : Flat
   -- of each page its frame, where it is resident
   pub base : ℕ → Option ℕ
@@ -43,10 +46,10 @@ pub record SpaceState : Type 0 where
   pub promotions : ℕ
   pub demotions : ℕ
 
--- a space begins empty, with a store that tells its copies or doesn't, and that failed so often
-abbrev pub empty_state : Bool → ℕ → SpaceState
-empty_state told faults =
-    record { flat = empty_space; base = λ p. None; next = Anyone; told = told; tied = λ p i. None; highest = faults; images = λ c. []; promotions = 0; demotions = 0 }
+-- a space begins empty, with these page sizes and a store that tells its copies or doesn't, and that failed so often
+abbrev pub empty_state : SizeSet → Bool → ℕ → SpaceState
+empty_state z told faults =
+    record { sizes = z; flat = empty_space; base = λ p. None; next = Anyone; told = told; tied = λ p i. None; highest = faults; images = λ c. []; promotions = 0; demotions = 0 }
 
 -- its resident pages
 abbrev pub pages_of : SpaceState → ℕ → Option Mapping
@@ -116,32 +119,33 @@ served_page (Store space address word) Done = Some (page_of address)
 served_page call reply = None
 
 -- the tile of that page
-abbrev pub tile_at : (ℕ → Option Mapping) → Option ℕ → Option Tile
-tile_at pages None = None
-tile_at pages (Some page) = tile_of pages page
+abbrev pub tile_at : SizeSet → (ℕ → Option Mapping) → Option ℕ → Option Tile
+tile_at z pages None = None
+tile_at z pages (Some page) = tile_in z pages page
 
 -- the tile that an entry's processor used: of an answer that has a size, the page's as it is then
-abbrev pub used_tile : (ℕ → Option Mapping) → What → Option Tile
-used_tile pages (Answer number call answered) = tile_at pages (served_page call answered.reply)
-used_tile pages what = None
+abbrev pub used_tile : SizeSet → (ℕ → Option Mapping) → What → Option Tile
+used_tile z pages (Answer number call answered) = tile_at z pages (served_page call answered.reply)
+used_tile z pages what = None
 
 abbrev pub space_after : SpaceState → Entry → SpaceState
 space_after st e =
     record {
+      sizes = st.sizes;
       flat = flat_after st.flat e.what;
       base = base_after st.base e.frames e.what;
       next = next_after e.processor e.what;
       told = st.told;
       tied = tied_after st.tied e.what;
       highest = highest_after st.highest e.what;
-      images = images_with (pages_after st e.frames e.what) e.processor (used_tile (pages_after st e.frames e.what) e.what) st.images;
-      promotions = st.promotions + promotions_between (pages_of st) (pages_after st e.frames e.what);
-      demotions = st.demotions + demotions_between (pages_of st) (pages_after st e.frames e.what);
+      images = images_with st.sizes (pages_after st e.frames e.what) e.processor (used_tile st.sizes (pages_after st e.frames e.what) e.what) st.images;
+      promotions = st.promotions + promotions_in st.sizes (pages_of st) (pages_after st e.frames e.what);
+      demotions = st.demotions + demotions_in st.sizes (pages_of st) (pages_after st e.frames e.what);
     }
 
 -- what a space's list leads to, from a store that tells its copies or doesn't, and that failed so often at entry
-abbrev pub space_state : Bool → ℕ → List Entry → SpaceState
-space_state told faults entries = fold space_after (empty_state told faults) entries
+abbrev pub space_state : SizeSet → Bool → ℕ → List Entry → SpaceState
+space_state z told faults entries = fold space_after (empty_state z told faults) entries
 
 -- Who may go on.
 
@@ -241,11 +245,11 @@ frees_its_page st call reply = false
 
 -- whether the tile of an answer's page, as it was before, stands in its processor's image
 abbrev pub is_hit : SpaceState → ℕ → Call → Reply → Bool
-is_hit st c call reply = is_in_image (st.images c) (tile_at (pages_of st) (served_page call reply))
+is_hit st c call reply = is_in_image (st.images c) (tile_at st.sizes (pages_of st) (served_page call reply))
 
 -- the size of the tile of an answer's page, as it is after it
 abbrev pub size_after : SpaceState → Bool → What → Option ℕ
-size_after st frames what = option_map (λ (t : Tile). t.extent.size) (used_tile (pages_after st frames what) what)
+size_after st frames what = option_map (λ (t : Tile). t.extent.size) (used_tile st.sizes (pages_after st frames what) what)
 
 -- The reply is allowed, the frames are named where a page gives its frame up, and a hit and a size are told of a load that is told its word
 -- and of a store that is done.

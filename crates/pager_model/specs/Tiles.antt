@@ -1,5 +1,5 @@
 -- Tiles: the largest extents of resident pages that one translation maps.
-use Rattle.std.specs.Prelude.{ℕ, zero, suc, ◌≡◌, ◌+◌, ◌%◌, ◌^◌, ◌<◌, ◌≤◌, Bool, true, false, ◌&&◌, ◌==◌, not, nat_lt, if◌then◌else◌, List, count_by, Option, Some, None}
+use Rattle.std.specs.Prelude.{ℕ, zero, suc, ◌≡◌, ◌+◌, ◌-◌, ◌%◌, ◌^◌, ◌<◌, ◌≤◌, Bool, true, false, ◌&&◌, ◌==◌, not, nat_lt, if◌then◌else◌, List, count_by, option_map, Option, Some, None}
 use Rattle.std.specs.List.{range_with_len, list_all}
 use Rattle.std.specs.Option.{option_or}
 use Rattle.pager_model.specs.declared.region.Region.{Region}
@@ -10,6 +10,7 @@ use Rattle.pager_model.specs.declared.tile.Tile.{Tile}
 use Rattle.pager_model.specs.Extents.{IsExtent, extent_start}
 use Rattle.pager_model.specs.Flat.{Flat}
 use Rattle.pager_model.specs.Regions.{region_at}
+use Rattle.pager_model.specs.SizeSets.{SizeSet, has_size, size_within}
 
 abbrev pub mapping_with : Option ℕ → Option Region → Rights → Bool → Option Mapping
 mapping_with None region rights dirty = None
@@ -128,3 +129,45 @@ begins_tile pages size page = begins_at page (tile_of pages page) && (size_at pa
 -- how many tiles of this size there are
 abbrev pub tiles_of_size : (ℕ → Option Mapping) → ℕ → ℕ
 tiles_of_size pages size = count_pages (begins_tile pages size)
+
+-- Tiles of some sizes.
+
+abbrev pub largest_among : SizeSet → (ℕ → Option Mapping) → ℕ → ℕ → Option Tile
+largest_among z pages zero page = eligible_at pages 0 page
+largest_among z pages (suc k) page =
+    if has_size z (suc k) then option_or (eligible_at pages (suc k) page) (largest_among z pages k page) else largest_among z pages k page
+
+-- the tile of a page: the largest eligible extent of these sizes round it
+abbrev pub tile_in : SizeSet → (ℕ → Option Mapping) → ℕ → Option Tile
+tile_in z pages page = largest_among z pages 3 page
+
+-- it is a tile of these pages
+abbrev pub is_tile_in : SizeSet → (ℕ → Option Mapping) → Tile → Bool
+is_tile_in z pages t = is_that_tile t (tile_in z pages t.extent.first)
+
+abbrev pub size_in_at : SizeSet → (ℕ → Option Mapping) → ℕ → ℕ
+size_in_at z pages page = size_in (tile_in z pages page)
+
+abbrev pub is_promoted_in : SizeSet → (ℕ → Option Mapping) → (ℕ → Option Mapping) → ℕ → Bool
+is_promoted_in z before after page = begins_at page (tile_in z after page) && nat_lt (size_in_at z before page) (size_in_at z after page)
+
+-- promotions: the extents of size 1 or more that are tiles after a change and lay in no tile before it
+abbrev pub promotions_in : SizeSet → (ℕ → Option Mapping) → (ℕ → Option Mapping) → ℕ
+promotions_in z before after = count_pages (is_promoted_in z before after)
+
+-- demotions: the extents of size 1 or more that were tiles before it and lie in no tile after it
+abbrev pub demotions_in : SizeSet → (ℕ → Option Mapping) → (ℕ → Option Mapping) → ℕ
+demotions_in z before after = promotions_in z after before
+
+-- how many tiles of this size there are
+abbrev pub tiles_of_size_in : SizeSet → (ℕ → Option Mapping) → ℕ → ℕ
+tiles_of_size_in z pages size = count_pages (λ page. begins_at page (tile_in z pages page) && (size_in_at z pages page == size))
+
+-- the part of size k round a page of a tile
+abbrev pub part_round : ℕ → ℕ → Tile → Tile
+part_round k page t =
+    record { extent = record { size = k; first = extent_start k page }; frame = t.frame + (extent_start k page - t.extent.first); rights = t.rights; dirty = t.dirty }
+
+-- the part, of the largest of these sizes that fits, round a page of a tile
+abbrev pub cut_to : SizeSet → ℕ → Tile → Tile
+cut_to z page t = part_round (size_within z t.extent.size) page t

@@ -19,6 +19,7 @@ ghost use Rattle.pager_model.specs.Records.{yield_of, kept_part};
 ghost use Rattle.pager_model.specs.TraceText.{call_line, line_words, text_of};
 ghost use Rattle.pager_model.specs.Legal.{IsLegal, MayFollow};
 ghost use Rattle.pager_model.specs.Settings.{Given};
+ghost use Rattle.pager_model.specs.SizeSets.{all_sizes};
 ghost use Rattle.pager_model.specs.Images.{is_in_image, images_with, touched, still_tiles};
 ghost use Rattle.pager_model.specs.Tiles.{tile_of, tile_with, size_at, is_promoted};
 
@@ -181,14 +182,14 @@ pub fn a_promotion_is_counted_at_the_first_page()
 
 /// An access puts its page's tile into its own processor's image alone, and each entry takes out of every image what is no tile any more.
 pub fn an_entry_changes_the_images()
-    ensures own { images_with (run_of_pages 16 7) 1 (Some (small_tile 0)) (λ c. small_tile 1 ∷ []) 1 ≡ small_tile 0 ∷ small_tile 1 ∷ [] }
-    ensures other { images_with (run_of_pages 16 7) 1 (Some (small_tile 0)) (λ c. small_tile 1 ∷ []) 0 ≡ small_tile 1 ∷ [] }
-    ensures gone { images_with (run_of_pages 16 8) 1 None (λ c. small_tile 1 ∷ []) 0 ≡ [] }
+    ensures own { images_with all_sizes (run_of_pages 16 7) 1 (Some (small_tile 0)) (λ c. small_tile 1 ∷ []) 1 ≡ small_tile 0 ∷ small_tile 1 ∷ [] }
+    ensures other { images_with all_sizes (run_of_pages 16 7) 1 (Some (small_tile 0)) (λ c. small_tile 1 ∷ []) 0 ≡ small_tile 1 ∷ [] }
+    ensures gone { images_with all_sizes (run_of_pages 16 8) 1 None (λ c. small_tile 1 ∷ []) 0 ≡ [] }
 {}
 
 /// The tile used last comes to the front and stands once, and a tile that is none any more is gone.
 pub fn an_image_keeps_what_was_used_last()
     ensures front { touched (small_tile 1) (touched (small_tile 0) (touched (small_tile 1) [])) ≡ small_tile 1 ∷ small_tile 0 ∷ [] }
-    ensures gone { still_tiles (run_of_pages 16 8) (touched (small_tile 0) []) ≡ [] }
-    ensures stays { is_in_image (still_tiles (run_of_pages 16 7) (touched (small_tile 0) [])) (Some (small_tile 0)) ≡ true }
+    ensures gone { still_tiles all_sizes (run_of_pages 16 8) (touched (small_tile 0) []) ≡ [] }
+    ensures stays { is_in_image (still_tiles all_sizes (run_of_pages 16 7) (touched (small_tile 0) [])) (Some (small_tile 0)) ≡ true }
 {}

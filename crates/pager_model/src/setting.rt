@@ -1,11 +1,14 @@
 ghost use Rattle.std.specs.Prelude.{◌≡◌, ◌≤◌, vec_len, length};
+ghost use Rattle.pager_model.specs.SizeSets.{all_sizes};
 
+use crate::sizes::Sizes;
 use std::marker::Model;
 
 /// What a history is legal for.
 #[derive(Debug, Drop)]
 pub struct Setting {
     frames: u32,
+    sizes: Sizes,
     marks: Vec<u32>,
     told: Vec<bool>,
     faults: Vec<u64>,
@@ -16,7 +19,7 @@ impl Model for Setting {
 
     ghost Value = { Given };
 
-    ghost view = { λ s. record { frames = s.frames; marks = s.marks.items; told = s.told.items; faults = s.faults.items } };
+    ghost view = { λ s. record { frames = s.frames; sizes = s.sizes; marks = s.marks.items; told = s.told.items; faults = s.faults.items } };
 }
 
 impl Setting {
@@ -26,14 +29,29 @@ impl Setting {
         requires spaces { (1 ≤ vec_len told) × (vec_len told ≤ 16) }
         requires counts { vec_len faults ≡ vec_len told }
         requires processors { (1 ≤ vec_len marks) × (vec_len marks ≤ 17) }
-        ensures { result ≡ record { frames = frames; marks = marks.items; told = told.items; faults = faults.items } }
+        ensures { result ≡ record { frames = frames; sizes = all_sizes; marks = marks.items; told = told.items; faults = faults.items } }
     {
         Setting {
             frames,
+            sizes: Sizes::of(true, true, true),
             marks,
             told,
             faults,
         }
+    }
+
+    /// The same with these page sizes.
+    pub fn with_sizes(self, sizes: Sizes) -> Setting
+        ensures { result ≡ record self { sizes = sizes } }
+    {
+        Setting { sizes, ..self }
+    }
+
+    /// Which page sizes there are.
+    pub fn sizes(&self) -> Sizes
+        ensures { result ≡ self.now.sizes }
+    {
+        self.sizes
     }
 
     /// The number of spaces.

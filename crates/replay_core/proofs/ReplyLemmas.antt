@@ -41,7 +41,7 @@ highest-from st (e ∷ entries) = (let first = highest-more st.highest e.what in
 highest-along : (g : Given) (before after : List Entry) (s : ℕ) → (space_at g before s).highest ≤ (space_at g (before ++ after) s).highest
 highest-along g before after s =
     let split : space_at g (before ++ after) s ≡ fold space_after (space_at g before s) (space_part s after) =
-    ap (state_of_space g s) (filter-append (names_space s) before after) ∙ fold-append space_after (empty_state (is_told g s) (faults_at_entry g s)) (space_part s before) (space_part s after) in
+    ap (state_of_space g s) (filter-append (names_space s) before after) ∙ fold-append space_after (empty_state g.sizes (is_told g s) (faults_at_entry g s)) (space_part s before) (space_part s after) in
     subst (λ (st : SpaceState). (space_at g before s).highest ≤ st.highest) (sym split) (highest-from (space_at g before s) (space_part s after))
 
 -- a failure's count isn't above the highest then
@@ -184,7 +184,7 @@ HasFailed-now : (g : Given) (history : List Entry) (c : ℕ) (space : Option ℕ
 HasFailed-now g history c (Some s) frames (Failed page writing count) may =
     let e : Entry = record { processor = c; space = Some s; frames = frames; what = Failed page writing count } in
     let st = space_at g history s in
-    let since = highest-from (empty_state (is_told g s) (faults_at_entry g s)) (space_part s history) in
+    let since = highest-from (empty_state g.sizes (is_told g s) (faults_at_entry g s)) (space_part s history) in
     record {
       known = may.space;
       rose = rises_told (faults_at_entry g s) st.highest count since may.by_space.1.2;

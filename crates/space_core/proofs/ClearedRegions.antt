@@ -13,6 +13,7 @@ use Rattle.pager_model.specs.declared.tile.Mapping.{Mapping}
 use Rattle.pager_model.specs.declared.tile.Tile.{Tile}
 use Rattle.pager_model.specs.Flat.{goes, is_lawful}
 use Rattle.pager_model.specs.Images.{still_tiles}
+use Rattle.pager_model.specs.SizeSets.{all_sizes}
 use Rattle.pager_model.specs.Regions.{has_page, in_range, region_at, without_region, unmap_reply_at}
 use Rattle.pager_model.specs.SpaceStates.{SpaceState, SpaceAllows, IsClearedAt, pages_of, space_after}
 use Rattle.region_table.specs.Table.{IsTable}
@@ -122,7 +123,7 @@ module _ (number : ℕ) (regions : List Region) (t : Table) (was : Option Region
   clearing = kept number regions t None was paged store images promotions demotions had_broken
 
   abbrev all_cleared : Kept
-  all_cleared = kept number regions t None (Some r) paged store (map (still_tiles (mapping_in t)) images) promotions (counted_up demotions broken) broken
+  all_cleared = kept number regions t None (Some r) paged store (map (still_tiles all_sizes (mapping_in t)) images) promotions (counted_up demotions broken) broken
 
   frame_cleared : (b : Bool) (o : Option ℕ) (p : ℕ) → (b ≡ true → frame_in t p ≡ None) → (b ≡ false → o ≡ frame_in t p) → (if b then None else o) ≡ frame_in t p
   frame_cleared true o p gone left = sym (gone refl)
@@ -156,7 +157,7 @@ module _ (number : ℕ) (regions : List Region) (t : Table) (was : Option Region
         clearing = λ q found. ap Some (same_Some _ _ (sym at ∙ found));
         same_pending = refl;
         same_paged = refl;
-        same = record { same = record { number = refl; frames = refl; processors = length-map images (still_tiles (mapping_in t)); regions = refl; rights = λ p. refl }; frame = λ p. refl };
+        same = record { same = record { number = refl; frames = refl; processors = length-map images (still_tiles all_sizes (mapping_in t)); regions = refl; rights = λ p. refl }; frame = λ p. refl };
         stands = λ st c s.
             let after = space_after st (clear_entry c number r.first r.length) in
             let clears : Clears r.first r.length r.first (pages_of st) (pages_of after) = record {
@@ -184,8 +185,8 @@ module _ (number : ℕ) (regions : List Region) (t : Table) (was : Option Region
               };
               base = λ p. frame_cleared (in_range r.first r.length p) (st.base p) p (none p) (s.base p);
               pages = pages;
-              translates = translates_cleared clearing all_cleared st after c broken (record { images = refl; promotions = refl; demotions = refl }) s.translates pages (length-map images (still_tiles (mapping_in t)))
-                  (λ i within. get_or-map (still_tiles (mapping_in t)) images i [] [] within)
+              translates = translates_cleared clearing all_cleared st after c broken (record { sizes = refl; images = refl; promotions = refl; demotions = refl }) s.translates pages (length-map images (still_tiles all_sizes (mapping_in t)))
+                  (λ i within. get_or-map (still_tiles all_sizes (mapping_in t)) images i [] [] within)
                   (promotions_cleared r.first r.length r.first (pages_of st) (pages_of after) clears)
                   (demotions_cleared r.first r.length r.first (pages_of st) (pages_of after) clears ∙ sym (counted st s)) refl refl;
             };
@@ -247,7 +248,7 @@ module _ (old : Kept) (number : ℕ) (regions : List Region) (t : Table) (pendin
       )
 
   abbrev all_gone : Option ℕ → Option Region → Kept
-  all_gone o region = kept number regions t o region paged store (map (still_tiles (mapping_in t)) images) promotions (counted_up demotions broken) broken
+  all_gone o region = kept number regions t o region paged store (map (still_tiles all_sizes (mapping_in t)) images) promotions (counted_up demotions broken) broken
 
   -- no page is resident
   pub clears_range : (from : ℕ) → old.pending ≡ None → IsTable regions → ((p : ℕ) → first ≤ p → p < from → frame_at old p ≡ None) → NoneFrom t from (first + len)
@@ -425,7 +426,7 @@ module _ (number : ℕ) (regions : List Region) (t u : Table) (page : ℕ) (r : 
                 };
                 base = base;
                 pages = pages;
-                translates = stays cleared left st after c (record { images = refl; promotions = refl; demotions = refl }) s.translates s.pages pages (record { images = refl; promotions = refl; demotions = refl }) forgets.mapping;
+                translates = stays cleared left st after c (record { sizes = refl; images = refl; promotions = refl; demotions = refl }) s.translates s.pages pages (record { images = refl; promotions = refl; demotions = refl }) forgets.mapping;
               };
         }
 

@@ -122,10 +122,10 @@ frees_none st call = refl
 lacking_stands : (k : Kept) (st : SpaceState) (call : Call) (page : ℕ) → copied_page call ≡ Some page → StandsFor k st → (c n : ℕ) → StandsFor k (space_after st (answer_entry c n call (record { reply = NoMemory; hit = false; size = None })))
 lacking_stands k st (Sync space p) page is s c n =
     next_stands k st (space_after st (answer_entry c n (Sync space p) (record { reply = NoMemory; hit = false; size = None }))) c (record { regions = refl; rights = λ q. refl; told = refl })
-    (λ q. record { dirty = refl; words = λ i. refl; copies = refl; tied = λ i. refl }) (λ q. refl) refl (λ q. refl) (record { images = refl; promotions = refl; demotions = refl }) s
+    (λ q. record { dirty = refl; words = λ i. refl; copies = refl; tied = λ i. refl }) (λ q. refl) refl (λ q. refl) (record { sizes = refl; images = refl; promotions = refl; demotions = refl }) s
 lacking_stands k st (Evict space p) page is s c n =
     next_stands k st (space_after st (answer_entry c n (Evict space p) (record { reply = NoMemory; hit = false; size = None }))) c (record { regions = refl; rights = λ q. refl; told = refl })
-    (λ q. record { dirty = refl; words = λ i. refl; copies = refl; tied = λ i. refl }) (λ q. refl) refl (λ q. refl) (record { images = refl; promotions = refl; demotions = refl }) s
+    (λ q. record { dirty = refl; words = λ i. refl; copies = refl; tied = λ i. refl }) (λ q. refl) refl (λ q. refl) (record { sizes = refl; images = refl; promotions = refl; demotions = refl }) s
 lacking_stands k st call page is s c n = cc
 
 module _ (old new : Kept) (c page : ℕ) (resting : IsResting old) where
@@ -144,8 +144,8 @@ module _ (old new : Kept) (c page : ℕ) (resting : IsResting old) where
           allowed = λ st s n. record {
             reply = may_at st s;
             parts = frees_none st call;
-            hit = ap (λ o. is_in_image (st.images c) (tile_at (pages_of st) o)) (sym (served-unlawful call NoMemory refl));
-            size = ap (λ o. option_map (λ (t : Tile). t.extent.size) (tile_at (pages_after st false (Answer n call (record { reply = NoMemory; hit = false; size = None }))) o)) (sym (served-unlawful call NoMemory refl));
+            hit = ap (λ o. is_in_image (st.images c) (tile_at st.sizes (pages_of st) o)) (sym (served-unlawful call NoMemory refl));
+            size = ap (λ o. option_map (λ (t : Tile). t.extent.size) (tile_at st.sizes (pages_after st false (Answer n call (record { reply = NoMemory; hit = false; size = None }))) o)) (sym (served-unlawful call NoMemory refl));
           };
           stands = λ st s n. lacking_stands new st call page is (leaves.stands st s) c n;
         };

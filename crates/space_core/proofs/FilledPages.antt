@@ -122,5 +122,5 @@ module _ (old new : Kept) (page : ℕ) (same : SameRegions old new) (clearing : 
               let is : (p : ℕ) → pages_of after p ≡ mapping_in new.table p = λ p. s.pages p ∙ sym (refills.mapping p) in
               raised_stands old new st after whole clearing (record { regions = refl; rights = λ p. refl; told = refl }) (within_faults st.highest count _ (omega (arith, s.beside.highest, faults)) count_is) at
               (λ p. record { dirty = refl; words = λ i. refl; copies = refl; tied = λ i. refl }) (λ p. refl) s is
-              (stays old new st after c (record { images = refl; promotions = refl; demotions = refl }) s.translates s.pages is still refills.mapping);
+              (stays old new st after c (record { sizes = refl; images = refl; promotions = refl; demotions = refl }) s.translates s.pages is still refills.mapping);
         }

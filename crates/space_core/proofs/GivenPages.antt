@@ -7,7 +7,7 @@ use Rattle.pager_model.specs.Flat.{Flat, reply_of, out}
 use Rattle.pager_model.specs.declared.tile.Mapping.{Mapping}
 use Rattle.pager_model.specs.Images.{images_with}
 use Rattle.pager_model.specs.Regions.{region_at}
-use Rattle.pager_model.specs.Tiles.{mappings, promotions_between, demotions_between}
+use Rattle.pager_model.specs.Tiles.{mappings, promotions_in, demotions_in}
 use Rattle.pager_model.specs.SpaceStates.{SpaceState, pages_of, space_after}
 use Rattle.pager_model.specs.SpaceStates.Next.{Anyone}
 use Rattle.space_core.specs.Beginning.{SameRegions, GaveUp, Removes, Evicts, IsEvicting, copied_reply}
@@ -51,15 +51,16 @@ evicting_unbehind kept page is = and_right _ _ (ap not (ap (is_page page) is.pag
 abbrev evicted : ℕ → ℕ → SpaceState → Flat → SpaceState
 evicted c page st f =
     record {
+      sizes = st.sizes;
       flat = f;
       base = λ p. if p == page then None else st.base p;
       next = Anyone;
       told = st.told;
       tied = st.tied;
       highest = st.highest;
-      images = images_with (mappings f (λ p. if p == page then None else st.base p)) c None st.images;
-      promotions = st.promotions + promotions_between (pages_of st) (mappings f (λ p. if p == page then None else st.base p));
-      demotions = st.demotions + demotions_between (pages_of st) (mappings f (λ p. if p == page then None else st.base p));
+      images = images_with st.sizes (mappings f (λ p. if p == page then None else st.base p)) c None st.images;
+      promotions = st.promotions + promotions_in st.sizes (pages_of st) (mappings f (λ p. if p == page then None else st.base p));
+      demotions = st.demotions + demotions_in st.sizes (pages_of st) (mappings f (λ p. if p == page then None else st.base p));
     }
 
 module _ (old new : Kept) (page frame : ℕ) (same : SameRegions old new) (only : IsOnly old page) (resting : IsResting new)
@@ -145,7 +146,7 @@ module _ (old new : Kept) (page frame : ℕ) (same : SameRegions old new) (only 
             (λ p n. record { dirty = refl; words = λ i. refl; copies = refl; tied = λ i. refl })
             (λ p n. cond-false _ _ _ (ne_eqb p page n)) (cond-true _ _ _ this) (s.beside.dirty page out_of ∙ clean) (λ i. refl)
             (λ told is words. (s.beside.told told).copies page out_of (ap (is_page page) unpaged))
-            c (record { images = refl; promotions = refl; demotions = refl }) (λ p. said_gone (p == page) (st.flat.dirty p) (st.base p) (region_at st.flat.regions p) (st.flat.rights p)) s;
+            c (record { sizes = refl; images = refl; promotions = refl; demotions = refl }) (λ p. said_gone (p == page) (st.flat.dirty p) (st.base p) (region_at st.flat.regions p) (st.flat.rights p)) s;
       }
 
   -- the page's copy was written before, and the answer tells whether
@@ -168,5 +169,5 @@ module _ (old new : Kept) (page frame : ℕ) (same : SameRegions old new) (only 
             (λ p n. record { dirty = cond-false _ _ _ (ne_eqb p page n); words = λ i. refl; copies = cond-false _ _ _ (ne_eqb p page n); tied = λ i. refl })
             (λ p n. cond-false _ _ _ (ne_eqb p page n)) (cond-true _ _ _ this) (cond-true _ _ _ this) (λ i. refl)
             (λ told is words. rw (this, is.known) (λ i. words i ∙ is.equal i))
-            c (record { images = refl; promotions = refl; demotions = refl }) (λ p. said_out (p == page) (st.flat.dirty p) (st.base p) (region_at st.flat.regions p) (st.flat.rights p)) s);
+            c (record { sizes = refl; images = refl; promotions = refl; demotions = refl }) (λ p. said_out (p == page) (st.flat.dirty p) (st.base p) (region_at st.flat.regions p) (st.flat.rights p)) s);
       }

@@ -140,8 +140,8 @@ begins_refused old c call r can resting refused alone asked =
         allowed = λ st s number. record {
           reply = allowed_refused st c call r refused (asked st s);
           parts = frees-unlawful st call r (refusal-lawful r refused);
-          hit = ap (λ o. is_in_image (st.images c) (tile_at (pages_of st) o)) (sym (served-unlawful call r (refusal-lawful r refused)));
-          size = ap (λ o. option_map (λ (t : Tile). t.extent.size) (tile_at (pages_after st false (Answer number call (record { reply = r; hit = false; size = None }))) o)) (sym (served-unlawful call r (refusal-lawful r refused)));
+          hit = ap (λ o. is_in_image (st.images c) (tile_at st.sizes (pages_of st) o)) (sym (served-unlawful call r (refusal-lawful r refused)));
+          size = ap (λ o. option_map (λ (t : Tile). t.extent.size) (tile_at st.sizes (pages_after st false (Answer number call (record { reply = r; hit = false; size = None }))) o)) (sym (served-unlawful call r (refusal-lawful r refused)));
         };
         stands = λ st s number.
             let after = space_after st (answer_entry c number call (record { reply = r; hit = false; size = None })) in
@@ -167,7 +167,7 @@ begins_refused old c call r can resting refused alone asked =
               base = λ p. base-unnamed st.base call p ∙ s.base p;
               pages = is;
               translates = stays old old st after c
-                  (record { images = ap (λ o. images_with (pages_of after) c (tile_at (pages_of after) o) st.images) (served-unlawful call r (refusal-lawful r refused)); promotions = refl; demotions = refl })
+                  (record { sizes = refl; images = ap (λ o. images_with st.sizes (pages_of after) c (tile_at st.sizes (pages_of after) o) st.images) (served-unlawful call r (refusal-lawful r refused)); promotions = refl; demotions = refl })
                   s.translates s.pages is (record { images = refl; promotions = refl; demotions = refl }) (λ p. refl);
             };
       };

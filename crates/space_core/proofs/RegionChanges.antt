@@ -137,7 +137,7 @@ module _ (number : ℕ) (regions : List Region) (t : Table) (page len : ℕ) (ki
                   };
                   base = s.base;
                   pages = pages;
-                  translates = stays before after st then_st c (record { images = refl; promotions = refl; demotions = refl }) s.translates s.pages pages (record { images = refl; promotions = refl; demotions = refl }) (λ p. refl);
+                  translates = stays before after st then_st c (record { sizes = refl; images = refl; promotions = refl; demotions = refl }) s.translates s.pages pages (record { images = refl; promotions = refl; demotions = refl }) (λ p. refl);
                 };
           };
           memory = λ lacking. cc;
@@ -269,7 +269,7 @@ module _ (number : ℕ) (regions : List Region) (t : Table) (page by : ℕ) (ord
                   };
                   base = s.base;
                   pages = pages;
-                  translates = stays shorter_kept longer_kept st then_st c (record { images = refl; promotions = refl; demotions = refl }) s.translates s.pages pages (record { images = refl; promotions = refl; demotions = refl }) (λ p. refl);
+                  translates = stays shorter_kept longer_kept st then_st c (record { sizes = refl; images = refl; promotions = refl; demotions = refl }) s.translates s.pages pages (record { images = refl; promotions = refl; demotions = refl }) (λ p. refl);
                 };
           };
           memory = λ lacking. cc;
@@ -377,7 +377,7 @@ module _ (regions : List Region) (t u : Table) (page len : ℕ) (given : Rights)
                   };
                   base = base;
                   pages = pages;
-                  translates = retouches plain protected st then_st c (record { images = refl; promotions = refl; demotions = refl }) s.translates s.pages pages retouched;
+                  translates = retouches plain protected st then_st c (record { sizes = refl; images = refl; promotions = refl; demotions = refl }) s.translates s.pages pages retouched;
                 };
           };
           memory = λ lacking. cc;

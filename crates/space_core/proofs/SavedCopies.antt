@@ -8,7 +8,7 @@ use Rattle.pager_model.specs.Images.{images_with}
 use Rattle.pager_model.specs.Regions.{region_at}
 use Rattle.pager_model.specs.SpaceStates.{SpaceState, Next, pages_of, space_after}
 use Rattle.pager_model.specs.SpaceStates.Next.{Only}
-use Rattle.pager_model.specs.Tiles.{mappings, promotions_between, demotions_between}
+use Rattle.pager_model.specs.Tiles.{mappings, promotions_in, demotions_in}
 use Rattle.space_core.specs.Beginning.{SameRegions, SameFrames, FailsToWrite, LeavesUnwritten, WritesOut}
 use Rattle.space_core.specs.Pages.{Cleans}
 use Rattle.space_core.specs.Saving.{Saves, FailsToSave, LacksRoom, with_store}
@@ -30,15 +30,16 @@ dirty_resident t page dirty none = true≢false (sym dirty ∙ dirty_in-absent t
 abbrev pub with_flat : SpaceState → ℕ → Next → Flat → SpaceState
 with_flat st c next f =
     record {
+      sizes = st.sizes;
       flat = f;
       base = st.base;
       next = next;
       told = st.told;
       tied = st.tied;
       highest = st.highest;
-      images = images_with (mappings f st.base) c None st.images;
-      promotions = st.promotions + promotions_between (pages_of st) (mappings f st.base);
-      demotions = st.demotions + demotions_between (pages_of st) (mappings f st.base);
+      images = images_with st.sizes (mappings f st.base) c None st.images;
+      promotions = st.promotions + promotions_in st.sizes (pages_of st) (mappings f st.base);
+      demotions = st.demotions + demotions_in st.sizes (pages_of st) (mappings f st.base);
     }
 
 -- the state in which the page was paged out, with the next maker
@@ -205,8 +206,8 @@ module _ (old : Kept) (resting : IsResting old) where
         })
         (s.base page ∙ sym (frame page)) is
         (elim turned [
-          | inl retouched ↦ retouches old new st after c (record { images = refl; promotions = refl; demotions = refl }) s.translates s.pages is retouched
-          | inr still ↦ stays old new st after c (record { images = refl; promotions = refl; demotions = refl }) s.translates s.pages is still.0 still.1
+          | inl retouched ↦ retouches old new st after c (record { sizes = refl; images = refl; promotions = refl; demotions = refl }) s.translates s.pages is retouched
+          | inr still ↦ stays old new st after c (record { sizes = refl; images = refl; promotions = refl; demotions = refl }) s.translates s.pages is still.0 still.1
         ])
 
     -- the page is being evicted then
@@ -279,7 +280,7 @@ module _ (old : Kept) (resting : IsResting old) where
               (lost_here st (space_after st (failed_entry c old.number page true count)) refl
               (record { dirty = refl; words = λ i. refl; copies = cond-true _ _ _ (eq-eqb page page refl); tied = λ i. refl }) s)
               (s.base page ∙ sym ((store_frames old new fails.same).frame page)) (λ p. s.pages p ∙ sym (store_mapping old new fails.same p))
-              (stays old new st (space_after st (failed_entry c old.number page true count)) c (record { images = refl; promotions = refl; demotions = refl }) s.translates s.pages
+              (stays old new st (space_after st (failed_entry c old.number page true count)) c (record { sizes = refl; images = refl; promotions = refl; demotions = refl }) s.translates s.pages
               (λ p. s.pages p ∙ sym (store_mapping old new fails.same p)) (store_still old new fails.same) (store_mapping old new fails.same));
         }
 

@@ -14,7 +14,8 @@ use Rattle.pager_model.specs.Flat.{page_of, word_of, access_reply, reply_of, is_
 use Rattle.pager_model.specs.Images.{is_in_image}
 use Rattle.pager_model.specs.Regions.{region_at}
 use Rattle.pager_model.specs.SpaceStates.{SpaceState, IsResident, IsValue, IsWord, empty_state, pages_of, answered_flat, space_after}
-use Rattle.pager_model.specs.Tiles.{mapping_with, mappings, tile_of}
+use Rattle.pager_model.specs.SizeSets.{SizeSet, all_sizes}
+use Rattle.pager_model.specs.Tiles.{mapping_with, mappings, tile_of, tile_in}
 use Rattle.pager_model.proofs.Lists.{get_or-alike}
 use Rattle.space_core.specs.Beginning.{Places, Finishes, SameRegions}
 use Rattle.space_core.specs.Keeping.{IsKept, IsMapped}
@@ -182,7 +183,7 @@ module _ (number : ℕ) (regions : List Region) (t u : Table) (store : Stored) (
               };
               base = base;
               pages = pages;
-              translates = retouches lacking placed st after c (record { images = refl; promotions = refl; demotions = refl }) s.translates s.pages pages retouched;
+              translates = retouches lacking placed st after c (record { sizes = refl; images = refl; promotions = refl; demotions = refl }) s.translates s.pages pages retouched;
             };
       }
 
@@ -350,8 +351,10 @@ module _ (number : ℕ) (regions : List Region) (t : Table) (store : Stored) (im
                 λ lawful. resident_from st.base (page_of address) _ (s.base (page_of address)) resident,
               );
               parts = refl;
-              hit = ap (λ (ts : List Tile). is_in_image ts tile_here) (sym (s.translates.images c within)) ∙ ap (λ (ps : ℕ → Option Mapping). is_in_image (st.images c) (tile_of ps (page_of address))) (sym (whole st s));
-              size = ap (λ (ps : ℕ → Option Mapping). option_map (λ (x : Tile). x.extent.size) (tile_of ps (page_of address))) (sym (whole st s));
+              hit = ap (λ (ts : List Tile). is_in_image ts tile_here) (sym (s.translates.images c within)) ∙ ap (λ (ps : ℕ → Option Mapping). is_in_image (st.images c) (tile_of ps (page_of address))) (sym (whole st s))
+                  ∙ ap (λ (z : SizeSet). is_in_image (st.images c) (tile_in z (pages_of st) (page_of address))) (sym s.translates.sizes);
+              size = ap (λ (ps : ℕ → Option Mapping). option_map (λ (x : Tile). x.extent.size) (tile_of ps (page_of address))) (sym (whole st s))
+                  ∙ ap (λ (z : SizeSet). option_map (λ (x : Tile). x.extent.size) (tile_in z (pages_of st) (page_of address))) (sym s.translates.sizes);
             };
             stands = λ st s n. record {
               beside = record {
@@ -374,7 +377,7 @@ module _ (number : ℕ) (regions : List Region) (t : Table) (store : Stored) (im
               base = s.base;
               pages = s.pages;
               translates = stays_used loaded loaded (kept number regions t None None None store new_images promotions demotions broken) st (space_after st (answer_entry c n (Load number address) (record { reply = Value word; hit = is_in_image (image_at loaded c) tile_here; size = option_map (λ (x : Tile). x.extent.size) tile_here }))) c (page_of address)
-                  (record { images = refl; promotions = refl; demotions = refl }) s.translates s.pages s.pages touches (record { images = refl; promotions = refl; demotions = refl }) (λ p. refl);
+                  (record { sizes = refl; images = refl; promotions = refl; demotions = refl }) s.translates s.pages s.pages touches (record { images = refl; promotions = refl; demotions = refl }) (λ p. refl);
             };
           };
         }
@@ -473,9 +476,11 @@ module _ (number : ℕ) (regions : List Region) (t u : Table) (store : Stored) (
             allowed = λ st s n. record {
               reply = (asked st s, λ lawful. resident_from st.base (page_of address) _ (s.base (page_of address)) resident);
               parts = refl;
-              hit = ap (λ (ts : List Tile). is_in_image ts (tile_of (mapping_in t) (page_of address))) (sym (s.translates.images c within)) ∙ ap (λ (ps : ℕ → Option Mapping). is_in_image (st.images c) (tile_of ps (page_of address))) (sym (whole st s));
+              hit = ap (λ (ts : List Tile). is_in_image ts (tile_of (mapping_in t) (page_of address))) (sym (s.translates.images c within)) ∙ ap (λ (ps : ℕ → Option Mapping). is_in_image (st.images c) (tile_of ps (page_of address))) (sym (whole st s))
+                  ∙ ap (λ (z : SizeSet). is_in_image (st.images c) (tile_in z (pages_of st) (page_of address))) (sym s.translates.sizes);
               size = ap (λ (ps : ℕ → Option Mapping). option_map (λ (x : Tile). x.extent.size) (tile_of ps (page_of address)))
-                  (sym (let then_whole : pages_of (space_after st (answer_entry c n (Store number address word) (record { reply = Done; hit = is_in_image (image_at before c) (tile_of (mapping_in t) (page_of address)); size = option_map (λ (x : Tile). x.extent.size) tile_stored }))) ≡ mapping_in u = λ i p. pages_stored st s n (record { reply = Done; hit = is_in_image (image_at before c) (tile_of (mapping_in t) (page_of address)); size = option_map (λ (x : Tile). x.extent.size) tile_stored }) refl p i in then_whole));
+                  (sym (let then_whole : pages_of (space_after st (answer_entry c n (Store number address word) (record { reply = Done; hit = is_in_image (image_at before c) (tile_of (mapping_in t) (page_of address)); size = option_map (λ (x : Tile). x.extent.size) tile_stored }))) ≡ mapping_in u = λ i p. pages_stored st s n (record { reply = Done; hit = is_in_image (image_at before c) (tile_of (mapping_in t) (page_of address)); size = option_map (λ (x : Tile). x.extent.size) tile_stored }) refl p i in then_whole))
+                  ∙ ap (λ (z : SizeSet). option_map (λ (x : Tile). x.extent.size) (tile_in z (pages_of (space_after st (answer_entry c n (Store number address word) (record { reply = Done; hit = is_in_image (image_at before c) (tile_of (mapping_in t) (page_of address)); size = option_map (λ (x : Tile). x.extent.size) tile_stored })))) (page_of address))) (sym s.translates.sizes);
             };
             stands = λ st s n.
                 let then_st = space_after st (answer_entry c n (Store number address word) (record { reply = Done; hit = is_in_image (image_at before c) (tile_of (mapping_in t) (page_of address)); size = option_map (λ (x : Tile). x.extent.size) tile_stored })) in
@@ -509,8 +514,8 @@ module _ (number : ℕ) (regions : List Region) (t u : Table) (store : Stored) (
                   base = λ p. s.base p ∙ sym (frame_stored p);
                   pages = pages_stored st s n (record { reply = Done; hit = is_in_image (image_at before c) (tile_of (mapping_in t) (page_of address)); size = option_map (λ (x : Tile). x.extent.size) tile_stored }) refl;
                   translates = elim turned [
-                    | inl still ↦ stays_used before mid (kept number regions u None None None store new_images mid_promotions mid_demotions broken) st then_st c (page_of address) (record { images = refl; promotions = refl; demotions = refl }) s.translates s.pages (pages_stored st s n (record { reply = Done; hit = is_in_image (image_at before c) (tile_of (mapping_in t) (page_of address)); size = option_map (λ (x : Tile). x.extent.size) tile_stored }) refl) touches still.0 still.1
-                    | inr retouched ↦ retouches_used before mid (kept number regions u None None None store new_images mid_promotions mid_demotions broken) st then_st c (page_of address) (record { images = refl; promotions = refl; demotions = refl }) s.translates s.pages (pages_stored st s n (record { reply = Done; hit = is_in_image (image_at before c) (tile_of (mapping_in t) (page_of address)); size = option_map (λ (x : Tile). x.extent.size) tile_stored }) refl) touches retouched
+                    | inl still ↦ stays_used before mid (kept number regions u None None None store new_images mid_promotions mid_demotions broken) st then_st c (page_of address) (record { sizes = refl; images = refl; promotions = refl; demotions = refl }) s.translates s.pages (pages_stored st s n (record { reply = Done; hit = is_in_image (image_at before c) (tile_of (mapping_in t) (page_of address)); size = option_map (λ (x : Tile). x.extent.size) tile_stored }) refl) touches still.0 still.1
+                    | inr retouched ↦ retouches_used before mid (kept number regions u None None None store new_images mid_promotions mid_demotions broken) st then_st c (page_of address) (record { sizes = refl; images = refl; promotions = refl; demotions = refl }) s.translates s.pages (pages_stored st s n (record { reply = Done; hit = is_in_image (image_at before c) (tile_of (mapping_in t) (page_of address)); size = option_map (λ (x : Tile). x.extent.size) tile_stored }) refl) touches retouched
                   ];
                 };
           };
@@ -554,7 +559,7 @@ module _ (number frames processors : ℕ) (t : Table) (store : Stored) (fresh : 
   zero_word : (i : ℕ) → 0 ≡ slice_index_or zero_words i 0
   zero_word i = sym (get_or-alike 1024 i 0)
 
-  pub begins_empty : (told : Bool) → (told ≡ true → TellsZero store) → StandsFor begun (empty_state told store.faults)
+  pub begins_empty : (told : Bool) → (told ≡ true → TellsZero store) → StandsFor begun (empty_state all_sizes told store.faults)
   begins_empty told zero =
       record {
         beside = record {
@@ -573,5 +578,5 @@ module _ (number frames processors : ℕ) (t : Table) (store : Stored) (fresh : 
         };
         base = λ p. sym (frame_none p);
         pages = λ p. sym (fresh.none_resident p);
-        translates = record { images = λ c within. sym (no_image c); tiles = λ c within. refl; promotions = λ low. refl; demotions = λ low. refl };
+        translates = record { sizes = refl; images = λ c within. sym (no_image c); tiles = λ c within. refl; promotions = λ low. refl; demotions = λ low. refl };
       }

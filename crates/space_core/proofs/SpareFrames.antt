@@ -9,6 +9,7 @@ use Rattle.pager_model.specs.Frame.{Framed, zero_frame}
 use Rattle.pager_model.specs.declared.region.Region.{Region}
 use Rattle.pager_model.specs.declared.reply.Answered.{Answered}
 use Rattle.pager_model.specs.Regions.{in_range, region_at}
+use Rattle.pager_model.specs.SizeSets.{all_sizes}
 use Rattle.pager_model.specs.SpaceStates.{SpaceState, empty_state}
 use Rattle.space_core.specs.Beginning.{SameRegions, GaveUp, IsRange, NoneResident, ClearsOne, ClearsNone, Unmapped}
 use Rattle.space_core.specs.Spares.{HasSpare}
@@ -33,13 +34,13 @@ popped spare rest frame lowest ends =
     }
 
 -- all frames are spare for a space that has begun
-pub all_spare : (s : Kept) (spare : List Framed) (n : ℕ) → spare ≡ map zero_frame (range_with_len 0 n) → s.frames ≡ n → 0 < length s.images → IsResting s → StandsFor s (empty_state false s.store.faults) → HasSpare s spare
+pub all_spare : (s : Kept) (spare : List Framed) (n : ℕ) → spare ≡ map zero_frame (range_with_len 0 n) → s.frames ≡ n → 0 < length s.images → IsResting s → StandsFor s (empty_state all_sizes false s.store.faults) → HasSpare s spare
 all_spare s spare n frames count processor resting stands =
     let few : length spare ≡ n = ap length frames ∙ length-map-range_with_len zero_frame 0 n in
     record {
       resting = resting;
       processor = processor;
-      state = empty_state false s.store.faults;
+      state = empty_state all_sizes false s.store.faults;
       stands = stands;
       lowest = frames ∙ ap (λ (k : ℕ). map zero_frame (range_with_len 0 k)) (sym few);
       few = omega (arith, few, count);

@@ -18,29 +18,30 @@ use Rattle.pager_model.specs.Legal.{IsLegal, space_at}
 use Rattle.pager_model.specs.Regions.{region_at}
 use Rattle.pager_model.specs.Settings.{Given}
 use Rattle.pager_model.specs.SpaceStates.{SpaceState, SpaceAllows, WhatAllowed, ReplyAllowed, IsClearedAt, pages_of, pages_after, served_page, tile_at, used_tile, space_after}
-use Rattle.pager_model.specs.Tiles.{tile_of}
+use Rattle.pager_model.specs.SizeSets.{SizeSet}
+use Rattle.pager_model.specs.Tiles.{tile_in}
 use Rattle.pager_model.proofs.Histories.{space_at-named, space_at-other, IsLegal-keeps}
 use Rattle.space_core.specs.Translating.{HasHit, retiled}
 use Rattle.space_core.proofs.Translations.{IsUsed, still_again, touched_if, used_at}
 
 -- Images.
 
-used_served : (pages : ℕ → Option Mapping) (served : Option ℕ) → IsUsed pages (tile_at pages served)
-used_served pages None = tt
-used_served pages (Some page) = used_at pages page (tile_of pages page) refl
+used_served : (z : SizeSet) (pages : ℕ → Option Mapping) (served : Option ℕ) → IsUsed z pages (tile_at z pages served)
+used_served z pages None = tt
+used_served z pages (Some page) = used_at z pages page (tile_in z pages page) refl
 
-used_by : (pages : ℕ → Option Mapping) (what : What) → IsUsed pages (used_tile pages what)
-used_by pages (Answer number call answered) = used_served pages (served_page call answered.reply)
-used_by pages what = tt
+used_by : (z : SizeSet) (pages : ℕ → Option Mapping) (what : What) → IsUsed z pages (used_tile z pages what)
+used_by z pages (Answer number call answered) = used_served z pages (served_page call answered.reply)
+used_by z pages what = tt
 
 -- the images have tiles of the pages alone
 abbrev HaveTiles : SpaceState → Type 0
-HaveTiles st = (c : ℕ) → still_tiles (pages_of st) (st.images c) ≡ st.images c
+HaveTiles st = (c : ℕ) → still_tiles st.sizes (pages_of st) (st.images c) ≡ st.images c
 
 HaveTiles-after : (st : SpaceState) (e : Entry) → HaveTiles (space_after st e)
 HaveTiles-after st e c =
     let pages = pages_after st e.frames e.what in
-    touched_if pages (c == e.processor) (used_tile pages e.what) (still_tiles pages (st.images c)) (used_by pages e.what) (still_again pages (st.images c))
+    touched_if st.sizes pages (c == e.processor) (used_tile st.sizes pages e.what) (still_tiles st.sizes pages (st.images c)) (used_by st.sizes pages e.what) (still_again st.sizes pages (st.images c))
 
 pub HaveTiles-legal : (g : Given) (history : List Entry) (s : ℕ) → IsLegal g history → HaveTiles (space_at g history s)
 HaveTiles-legal g history s legal =
@@ -54,11 +55,11 @@ HaveTiles-legal g history s legal =
 
 -- Hits.
 
-hit_of : (st : SpaceState) (c : ℕ) (served : Option ℕ) → is_in_image (st.images c) (tile_at (pages_of st) served) ≡ true → HasHit st c served
+hit_of : (st : SpaceState) (c : ℕ) (served : Option ℕ) → is_in_image (st.images c) (tile_at st.sizes (pages_of st) served) ≡ true → HasHit st c served
 hit_of st c None hit = absurd (false≢true hit)
-hit_of st c (Some page) hit = of_tile (tile_of (pages_of st) page) refl hit
+hit_of st c (Some page) hit = of_tile (tile_in st.sizes (pages_of st) page) refl hit
   where
-    of_tile : (o : Option Tile) → tile_of (pages_of st) page ≡ o → is_in_image (st.images c) o ≡ true → HasHit st c (Some page)
+    of_tile : (o : Option Tile) → tile_in st.sizes (pages_of st) page ≡ o → is_in_image (st.images c) o ≡ true → HasHit st c (Some page)
     of_tile None at is = absurd (false≢true is)
     of_tile (Some t) at is = record { tile = t; at = at; in_image = is }
 

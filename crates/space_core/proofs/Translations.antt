@@ -1,5 +1,5 @@
 -- What becomes of what a space and a state have in common of translations, as pages change and tiles are used.
-use Rattle.std.proofs.Common.{◌≡◌, ℕ, zero, suc, ◌+◌, ◌*◌, ◌^◌, ◌<◌, ◌≤◌, Bool, true, false, ◌&&◌, ◌==◌, not, nat_lt, min, if◌then◌else◌, List, [], ◌∷◌, filter, take, map, length, slice_index_or, slice_set, Option, Some, None, is_some, option_map, refl, sym, ap, inl, inr, ◌∙◌, arith}
+use Rattle.std.proofs.Common.{◌≡◌, ℕ, zero, suc, ◌+◌, ◌*◌, ◌^◌, ◌<◌, ◌≤◌, Bool, true, false, ◌&&◌, ◌==◌, not, nat_lt, min, if◌then◌else◌, List, [], ◌∷◌, filter, take, map, length, slice_index_or, slice_set, Option, Some, None, is_some, option_map, refl, sym, ap, subst, inl, inr, ◌∙◌, arith}
 use Rattle.std.specs.List.{list_all}
 use Rattle.std.proofs.lemmas.Bool.{cases_Bool, cases_eq, cases_lt, and_parts, cond-true, cond-false, eq-eqb, ne_eqb}
 use Rattle.std.proofs.lemmas.Bool.Decides.{nat_tests}
@@ -10,12 +10,11 @@ use Rattle.pager_model.specs.declared.region.Region.{Region}
 use Rattle.pager_model.specs.declared.region.Rights.{Rights}
 use Rattle.pager_model.specs.declared.tile.Mapping.{Mapping}
 use Rattle.pager_model.specs.declared.tile.Tile.{Tile}
-use Rattle.pager_model.specs.Extents.{extent_start}
 use Rattle.pager_model.specs.Images.{image_room, still_tiles, touched, touched_by, images_with}
 use Rattle.pager_model.specs.Regions.{region_at}
 use Rattle.pager_model.specs.SpaceStates.{SpaceState, last_count, pages_of}
-use Rattle.pager_model.specs.Tiles.{mapping_with, same_tile, tile_of, is_tile, promotions_between, demotions_between}
-use Rattle.pager_model.proofs.ExtentLemmas.{first_of_extent}
+use Rattle.pager_model.specs.SizeSets.{SizeSet, all_sizes}
+use Rattle.pager_model.specs.Tiles.{mapping_with, same_tile, tile_of, tile_in, is_tile_in, promotions_between, demotions_between, promotions_in, demotions_in}
 use Rattle.space_core.specs.Keeping.{IsMapped}
 use Rattle.space_core.specs.Standing.{Kept, Translates, image_at, frame_at, dirty_at, rights_at, rights_by}
 use Rattle.space_core.specs.Tables.{Table, mapping_in, own_in}
@@ -24,8 +23,8 @@ use Rattle.space_core.proofs.TableLemmas.{frame-absent, frame-mapped, dirty-mapp
 use Rattle.tiles.specs.declared.moves.Moves.{Moves}
 use Rattle.tiles.specs.Resident.{AreMoves, with_flag}
 use Rattle.tiles.proofs.Cleared.{no_promotions, no_demotions}
-use Rattle.tiles.proofs.TileLaws.{tile_largest, largest_tile}
-use Rattle.tlb_images.proofs.ImageLemmas.{filter-all, same_tile-refl}
+use Rattle.space_core.proofs.TilesInSizes.{tile_is}
+use Rattle.tlb_images.proofs.ImageLemmas.{filter-all}
 
 -- Lists of tiles.
 
@@ -53,44 +52,33 @@ all_taken test (suc n) (t ∷ ts) h =
     let parts = and_parts _ _ h in ap (λ b. b && list_all test (take n ts)) parts.0 ∙ all_taken test n ts parts.1
 
 -- what was a tile of these pages still is one
-pub still_again : (pages : ℕ → Option Mapping) (ts : List Tile) → still_tiles pages (still_tiles pages ts) ≡ still_tiles pages ts
-still_again pages ts = filter-all (is_tile pages) (still_tiles pages ts) (all_filtered (is_tile pages) ts)
+pub still_again : (z : SizeSet) (pages : ℕ → Option Mapping) (ts : List Tile) → still_tiles z pages (still_tiles z pages ts) ≡ still_tiles z pages ts
+still_again z pages ts = filter-all (is_tile_in z pages) (still_tiles z pages ts) (all_filtered (is_tile_in z pages) ts)
 
 -- a tile of these pages, where there is one
-abbrev pub IsUsed : (ℕ → Option Mapping) → Option Tile → Type 0
-IsUsed pages None = Unit {0}
-IsUsed pages (Some t) = is_tile pages t ≡ true
+abbrev pub IsUsed : SizeSet → (ℕ → Option Mapping) → Option Tile → Type 0
+IsUsed z pages None = Unit {0}
+IsUsed z pages (Some t) = is_tile_in z pages t ≡ true
 
-touched_kept : (pages : ℕ → Option Mapping) (o : Option Tile) (ts : List Tile) → IsUsed pages o → still_tiles pages ts ≡ ts → still_tiles pages (touched_by o ts) ≡ touched_by o ts
-touched_kept pages None ts is kept = kept
-touched_kept pages (Some t) ts is kept =
-    let others = all_still (is_tile pages) (λ u. not (same_tile t u)) ts (ap (list_all (is_tile pages)) (sym kept) ∙ all_filtered (is_tile pages) ts) in
-    filter-all (is_tile pages) (touched t ts) (all_taken (is_tile pages) image_room (t ∷ filter (λ u. not (same_tile t u)) ts) (ap (λ b. b && list_all (is_tile pages) (filter (λ u. not (same_tile t u)) ts)) is ∙ others))
+touched_kept : (z : SizeSet) (pages : ℕ → Option Mapping) (o : Option Tile) (ts : List Tile) → IsUsed z pages o → still_tiles z pages ts ≡ ts → still_tiles z pages (touched_by o ts) ≡ touched_by o ts
+touched_kept z pages None ts is kept = kept
+touched_kept z pages (Some t) ts is kept =
+    let others = all_still (is_tile_in z pages) (λ u. not (same_tile t u)) ts (ap (list_all (is_tile_in z pages)) (sym kept) ∙ all_filtered (is_tile_in z pages) ts) in
+    filter-all (is_tile_in z pages) (touched t ts) (all_taken (is_tile_in z pages) image_room (t ∷ filter (λ u. not (same_tile t u)) ts) (ap (λ b. b && list_all (is_tile_in z pages) (filter (λ u. not (same_tile t u)) ts)) is ∙ others))
 
 -- one processor used a tile, or none
-pub touched_if : (pages : ℕ → Option Mapping) (here : Bool) (o : Option Tile) (ts : List Tile) → IsUsed pages o → still_tiles pages ts ≡ ts → still_tiles pages (touched_by (if here then o else None) ts) ≡ touched_by (if here then o else None) ts
-touched_if pages true o ts is kept = touched_kept pages o ts is kept
-touched_if pages false o ts is kept = kept
+pub touched_if : (z : SizeSet) (pages : ℕ → Option Mapping) (here : Bool) (o : Option Tile) (ts : List Tile) → IsUsed z pages o → still_tiles z pages ts ≡ ts → still_tiles z pages (touched_by (if here then o else None) ts) ≡ touched_by (if here then o else None) ts
+touched_if z pages true o ts is kept = touched_kept z pages o ts is kept
+touched_if z pages false o ts is kept = kept
 
 untouched : (here : Bool) (ts : List Tile) → touched_by (if here then None else None) ts ≡ ts
 untouched true ts = refl
 untouched false ts = refl
 
 -- the tile of a page is a tile
-tile_is : (pages : ℕ → Option Mapping) (page : ℕ) (t : Tile) → tile_of pages page ≡ Some t → is_tile pages t ≡ true
-tile_is pages page t at =
-    let largest = tile_largest pages page t at in
-    let size = t.extent.size in
-    let start : extent_start size t.extent.first ≡ t.extent.first = ap (extent_start size) (sym largest.1) ∙ ap (λ n. n * 8 ^ size) (first_of_extent size page) ∙ largest.1 in
-    ap (is_that t) (largest_tile pages t.extent.first t largest.0 start) ∙ same_tile-refl t
-  where
-    is_that : Tile → Option Tile → Bool
-    is_that t None = false
-    is_that t (Some u) = same_tile t u
-
-pub used_at : (pages : ℕ → Option Mapping) (page : ℕ) (o : Option Tile) → tile_of pages page ≡ o → IsUsed pages o
-used_at pages page None at = tt
-used_at pages page (Some t) at = tile_is pages page t at
+pub used_at : (z : SizeSet) (pages : ℕ → Option Mapping) (page : ℕ) (o : Option Tile) → tile_in z pages page ≡ o → IsUsed z pages o
+used_at z pages page None at = tt
+used_at z pages page (Some t) at = tile_is z pages page t at
 
 -- a count that stands still at its type's end is the whole count, as long as that is in the type
 counted_to : (last kept count by : ℕ) → (count ≤ last → kept ≡ count) → count + by ≤ last → (if nat_lt (kept + by) last then kept + by else last) ≡ count + by
@@ -113,9 +101,26 @@ same_count last kept count total by none same is low = omega (arith, same (omega
 -- What an entry of a processor makes of a state's translations: the images keep what is a tile still, the processor used this tile, or none,
 -- and the moves of the pages are counted.
 pub record Follows (st after : SpaceState) (c : ℕ) (tile : Option Tile) : Type 0 where
-  pub images : after.images ≡ images_with (pages_of after) c tile st.images
-  pub promotions : after.promotions ≡ st.promotions + promotions_between (pages_of st) (pages_of after)
-  pub demotions : after.demotions ≡ st.demotions + demotions_between (pages_of st) (pages_of after)
+  pub sizes : after.sizes ≡ st.sizes
+  pub images : after.images ≡ images_with st.sizes (pages_of after) c tile st.images
+  pub promotions : after.promotions ≡ st.promotions + promotions_in st.sizes (pages_of st) (pages_of after)
+  pub demotions : after.demotions ≡ st.demotions + demotions_in st.sizes (pages_of st) (pages_of after)
+
+-- the same where there are all four sizes
+record FollowsAll (st after : SpaceState) (c : ℕ) (tile : Option Tile) : Type 0 where
+  sizes : after.sizes ≡ all_sizes
+  images : after.images ≡ images_with all_sizes (pages_of after) c tile st.images
+  promotions : after.promotions ≡ st.promotions + promotions_between (pages_of st) (pages_of after)
+  demotions : after.demotions ≡ st.demotions + demotions_between (pages_of st) (pages_of after)
+
+follows_all : (st after : SpaceState) (c : ℕ) (tile : Option Tile) → st.sizes ≡ all_sizes → Follows st after c tile → FollowsAll st after c tile
+follows_all st after c tile all f =
+    record {
+      sizes = f.sizes ∙ all;
+      images = f.images ∙ ap (λ (z : SizeSet). images_with z (pages_of after) c tile st.images) all;
+      promotions = f.promotions ∙ ap (λ (z : SizeSet). st.promotions + promotions_in z (pages_of st) (pages_of after)) all;
+      demotions = f.demotions ∙ ap (λ (z : SizeSet). st.demotions + demotions_in z (pages_of st) (pages_of after)) all;
+    }
 
 -- the images and the counts are as before
 pub record Still (old new : Kept) : Type 0 where
@@ -127,6 +132,7 @@ pub record Still (old new : Kept) : Type 0 where
 pub same_translates : (old new : Kept) (st : SpaceState) → Still old new → Translates old st → Translates new st
 same_translates old new st still s =
     record {
+      sizes = s.sizes;
       images = λ c within. s.images c (omega (arith, ap length still.images)) ∙ ap (λ (is : List (List Tile)). slice_index_or is c []) (sym still.images);
       tiles = λ c within. s.tiles c (omega (arith, ap length still.images));
       promotions = λ low. still.promotions ∙ s.promotions low;
@@ -134,8 +140,11 @@ same_translates old new st still s =
     }
 
 -- The pages of a state become the space's.
-module _ (old new : Kept) (st after : SpaceState) (c : ℕ) (tile : Option Tile) (follows : Follows st after c tile) (used : IsUsed (pages_of after) tile)
+module _ (old new : Kept) (st after : SpaceState) (c : ℕ) (tile : Option Tile) (known : Follows st after c tile) (used : IsUsed all_sizes (pages_of after) tile)
     (s : Translates old st) (was : (p : ℕ) → pages_of st p ≡ mapping_in old.table p) (is : (p : ℕ) → pages_of after p ≡ mapping_in new.table p) where
+  follows : FollowsAll st after c tile
+  follows = follows_all st after c tile s.sizes known
+
   pages_before : pages_of st ≡ mapping_in old.table
   pages_before i p = was p i
 
@@ -148,25 +157,26 @@ module _ (old new : Kept) (st after : SpaceState) (c : ℕ) (tile : Option Tile)
   broken : demotions_between (pages_of st) (pages_of after) ≡ demotions_between (mapping_in old.table) (mapping_in new.table)
   broken = ap (λ (ps : ℕ → Option Mapping). demotions_between ps (pages_of after)) pages_before ∙ ap (λ (ps : ℕ → Option Mapping). demotions_between (mapping_in old.table) ps) pages_then
 
-  image_then : (i : ℕ) → i < length old.images → after.images i ≡ touched_by (if i == c then tile else None) (still_tiles (mapping_in new.table) (image_at old i))
+  image_then : (i : ℕ) → i < length old.images → after.images i ≡ touched_by (if i == c then tile else None) (still_tiles all_sizes (mapping_in new.table) (image_at old i))
   image_then i within =
       ap (λ (f : ℕ → List Tile). f i) follows.images
-      ∙ ap (λ (ps : ℕ → Option Mapping). touched_by (if i == c then tile else None) (still_tiles ps (st.images i))) pages_then
-      ∙ ap (λ (ts : List Tile). touched_by (if i == c then tile else None) (still_tiles (mapping_in new.table) ts)) (s.images i within)
+      ∙ ap (λ (ps : ℕ → Option Mapping). touched_by (if i == c then tile else None) (still_tiles all_sizes ps (st.images i))) pages_then
+      ∙ ap (λ (ts : List Tile). touched_by (if i == c then tile else None) (still_tiles all_sizes (mapping_in new.table) ts)) (s.images i within)
 
-  tiles_then : (i : ℕ) → still_tiles (pages_of after) (after.images i) ≡ after.images i
+  tiles_then : (i : ℕ) → still_tiles all_sizes (pages_of after) (after.images i) ≡ after.images i
   tiles_then i =
-      let at : after.images i ≡ touched_by (if i == c then tile else None) (still_tiles (pages_of after) (st.images i)) = ap (λ (f : ℕ → List Tile). f i) follows.images in
-      rw at (touched_if (pages_of after) (i == c) tile (still_tiles (pages_of after) (st.images i)) used (still_again (pages_of after) (st.images i)))
+      let at : after.images i ≡ touched_by (if i == c then tile else None) (still_tiles all_sizes (pages_of after) (st.images i)) = ap (λ (f : ℕ → List Tile). f i) follows.images in
+      rw at (touched_if all_sizes (pages_of after) (i == c) tile (still_tiles all_sizes (pages_of after) (st.images i)) used (still_again all_sizes (pages_of after) (st.images i)))
 
   -- the pages changed, and the moves were counted
   pub translates_moved : length new.images ≡ length old.images
-      → ((i : ℕ) → i < length old.images → image_at new i ≡ touched_by (if i == c then tile else None) (still_tiles (mapping_in new.table) (image_at old i)))
+      → ((i : ℕ) → i < length old.images → image_at new i ≡ touched_by (if i == c then tile else None) (still_tiles all_sizes (mapping_in new.table) (image_at old i)))
       → new.promotions ≡ counted_up old.promotions (promotions_between (mapping_in old.table) (mapping_in new.table))
       → new.demotions ≡ counted_up old.demotions (demotions_between (mapping_in old.table) (mapping_in new.table))
       → Translates new after
   translates_moved processors images promotions demotions =
       record {
+        sizes = follows.sizes;
         images = λ i within. image_then i (omega (arith, processors)) ∙ sym (images i (omega (arith, processors)));
         tiles = λ i within. tiles_then i;
         promotions = λ low. promotions ∙ ap (counted_up old.promotions) (sym between) ∙ counted_to last_count old.promotions st.promotions _ s.promotions (omega (arith, follows.promotions, low)) ∙ sym follows.promotions;
@@ -180,11 +190,12 @@ module _ (old new : Kept) (st after : SpaceState) (c : ℕ) (tile : Option Tile)
   translates_still processors same images promotions demotions =
       let pages : (p : ℕ) → mapping_in new.table p ≡ pages_of st p = λ p. same p ∙ sym (was p) in
       let whole : mapping_in new.table ≡ pages_of st = λ i p. pages p i in
-      let kept : (i : ℕ) → i < length old.images → still_tiles (mapping_in new.table) (image_at old i) ≡ image_at old i = λ i within.
-      ap (λ (ps : ℕ → Option Mapping). still_tiles ps (image_at old i)) whole ∙ ap (still_tiles (pages_of st)) (sym (s.images i within)) ∙ s.tiles i within ∙ s.images i within in
+      let kept : (i : ℕ) → i < length old.images → still_tiles all_sizes (mapping_in new.table) (image_at old i) ≡ image_at old i = λ i within.
+      ap (λ (ps : ℕ → Option Mapping). still_tiles all_sizes ps (image_at old i)) whole ∙ ap (still_tiles all_sizes (pages_of st)) (sym (s.images i within)) ∙ s.tiles i within ∙ s.images i within in
       let none : promotions_between (pages_of st) (pages_of after) ≡ 0 = no_promotions (pages_of st) (pages_of after) (λ p. is p ∙ pages p) in
       let none_broken : demotions_between (pages_of st) (pages_of after) ≡ 0 = no_demotions (pages_of st) (pages_of after) (λ p. is p ∙ pages p) in
       record {
+        sizes = follows.sizes;
         images = λ i within.
             let w : i < length old.images = omega (arith, processors) in
             image_then i w ∙ ap (touched_by (if i == c then tile else None)) (kept i w) ∙ sym (images i w);
@@ -207,22 +218,24 @@ module _ (old new : Kept) (st after : SpaceState) (c : ℕ) (follows : Follows s
   pub retouches : Retouches old new → Translates new after
   retouches retouched =
       translates_moved old new st after c None follows tt s was is retouched.processors
-      (λ i within. retouched.images i within ∙ sym (untouched (i == c) (still_tiles (mapping_in new.table) (image_at old i))))
+      (λ i within. retouched.images i within ∙ sym (untouched (i == c) (still_tiles all_sizes (mapping_in new.table) (image_at old i))))
       retouched.promotions retouched.demotions
 
 -- The pages of a region were cleared one after another: their tiles were counted before, and the images keep what is a tile still.
 pub translates_cleared : (old new : Kept) (st after : SpaceState) (c lost : ℕ) → Follows st after c None → Translates old st → ((p : ℕ) → pages_of after p ≡ mapping_in new.table p)
-    → length new.images ≡ length old.images → ((i : ℕ) → i < length old.images → image_at new i ≡ still_tiles (mapping_in new.table) (image_at old i))
+    → length new.images ≡ length old.images → ((i : ℕ) → i < length old.images → image_at new i ≡ still_tiles all_sizes (mapping_in new.table) (image_at old i))
     → promotions_between (pages_of st) (pages_of after) ≡ 0 → demotions_between (pages_of st) (pages_of after) ≡ lost
     → new.promotions ≡ old.promotions → new.demotions ≡ counted_up old.demotions lost → Translates new after
-translates_cleared old new st after c lost follows s is processors images none broken promotions demotions =
+translates_cleared old new st after c lost known s is processors images none broken promotions demotions =
+    let follows : FollowsAll st after c None = follows_all st after c None s.sizes known in
     let whole : pages_of after ≡ mapping_in new.table = λ i p. is p i in
-    let at : (i : ℕ) → after.images i ≡ still_tiles (pages_of after) (st.images i) = λ i. ap (λ (f : ℕ → List Tile). f i) follows.images ∙ untouched (i == c) (still_tiles (pages_of after) (st.images i)) in
+    let at : (i : ℕ) → after.images i ≡ still_tiles all_sizes (pages_of after) (st.images i) = λ i. ap (λ (f : ℕ → List Tile). f i) follows.images ∙ untouched (i == c) (still_tiles all_sizes (pages_of after) (st.images i)) in
     record {
+      sizes = follows.sizes;
       images = λ i within.
           let w : i < length old.images = omega (arith, processors) in
-          at i ∙ ap (λ (ps : ℕ → Option Mapping). still_tiles ps (st.images i)) whole ∙ ap (still_tiles (mapping_in new.table)) (s.images i w) ∙ sym (images i w);
-      tiles = λ i within. rw (at i) (still_again (pages_of after) (st.images i));
+          at i ∙ ap (λ (ps : ℕ → Option Mapping). still_tiles all_sizes ps (st.images i)) whole ∙ ap (still_tiles all_sizes (mapping_in new.table)) (s.images i w) ∙ sym (images i w);
+      tiles = λ i within. rw (at i) (still_again all_sizes (pages_of after) (st.images i));
       promotions = λ low. promotions ∙ same_count last_count old.promotions st.promotions after.promotions _ none s.promotions follows.promotions low;
       demotions = λ low.
           let total : after.demotions ≡ st.demotions + lost = follows.demotions ∙ ap (λ n. st.demotions + n) broken in
@@ -230,8 +243,11 @@ translates_cleared old new st after c lost follows s is processors images none b
     }
 
 -- And where the processor used a page's tile then.
-module _ (old mid new : Kept) (st after : SpaceState) (c page : ℕ) (follows : Follows st after c (tile_of (pages_of after) page)) (s : Translates old st)
+module _ (old mid new : Kept) (st after : SpaceState) (c page : ℕ) (known : Follows st after c (tile_in st.sizes (pages_of after) page)) (s : Translates old st)
     (was : (p : ℕ) → pages_of st p ≡ mapping_in old.table p) (is : (p : ℕ) → pages_of after p ≡ mapping_in new.table p) (touches : Touches mid new c (tile_of (mapping_in mid.table) page)) where
+  follows_used : Follows st after c (tile_of (pages_of after) page)
+  follows_used = subst (λ (z : SizeSet). Follows st after c (tile_in z (pages_of after) page)) s.sizes known
+
   same_table : new.table ≡ mid.table
   same_table = ap (λ (k : Kept). k.table) touches.same
 
@@ -239,32 +255,32 @@ module _ (old mid new : Kept) (st after : SpaceState) (c page : ℕ) (follows : 
   used_tile_is =
       ap (λ (t : Table). tile_of (mapping_in t) page) (sym same_table) ∙ sym (ap (λ (ps : ℕ → Option Mapping). tile_of ps page) (let whole : pages_of after ≡ mapping_in new.table = λ i p. is p i in whole))
 
-  is_used : IsUsed (pages_of after) (tile_of (pages_of after) page)
-  is_used = used_at (pages_of after) page (tile_of (pages_of after) page) refl
+  is_used : IsUsed all_sizes (pages_of after) (tile_of (pages_of after) page)
+  is_used = used_at all_sizes (pages_of after) page (tile_of (pages_of after) page) refl
 
   image_used : (i : ℕ) → i < length mid.images → image_at new i ≡ touched_by (if i == c then tile_of (pages_of after) page else None) (image_at mid i)
   image_used i within = touches.images i within ∙ ap (λ (o : Option Tile). touched_by (if i == c then o else None) (image_at mid i)) used_tile_is
 
   pub stays_used : Still old mid → ((p : ℕ) → mapping_in mid.table p ≡ mapping_in old.table p) → Translates new after
   stays_used still same =
-      translates_still old new st after c (tile_of (pages_of after) page) follows is_used s was is (touches.processors ∙ ap length still.images)
+      translates_still old new st after c (tile_of (pages_of after) page) follows_used is_used s was is (touches.processors ∙ ap length still.images)
       (λ p. ap (λ (t : Table). mapping_in t p) same_table ∙ same p)
       (λ i within. image_used i (omega (arith, ap length still.images)) ∙ ap (λ (ts : List (List Tile)). touched_by (if i == c then tile_of (pages_of after) page else None) (slice_index_or ts i [])) still.images)
       (ap (λ (k : Kept). k.promotions) touches.same ∙ still.promotions) (ap (λ (k : Kept). k.demotions) touches.same ∙ still.demotions)
 
   pub retouches_used : Retouches old mid → Translates new after
   retouches_used retouched =
-      translates_moved old new st after c (tile_of (pages_of after) page) follows is_used s was is (touches.processors ∙ retouched.processors)
-      (λ i within. image_used i (omega (arith, retouched.processors)) ∙ ap (touched_by (if i == c then tile_of (pages_of after) page else None)) (retouched.images i within ∙ ap (λ (t : Table). still_tiles (mapping_in t) (image_at old i)) (sym same_table)))
+      translates_moved old new st after c (tile_of (pages_of after) page) follows_used is_used s was is (touches.processors ∙ retouched.processors)
+      (λ i within. image_used i (omega (arith, retouched.processors)) ∙ ap (touched_by (if i == c then tile_of (pages_of after) page else None)) (retouched.images i within ∙ ap (λ (t : Table). still_tiles all_sizes (mapping_in t) (image_at old i)) (sym same_table)))
       (ap (λ (k : Kept). k.promotions) touches.same ∙ retouched.promotions ∙ ap (λ (t : Table). counted_up old.promotions (promotions_between (mapping_in old.table) (mapping_in t))) (sym same_table))
       (ap (λ (k : Kept). k.demotions) touches.same ∙ retouched.demotions ∙ ap (λ (t : Table). counted_up old.demotions (demotions_between (mapping_in old.table) (mapping_in t))) (sym same_table))
 
 -- the moves were counted, and the images keep what is a tile still
-pub retouched_by : (old new : Kept) (moves : Moves) → AreMoves old.table.pages new.table.pages moves → new.images ≡ map (still_tiles (mapping_in new.table)) old.images → new.promotions ≡ counted_up old.promotions moves.promotions → new.demotions ≡ counted_up old.demotions moves.demotions → Retouches old new
+pub retouched_by : (old new : Kept) (moves : Moves) → AreMoves old.table.pages new.table.pages moves → new.images ≡ map (still_tiles all_sizes (mapping_in new.table)) old.images → new.promotions ≡ counted_up old.promotions moves.promotions → new.demotions ≡ counted_up old.demotions moves.demotions → Retouches old new
 retouched_by old new moves are images promotions demotions =
     record {
-      processors = ap length images ∙ length-map old.images (still_tiles (mapping_in new.table));
-      images = λ c within. ap (λ (ts : List (List Tile)). slice_index_or ts c []) images ∙ get_or-map (still_tiles (mapping_in new.table)) old.images c [] [] within;
+      processors = ap length images ∙ length-map old.images (still_tiles all_sizes (mapping_in new.table));
+      images = λ c within. ap (λ (ts : List (List Tile)). slice_index_or ts c []) images ∙ get_or-map (still_tiles all_sizes (mapping_in new.table)) old.images c [] [] within;
       promotions = promotions ∙ ap (counted_up old.promotions) are.promotions;
       demotions = demotions ∙ ap (counted_up old.demotions) are.demotions;
     }

@@ -13,6 +13,7 @@ use Rattle.pager_model.specs.declared.tile.Tile.{Tile}
 use Rattle.pager_model.specs.Flat.{page_of, can_read, can_write, space_of_call}
 use Rattle.pager_model.specs.Regions.{in_range, region_at, is_wired}
 use Rattle.pager_model.specs.Images.{still_tiles}
+use Rattle.pager_model.specs.SizeSets.{all_sizes}
 use Rattle.pager_model.specs.SpaceStates.{SpaceState, pages_of, last_count}
 use Rattle.pager_model.specs.TraceText.{IsCall}
 use Rattle.space_core.specs.Tables.{Table, mapping_in, frame_in, word_in, own_in, dirty_in}
@@ -130,11 +131,12 @@ pub record StandsBeside (aside : ℕ → Bool) (kept : Kept) (state : SpaceState
   -- no fault that was told is above those that the store had
   pub highest : state.highest ≤ kept.store.faults
 
--- What a space and a state have in common of translations: each processor's image, which has tiles of the resident pages alone; and the
+-- What a space and a state have in common of translations: all four sizes of pages; each processor's image, which has tiles of the resident pages alone; and the
 -- counts of promotions and demotions, up to their type's end.
 pub record Translates (kept : Kept) (state : SpaceState) : Type 0 where
+  pub sizes : state.sizes ≡ all_sizes
   pub images : (c : ℕ) → c < length kept.images → state.images c ≡ image_at kept c
-  pub tiles : (c : ℕ) → c < length kept.images → still_tiles (pages_of state) (state.images c) ≡ state.images c
+  pub tiles : (c : ℕ) → c < length kept.images → still_tiles all_sizes (pages_of state) (state.images c) ≡ state.images c
   pub promotions : state.promotions ≤ last_count → kept.promotions ≡ state.promotions
   pub demotions : state.demotions ≤ last_count → kept.demotions ≡ state.demotions
 

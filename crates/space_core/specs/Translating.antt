@@ -5,7 +5,8 @@ use Rattle.pager_model.specs.declared.tile.Tile.{Tile}
 use Rattle.pager_model.specs.Images.{is_in_image, still_tiles, touched_by}
 use Rattle.pager_model.specs.Regions.{region_at}
 use Rattle.pager_model.specs.SpaceStates.{SpaceState, last_count, pages_of}
-use Rattle.pager_model.specs.Tiles.{tile_of, promotions_between, demotions_between}
+use Rattle.pager_model.specs.SizeSets.{all_sizes}
+use Rattle.pager_model.specs.Tiles.{tile_in, promotions_between, demotions_between}
 use Rattle.space_core.specs.Pages.{Cleans}
 use Rattle.space_core.specs.Standing.{Kept, image_at, dirty_at, is_clearing}
 use Rattle.space_core.specs.Tables.{mapping_in}
@@ -18,7 +19,7 @@ counted_up count by = if nat_lt (count + by) last_count then count + by else las
 -- The pages changed: each image keeps what is a tile still, and the moves are counted.
 pub record Retouches (old new : Kept) : Type 0 where
   pub processors : length new.images ≡ length old.images
-  pub images : (c : ℕ) → c < length old.images → image_at new c ≡ still_tiles (mapping_in new.table) (image_at old c)
+  pub images : (c : ℕ) → c < length old.images → image_at new c ≡ still_tiles all_sizes (mapping_in new.table) (image_at old c)
   pub promotions : new.promotions ≡ counted_up old.promotions (promotions_between (mapping_in old.table) (mapping_in new.table))
   pub demotions : new.demotions ≡ counted_up old.demotions (demotions_between (mapping_in old.table) (mapping_in new.table))
 
@@ -49,7 +50,7 @@ pub record BeginsClear (old new : Kept) (first len : ℕ) : Type 0 where
 -- the page's tile stands in the processor's image
 pub record HitAt (st : SpaceState) (processor page : ℕ) : Type 0 where
   pub tile : Tile
-  pub at : tile_of (pages_of st) page ≡ Some tile
+  pub at : tile_in st.sizes (pages_of st) page ≡ Some tile
   pub in_image : is_in_image (st.images processor) (Some tile) ≡ true
 
 abbrev pub HasHit : SpaceState → ℕ → Option ℕ → Type 0

@@ -91,7 +91,7 @@ pub fn an_answer_without_service_changes_nothing()
 pub fn an_image_has_tiles_alone()
     ensures { (g : Given) (history : List Entry) (s c : ℕ)
         → IsLegal g history
-        → still_tiles (pages_of (space_at g history s)) ((space_at g history s).images c) ≡ (space_at g history s).images c }
+        → still_tiles (space_at g history s).sizes (pages_of (space_at g history s)) ((space_at g history s).images c) ≡ (space_at g history s).images c }
 {}
 
 /// A hit is told only of a page whose tile, as it was before the access, stood in its processor's image.

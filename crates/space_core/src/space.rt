@@ -4,6 +4,7 @@ ghost use Rattle.pager_model.specs.Flat.{page_of, space_of_call};
 ghost use Rattle.pager_model.specs.Order.{is_access};
 ghost use Rattle.pager_model.specs.Images.{is_in_image, still_tiles, touched};
 ghost use Rattle.pager_model.specs.Regions.{region_at};
+ghost use Rattle.pager_model.specs.SizeSets.{all_sizes};
 ghost use Rattle.pager_model.specs.Tiles.{tile_of, tiles_of_size};
 ghost use Rattle.pager_model.specs.SpaceStates.{empty_state, access_page};
 ghost use Rattle.space_core.specs.Beginning.{Begins, NeedsItsFrame, NeedsNoFrame, Places, ReadsIn, FailsToRead, Finishes, WritesOut, FailsToWrite, LeavesUnwritten, Removes, IsEvicting, Evicts, copied_reply};
@@ -109,7 +110,7 @@ impl<S: Store + Send + Drop> Space<S> {
     ) -> Result<Space<S>, S>
         requires { frames ≤ 32768 }
         ensures made { IfOk result (λ s. (s.number ≡ space) × (s.frames ≡ frames) × (length s.images ≡ processors) × (s.store ≡ S.seen store) × IsResting s) }
-        ensures stands { IfOk result (λ s. (told : Bool) → (told ≡ true → TellsZero s.store) → StandsFor s (empty_state told s.store.faults)) }
+        ensures stands { IfOk result (λ s. (told : Bool) → (told ≡ true → TellsZero s.store) → StandsFor s (empty_state all_sizes told s.store.faults)) }
         ensures back { IfErr result (λ back. S.seen back ≡ S.seen store) }
     {
         match parts_of(alloc, frames, processors) {
@@ -574,7 +575,7 @@ impl<S: Store + Send + Drop> Space<S> {
     /// Counts the moves of a change of the pages, after which each image keeps what is a tile still.
     fn retouch(&mut self, moves: Moves)
         ensures { self.new ≡ record self.old {
-          images = map (still_tiles (mapping_in self.old.table)) self.old.images;
+          images = map (still_tiles all_sizes (mapping_in self.old.table)) self.old.images;
           promotions = counted_up self.old.promotions moves.promotions;
           demotions = counted_up self.old.demotions moves.demotions;
         } }
@@ -586,7 +587,7 @@ impl<S: Store + Send + Drop> Space<S> {
 
     /// Each image keeps what is a tile still.
     fn keep_tiles(&mut self)
-        ensures { self.new ≡ record self.old { images = map (still_tiles (mapping_in self.old.table)) self.old.images } }
+        ensures { self.new ≡ record self.old { images = map (still_tiles all_sizes (mapping_in self.old.table)) self.old.images } }
     {
         keep_tiles(self.images.as_mut_slice(), &self.table);
     }
@@ -630,7 +631,7 @@ fn use_tile(images: &mut [Image], processor: u32, tile: &Tile)
 
 /// Each image keeps what is a tile still.
 fn keep_tiles(images: &mut [Image], table: &PageTable)
-    ensures { images.new ≡ map (still_tiles (mapping_in table.now)) images.old }
+    ensures { images.new ≡ map (still_tiles all_sizes (mapping_in table.now)) images.old }
 {
     for image in images.iter_mut() {
         image.retain(|tile| table.is_tile(tile));

@@ -6,7 +6,7 @@ ghost use Rattle.pager_model.specs.Records.{is_used};
 
 use super::Layout;
 use crate::records::{covering, covering_among_all};
-use pager_model::Want;
+use pager_model::{Sizes, Want};
 use reservations::frame_for;
 use std::process::Abort;
 use std::test::Fail;
@@ -73,7 +73,7 @@ const TOLD: [(u32, u32, u32); 6] = [
 fn pages_of_spaces_that_were_not_announced_get_the_frames_that_the_rules_say(
     rt: HostRuntime,
 ) -> Result<(), Fail> {
-    let mut layout = Layout::create(rt.alloc(), FRAMES, 1)?;
+    let mut layout = Layout::create(rt.alloc(), FRAMES, 1, Sizes::of(true, true, true))?;
     let mut stamp = 0u64;
     for (space, page, frame) in TOLD {
         assert_eq!(rt;
@@ -143,9 +143,9 @@ fn turn(rt: &impl Abort, layout: &mut Layout, stamp: u64, draw: u32) -> Option<u
 /// same frames, and each reservation is found.
 #[test]
 fn frames_are_the_same_however_many_spaces_were_announced(rt: HostRuntime) -> Result<(), Fail> {
-    let mut all = Layout::create(rt.alloc(), FRAMES, 4)?;
-    let mut half = Layout::create(rt.alloc(), FRAMES, 2)?;
-    let mut none = Layout::create(rt.alloc(), FRAMES, 0)?;
+    let mut all = Layout::create(rt.alloc(), FRAMES, 4, Sizes::of(true, true, true))?;
+    let mut half = Layout::create(rt.alloc(), FRAMES, 2, Sizes::of(true, true, true))?;
+    let mut none = Layout::create(rt.alloc(), FRAMES, 0, Sizes::of(true, true, true))?;
     let mut random = 5u64;
     let mut placed = 0u32;
     for stamp in 0..2000u64 {

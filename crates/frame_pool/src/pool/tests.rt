@@ -5,7 +5,7 @@ mod plain;
 
 use super::{Collected, Full, NoneLeft, Pool};
 use crate::layout::tests::frame_in;
-use pager_model::{Frame, Want};
+use pager_model::{Frame, Sizes, Want};
 use plain::Plain;
 use std::alloc::Global;
 use std::process::Abort;
@@ -198,7 +198,7 @@ const ROWS: [(u32, u64, &[Told]); 5] = [
 /// A new pool gives these pages the frames that the rules say. Answers how many reservations it broke.
 fn gives(rt: &impl Abort, alloc: Global, frames: u32, pages: &[Told]) -> Result<u64, Fail> {
     assert!(rt; frames % 512 == 0 && frames <= 32768);
-    let mut pool = Pool::create(alloc, frames, 3, 1)?;
+    let mut pool = Pool::create(alloc, frames, 3, 1, Sizes::of(true, true, true))?;
     for (space, page, cap, frame) in pages {
         let want = Want { cap: *cap, ..PLAIN };
         let taken = take(rt, &mut pool, *space, *page, &want)?;
@@ -227,14 +227,14 @@ struct Both {
 }
 
 impl Both {
-    fn create(alloc: Global, spaces: [Want; 3]) -> Result<Both, Fail> {
+    fn create(alloc: Global, spaces: [Want; 3], sizes: Sizes) -> Result<Both, Fail> {
         let mut pages = Vec::with_capacity(alloc, FRAMES as usize)?;
         for _ in 0..FRAMES {
             pages.push(None)?;
         }
         Ok(Both {
-            pool: Pool::create(alloc, FRAMES, 3, PROCESSORS)?,
-            plain: Plain::create(alloc, FRAMES, PROCESSORS)?,
+            pool: Pool::create(alloc, FRAMES, 3, PROCESSORS, sizes)?,
+            plain: Plain::create(alloc, FRAMES, PROCESSORS, sizes)?,
             spaces,
             pages,
             reached: [0; 10],
@@ -467,7 +467,7 @@ fn carves_out_of_a_reservation_of_every_size(rt: HostRuntime) -> Result<(), Fail
             cap: pages,
             ..PLAIN
         };
-        let mut both = Both::create(rt.alloc(), [want; 3])?;
+        let mut both = Both::create(rt.alloc(), [want; 3], Sizes::of(true, true, true))?;
         both.take(&rt, 0, pages / 2)?;
         assert_eq!(rt; both.pool.counts().reserved, pages - 1);
         both.claim(&rt, 0);
@@ -492,7 +492,7 @@ fn full(rt: &impl Abort, alloc: Global) -> Result<Both, Fail> {
         wired: true,
         ..PLAIN
     };
-    let mut both = Both::create(alloc, [loose, wired, wired])?;
+    let mut both = Both::create(alloc, [loose, wired, wired], Sizes::of(true, true, true))?;
     for page in 0..3 {
         both.take(rt, 0, page)?;
     }
@@ -538,14 +538,15 @@ fn of_a_full_pool_the_pages_that_may_go_are_claimed_and_then_none_is_left(
     Ok(())
 }
 
-/// Makes drawn calls of both pools over these spaces, of sixteen so many to take a frame, and tells how often it reached each arm.
+/// Makes drawn calls of both pools over these spaces, of sixteen so many to take a frame, and gives both.
 fn drawn_calls(
     rt: &impl Abort,
     alloc: Global,
     spaces: [Want; 3],
     takes: u32,
-) -> Result<[u32; 10], Fail> {
-    let mut both = Both::create(alloc, spaces)?;
+    sizes: Sizes,
+) -> Result<Both, Fail> {
+    let mut both = Both::create(alloc, spaces, sizes)?;
     let mut random = 5u64;
     for _ in 0..CALLS {
         random = random
@@ -565,25 +566,98 @@ fn drawn_calls(
         }
         both.compare(rt);
     }
-    // No draw came to nothing.
+    Ok(both)
+}
+
+/// No draw came to nothing, and some reservation was broken.
+fn made_every_call(rt: &impl Abort, both: &Both) {
     let calls = both
         .reached
         .iter()
         .fold(0, |sum: u32, count| sum.saturating_add(*count));
     assert_eq!(rt; calls, CALLS);
     assert!(rt; 0 < both.pool.preempted());
-    Ok(both.reached)
+}
+
+/// Each arm was reached at least so often over loose and tight spaces together.
+fn reached_all(rt: &impl Abort, loose: &Both, tight: &Both, least: u32) {
+    for (loosely, tightly) in loose.reached.iter().zip(tight.reached.iter()) {
+        assert!(rt;
+            least <= loosely.saturating_add(*tightly),
+            "{:?} {:?}",
+            loose.reached,
+            tight.reached
+        );
+    }
 }
 
 #[test]
 fn does_as_the_plain_pool_over_drawn_calls(rt: HostRuntime) -> Result<(), Fail> {
-    let loose = drawn_calls(&rt, rt.alloc(), LOOSE, 7)?;
-    let tight = drawn_calls(&rt, rt.alloc(), TIGHT, 10)?;
-    for (loosely, tightly) in loose.iter().zip(tight.iter()) {
-        assert!(rt;
-            LEAST <= loosely.saturating_add(*tightly),
-            "{loose:?} {tight:?}"
-        );
+    let sizes = Sizes::of(true, true, true);
+    let loose = drawn_calls(&rt, rt.alloc(), LOOSE, 7, sizes)?;
+    made_every_call(&rt, &loose);
+    let tight = drawn_calls(&rt, rt.alloc(), TIGHT, 10, sizes)?;
+    made_every_call(&rt, &tight);
+    reached_all(&rt, &loose, &tight, LEAST);
+    Ok(())
+}
+
+/// Draws calls with these sizes.
+fn does_as_the_plain_pool(rt: &impl Abort, alloc: Global, sizes: Sizes) -> Result<(), Fail> {
+    let loose = drawn_calls(rt, alloc, LOOSE, 7, sizes)?;
+    let tight = drawn_calls(rt, alloc, TIGHT, 10, sizes)?;
+    reached_all(rt, &loose, &tight, 1);
+    Ok(())
+}
+
+#[test]
+fn does_as_the_plain_pool_03(rt: HostRuntime) -> Result<(), Fail> {
+    does_as_the_plain_pool(&rt, rt.alloc(), Sizes::of(false, false, true))
+}
+
+#[test]
+fn does_as_the_plain_pool_023(rt: HostRuntime) -> Result<(), Fail> {
+    does_as_the_plain_pool(&rt, rt.alloc(), Sizes::of(false, true, true))
+}
+
+#[test]
+fn does_as_the_plain_pool_013(rt: HostRuntime) -> Result<(), Fail> {
+    does_as_the_plain_pool(&rt, rt.alloc(), Sizes::of(true, false, true))
+}
+
+#[test]
+fn does_as_the_plain_pool_01(rt: HostRuntime) -> Result<(), Fail> {
+    does_as_the_plain_pool(&rt, rt.alloc(), Sizes::of(true, false, false))
+}
+
+#[test]
+fn does_as_the_plain_pool_02(rt: HostRuntime) -> Result<(), Fail> {
+    does_as_the_plain_pool(&rt, rt.alloc(), Sizes::of(false, true, false))
+}
+
+#[test]
+fn does_as_the_plain_pool_012(rt: HostRuntime) -> Result<(), Fail> {
+    does_as_the_plain_pool(&rt, rt.alloc(), Sizes::of(true, true, false))
+}
+
+#[test]
+fn base_pages_alone(rt: HostRuntime) -> Result<(), Fail> {
+    let mut pool = Pool::create(rt.alloc(), 512, 3, 1, Sizes::of(false, false, false))?;
+    for page in 0..512 {
+        let taken = take(&rt, &mut pool, 0, page, &PLAIN)?;
+        assert_eq!(rt; taken.number(), page);
     }
+    Ok(())
+}
+
+/// Two processors' first loads of 512 pages over 512 frames, with the sizes 0 and 3: the second takes frame 1.
+#[test]
+fn breaks_into_512_parts(rt: HostRuntime) -> Result<(), Fail> {
+    let mut pool = Pool::create(rt.alloc(), 512, 3, 1, Sizes::of(false, false, true))?;
+    assert_eq!(rt; take(&rt, &mut pool, 0, 0, &PLAIN)?.number(), 0);
+    assert_eq!(rt; take(&rt, &mut pool, 1, 0, &PLAIN)?.number(), 1);
+    assert_eq!(rt; pool.preempted(), 1);
+    assert_eq!(rt; pool.counts().free, 510);
+    assert_eq!(rt; pool.counts().used, 2);
     Ok(())
 }

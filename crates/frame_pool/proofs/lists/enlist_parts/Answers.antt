@@ -8,7 +8,7 @@ use Rattle.frame_pool.proofs.lists.enlist_parts.Goals as goal
 use Rattle.frame_pool.proofs.lists.enlist_parts.Goals.{then-is_some, else-is_some}
 
 pub loop-i-init : goal.loop-i-init
-loop-i-init c = HasParts-none c.args.lists.now c.args.reservations.now c.args.whole.now c.requires.split
+loop-i-init c = HasParts-none c.args.sizes c.args.lists.now c.args.reservations.now c.args.whole.now c.requires.split
 
 pub overflow_add-first : goal.overflow_add-first
 overflow_add-first c =
@@ -23,13 +23,13 @@ pub enlist-requires-clause-known : goal.enlist-requires-clause-known
 enlist-requires-clause-known c =
     let r = c.args.whole.now in
     let pages = eighth c.pages-pages.result r.size c.requires.splits c.pages-pages.ensures in
-    rw pages (part_in_room c.loop-i.i c.args.lists.now c.loop-i.lists c.args.reservations.now r c.requires.splits c.loop-i-test.true c.loop-i.invariant)
+    rw pages (part_in_room c.args.sizes c.loop-i.i c.args.lists.now c.loop-i.lists c.args.reservations.now r c.requires.splits c.loop-i-test.true c.loop-i.invariant)
 
 pub enlist-requires-clause-unlisted : goal.enlist-requires-clause-unlisted
 enlist-requires-clause-unlisted c =
     let r = c.args.whole.now in
     let pages = eighth c.pages-pages.result r.size c.requires.splits c.pages-pages.ensures in
-    rw pages (part_unlisted c.loop-i.i c.args.lists.now c.loop-i.lists c.args.reservations.now r c.requires.splits c.loop-i-test.true c.loop-i.invariant)
+    rw pages (part_unlisted c.args.sizes c.loop-i.i c.args.lists.now c.loop-i.lists c.args.reservations.now r c.requires.splits c.loop-i-test.true c.loop-i.invariant)
 
 pub loop-i-preserved : goal.loop-i-preserved
 loop-i-preserved c =
@@ -45,12 +45,12 @@ loop-i-preserved c =
     elim c.if-is_some.branch [
       | then-is_some w ↦
           let listed = rw pages at w.enlist.ensures.listed in
-          let none = none_before i start lists st r splits small has in
-          let known = known_before i start lists st r splits small has in
-          rw w.lists-is (HasParts-more i start lists st r splits small has w.enlist.new.lists (listed _ none known has.listed) w.enlist.ensures.room)
+          let none = none_before c.args.sizes i start lists st r splits small has in
+          let known = known_before c.args.sizes i start lists st r splits small has in
+          rw w.lists-is (HasParts-more c.args.sizes i start lists st r splits small has w.enlist.new.lists (listed _ none known has.listed) w.enlist.ensures.room)
       | else-is_some w ↦
           let none = none_from_is_some (reservation_at st (r.frame + i * (c.pages-pages.result / 8))) (ap is_some (sym c.get.ensures.record) ∙ sym c.is_some.ensures ∙ w.if-is_some.false) in
-          rw w.lists-is (HasParts-skip i start lists st r splits small has (rw pages at none))
+          rw w.lists-is (HasParts-skip c.args.sizes i start lists st r splits small has (rw pages at none))
     ]
 
 pub returns-clause-listed : goal.returns-clause-listed
@@ -60,4 +60,4 @@ returns-clause-listed c =
     let st = c.args.reservations.now in
     let r = c.args.whole.now in
     let done : c.loop-i.i ≡ 8 = omega arith in
-    HasParts-all start lists st r (subst (λ n. HasParts n start lists st r) done c.loop-i.invariant)
+    HasParts-all c.args.sizes start lists st r (subst (λ n. HasParts c.args.sizes n start lists st r) done c.loop-i.invariant)

@@ -1,36 +1,70 @@
-use Rattle.std.proofs.Common.{◌≡◌, ℕ, ◌-◌, ◌/◌, ◌^◌, Bool, true, sym, ap, ◌∙◌, option_map, arith}
-use Rattle.pager_model.specs.Records.{is_used, part_of, yield_of, same_size}
-use Rattle.pager_model.proofs.ExtentLemmas.{eight_pos, eight_quotient, part_of_eight, aligned_end}
+use Rattle.std.proofs.Common.{◌≡◌, ℕ, ◌<◌, ◌≤◌, ◌-◌, ◌/◌, ◌^◌, Bool, true, false, inl, inr, sym, ap, ◌∙◌, option_map, arith}
+use Rattle.std.proofs.lemmas.Bool.{cases_eq}
+use Rattle.pager_model.specs.Records.{is_used, part_at, part_count, yield_in, same_size}
+use Rattle.pager_model.proofs.ExtentLemmas.{eight_pos, eight_quotient, aligned_end}
 use Rattle.frame_pool.specs.Placed.{first_of}
-use Rattle.frame_pool.proofs.RecordSearch.{same_size-is}
+use Rattle.frame_pool.proofs.PartsAt.{part_ends}
+use Rattle.frame_pool.proofs.RecordSearch.{same_size-is, find_none}
 use Rattle.pager_model.proofs.Ranges.{find_first}
 use Rattle.frame_pool.proofs.records.lowest_as_wide.Goals as goal
+
+-- how many parts there are
+counted : (size whole pages part : ℕ) → size < whole → pages ≡ 8 ^ whole → part ≡ 8 ^ size → pages / part ≡ 8 ^ (whole - size)
+counted size whole pages part less all one = ap (λ n. n / part) all ∙ ap (λ n. 8 ^ whole / n) one ∙ eight_quotient size whole (omega arith)
+
+pub nonzero_div-i-end : goal.nonzero_div-i-end
+nonzero_div-i-end c = omega (arith, c.pages-pages.ensures, eight_pos c.args.size)
 
 pub overflow_add-first : goal.overflow_add-first
 overflow_add-first c =
     let r = c.args.whole.now in
-    let pages : c.pages-pages.result / 8 ≡ 8 ^ (r.size - 1) = ap (λ n. n / 8) c.pages-pages.ensures ∙ eight_quotient 1 r.size c.requires.splits in
-    let ends = part_of_eight c.loop-i.i r.size c.requires.splits c.loop-i-test.true in
+    let one : c.loop-i.i < part_count c.args.size r = omega (arith, c.loop-i-test.true, counted c.args.size r.size c.pages.result c.pages-pages.result c.requires.splits c.pages.ensures c.pages-pages.ensures) in
+    let ends = part_ends c.args.size c.loop-i.i r (omega (arith, c.requires.splits)) one in
     let last = aligned_end r.size r.frame c.requires.placed.aligned.0 c.requires.placed.aligned.1 (omega arith) in
-    rw pages (omega (arith, ends, last, eight_pos (r.size - 1)))
+    rw c.pages-pages.ensures (omega (arith, ends, last, eight_pos c.args.size))
 
-pub yields-requires : goal.yields-requires
-yields-requires c =
+pub width_of-requires : goal.width_of-requires
+width_of-requires c =
     let r = c.args.whole.now in
-    let pages : c.pages-pages.result / 8 ≡ 8 ^ (r.size - 1) = ap (λ n. n / 8) c.pages-pages.ensures ∙ eight_quotient 1 r.size c.requires.splits in
-    let is = c.requires.parts c.loop-i.i c.loop-i-test.true in
-    rw (pages, is)
+    let one : c.loop-i.i < part_count c.args.size r = omega (arith, c.loop-i-test.true, counted c.args.size r.size c.pages.result c.pages-pages.result c.requires.splits c.pages.ensures c.pages-pages.ensures) in
+    let is = c.requires.parts c.loop-i.i one in
+    rw (c.pages-pages.ensures, is)
 
 pub returns-then-eq : goal.returns-then-eq
 returns-then-eq c =
     let r = c.args.whole.now in
     let i = c.loop-i.i in
+    let z = c.args.sizes in
     let used = is_used c.args.reservations.now.used in
-    let pages : c.pages-pages.result / 8 ≡ 8 ^ (r.size - 1) = ap (λ n. n / 8) c.pages-pages.ensures ∙ eight_quotient 1 r.size c.requires.splits in
-    let is = c.requires.parts i c.loop-i-test.true in
-    let yields = rw (pages, is) at c.yields.ensures in
-    let tells : c.eq.result ≡ same_size c.yields.result c.args.width = c.eq.ensures ∙ same_size-is c.yields.result c.args.width in
-    let test : ℕ → Bool = λ k. same_size (yield_of used (part_of r k)) (yield_of used r) in
+    let one : i < part_count c.args.size r = omega (arith, c.loop-i-test.true, counted c.args.size r.size c.pages.result c.pages-pages.result c.requires.splits c.pages.ensures c.pages-pages.ensures) in
+    let is = c.requires.parts i one in
+    let yields = rw (c.pages-pages.ensures, is) at c.width_of.ensures in
+    let tells : c.eq.result ≡ same_size c.width_of.result c.args.width = c.eq.ensures ∙ same_size-is c.width_of.result c.args.width in
+    let test : ℕ → Bool = λ k. same_size (yield_in z used (part_at c.args.size r k)) (yield_in z used r) in
     let same : test i ≡ true = rw (← yields, ← c.requires.width) (sym tells ∙ c.if-eq.true) in
-    let found = find_first test 0 8 i (λ k _ below. c.loop-i.invariant k below) (omega arith) c.loop-i-test.true same in
-    rw pages (ap (λ o. first_of (option_map (part_of r) o)) (sym found))
+    let found = find_first test 0 (part_count c.args.size r) i (λ k _ below. c.loop-i.invariant k below) (omega arith) (omega (arith, one)) same in
+    rw c.pages-pages.ensures (ap (λ o. first_of (option_map (part_at c.args.size r) o)) (sym found))
+
+pub loop-i-preserved : goal.loop-i-preserved
+loop-i-preserved c =
+    let r = c.args.whole.now in
+    let i = c.loop-i.i in
+    let z = c.args.sizes in
+    let used = is_used c.args.reservations.now.used in
+    let one : i < part_count c.args.size r = omega (arith, c.loop-i-test.true, counted c.args.size r.size c.pages.result c.pages-pages.result c.requires.splits c.pages.ensures c.pages-pages.ensures) in
+    let is = c.requires.parts i one in
+    let yields = rw (c.pages-pages.ensures, is) at c.width_of.ensures in
+    let tells : c.eq.result ≡ same_size c.width_of.result c.args.width = c.eq.ensures ∙ same_size-is c.width_of.result c.args.width in
+    let test : ℕ → Bool = λ k. same_size (yield_in z used (part_at c.args.size r k)) (yield_in z used r) in
+    let other : test i ≡ false = rw (← yields, ← c.requires.width) (sym tells ∙ c.if-eq.false) in
+    λ k below. elim (cases_eq k i) [ inl here ↦ ap test here ∙ other | inr before ↦ c.loop-i.invariant k (omega arith) ]
+
+pub returns : goal.returns
+returns c =
+    let r = c.args.whole.now in
+    let z = c.args.sizes in
+    let used = is_used c.args.reservations.now.used in
+    let test : ℕ → Bool = λ k. same_size (yield_in z used (part_at c.args.size r k)) (yield_in z used r) in
+    let count = counted c.args.size r.size c.pages.result c.pages-pages.result c.requires.splits c.pages.ensures c.pages-pages.ensures in
+    let none = find_none test 0 (part_count c.args.size r) (λ k _ below. c.loop-i.invariant k (omega (arith, below, count, c.loop-i-test.false))) in
+    ap (λ o. first_of (option_map (part_at c.args.size r) o)) (sym none)

@@ -2,12 +2,13 @@
 
 ghost use Rattle.std.specs.Prelude.{◌<◌};
 
-use pager_model::{Reservation, Size, Used, Want};
+use pager_model::{Reservation, Size, Sizes, Used, Want};
 use std::alloc::{AllocError, Global};
 
 #[derive(Debug, Drop)]
 pub struct Plain {
     frames: u32,
+    sizes: Sizes,
     free: Vec<bool>,
     records: Vec<Reservation>,
     used: Vec<Option<Used>>,
@@ -28,9 +29,16 @@ fn pages_at(level: u8) -> u32
     size_at(level).pages().max(1)
 }
 
-/// The i-th of the eight parts of a reservation.
-fn part(whole: &Reservation, i: u32) -> Reservation {
-    let level = whole.size.level().saturating_sub(1);
+/// The level of the parts of a reservation.
+fn part_level(sizes: Sizes, whole: &Reservation) -> u8 {
+    (0..whole.size.level())
+        .rev()
+        .find(|level| sizes.has(size_at(*level)))
+        .unwrap_or(0)
+}
+
+/// The i-th of the parts of this level of a reservation.
+fn part(whole: &Reservation, level: u8, i: u32) -> Reservation {
     let offset = i.saturating_mul(pages_at(level));
     Reservation {
         space: whole.space,
@@ -52,9 +60,15 @@ fn overlap(a: u32, many: u32, b: u32, more: u32) -> bool {
 }
 
 impl Plain {
-    pub fn create(alloc: Global, frames: u32, processors: u32) -> Result<Plain, AllocError> {
+    pub fn create(
+        alloc: Global,
+        frames: u32,
+        processors: u32,
+        sizes: Sizes,
+    ) -> Result<Plain, AllocError> {
         Ok(Plain {
             frames,
+            sizes,
             free: vec![in alloc; true; frames as usize]?,
             records: Vec::new(alloc),
             used: vec![in alloc; None; frames as usize]?,
@@ -119,6 +133,9 @@ impl Plain {
     /// The largest level of an extent inside the reservation without a used place.
     fn yields(&self, whole: &Reservation) -> Option<u8> {
         for level in (0..4u8).rev() {
+            if !self.sizes.has(size_at(level)) {
+                continue;
+            }
             let pages = pages_at(level);
             for i in 0..whole.size.pages() / pages {
                 if self.none_used(whole.frame.saturating_add(i.saturating_mul(pages)), pages) {
@@ -151,8 +168,9 @@ impl Plain {
     /// The reservation is split: its parts with a used place are reservations, and the others are free.
     fn split(&mut self, whole: &Reservation) -> Result<(), AllocError> {
         self.remove(whole.frame);
-        for i in 0..8 {
-            let part = part(whole, i);
+        let level = part_level(self.sizes, whole);
+        for i in 0..whole.size.pages() / pages_at(level) {
+            let part = part(whole, level, i);
             if self.none_used(part.frame, part.size.pages()) {
                 self.set_free(part.frame, part.size.pages(), true);
             } else {
@@ -165,14 +183,16 @@ impl Plain {
     /// The part at which a breaking goes on.
     fn goes_on_at(&self, whole: &Reservation) -> Option<Reservation> {
         let width = self.yields(whole);
-        for i in 0..8 {
-            let part = part(whole, i);
+        let level = part_level(self.sizes, whole);
+        let count = whole.size.pages() / pages_at(level);
+        for i in 0..count {
+            let part = part(whole, level, i);
             if self.none_used(part.frame, part.size.pages()) {
                 return None;
             }
         }
-        (0..8u32)
-            .map(|i| part(whole, i))
+        (0..count)
+            .map(|i| part(whole, level, i))
             .find(|part| self.yields(part) == width)
     }
 
@@ -232,6 +252,9 @@ impl Plain {
     ) -> Result<Option<Reservation>, AllocError> {
         let mut preferred = false;
         for level in (0..4u8).rev() {
+            if !self.sizes.has(size_at(level)) {
+                continue;
+            }
             preferred = preferred || level == 0 || self.fits(space, page, want, level);
             if !preferred {
                 continue;

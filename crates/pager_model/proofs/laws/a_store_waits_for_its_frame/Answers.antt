@@ -1,4 +1,5 @@
 use Rattle.std.proofs.Common.{◌≡◌, true, false, [], ◌∷◌, None, refl, lit<}
+use Rattle.pager_model.specs.SizeSets.{all_sizes}
 use Rattle.pager_model.specs.declared.call.Call.TheVariants.{Load, Store}
 use Rattle.pager_model.specs.declared.reply.Reply.TheVariants.{Done, Unmapped}
 use Rattle.pager_model.specs.Examples.{answer, missed, map_eight, take_page_one, small_setting}
@@ -25,7 +26,7 @@ second =
       processor = lit< tt;
       space = lit< tt;
       by_space = (tt, (refl, refl));
-      by_frames = λ e. (refl, HasNothing-start 2 1 0, refl);
+      by_frames = λ e. (refl, HasNothing-start all_sizes 2 1 0, refl);
       ordered = (record { made = 1; doing = Filling (record { space = 0; page = 1; writing = None }) 0 }, refl);
     }
 

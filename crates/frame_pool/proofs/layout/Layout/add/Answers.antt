@@ -18,14 +18,14 @@ enlist-requires-clause-unlisted c =
     let was = c.self.invariant in
     let apart = rw (← c.self.view_is) at c.requires.apart in
     let none = none_begins inside.reservations.records r.frame was.laid.placed (apart r.frame r.frame (has_frame_from r.frame r (omega arith) (omega (arith, eight_pos r.size)))) in
-    is_listed-none inside.lists.lists inside.reservations.used inside.reservations.records r.frame was.listed was.laid.placed none
+    is_listed-none inside.sizes inside.lists.lists inside.reservations.used inside.reservations.records r.frame was.listed was.laid.placed none
 
 pub insert-requires : goal.insert-requires
 insert-requires c =
     let r = c.args.reservation in
     let inside = c.self.inside in
     let was = c.self.invariant in
-    let l : Layout = record { free = inside.free; records = inside.reservations.records; used = inside.reservations.used } in
+    let l : Layout = record { sizes = inside.sizes; free = inside.free; records = inside.reservations.records; used = inside.reservations.used } in
     let apart = rw (← c.self.view_is) at c.requires.apart in
     let laid = rw (← c.self.view_is) at c.requires.laid in
     let placed = rw (← c.self.view_is) at c.requires.placed in
@@ -42,12 +42,12 @@ invariant_of-self c =
     let none = none_begins records r.frame was.laid.placed (apart r.frame r.frame (has_frame_from r.frame r (omega arith) (omega (arith, eight_pos r.size)))) in
     let used = inside.reservations.used in
     let place = frame_for c.args.page r in
-    let listed = AreListed-used inside.lists.lists used records place true was.listed (λ id has. false≢true (sym (apart place id (place_has r c.args.page c.requires.has)) ∙ has)) in
+    let listed = AreListed-used inside.sizes inside.lists.lists used records place true was.listed (λ id has. false≢true (sym (apart place id (place_has r c.args.page c.requires.has)) ∙ has)) in
     let placed = rw (← c.self.view_is) at c.requires.placed in
     let known : r.frame < length records = omega (arith, placed.within, eight_pos r.size, was.laid.records_long) in
-    let enlists : (rs : List (Option Reservation)) → get_or rs r.frame None ≡ None → r.frame < length rs → AreListed inside.lists.lists (set used place true) rs → AreListed c.enlist.new.lists.lists (set used place true) (set rs r.frame (get_or (set records r.frame (Some r)) r.frame None)) =
+    let enlists : (rs : List (Option Reservation)) → get_or rs r.frame None ≡ None → r.frame < length rs → AreListed inside.sizes inside.lists.lists (set used place true) rs → AreListed inside.sizes c.enlist.new.lists.lists (set used place true) (set rs r.frame (get_or (set records r.frame (Some r)) r.frame None)) =
     rw c.add.ensures at c.enlist.ensures.listed in
-    let l : Layout = record { free = inside.free; records = records; used = used } in
+    let l : Layout = record { sizes = inside.sizes; free = inside.free; records = records; used = used } in
     rw c.add.ensures (record {
       known = was.known;
       few = was.few;

@@ -11,7 +11,7 @@ use Rattle.frame_pool.proofs.layout.Layout.carve.Goals as goal
 pub remove-requires-clause-mapped : goal.remove-requires-clause-mapped
 remove-requires-clause-mapped c =
     let inside = c.self.inside in
-    let l : Layout = record { free = inside.free; records = inside.reservations.records; used = inside.reservations.used } in
+    let l : Layout = record { sizes = inside.sizes; free = inside.free; records = inside.reservations.records; used = inside.reservations.used } in
     let alone = rw (← c.self.view_is) at c.narrow-page.ensures.alone in
     let own = some_of (record_at l c.args.frame) _ alone in
     let at_place = rw own.1 at c.vacate.ensures.vacated in
@@ -22,7 +22,7 @@ invariant_of-self c =
     let inside = c.self.inside in
     let was = c.self.invariant in
     let frame = c.args.frame in
-    let l : Layout = record { free = inside.free; records = inside.reservations.records; used = inside.reservations.used } in
+    let l : Layout = record { sizes = inside.sizes; free = inside.free; records = inside.reservations.records; used = inside.reservations.used } in
     let alone = rw (← c.self.view_is) at c.narrow-page.ensures.alone in
     let own = some_of (record_at l frame) _ alone in
     let r = own.0 in
@@ -45,7 +45,7 @@ pub returns : goal.returns
 returns c =
     let inside = c.self.inside in
     let frame = c.args.frame in
-    let l : Layout = record { free = inside.free; records = inside.reservations.records; used = inside.reservations.used } in
+    let l : Layout = record { sizes = inside.sizes; free = inside.free; records = inside.reservations.records; used = inside.reservations.used } in
     let alone = rw (← c.self.view_is) at c.narrow-page.ensures.alone in
     let own = some_of (record_at l frame) _ alone in
     let r = own.0 in
@@ -54,6 +54,6 @@ returns c =
     let place : r.frame + (c.narrow-page.result - r.first) ≡ frame = omega (arith, named, own.2.1) in
     let unused : c.vacate.new.self ≡ with_used inside.reservations frame false = at_place ∙ ap (λ f. with_used inside.reservations f false) place in
     let gone : c.dissolve.new.self ≡ with_record (with_used inside.reservations frame false) frame None = c.dissolve.ensures ∙ ap (λ st. with_record st frame None) unused in
-    let after : Records → Layout = λ st. record { free = inside.free; records = st.records; used = st.used } in
+    let after : Records → Layout = λ st. record { sizes = inside.sizes; free = inside.free; records = st.records; used = st.used } in
     λ id. IfSome_then (record_at c.args.self.now id) (c.narrow-page.ensures.narrowed id) (λ q narrowed has.
     ap after gone ∙ ap (take_out frame) (c.self.view_is ∙ narrowed has))

@@ -12,8 +12,8 @@ invariant_of-result c =
     (record {
       known = length-replicate frames true;
       few = c.requires.most;
-      laid = IsLaid-start frames;
-      listed = AreListed-start frames;
+      laid = IsLaid-start c.args.sizes frames;
+      listed = AreListed-start c.args.sizes frames;
       room = refl;
       mapped = IsMapped-start c.in_ok-create-4.field-0 frames made.no_extent made.count made.frames;
     })

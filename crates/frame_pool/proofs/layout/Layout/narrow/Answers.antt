@@ -2,7 +2,7 @@ use Rattle.std.proofs.Common.{◌≡◌, ◌∙◌, ◌<◌, refl, sym, ap, arit
 use Rattle.pager_model.specs.Layouts.{split_layout, narrows_to, narrow_layout, split_on, record_at}
 use Rattle.pager_model.proofs.Options.{IfSome-from}
 use Rattle.frame_pool.proofs.LayoutInOrder.{narrow_step, only_frame, reservation_is, same_reservation}
-use Rattle.frame_pool.proofs.LayoutSplit.{Settles-split}
+use Rattle.frame_pool.proofs.LayoutBreak.{Settles-split}
 use Rattle.frame_pool.proofs.layout.Layout.narrow.Goals as goal
 
 pub unwrap-part-requires : goal.unwrap-part-requires
@@ -13,21 +13,21 @@ loop-self-init c =
     let found = rw c.unwrap-part.ensures at c.reservation_of.ensures.found in
     record { laid = c.reservation_of.ensures.laid; stands = found.0; has = found.1; used = c.requires; narrows = refl }
 
-pub split-requires : goal.split-requires
-split-requires c = rw c.loop-self.invariant.stands (omega (arith, c.loop-self-test.true, c.level.ensures.level))
+pub split_down-requires : goal.split_down-requires
+split_down-requires c = rw c.loop-self.invariant.stands (omega (arith, c.loop-self-test.true, c.level.ensures.level))
 
 pub unwrap-part-requires-in-loop-self : goal.unwrap-part-requires-in-loop-self
 unwrap-part-requires-in-loop-self c =
     let was = c.loop-self.invariant in
-    let split : c.split.new.self ≡ split_layout c.loop-self.part c.loop-self.self = rw was.stands at c.split.ensures.split in
-    reservation_is c.split.new.self c.args.frame c.reservation_of-in-loop-self.result c.reservation_of-in-loop-self.ensures.laid (rw split was.used) c.reservation_of-in-loop-self.ensures.none
+    let split : c.split_down.new.self ≡ split_layout c.loop-self.part c.loop-self.self = rw was.stands at c.split_down.ensures in
+    reservation_is c.split_down.new.self c.args.frame c.reservation_of-in-loop-self.result c.reservation_of-in-loop-self.ensures.laid (rw split was.used) c.reservation_of-in-loop-self.ensures.none
 
 pub loop-self-smaller : goal.loop-self-smaller
 loop-self-smaller c =
     let was = c.loop-self.invariant in
     let r = c.loop-self.part in
     let splits : 0 < r.size = omega (arith, c.loop-self-test.true, c.level.ensures.level) in
-    let split : c.split.new.self ≡ split_layout r c.loop-self.self = rw was.stands at c.split.ensures.split in
+    let split : c.split_down.new.self ≡ split_layout r c.loop-self.self = rw was.stands at c.split_down.ensures in
     let found = rw (c.unwrap-part-in-loop-self.ensures, split) at c.reservation_of-in-loop-self.ensures.found in
     (narrow_step c.loop-self.self c.args.frame r c.unwrap-part-in-loop-self.result was.laid was.stands was.has was.used splits found.0 found.1).0
 
@@ -38,11 +38,11 @@ loop-self-preserved c =
     let frame = c.args.frame in
     let q = c.unwrap-part-in-loop-self.result in
     let splits : 0 < r.size = omega (arith, c.loop-self-test.true, c.level.ensures.level) in
-    let split : c.split.new.self ≡ split_layout r c.loop-self.self = rw was.stands at c.split.ensures.split in
+    let split : c.split_down.new.self ≡ split_layout r c.loop-self.self = rw was.stands at c.split_down.ensures in
     let found = rw (c.unwrap-part-in-loop-self.ensures, split) at c.reservation_of-in-loop-self.ensures.found in
     let step = narrow_step c.loop-self.self frame r q was.laid was.stands was.has was.used splits found.0 found.1 in
     rw split (record {
-      laid = (Settles-split c.loop-self.self r.frame r was.laid was.stands splits).laid;
+      laid = (Settles-split c.loop-self.self r.frame r was.laid was.stands).laid;
       stands = found.0;
       has = found.1;
       used = was.used;
@@ -58,7 +58,7 @@ returns-clause-narrowed c =
     let part = c.loop-self.part in
     let found = rw c.unwrap-part.ensures at c.reservation_of.ensures.found in
     let one : part.size ≡ 0 = omega (arith, c.loop-self-test.false, c.level.ensures.level) in
-    let stops : narrow_layout frame part c.loop-self.self ≡ c.loop-self.self = ap (λ k. split_on (narrows_to frame) k part c.loop-self.self) one in
+    let stops : narrow_layout frame part c.loop-self.self ≡ c.loop-self.self = ap (λ k. split_on (narrows_to c.loop-self.self.sizes frame) k part c.loop-self.self) one in
     λ id. IfSome-from (record_at l id) _ (λ r is has.
     sym stops ∙ was.narrows ∙ ap (λ q. narrow_layout frame q l) (same_reservation l first.frame first c.reservation_of.ensures.laid found.0 frame id r found.1 is has))
 

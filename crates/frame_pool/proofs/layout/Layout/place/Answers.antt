@@ -1,7 +1,9 @@
-use Rattle.std.proofs.Common.{sym, ap, subst, ◌∙◌, arith}
-use Rattle.pager_model.specs.Layouts.{Layout, covering, populated, preferred_in}
+use Rattle.std.proofs.Common.{option_map, sym, ap, subst, ◌∙◌, arith}
+use Rattle.pager_model.specs.Layouts.{Layout, covering, populated, preferred_in, placing_in, reserved, largest_extent}
 use Rattle.frame_pool.specs.Laid.{IsLaid}
 use Rattle.frame_pool.proofs.PlacingResult.{PlacesPage-from, placing-covered, record_at-covered, HasPage-covered, round_page, IsLaid-added, PlacesPage-added}
+use Rattle.pager_model.specs.SizeSets.{size_within}
+use Rattle.frame_pool.proofs.PreferredExtent.{preferred_among-within}
 use Rattle.frame_pool.proofs.layout.Layout.place.Goals as goal
 
 pub populate-frame-requires-clause-there : goal.populate-frame-requires-clause-there
@@ -36,8 +38,8 @@ add-frame-requires-clause-laid c =
     let found = c.in_ok-found.found in
     let laid = subst IsLaid c.self.view_is c.self.invariant.laid in
     let none = ap (λ (m : Layout). covering c.args.space c.args.page m.records) (sym c.self.view_is) ∙ sym c.in_default.ensures in
-    let preferred = c.preferred-size.ensures ∙ ap (λ m. preferred_in m c.args.space c.args.page c.args.want.now) c.self.view_is in
-    IsLaid-added l c.largest_extent.new.self c.args.stamp c.args.space c.args.page c.args.want.now c.preferred-size.result found.size found.first found.broken c.extent_round-pages.result.first none preferred c.in_ok-found.ensures.found c.extent_round-pages.ensures.first laid c.requires.unplaced
+    let preferred = c.within-size.ensures ∙ ap (size_within c.self.inside.sizes) c.preferred-wide.ensures ∙ sym (preferred_among-within c.self.inside.sizes c.args.space c.args.page c.self.inside.reservations.records c.args.want.now) ∙ ap (λ m. preferred_in m c.args.space c.args.page c.args.want.now) c.self.view_is in
+    IsLaid-added l c.largest_extent.new.self c.args.stamp c.args.space c.args.page c.args.want.now c.within-size.result found.size found.first found.broken c.extent_round-pages.result.first none preferred c.in_ok-found.ensures.found c.extent_round-pages.ensures.first laid c.requires.unplaced
 
 pub returns-clause-placed : goal.returns-clause-placed
 returns-clause-placed c =
@@ -45,6 +47,17 @@ returns-clause-placed c =
     let found = c.in_ok-found.found in
     let laid = subst IsLaid c.self.view_is c.self.invariant.laid in
     let none = ap (λ (m : Layout). covering c.args.space c.args.page m.records) (sym c.self.view_is) ∙ sym c.in_default.ensures in
-    let preferred = c.preferred-size.ensures ∙ ap (λ m. preferred_in m c.args.space c.args.page c.args.want.now) c.self.view_is in
+    let preferred = c.within-size.ensures ∙ ap (size_within c.self.inside.sizes) c.preferred-wide.ensures ∙ sym (preferred_among-within c.self.inside.sizes c.args.space c.args.page c.self.inside.reservations.records c.args.want.now) ∙ ap (λ m. preferred_in m c.args.space c.args.page c.args.want.now) c.self.view_is in
     rw (c.add-frame.ensures.layout, c.add-frame.ensures.frame)
-    (PlacesPage-added l c.largest_extent.new.self c.args.stamp c.args.space c.args.page c.args.want.now c.preferred-size.result found.size found.first found.broken c.extent_round-pages.result.first none preferred c.in_ok-found.ensures.found c.extent_round-pages.ensures.first laid c.requires.unplaced)
+    (PlacesPage-added l c.largest_extent.new.self c.args.stamp c.args.space c.args.page c.args.want.now c.within-size.result found.size found.first found.broken c.extent_round-pages.result.first none preferred c.in_ok-found.ensures.found c.extent_round-pages.ensures.first laid c.requires.unplaced)
+
+pub returns-in_err-found-clause-none : goal.returns-in_err-found-clause-none
+returns-in_err-found-clause-none c =
+    let l = c.args.self.now in
+    let none = ap (λ (m : Layout). covering c.args.space c.args.page m.records) (sym c.self.view_is) ∙ sym c.in_default.ensures in
+    let preferred = c.within-size.ensures ∙ ap (size_within c.self.inside.sizes) c.preferred-wide.ensures ∙ sym (preferred_among-within c.self.inside.sizes c.args.space c.args.page c.self.inside.reservations.records c.args.want.now) ∙ ap (λ m. preferred_in m c.args.space c.args.page c.args.want.now) c.self.view_is in
+    rw c.from_residual.ensures (
+      ap (placing_in c.args.stamp c.args.space c.args.page c.args.want.now l) none
+          ∙ ap (option_map (reserved c.args.stamp c.args.space c.args.page)) (ap (λ k. largest_extent k l) (sym preferred) ∙ c.in_err-found.ensures.none.0),
+      c.in_err-found.ensures.none.1,
+    )

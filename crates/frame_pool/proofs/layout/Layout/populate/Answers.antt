@@ -12,7 +12,7 @@ pub enlist-requires-clause-unlisted : goal.enlist-requires-clause-unlisted
 enlist-requires-clause-unlisted c =
     let inside = c.self.inside in
     let r = c.args.reservation.now in
-    let l : Layout = record { free = inside.free; records = inside.reservations.records; used = inside.reservations.used } in
+    let l : Layout = record { sizes = inside.sizes; free = inside.free; records = inside.reservations.records; used = inside.reservations.used } in
     let is : record_at l r.frame ≡ Some r = rw (← c.self.view_is) at c.requires.there in
     rest_unlisted l r.frame r c.self.invariant.laid is c.unlist.new.lists.lists c.unlist.ensures.listed
 
@@ -21,14 +21,14 @@ invariant_of-self c =
     let inside = c.self.inside in
     let r = c.args.reservation.now in
     let page = c.args.page in
-    let l : Layout = record { free = inside.free; records = inside.reservations.records; used = inside.reservations.used } in
+    let l : Layout = record { sizes = inside.sizes; free = inside.free; records = inside.reservations.records; used = inside.reservations.used } in
     let is : record_at l r.frame ≡ Some r = rw (← c.self.view_is) at c.requires.there in
     let unused : is_used l.used (frame_for page r) ≡ false = rw (← c.self.view_is) at c.requires.unused in
     let laid = IsLaid-populated l r c.args.stamp page c.self.invariant.laid is c.requires.has unused in
     let done : c.populate.new.self ≡ with_used (with_record inside.reservations r.frame (Some (stamped r c.args.stamp))) (frame_for page r) true = rw is at c.populate.ensures in
-    let after : Records → Layout = λ st. record { free = inside.free; records = st.records; used = st.used } in
+    let after : Records → Layout = λ st. record { sizes = inside.sizes; free = inside.free; records = st.records; used = st.used } in
     IsInOrder-again l r.frame r c.self.invariant.laid is inside.frames (frame_for page r) true (Some (stamped r c.args.stamp)) (after c.populate.new.self) inside.lists c.unlist.new.lists c.enlist.new.lists inside.map inside.map c.self.invariant (place_has r page c.requires.has)
-    (subst (λ st. IsLaid (after st)) (sym done) laid) refl (ap (λ (st : Records). st.used) done) (ap (λ (st : Records). st.records) done)
+    (subst (λ st. IsLaid (after st)) (sym done) laid) refl refl (ap (λ (st : Records). st.used) done) (ap (λ (st : Records). st.records) done)
     c.unlist.ensures.room c.enlist.ensures.room c.unlist.ensures.listed c.enlist.ensures.listed
     (subst (λ (st : Records). IsMapped inside.map st.records) (sym done) (IsMapped-alike inside.map l.records r.frame r (stamped r c.args.stamp) c.self.invariant.mapped is refl refl refl))
 

@@ -7,7 +7,7 @@ pub invariant_of-self : goal.invariant_of-self
 invariant_of-self c =
     let inside = c.self.inside in
     let was = c.self.invariant in
-    let l : Layout = record { free = inside.free; records = inside.reservations.records; used = inside.reservations.used } in
+    let l : Layout = record { sizes = inside.sizes; free = inside.free; records = inside.reservations.records; used = inside.reservations.used } in
     let known = rw (← c.self.view_is) at c.requires.known in
     let out = rw (← c.self.view_is) at c.requires.out in
     let back = PutsBack-put_back l c.args.frame was.laid known out in

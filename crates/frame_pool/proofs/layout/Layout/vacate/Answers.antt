@@ -36,7 +36,7 @@ pub give-requires-clause-taken : goal.give-requires-clause-taken
 give-requires-clause-taken c =
     let inside = c.self.inside in
     let r = c.unwrap-reservation.result in
-    let l : Layout = record { free = inside.free; records = inside.reservations.records; used = inside.reservations.used } in
+    let l : Layout = record { sizes = inside.sizes; free = inside.free; records = inside.reservations.records; used = inside.reservations.used } in
     let found = rw (c.unwrap-reservation.ensures, ← c.self.view_is) at c.reservation_of.ensures.found in
     λ f low high. not_free_there l r.frame r c.self.invariant.laid found.0 f (has_frame_from f r low high)
 
@@ -44,7 +44,7 @@ pub enlist-requires-clause-unlisted : goal.enlist-requires-clause-unlisted
 enlist-requires-clause-unlisted c =
     let inside = c.self.inside in
     let r = c.unwrap-reservation.result in
-    let l : Layout = record { free = inside.free; records = inside.reservations.records; used = inside.reservations.used } in
+    let l : Layout = record { sizes = inside.sizes; free = inside.free; records = inside.reservations.records; used = inside.reservations.used } in
     let found = rw (c.unwrap-reservation.ensures, ← c.self.view_is) at c.reservation_of.ensures.found in
     rest_unlisted l r.frame r c.self.invariant.laid found.0 c.unlist.new.lists.lists c.unlist.ensures.listed
 
@@ -53,7 +53,7 @@ invariant_of-self c =
     let inside = c.self.inside in
     let r = c.unwrap-reservation.result in
     let frame = c.args.frame in
-    let l : Layout = record { free = inside.free; records = inside.reservations.records; used = inside.reservations.used } in
+    let l : Layout = record { sizes = inside.sizes; free = inside.free; records = inside.reservations.records; used = inside.reservations.used } in
     let found = rw (c.unwrap-reservation.ensures, ← c.self.view_is) at c.reservation_of.ensures.found in
     let at_place = rw found.0 at c.vacate.ensures.vacated in
     let unused : c.vacate.new.self ≡ with_used inside.reservations frame false = at_place ∙ ap (λ f. with_used inside.reservations f false) c.page_at.ensures.joined in
@@ -62,9 +62,9 @@ invariant_of-self c =
     let after = vacated l frame r true c.give.new.free c.dissolve.new.self (sym empty ∙ c.if-vacate.true) c.give.ensures gone in
     let used = rw (← c.self.view_is) at c.requires in
     let gives = Gives-vacate l r.frame frame r c.self.invariant.laid found.0 found.1 used in
-    let new : Layout = record { free = c.give.new.free; records = c.dissolve.new.self.records; used = c.dissolve.new.self.used } in
+    let new : Layout = record { sizes = inside.sizes; free = c.give.new.free; records = c.dissolve.new.self.records; used = c.dissolve.new.self.used } in
     IsInOrder-gone l r.frame r c.self.invariant.laid found.0 inside.frames frame new inside.lists c.unlist.new.lists inside.map c.remove.new.map c.self.invariant found.1
-    (subst IsLaid (sym after) gives.laid) (ap (λ (m : Layout). length m.free) after ∙ gives.long) (ap (λ (st : Records). st.used) gone) (ap (λ (st : Records). st.records) gone)
+    (subst IsLaid (sym after) gives.laid) refl (ap (λ (m : Layout). length m.free) after ∙ gives.long) (ap (λ (st : Records). st.used) gone) (ap (λ (st : Records). st.records) gone)
     c.unlist.ensures.room c.unlist.ensures.listed
     (subst (λ (st : Records). IsMapped c.remove.new.map st.records) (sym c.dissolve.ensures) c.remove.ensures)
 
@@ -73,7 +73,7 @@ returns-then-vacate c =
     let inside = c.self.inside in
     let r = c.unwrap-reservation.result in
     let frame = c.args.frame in
-    let l : Layout = record { free = inside.free; records = inside.reservations.records; used = inside.reservations.used } in
+    let l : Layout = record { sizes = inside.sizes; free = inside.free; records = inside.reservations.records; used = inside.reservations.used } in
     let found = rw (c.unwrap-reservation.ensures, ← c.self.view_is) at c.reservation_of.ensures.found in
     let at_place = rw found.0 at c.vacate.ensures.vacated in
     let unused : c.vacate.new.self ≡ with_used inside.reservations frame false = at_place ∙ ap (λ f. with_used inside.reservations f false) c.page_at.ensures.joined in
@@ -89,7 +89,7 @@ invariant_of-self-2 c =
     let inside = c.self.inside in
     let r = c.unwrap-reservation.result in
     let frame = c.args.frame in
-    let l : Layout = record { free = inside.free; records = inside.reservations.records; used = inside.reservations.used } in
+    let l : Layout = record { sizes = inside.sizes; free = inside.free; records = inside.reservations.records; used = inside.reservations.used } in
     let found = rw (c.unwrap-reservation.ensures, ← c.self.view_is) at c.reservation_of.ensures.found in
     let at_place = rw found.0 at c.vacate.ensures.vacated in
     let unused : c.vacate.new.self ≡ with_used inside.reservations frame false = at_place ∙ ap (λ f. with_used inside.reservations f false) c.page_at.ensures.joined in
@@ -97,9 +97,9 @@ invariant_of-self-2 c =
     let after = vacated l frame r false inside.free c.vacate.new.self (sym some ∙ c.if-vacate.false) refl unused in
     let used = rw (← c.self.view_is) at c.requires in
     let gives = Gives-vacate l r.frame frame r c.self.invariant.laid found.0 found.1 used in
-    let new : Layout = record { free = inside.free; records = c.vacate.new.self.records; used = c.vacate.new.self.used } in
+    let new : Layout = record { sizes = inside.sizes; free = inside.free; records = c.vacate.new.self.records; used = c.vacate.new.self.used } in
     IsInOrder-again l r.frame r c.self.invariant.laid found.0 inside.frames frame false (record_at l r.frame) new inside.lists c.unlist.new.lists c.enlist.new.lists inside.map inside.map c.self.invariant found.1
-    (subst IsLaid (sym after) gives.laid) refl (ap (λ (st : Records). st.used) unused)
+    (subst IsLaid (sym after) gives.laid) refl refl (ap (λ (st : Records). st.used) unused)
     (ap (λ (st : Records). st.records) unused ∙ sym (set-get_or inside.reservations.records r.frame None))
     c.unlist.ensures.room c.enlist.ensures.room c.unlist.ensures.listed c.enlist.ensures.listed
     (subst (λ (st : Records). IsMapped inside.map st.records) (sym unused) c.self.invariant.mapped)
@@ -109,7 +109,7 @@ returns c =
     let inside = c.self.inside in
     let r = c.unwrap-reservation.result in
     let frame = c.args.frame in
-    let l : Layout = record { free = inside.free; records = inside.reservations.records; used = inside.reservations.used } in
+    let l : Layout = record { sizes = inside.sizes; free = inside.free; records = inside.reservations.records; used = inside.reservations.used } in
     let found = rw (c.unwrap-reservation.ensures, ← c.self.view_is) at c.reservation_of.ensures.found in
     let at_place = rw found.0 at c.vacate.ensures.vacated in
     let unused : c.vacate.new.self ≡ with_used inside.reservations frame false = at_place ∙ ap (λ f. with_used inside.reservations f false) c.page_at.ensures.joined in
