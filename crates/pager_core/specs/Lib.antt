@@ -1,6 +1,7 @@
 pub mod Rows
 pub mod Flights
 pub mod Steps
+pub mod RunParts
 pub mod Running
 pub mod Machines
 pub mod Sums

@@ -1,13 +1,11 @@
 -- What the fields of a machine keep true.
-use Rattle.std.specs.Prelude.{ℕ, ◌≡◌, ◌≢◌, ◌+◌, ◌<◌, ◌≤◌, Bool, List, length, replicate, sum_by, slice_get, Some, None}
+use Rattle.std.specs.Prelude.{ℕ, ◌≡◌, ◌≢◌, ◌+◌, ◌<◌, ◌≤◌, List, length, replicate, sum_by, slice_get, Some, None}
 use Rattle.std.specs.List.{range_with_len}
 use Rattle.pager_model.specs.declared.call.Call.{Call}
 use Rattle.pager_model.specs.FrameStates.{FrameState}
 use Rattle.pager_model.specs.Flat.{space_of_call}
 use Rattle.pager_model.specs.Legal.{space_at, frames_at, entries_in}
-use Rattle.pager_model.specs.SizeSets.{all_sizes}
-use Rattle.pager_model.specs.SpaceStates.{empty_state}
-use Rattle.space_core.specs.Standing.{Kept, IsResting, StandsFor, CanBegin}
+use Rattle.space_core.specs.Standing.{Kept, CanBegin}
 use Rattle.pager_core.specs.declared.flight.Flight.{Flight}
 use Rattle.pager_core.specs.Rows.{row_of, space_under}
 use Rattle.pager_core.specs.Flights.{Fits, IsReady, IsAtRest}
@@ -20,15 +18,6 @@ pub record CanFly (spaces : ℕ) (call : Call) : Type 0 where
 
 abbrev pub all_left : Running → ℕ
 all_left run = sum_by (left_at run) (range_with_len 0 (length run.calls))
-
--- a space as a machine begins with it: without regions, with an image for each of so many processors, over a store of which this was
--- told and which has had so many faults
-pub record IsNew (frames processors number : ℕ) (told : Bool) (faults : ℕ) (kept : Kept) : Type 0 where
-  pub number_is : kept.number ≡ number
-  pub frames_are : kept.frames ≡ frames
-  pub processors_are : length kept.images ≡ processors
-  pub resting : IsResting kept
-  pub stands : StandsFor kept (empty_state all_sizes told faults)
 
 -- a processor's flight: it is of this processor's call of its number, and isn't ended; and where it keeps a space it is ready there
 pub record IsFlying (run : Running) (spaces : List Kept) (c : ℕ) (f : Flight) : Type 0 where

@@ -9,7 +9,6 @@ use Rattle.pager_model.specs.Entries.{entries_of}
 use Rattle.pager_model.specs.Legal.{IsLegal, space_at, frames_at, progress_at, entries_in}
 use Rattle.pager_model.specs.Order.{Progress, at_rest, IsWhole}
 use Rattle.pager_model.specs.Plans.{Plan}
-use Rattle.pager_model.specs.SizeSets.{all_sizes}
 use Rattle.pager_model.specs.Settings.{Given, is_told}
 use Rattle.pager_model.specs.Showing.{answers_in, daemon_marks}
 use Rattle.pager_model.specs.SpaceStates.{last_count}
@@ -18,6 +17,7 @@ use Rattle.space_core.specs.Standing.{IsCopy}
 use Rattle.pager_core.specs.declared.flight.Flight.{Flight}
 use Rattle.pager_core.specs.declared.flight.Phase.TheVariants.{Start}
 use Rattle.pager_core.specs.Rows.{row_of, is_between, space_under}
+use Rattle.pager_core.specs.RunParts.{given_over}
 
 -- The setting of its history, the calls of each processor, for each processor the call that is in progress or comes next, where one is
 -- left, the history, and the stores that no space uses.
@@ -31,14 +31,7 @@ pub record Running : Type 0 where
 -- The setting of a trace over the stores that are handed in, of which each space uses the one of its number: its frames, all four page sizes, a mark of 0
 -- for each processor and the daemon's low mark for one more, and what each store said at the start of its copies and its faults.
 abbrev pub setting_over : Plan → List Stored → Given
-setting_over plan stores =
-    record {
-      sizes = all_sizes;
-      frames = plan.frames;
-      marks = replicate plan.processors 0 ++ daemon_marks plan.daemon;
-      told = map (λ (s : Stored). s.told) (take plan.spaces stores);
-      faults = map (λ (s : Stored). s.faults) (take plan.spaces stores);
-    }
+setting_over plan stores = given_over plan.frames (replicate plan.processors 0 ++ daemon_marks plan.daemon) (take plan.spaces stores)
 
 abbrev pub calls_at : List (List Call) → ℕ → List Call
 calls_at calls c = slice_index_or calls c []

@@ -1,11 +1,14 @@
 //! A call in progress, step by step, and the machine that runs the calls of many processors on many spaces.
 //!
 //! A flight is a call in one of its phases. Each step does what the table of steps says of the phase, and makes one entry of
-//! the history, or none. The machine keeps its history legal for every list of turns.
+//! the history, or none. The machine keeps its history legal for every list of turns. What a run begins with and what it leaves is the
+//! same whoever makes its entries.
 #![tactic(auto)]
 
 mod flight;
 mod machine;
+mod run_parts;
 
 pub use flight::{Flight, Needs, Phase};
-pub use machine::{Gathered, Machine, Turn};
+pub use machine::{Machine, Turn};
+pub use run_parts::{Gathered, RunParts, calls_by_processor};

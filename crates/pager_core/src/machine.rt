@@ -1,27 +1,24 @@
 ghost use Rattle.std.specs.Prelude.{◌≡◌, ◌≢◌, ℕ, ◌+◌, ◌*◌, ◌^◌, ◌<◌, ◌≤◌, ◌↔◌, Bool, [], ◌∷◌, ◌++◌, Some, None, IfOk, IfErr, IfSome, IfNone, IsTrue, length, map, drop, reverse, true, slice_get, vec_capacity, vec_len};
 ghost use Rattle.std.specs.List.{range_with_len};
 ghost use Rattle.pager_model.specs.Agreement.{OwnsBy};
-ghost use Rattle.pager_model.specs.Counts.{counts, hits_in, misses_in, is_hit_in, is_miss_in};
+ghost use Rattle.pager_model.specs.Counts.{counts};
 ghost use Rattle.pager_model.specs.FrameStates.{start_frames};
 ghost use Rattle.pager_model.specs.SizeSets.{all_sizes};
 ghost use Rattle.pager_model.specs.Laws.{KeepsLaws};
-ghost use Rattle.pager_model.specs.Legal.{entries_in, frames_at};
-ghost use Rattle.pager_model.specs.Settings.{is_told, faults_at_entry};
+ghost use Rattle.pager_model.specs.Legal.{entries_in};
 ghost use Rattle.pager_model.specs.Showing.{calls_of};
 ghost use Rattle.pager_model.specs.SpaceStates.{SpaceState};
 ghost use Rattle.pager_model.specs.TraceText.{HasText};
-ghost use Rattle.space_core.specs.Standing.{Kept};
 ghost use Rattle.pager_core.specs.Flights.{IsReady};
-ghost use Rattle.pager_core.specs.Machines.{IsNew};
 ghost use Rattle.pager_core.specs.Rows.{row_of};
+ghost use Rattle.pager_core.specs.RunParts.{AreNewSpaces};
 ghost use Rattle.pager_core.specs.Running.{Running, progress_of_actor, flight_at, flight_of, first_flights, kept_by, setting_over, HasEnded, IsKeptByOther, MustWait, OneMore, IsLawful, IsWholeRun, StoresEnd, AreCapped};
 ghost use Rattle.pager_core.specs.Steps.{AreAgreed, Makes, Passes};
-ghost use Rattle.pager_core.specs.Sums.{AreFewer, sum_at, tiles_in, promotions_in, demotions_in};
-ghost use Rattle.store_core.specs.Stored.{Stored, TellsZero};
 
 use crate::flight::{Flight, Needs};
+use crate::run_parts::{Gathered, RunParts, calls_by_processor};
 use frame_pool::Pool;
-use pager_model::{Call, Entry, Line, NoMemory, Numbered, Setting, Sizes, Summary, Trace, What};
+use pager_model::{Call, Entry, NoMemory, Numbered, Setting, Trace};
 use space_core::Space;
 use std::alloc::Global;
 use std::marker::Model;
@@ -36,16 +33,6 @@ pub enum Turn {
     Stepped,
     /// The actor's next step is made under this space, which another flight keeps.
     Waits(u32),
-}
-
-/// What a machine that ended gives.
-#[derive(Drop)]
-pub struct Gathered<S: Store + Send + Drop> {
-    pub history: Vec<Numbered>,
-    /// The stores that were handed in, in their order.
-    pub stores: Vec<S>,
-    /// The counts of the whole run.
-    pub summary: Summary,
 }
 
 /// Runs the calls of many processors on many spaces, a step at a time in any order of turns, and keeps the history. It owns the
@@ -107,12 +94,12 @@ impl<S: Store + Send + Drop> Machine<S> {
         stores.reverse();
         match parts_of(alloc, trace, &mut stores) {
             Ok(parts) => Ok(Machine {
-                setting: parts.setting,
+                setting: parts.run.setting,
                 calls: parts.calls,
                 flights: parts.flights,
-                spaces: parts.spaces,
+                spaces: parts.run.spaces,
                 stores,
-                pool: parts.pool,
+                pool: parts.run.pool,
                 history: parts.history,
             }),
             Err(NoMemory) => {
@@ -200,29 +187,7 @@ impl<S: Store + Send + Drop> Machine<S> {
         ensures unused { drop (length self.given.told) (map S.seen result.stores.items) ≡ self.unused }
         ensures summary { result.summary ≡ counts self.given (entries_in self.history) }
     {
-        let frames = self.pool.counts();
-        let preemptions = self.pool.preempted();
-        let tiles = tiles_of(self.spaces.as_slice());
-        let (promotions, demotions) = moves_of(self.spaces.as_slice());
-        let (hits, misses) = accesses_in(self.history.as_slice());
-        let mut stores = self.stores;
-        give_back(self.spaces, &mut stores);
-        stores.reverse();
-        Gathered {
-            history: self.history,
-            stores,
-            summary: Summary {
-                tiles,
-                promotions,
-                demotions,
-                preemptions,
-                hits,
-                misses,
-                free: frames.free,
-                reserved: frames.reserved,
-                used: frames.used,
-            },
-        }
+        Gathered::of(self.history, self.spaces, self.pool, self.stores)
     }
 }
 
@@ -232,12 +197,10 @@ const ENTRIES_OF_CALL: usize = 8;
 /// What a machine is made of, beside the stores that no space uses.
 #[derive(Drop)]
 struct Parts<S: Store + Send + Drop> {
-    setting: Setting,
     calls: Vec<Vec<Call>>,
     flights: Vec<Option<Flight>>,
-    spaces: Vec<Space<S>>,
-    pool: Pool,
     history: Vec<Numbered>,
+    run: RunParts<S>,
 }
 
 /// The parts of a machine. The stores, last first, lose those of the spaces, unless there is no memory.
@@ -250,14 +213,12 @@ fn parts_of<S: Store + Send + Drop>(
 
     // Each part is as it is at the start of the trace.
     ensures text { IfOk result (λ _. HasText trace.now) }
-    ensures setting { IfOk result (λ p. p.setting ≡ setting_over trace.now (map S.seen (reverse stores.old.items))) }
     ensures calls { IfOk result (λ p. map (λ v. v.items) p.calls.items ≡ map (λ c. calls_of c trace.now.calls) (range_with_len 0 trace.now.processors)) }
     ensures flights { IfOk result (λ p. p.flights.items ≡ first_flights (map (λ v. v.items) p.calls.items)) }
-    ensures pool { IfOk result (λ p. p.pool ≡ start_frames all_sizes trace.now.frames trace.now.processors) }
     ensures history { IfOk result (λ p. (p.history.items ≡ []) × (8 * length trace.now.calls ≤ vec_capacity p.history)) }
-    ensures count { IfOk result (λ p. length p.spaces.items ≡ trace.now.spaces) }
-    ensures new { IfOk result (λ p. (s : ℕ) (kept : Kept) → slice_get p.spaces.items s ≡ Some kept
-        → IsNew trace.now.frames trace.now.processors s (is_told p.setting s) (faults_at_entry p.setting s) kept) }
+    ensures setting { IfOk result (λ p. p.run.setting ≡ setting_over trace.now (map S.seen (reverse stores.old.items))) }
+    ensures spaces { IfOk result (λ p. AreNewSpaces p.run.setting p.run.spaces.items) }
+    ensures pool { IfOk result (λ p. p.run.pool ≡ start_frames all_sizes trace.now.frames trace.now.processors) }
     ensures capped { IfOk result (λ _. AreCapped trace.now.spaces (map S.seen (reverse stores.old.items))) }
 
     // The stores that no space uses are left, and for want of memory all are.
@@ -266,200 +227,23 @@ fn parts_of<S: Store + Send + Drop>(
     ensures capacity { vec_capacity stores.new ≡ vec_capacity stores.old }
 {
     let processors = trace.processors();
-    let frames = trace.frames();
     let history = Vec::with_capacity(alloc, ENTRIES_OF_CALL * trace.calls().len())?;
     let calls = calls_by_processor(alloc, processors, trace.calls())?;
     let flights = first_of_each(alloc, calls.as_slice())?;
-    let pool = Pool::create(
+    let marks = vec![in alloc; 0; processors as usize]?;
+    let run = RunParts::create(
         alloc,
-        frames,
+        trace.frames(),
+        marks.as_slice(),
         trace.spaces(),
-        processors,
-        Sizes::of(true, true, true),
+        stores,
     )?;
-    let setting = setting_of(alloc, trace, stores.as_slice())?;
-    let spaces = spaces_over(alloc, trace, stores)?;
     Ok(Parts {
-        setting,
         calls,
         flights,
-        spaces,
-        pool,
         history,
+        run,
     })
-}
-
-/// The setting of a trace over stores, last first: what each that a space uses says of its copies, and its count of faults.
-fn setting_of<S: Store + Send + Drop>(
-    alloc: Global,
-    trace: &Trace,
-    stores: &[S],
-) -> Result<Setting, NoMemory>
-    requires enough { trace.now.spaces ≤ length stores.now }
-    ensures given { IfOk result (λ g. g ≡ setting_over trace.now (map S.seen (reverse stores.now))) }
-    ensures told { IfOk result (λ g. (s : ℕ) (store : Stored) → s < trace.now.spaces → slice_get (map S.seen (reverse stores.now)) s ≡ Some store
-        → store.told ≡ true → TellsZero store) }
-    ensures capped { IfOk result (λ _. AreCapped trace.now.spaces (map S.seen (reverse stores.now))) }
-{
-    let spaces = trace.spaces() as usize;
-    let marks = vec![in alloc; 0; trace.processors() as usize]?;
-    let mut told = Vec::with_capacity(alloc, spaces)?;
-    let mut faults = Vec::with_capacity(alloc, spaces)?;
-    for store in stores.iter().rev().take(spaces) {
-        told.push(store.told())?;
-        faults.push(store.faults())?;
-    }
-    Ok(Setting::of(trace.frames(), marks, told, faults))
-}
-
-/// The spaces of a trace, each without regions, over the last of the stores, which come back for want of memory.
-fn spaces_over<S: Store + Send + Drop>(
-    alloc: Global,
-    trace: &Trace,
-    stores: &mut Vec<S>,
-) -> Result<Vec<Space<S>>, NoMemory>
-    requires enough { trace.now.spaces ≤ length stores.old.items }
-    ensures count { IfOk result (λ spaces. length spaces.items ≡ trace.now.spaces) }
-    ensures new { IfOk result (λ spaces. (s : ℕ) (kept : Kept) (told : Bool) → slice_get spaces.items s ≡ Some kept
-        → (told ≡ true → TellsZero kept.store) → IsNew trace.now.frames trace.now.processors s told kept.store.faults kept) }
-
-    // In their order, the stores are those of the spaces and those that are left.
-    ensures stores { IfOk result (λ spaces. map S.seen (reverse stores.old.items) ≡ map (λ (k : Kept). k.store) spaces.items ++ map S.seen (reverse stores.new.items)) }
-    ensures back { IfErr result (λ _. map S.seen stores.new.items ≡ map S.seen stores.old.items) }
-    ensures capacity { vec_capacity stores.new ≡ vec_capacity stores.old }
-{
-    let count = trace.spaces();
-    let mut spaces = Vec::with_capacity(alloc, count as usize)?;
-    for number in 0..count {
-        let Some(store) = stores.pop() else {
-            unreachable!()
-        };
-        match Space::create(alloc, number, trace.frames(), trace.processors(), store) {
-            Ok(space) => spaces.push_reserved(space),
-            Err(store) => {
-                stores.push_reserved(store);
-                give_back(spaces, stores);
-                return Err(NoMemory);
-            }
-        }
-    }
-    Ok(spaces)
-}
-
-/// Puts the stores of the spaces behind these, the first space's last.
-fn give_back<S: Store + Send + Drop>(spaces: Vec<Space<S>>, stores: &mut Vec<S>)
-    requires room { length stores.old.items + length spaces.items ≤ vec_capacity stores.old }
-    ensures stores { map S.seen stores.new.items ≡ map S.seen stores.old.items ++ reverse (map (λ (k : Kept). k.store) spaces.items) }
-    ensures capacity { vec_capacity stores.new ≡ vec_capacity stores.old }
-{
-    let mut spaces = spaces;
-    while let Some(space) = spaces.pop() {
-        stores.push_reserved(space.into_store());
-    }
-}
-
-/// How many tiles of each size the spaces have.
-fn tiles_of<S: Store + Send + Drop>(spaces: &[Space<S>]) -> [u32; 4]
-    requires few { length spaces.now ≤ 16 }
-    ensures { result ≡ tiles_in spaces.now 0 ∷ tiles_in spaces.now 1 ∷ tiles_in spaces.now 2 ∷ tiles_in spaces.now 3 ∷ [] }
-{
-    let mut tiles = [0; 4];
-    for space in spaces {
-        tiles = added(&tiles, &space.tile_counts());
-    }
-    tiles
-}
-
-/// The sums of two counts of tiles, size by size.
-fn added(tiles: &[u32; 4], more: &[u32; 4]) -> [u32; 4]
-    requires few { AreFewer tiles.now 1073741824 }
-    requires few_more { AreFewer more.now 1073741824 }
-    ensures { result ≡ sum_at tiles.now more.now 0 ∷ sum_at tiles.now more.now 1 ∷ sum_at tiles.now more.now 2 ∷ sum_at tiles.now more.now 3 ∷ [] }
-{
-    [
-        tiles[0] + more[0],
-        tiles[1] + more[1],
-        tiles[2] + more[2],
-        tiles[3] + more[3],
-    ]
-}
-
-/// How many promotions and demotions the spaces counted.
-fn moves_of<S: Store + Send + Drop>(spaces: &[Space<S>]) -> (u64, u64)
-    requires promotions { promotions_in spaces.now < 2 ^ 64 }
-    requires demotions { demotions_in spaces.now < 2 ^ 64 }
-    ensures { result ≡ (promotions_in spaces.now, demotions_in spaces.now) }
-{
-    let (mut promotions, mut demotions): (u64, u64) = (0, 0);
-    for space in spaces {
-        let own = space.moves();
-        promotions += own.0;
-        demotions += own.1;
-    }
-    (promotions, demotions)
-}
-
-/// How many answers of a history are hits, and how many are misses.
-fn accesses_in(history: &[Numbered]) -> (u64, u64)
-    ensures { result ≡ (hits_in (entries_in history.now), misses_in (entries_in history.now)) }
-{
-    let hits = history
-        .iter()
-        .filter(|numbered| is_hit(&numbered.entry.what))
-        .count();
-    let misses = history
-        .iter()
-        .filter(|numbered| is_miss(&numbered.entry.what))
-        .count();
-    (hits as u64, misses as u64)
-}
-
-/// Whether it is an answer whose page's tile stood in its processor's image.
-fn is_hit(what: &What) -> bool
-    ensures { result ≡ is_hit_in what.now }
-{
-    match what {
-        What::Answer { answered, .. } => answered.size.is_some() && answered.hit,
-        _ => false,
-    }
-}
-
-/// Whether it is an answer with a tile that didn't.
-fn is_miss(what: &What) -> bool
-    ensures { result ≡ is_miss_in what.now }
-{
-    match what {
-        What::Answer { answered, .. } => answered.size.is_some() && !answered.hit,
-        _ => false,
-    }
-}
-
-/// Each processor's calls, in the order of the lines.
-fn calls_by_processor(
-    alloc: Global,
-    processors: u32,
-    lines: &[Line],
-) -> Result<Vec<Vec<Call>>, NoMemory>
-    ensures { IfOk result (λ calls. map (λ v. v.items) calls.items ≡ map (λ c. calls_of c lines.now) (range_with_len 0 processors)) }
-{
-    let mut calls = Vec::with_capacity(alloc, processors as usize)?;
-    for processor in 0..processors {
-        calls.push(calls_of(alloc, processor, lines)?)?;
-    }
-    Ok(calls)
-}
-
-/// One processor's calls, in the order of the lines.
-fn calls_of(alloc: Global, processor: u32, lines: &[Line]) -> Result<Vec<Call>, NoMemory>
-    ensures { IfOk result (λ calls. calls.items ≡ calls_of processor lines.now) }
-{
-    Ok(
-        lines
-            .iter()
-            .filter(|line| line.processor == processor)
-            .map(|line| line.call)
-            .collect(alloc)?,
-    )
 }
 
 /// For each processor the flight of its first call, where it has one.

@@ -1,0 +1,47 @@
+-- What a run begins with and what it leaves: its setting, its spaces and its frames.
+use Rattle.std.specs.Prelude.{ℕ, ◌≡◌, Bool, List, length, map, slice_get, Some}
+use Rattle.pager_model.specs.declared.entry.Entry.{Entry}
+use Rattle.pager_model.specs.FrameStates.{FrameState}
+use Rattle.pager_model.specs.Legal.{space_at, frames_at}
+use Rattle.pager_model.specs.Settings.{Given, is_told, faults_at_entry}
+use Rattle.pager_model.specs.SizeSets.{all_sizes}
+use Rattle.pager_model.specs.SpaceStates.{empty_state}
+use Rattle.space_core.specs.Standing.{Kept, IsResting, StandsFor}
+use Rattle.store_core.specs.Stored.{Stored}
+use Rattle.pager_core.specs.Flights.{IsAtRest}
+
+-- The setting of a run over stores, one for each space: so many frames, all four page sizes, these marks, and what each store said at the
+-- start of its copies and its faults.
+abbrev pub given_over : ℕ → List ℕ → List Stored → Given
+given_over frames marks stores =
+    record {
+      sizes = all_sizes;
+      frames = frames;
+      marks = marks;
+      told = map (λ (s : Stored). s.told) stores;
+      faults = map (λ (s : Stored). s.faults) stores;
+    }
+
+-- a space as a run begins with it: without regions, with an image for each of so many processors, over a store of which this was
+-- told and which has had so many faults
+pub record IsNew (frames processors number : ℕ) (told : Bool) (faults : ℕ) (kept : Kept) : Type 0 where
+  pub number_is : kept.number ≡ number
+  pub frames_are : kept.frames ≡ frames
+  pub processors_are : length kept.images ≡ processors
+  pub resting : IsResting kept
+  pub stands : StandsFor kept (empty_state all_sizes told faults)
+
+-- The new spaces of a setting, in their order.
+pub record AreNewSpaces (given : Given) (spaces : List Kept) : Type 0 where
+  pub count : length spaces ≡ length given.told
+  pub new : (s : ℕ) (kept : Kept) → slice_get spaces s ≡ Some kept → IsNew given.frames (length given.marks) s (is_told given s) (faults_at_entry given s) kept
+
+-- After a history no flight is in a space: each space is at rest after its part of it, and the pool is the frames' state after theirs.
+pub record AreAtRest (given : Given) (history : List Entry) (spaces : List Kept) (pool : FrameState) : Type 0 where
+  pub count : length spaces ≡ length given.told
+  pub spaces_rest : (s : ℕ) (kept : Kept) → slice_get spaces s ≡ Some kept → IsAtRest kept (space_at given history s)
+  pub pool_is : pool ≡ frames_at given history
+
+-- at most so many entries has a history: 17 processors make at most 2^31 each
+abbrev pub most_in_history : ℕ
+most_in_history = 36507222016
