@@ -1,29 +1,25 @@
 -- The counts of the spaces at the end of a run.
-use Rattle.std.proofs.Common.{◌≡◌, ℕ, zero, suc, ◌+◌, ◌*◌, ◌^◌, ◌<◌, ◌≤◌, Bool, cond, not, List, [], ◌∷◌, length, map, take, fold, slice_get, Option, Some, None, refl, ap, sym, ◌∙◌, arith}
+use Rattle.std.proofs.Common.{◌≡◌, ℕ, zero, suc, ◌+◌, ◌*◌, ◌^◌, ◌<◌, ◌≤◌, Bool, cond, not, List, [], ◌∷◌, length, map, take, fold, slice_get, Option, Some, refl, ap, sym, ◌∙◌, arith}
 use Rattle.std.specs.List.{range_with_len, sum_by, count_by}
 use Rattle.std.proofs.lemmas.List.Filters.{length-filter_both}
 use Rattle.std.proofs.lemmas.List.FromFn.{length-range_with_len}
 use Rattle.std.proofs.lemmas.List.Sums.{sum_by-cons, sum_by-take-le}
-use Rattle.std.proofs.Math.ListN.{length-map}
 use Rattle.std.proofs.Math.Nat.{suc-mul}
 use Rattle.pager_model.specs.declared.entry.Entry.{Entry}
-use Rattle.pager_model.specs.declared.entry.Numbered.{Numbered}
 use Rattle.pager_model.specs.declared.tile.Mapping.{Mapping}
 use Rattle.pager_model.specs.declared.summary.Summary.{Summary}
 use Rattle.pager_model.specs.Counts.{counts, hits_in, misses_in, over_spaces, tiles_after}
 use Rattle.pager_model.specs.Entries.{names_space, space_part}
 use Rattle.pager_model.specs.FrameStates.{FrameState, free_count, reserved_count, used_count}
-use Rattle.pager_model.specs.Legal.{space_at, frames_at, entries_in}
-use Rattle.pager_model.specs.Settings.{is_told, faults_at_entry}
+use Rattle.pager_model.specs.Legal.{space_at, frames_at}
+use Rattle.pager_model.specs.Settings.{Given, is_told, faults_at_entry}
 use Rattle.pager_model.specs.SizeSets.{SizeSet}
 use Rattle.pager_model.specs.SpaceStates.{SpaceState, empty_state, space_after, pages_of, pages_after}
 use Rattle.pager_model.specs.Tiles.{tiles_of_size, tiles_of_size_in, begins_tile, count_pages, is_promoted_in}
 use Rattle.space_core.specs.Standing.{Kept}
 use Rattle.space_core.specs.Tables.{mapping_in}
 use Rattle.tiles.proofs.Counting.{count_pages_most}
-use Rattle.pager_core.specs.Flights.{IsAtRest}
-use Rattle.pager_core.specs.Machines.{IsMachine}
-use Rattle.pager_core.specs.Running.{Running, HasEnded}
+use Rattle.pager_core.specs.RunParts.{AreAtRest, most_in_history}
 use Rattle.pager_core.proofs.Lists.{count-cons}
 use Rattle.pager_core.specs.Sums.{AreFewer, tiles_in, promotions_in, demotions_in}
 
@@ -98,95 +94,77 @@ demotions_few (e ∷ es) st =
 part_few : (s : ℕ) (h : List Entry) → length (space_part s h) ≤ length h
 part_few s h = (let both = length-filter_both (names_space s) (λ e. not (names_space s e)) (λ e. refl) h in omega (arith, both))
 
-module _ (run : Running) (spaces : List Kept) (pool : FrameState) (capacity : ℕ) (machine : IsMachine run spaces pool capacity) where
-  abbrev h : List Entry
-  h = entries_in run.history
-
-  history_few : length h ≤ 2097152
-  history_few = (let same : length h ≡ length run.history = length-map run.history (λ (n : Numbered). n.entry) in let few = machine.few in omega (arith, same, few))
-
-  promotions_at : (s : ℕ) → (space_at run.given h s).promotions ≤ 2199023255552
+-- Of spaces at rest after a history of few entries.
+module _ (given : Given) (h : List Entry) (spaces : List Kept) (pool : FrameState) (rest : AreAtRest given h spaces pool) (few : length h ≤ most_in_history) (few_spaces : length spaces ≤ 16) where
+  promotions_at : (s : ℕ) → (space_at given h s).promotions ≤ 38280596832649216
   promotions_at s =
-      let few = promotions_few (space_part s h) (empty_state run.given.sizes (is_told run.given s) (faults_at_entry run.given s)) in
+      let own = promotions_few (space_part s h) (empty_state given.sizes (is_told given s) (faults_at_entry given s)) in
       let part = part_few s h in
-      let all = history_few in
-      omega (arith, few, part, all)
+      omega (arith, own, part, few)
 
-  demotions_at : (s : ℕ) → (space_at run.given h s).demotions ≤ 2199023255552
+  demotions_at : (s : ℕ) → (space_at given h s).demotions ≤ 38280596832649216
   demotions_at s =
-      let few = demotions_few (space_part s h) (empty_state run.given.sizes (is_told run.given s) (faults_at_entry run.given s)) in
+      let own = demotions_few (space_part s h) (empty_state given.sizes (is_told given s) (faults_at_entry given s)) in
       let part = part_few s h in
-      let all = history_few in
-      omega (arith, few, part, all)
+      omega (arith, own, part, few)
 
-  module _ (ended : HasEnded run) where
-    -- no space is kept
-    rests : (s : ℕ) (kept : Kept) → slice_get spaces s ≡ Some kept → IsAtRest kept (space_at run.given h s)
-    rests s kept at = machine.rest s kept at (λ c f flies keeps. (let e : None ≡ Some f = sym (ended c) ∙ flies in cc))
+  -- a count of each space that its state has is the same over all
+  summed : (f : Kept → ℕ) (count : SpaceState → ℕ) → ((s : ℕ) (kept : Kept) → slice_get spaces s ≡ Some kept → f kept ≡ count (space_at given h s)) → sum_by f spaces ≡ over_spaces given h count
+  summed f count are =
+      sum_by-places f (λ s. count (space_at given h s)) 0 spaces (λ s kept at. are s kept at ∙ ap (λ k. count (space_at given h k)) (let e : s ≡ 0 + s = omega arith in e))
+      ∙ ap (λ n. sum_by (λ s. count (space_at given h s)) (range_with_len 0 n)) rest.count
 
-    -- a count of each space that its state has is the same over all
-    summed : (f : Kept → ℕ) (count : SpaceState → ℕ) → ((s : ℕ) (kept : Kept) → slice_get spaces s ≡ Some kept → f kept ≡ count (space_at run.given h s)) → sum_by f spaces ≡ over_spaces run.given h count
-    summed f count are =
-        sum_by-places f (λ s. count (space_at run.given h s)) 0 spaces (λ s kept at. are s kept at ∙ ap (λ k. count (space_at run.given h k)) (let e : s ≡ 0 + s = omega arith in e))
-        ∙ ap (λ n. sum_by (λ s. count (space_at run.given h s)) (range_with_len 0 n)) (sym machine.told)
+  tiles_summed : (size : ℕ) → tiles_in spaces size ≡ tiles_after given h size
+  tiles_summed size =
+      summed (λ (k : Kept). tiles_of_size (mapping_in k.table) size) (λ st. tiles_of_size_in st.sizes (pages_of st) size)
+      (λ s kept at. ap (λ (ps : ℕ → Option Mapping). tiles_of_size ps size) (let same : mapping_in kept.table ≡ pages_of (space_at given h s) = λ i p. sym ((rest.spaces_rest s kept at).stands.pages p) i in same)
+      ∙ ap (λ (z : SizeSet). tiles_of_size_in z (pages_of (space_at given h s)) size) (sym (rest.spaces_rest s kept at).stands.translates.sizes))
 
-    pub tiles_summed : (size : ℕ) → tiles_in spaces size ≡ tiles_after run.given h size
-    tiles_summed size =
-        summed (λ (k : Kept). tiles_of_size (mapping_in k.table) size) (λ st. tiles_of_size_in st.sizes (pages_of st) size)
-        (λ s kept at. ap (λ (ps : ℕ → Option Mapping). tiles_of_size ps size) (let same : mapping_in kept.table ≡ pages_of (space_at run.given h s) = λ i p. sym ((rests s kept at).stands.pages p) i in same)
-        ∙ ap (λ (z : SizeSet). tiles_of_size_in z (pages_of (space_at run.given h s)) size) (sym (rests s kept at).stands.translates.sizes))
+  promotions_summed : promotions_in spaces ≡ over_spaces given h (λ st. st.promotions)
+  promotions_summed =
+      summed (λ (k : Kept). k.promotions) (λ st. st.promotions)
+      (λ s kept at. (rest.spaces_rest s kept at).stands.translates.promotions (let few = promotions_at s in omega (arith, few)))
 
-    pub promotions_summed : promotions_in spaces ≡ over_spaces run.given h (λ st. st.promotions)
-    promotions_summed =
-        summed (λ (k : Kept). k.promotions) (λ st. st.promotions)
-        (λ s kept at. (rests s kept at).stands.translates.promotions (let few = promotions_at s in omega (arith, few)))
+  demotions_summed : demotions_in spaces ≡ over_spaces given h (λ st. st.demotions)
+  demotions_summed =
+      summed (λ (k : Kept). k.demotions) (λ st. st.demotions)
+      (λ s kept at. (rest.spaces_rest s kept at).stands.translates.demotions (let few = demotions_at s in omega (arith, few)))
 
-    pub demotions_summed : demotions_in spaces ≡ over_spaces run.given h (λ st. st.demotions)
-    demotions_summed =
-        summed (λ (k : Kept). k.demotions) (λ st. st.demotions)
-        (λ s kept at. (rests s kept at).stands.translates.demotions (let few = demotions_at s in omega (arith, few)))
+  -- so the counts of all spaces are small
+  all_small : (count : SpaceState → ℕ) → ((s : ℕ) → count (space_at given h s) ≤ 38280596832649216) → over_spaces given h count < 2 ^ 64
+  all_small count each =
+      let most = sum_by-most (λ s. count (space_at given h s)) 38280596832649216 (range_with_len 0 (length given.told)) each in
+      let places = length-range_with_len 0 (length given.told) in
+      omega (arith, most, places, rest.count, few_spaces)
 
-    -- so the counts of all spaces are small
-    pub promotions_small : promotions_in spaces < 2 ^ 64
-    promotions_small =
-        let most = sum_by-most (λ s. (space_at run.given h s).promotions) 2199023255552 (range_with_len 0 (length run.given.told)) promotions_at in
-        let count = length-range_with_len 0 (length run.given.told) in
-        let same = promotions_summed in
-        let told = machine.told in
-        let few = machine.few_spaces in
-        omega (arith, most, count, same, told, few)
+  pub promotions_small : promotions_in spaces < 2 ^ 64
+  promotions_small = (let same = promotions_summed in let all = all_small (λ st. st.promotions) promotions_at in omega (arith, same, all))
 
-    pub demotions_small : demotions_in spaces < 2 ^ 64
-    demotions_small =
-        let most = sum_by-most (λ s. (space_at run.given h s).demotions) 2199023255552 (range_with_len 0 (length run.given.told)) demotions_at in
-        let count = length-range_with_len 0 (length run.given.told) in
-        let same = demotions_summed in
-        let told = machine.told in
-        let few = machine.few_spaces in
-        omega (arith, most, count, same, told, few)
+  pub demotions_small : demotions_in spaces < 2 ^ 64
+  demotions_small = (let same = demotions_summed in let all = all_small (λ st. st.demotions) demotions_at in omega (arith, same, all))
 
-    -- and the counts that were read of the spaces, the frames and the history are the run's
-    pub counts_are : (tiles : List ℕ) (promotions demotions preemptions hits misses free reserved used : ℕ)
-        → tiles ≡ tiles_in spaces 0 ∷ tiles_in spaces 1 ∷ tiles_in spaces 2 ∷ tiles_in spaces 3 ∷ [] → promotions ≡ promotions_in spaces → demotions ≡ demotions_in spaces
-        → preemptions ≡ pool.preemptions → hits ≡ hits_in h → misses ≡ misses_in h → free ≡ free_count pool → reserved ≡ reserved_count pool → used ≡ used_count pool
-        → (let s : Summary = record { tiles = tiles; promotions = promotions; demotions = demotions; preemptions = preemptions; hits = hits; misses = misses; free = free; reserved = reserved; used = used } in s) ≡ counts run.given h
-    counts_are tiles promotions demotions preemptions hits misses free reserved used in_tiles in_promotions in_demotions in_preemptions in_hits in_misses in_free in_reserved in_used =
-        let all_tiles : tiles ≡ tiles_after run.given h 0 ∷ tiles_after run.given h 1 ∷ tiles_after run.given h 2 ∷ tiles_after run.given h 3 ∷ [] =
-        in_tiles ∙ (λ i. tiles_summed 0 i ∷ tiles_summed 1 i ∷ tiles_summed 2 i ∷ tiles_summed 3 i ∷ []) in
-        let all_promotions = in_promotions ∙ promotions_summed in
-        let all_demotions = in_demotions ∙ demotions_summed in
-        let all_preemptions : preemptions ≡ (frames_at run.given h).preemptions = in_preemptions ∙ ap (λ (st : FrameState). st.preemptions) machine.frames in
-        let all_free : free ≡ free_count (frames_at run.given h) = in_free ∙ ap free_count machine.frames in
-        let all_reserved : reserved ≡ reserved_count (frames_at run.given h) = in_reserved ∙ ap reserved_count machine.frames in
-        let all_used : used ≡ used_count (frames_at run.given h) = in_used ∙ ap used_count machine.frames in
-        λ i. record {
-          tiles = all_tiles i;
-          promotions = all_promotions i;
-          demotions = all_demotions i;
-          preemptions = all_preemptions i;
-          hits = in_hits i;
-          misses = in_misses i;
-          free = all_free i;
-          reserved = all_reserved i;
-          used = all_used i;
-        }
+  -- and the counts that were read of the spaces, the frames and the history are the run's
+  pub counts_are : (tiles : List ℕ) (promotions demotions preemptions hits misses free reserved used : ℕ)
+      → tiles ≡ tiles_in spaces 0 ∷ tiles_in spaces 1 ∷ tiles_in spaces 2 ∷ tiles_in spaces 3 ∷ [] → promotions ≡ promotions_in spaces → demotions ≡ demotions_in spaces
+      → preemptions ≡ pool.preemptions → hits ≡ hits_in h → misses ≡ misses_in h → free ≡ free_count pool → reserved ≡ reserved_count pool → used ≡ used_count pool
+      → (let s : Summary = record { tiles = tiles; promotions = promotions; demotions = demotions; preemptions = preemptions; hits = hits; misses = misses; free = free; reserved = reserved; used = used } in s) ≡ counts given h
+  counts_are tiles promotions demotions preemptions hits misses free reserved used in_tiles in_promotions in_demotions in_preemptions in_hits in_misses in_free in_reserved in_used =
+      let all_tiles : tiles ≡ tiles_after given h 0 ∷ tiles_after given h 1 ∷ tiles_after given h 2 ∷ tiles_after given h 3 ∷ [] =
+      in_tiles ∙ (λ i. tiles_summed 0 i ∷ tiles_summed 1 i ∷ tiles_summed 2 i ∷ tiles_summed 3 i ∷ []) in
+      let all_promotions = in_promotions ∙ promotions_summed in
+      let all_demotions = in_demotions ∙ demotions_summed in
+      let all_preemptions : preemptions ≡ (frames_at given h).preemptions = in_preemptions ∙ ap (λ (st : FrameState). st.preemptions) rest.pool_is in
+      let all_free : free ≡ free_count (frames_at given h) = in_free ∙ ap free_count rest.pool_is in
+      let all_reserved : reserved ≡ reserved_count (frames_at given h) = in_reserved ∙ ap reserved_count rest.pool_is in
+      let all_used : used ≡ used_count (frames_at given h) = in_used ∙ ap used_count rest.pool_is in
+      λ i. record {
+        tiles = all_tiles i;
+        promotions = all_promotions i;
+        demotions = all_demotions i;
+        preemptions = all_preemptions i;
+        hits = in_hits i;
+        misses = in_misses i;
+        free = all_free i;
+        reserved = all_reserved i;
+        used = all_used i;
+      }

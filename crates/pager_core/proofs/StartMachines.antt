@@ -2,7 +2,7 @@
 use Rattle.std.proofs.Common.{◌≡◌, ℕ, zero, suc, ◌+◌, ◌*◌, ◌<◌, ◌≤◌, Bool, true, false, cond, ◌==◌, not, List, [], ◌∷◌, ◌++◌, length, map, filter, replicate, get_or, slice_get, Option, Some, None, option_map, refl, ap, sym, subst, ◌∙◌, inl, inr, arith, take}
 use Rattle.std.specs.List.{range_with_len, sum_by, enumerate_from}
 use Rattle.std.proofs.lemmas.Bool.{cases_eq, cases_lt, eq-eqb, ne_eqb}
-use Rattle.std.proofs.lemmas.List.{map_push, get_or_past, length-take-le}
+use Rattle.std.proofs.lemmas.List.{append-nil, map_push, get_or_past, length-take-le}
 use Rattle.std.proofs.lemmas.List.FromFn.{length-map-range_with_len, get_or-map-range_with_len}
 use Rattle.std.proofs.lemmas.List.Filters.{length-filter_both}
 use Rattle.std.proofs.lemmas.List.Sums.{sum_by-cons}
@@ -15,8 +15,8 @@ use Rattle.pager_model.specs.Flat.{space_of_call}
 use Rattle.pager_model.specs.FrameStates.{FrameState, start_frames}
 use Rattle.pager_model.specs.Order.{Progress, at_rest}
 use Rattle.pager_model.specs.Plans.{Plan}
-use Rattle.pager_model.specs.Settings.{Given, is_told, faults_at_entry}
-use Rattle.pager_model.specs.Showing.{calls_of}
+use Rattle.pager_model.specs.Settings.{Given}
+use Rattle.pager_model.specs.Showing.{calls_of, daemon_marks}
 use Rattle.pager_model.specs.TraceText.{HasText, IsCall}
 use Rattle.pager_model.proofs.Lists.{get_or_within}
 use Rattle.frame_pool.proofs.LegalHistories.{Agrees-legal}
@@ -25,12 +25,12 @@ use Rattle.pager_model.specs.SizeSets.{all_sizes}
 use Rattle.store_core.specs.Stored.{Stored}
 use Rattle.pager_core.specs.declared.flight.Flight.{Flight}
 use Rattle.pager_core.specs.declared.flight.Phase.TheVariants.{Start}
-use Rattle.pager_core.specs.Machines.{CanFly, IsNew, all_left, IsFlying, IsMachine}
+use Rattle.pager_core.specs.Machines.{CanFly, all_left, IsFlying, IsMachine}
 use Rattle.pager_core.specs.Rows.{row_of, is_between}
+use Rattle.pager_core.specs.RunParts.{AreNewSpaces}
 use Rattle.pager_core.specs.Running.{Running, calls_at, flight_at, flight_of, first_flights, progress_by_flight, setting_over, entries_left, left_at, IsLawful}
 use Rattle.pager_core.proofs.Lists.{sum_by-same, map_range-push}
-use Rattle.pager_core.proofs.Stores.{marks-start}
-use Rattle.pager_core.proofs.MachineTurns.{mark-zero}
+use Rattle.pager_core.proofs.MachineTurns.{mark-zero, marked}
 
 -- What is made one by one.
 
@@ -128,8 +128,19 @@ first_left : (c : ℕ) (calls : List Call) → entries_left calls (flight_of c 0
 first_left c [] = omega arith
 first_left c (call ∷ calls) = omega arith
 
+-- a trace has no daemon, so there is a mark for each processor alone
+pub marks-start : (plan : Plan) → HasText plan → replicate plan.processors 0 ≡ replicate plan.processors 0 ++ daemon_marks plan.daemon
+marks-start plan trace = sym (append-nil (replicate plan.processors 0)) ∙ ap (λ d. replicate plan.processors 0 ++ daemon_marks d) (sym trace.no_daemon)
+
+length-used : {X : Type 0} (f : Stored → X) (n : ℕ) (stores : List Stored) → n ≤ length stores → length (map f (take n stores)) ≡ n
+length-used f n stores enough = length-map (take n stores) f ∙ length-take-le n stores enough
+
+-- there are as many new spaces as the trace has
+pub length-spaces : (plan : Plan) (stores : List Stored) → plan.spaces ≤ length stores → (given : Given) (spaces : List Kept) → given ≡ setting_over plan stores → AreNewSpaces given spaces → length spaces ≡ plan.spaces
+length-spaces plan stores enough given spaces is new = new.count ∙ ap (λ (g : Given). length g.told) is ∙ length-used (λ (s : Stored). s.told) plan.spaces stores enough
+
 -- A trace over stores, of which the spaces use the first.
-module _ (plan : Plan) (trace : HasText plan) (stores : List Stored) (enough : plan.spaces ≤ length stores) (unused : List Stored) (calls : List (List Call)) (are : calls ≡ map (λ c. calls_of c plan.calls) (range_with_len 0 plan.processors)) (spaces : List Kept) (count : length spaces ≡ plan.spaces) (new : (s : ℕ) (kept : Kept) → slice_get spaces s ≡ Some kept → IsNew plan.frames plan.processors s (is_told (setting_over plan stores) s) (faults_at_entry (setting_over plan stores) s) kept) where
+module _ (plan : Plan) (trace : HasText plan) (stores : List Stored) (enough : plan.spaces ≤ length stores) (unused : List Stored) (calls : List (List Call)) (are : calls ≡ map (λ c. calls_of c plan.calls) (range_with_len 0 plan.processors)) (spaces : List Kept) (new : AreNewSpaces (setting_over plan stores) spaces) where
   abbrev start : Running
   start = record { given = setting_over plan stores; calls = calls; flights = first_flights calls; history = []; unused = unused }
 
@@ -139,8 +150,8 @@ module _ (plan : Plan) (trace : HasText plan) (stores : List Stored) (enough : p
   marks : start.given.marks ≡ replicate (length calls) 0
   marks = sym (marks-start plan trace) ∙ ap (λ n. replicate n 0) (sym processors)
 
-  as_many : {X : Type 0} (f : Stored → X) → length (map f (take plan.spaces stores)) ≡ length spaces
-  as_many f = length-map (take plan.spaces stores) f ∙ length-take-le plan.spaces stores enough ∙ sym count
+  count : length spaces ≡ plan.spaces
+  count = length-spaces plan stores enough (setting_over plan stores) spaces refl new
 
   calls_in : (c : ℕ) → c < plan.processors → calls_at calls c ≡ calls_of c plan.calls
   calls_in c below = ap (λ l. calls_at l c) are ∙ get_or-map-range_with_len (λ k. calls_of k plan.calls) 0 plan.processors c c [] below (omega arith)
@@ -160,7 +171,7 @@ module _ (plan : Plan) (trace : HasText plan) (stores : List Stored) (enough : p
         call_of_line (CanFly (length spaces)) c plan.calls
         (λ i d within.
         let line = (trace.lines i d within).1 in
-        record { on = (let on = call_on plan.spaces (get_or plan.calls i d).call line in omega (arith, on, count)); can = (plan.spaces, line) })
+        record { on = (let on = call_on plan.spaces (get_or plan.calls i d).call line in let all = count in omega (arith, on, all)); can = (plan.spaces, line) })
         n call (sym (ap (λ l. slice_get l n) (calls_in c below)) ∙ at)
     | inr past ↦ (let e : None ≡ Some call = sym (ap (λ l. slice_get l n) (calls_past c past)) ∙ at in cc)
   ]
@@ -232,30 +243,30 @@ module _ (plan : Plan) (trace : HasText plan) (stores : List Stored) (enough : p
       }
 
   IsMachine-start : (capacity : ℕ) → 8 * length plan.calls ≤ capacity → IsMachine start spaces (start_frames all_sizes plan.frames plan.processors) capacity
-  IsMachine-start capacity enough =
+  IsMachine-start capacity fits =
       record {
         lawful = lawful;
         marks = marks;
-        told = as_many (λ (s : Stored). s.told);
-        faults = as_many (λ (s : Stored). s.faults);
+        told = sym new.count;
+        faults = length-used (λ (s : Stored). s.faults) plan.spaces stores enough ∙ sym count;
         known = known;
         frames = ap (start_frames all_sizes plan.frames) (sym (ap length marks ∙ length-replicate (length calls) 0 ∙ processors));
         few_calls = λ c. (let own = length-at c in let lines = length-calls c plan.calls in omega (arith, own, lines, trace.few));
-        few_spaces = (let few = trace.spaces_in.1 in omega (arith, few, count));
+        few_spaces = (let few = trace.spaces_in.1 in let all = count in omega (arith, few, all));
         calls = can_fly;
         flights = flights;
-        space_is = λ s kept at. record { number = (new s kept at).number_is; frames = (new s kept at).frames_are; processors = (new s kept at).processors_are ∙ sym processors };
-        rest = λ s kept at none. record { resting = (new s kept at).resting; stands = (new s kept at).stands; next = refl };
-        room = (let few = all_few in omega (arith, few, enough));
+        space_is = λ s kept at. record { number = (new.new s kept at).number_is; frames = (new.new s kept at).frames_are; processors = (new.new s kept at).processors_are ∙ marked start.given (length calls) marks };
+        rest = λ s kept at none. record { resting = (new.new s kept at).resting; stands = (new.new s kept at).stands; next = refl };
+        room = (let few = all_few in omega (arith, few, fits));
         few = (let few = all_few in omega (arith, few, trace.few));
       }
 
 -- whatever its parts are called
-pub IsMachine-started : (plan : Plan) → HasText plan → (stores : List Stored) → plan.spaces ≤ length stores → (run : Running) (spaces : List Kept) (pool : FrameState) (capacity : ℕ) → run.given ≡ setting_over plan stores → run.calls ≡ map (λ c. calls_of c plan.calls) (range_with_len 0 plan.processors) → run.flights ≡ first_flights run.calls → run.history ≡ [] → length spaces ≡ plan.spaces → ((s : ℕ) (kept : Kept) → slice_get spaces s ≡ Some kept → IsNew plan.frames plan.processors s (is_told run.given s) (faults_at_entry run.given s) kept) → pool ≡ start_frames all_sizes plan.frames plan.processors → 8 * length plan.calls ≤ capacity → IsMachine run spaces pool capacity
-IsMachine-started plan trace stores enough run spaces pool capacity given calls same_flights none count new same_pool room =
-    let new' = subst (λ (g : Given). (s : ℕ) (kept : Kept) → slice_get spaces s ≡ Some kept → IsNew plan.frames plan.processors s (is_told g s) (faults_at_entry g s) kept) given new in
-    let same : run ≡ start plan trace stores enough run.unused run.calls calls spaces count new' =
+pub IsMachine-started : (plan : Plan) → HasText plan → (stores : List Stored) → plan.spaces ≤ length stores → (run : Running) (spaces : List Kept) (pool : FrameState) (capacity : ℕ) → run.given ≡ setting_over plan stores → run.calls ≡ map (λ c. calls_of c plan.calls) (range_with_len 0 plan.processors) → run.flights ≡ first_flights run.calls → run.history ≡ [] → AreNewSpaces run.given spaces → pool ≡ start_frames all_sizes plan.frames plan.processors → 8 * length plan.calls ≤ capacity → IsMachine run spaces pool capacity
+IsMachine-started plan trace stores enough run spaces pool capacity given calls same_flights none new same_pool room =
+    let new' = subst (λ (g : Given). AreNewSpaces g spaces) given new in
+    let same : run ≡ start plan trace stores enough run.unused run.calls calls spaces new' =
     λ i. record { given = given i; calls = run.calls; flights = same_flights i; history = none i; unused = run.unused } in
     subst (λ r. IsMachine r spaces pool capacity) (sym same)
-    (subst (λ p. IsMachine (start plan trace stores enough run.unused run.calls calls spaces count new') spaces p capacity) (sym same_pool)
-    (IsMachine-start plan trace stores enough run.unused run.calls calls spaces count new' capacity room))
+    (subst (λ p. IsMachine (start plan trace stores enough run.unused run.calls calls spaces new') spaces p capacity) (sym same_pool)
+    (IsMachine-start plan trace stores enough run.unused run.calls calls spaces new' capacity room))

@@ -1,24 +1,21 @@
 -- The stores of the spaces of a run: their order, what was told of them at the start, and what holds of them when the run ended.
-use Rattle.std.proofs.Common.{◌≡◌, ℕ, zero, suc, ◌+◌, ◌<◌, ◌≤◌, Bool, true, false, List, [], ◌∷◌, ◌++◌, length, map, reverse, drop, take, get_or, slice_get, fold, Some, None, IsSomeAnd, refl, ap, sym, subst, ◌∙◌, inl, inr, option_map, replicate, arith}
+use Rattle.std.proofs.Common.{◌≡◌, ℕ, zero, suc, ◌+◌, ◌<◌, ◌≤◌, Bool, true, false, List, [], ◌∷◌, ◌++◌, length, map, reverse, drop, take, get_or, slice_get, fold, Some, IsSomeAnd, refl, ap, sym, subst, ◌∙◌, inl, inr, option_map, arith}
 use Rattle.std.proofs.lemmas.Grind.{reverse_onto}
-use Rattle.std.proofs.lemmas.List.{append-nil, append_assoc, length-drop, length-reverse, reverse-reverse, reverse-append, map_push}
+use Rattle.std.proofs.lemmas.List.{append_assoc, length-append, length-drop, length-reverse, reverse-reverse, reverse-append, map_push}
 use Rattle.std.proofs.lemmas.Option.{slice_get_within}
 use Rattle.std.proofs.Math.ListN.{length-map}
 use Rattle.std.proofs.Math.Seq.{take-append_seam, drop-append_seam}
 use Rattle.pager_model.specs.declared.entry.Entry.{Entry}
+use Rattle.pager_model.specs.declared.entry.Numbered.{Numbered}
 use Rattle.pager_model.specs.Entries.{space_part}
 use Rattle.pager_model.specs.FrameStates.{FrameState}
 use Rattle.pager_model.specs.Legal.{space_at, entries_in}
-use Rattle.pager_model.specs.Plans.{Plan}
 use Rattle.pager_model.specs.Settings.{Given, is_told, faults_at_entry}
-use Rattle.pager_model.specs.Showing.{daemon_marks}
-use Rattle.pager_model.specs.SizeSets.{all_sizes}
 use Rattle.pager_model.specs.SpaceStates.{SpaceState, empty_state, space_after}
-use Rattle.pager_model.specs.TraceText.{HasText}
 use Rattle.space_core.specs.Standing.{Kept, is_in, is_page}
 use Rattle.store_core.specs.Stored.{Stored, TellsZero}
-use Rattle.pager_core.specs.Machines.{IsNew, IsMachine}
-use Rattle.pager_core.specs.Running.{Running, setting_over, HasEnded, EndsWith, StoresEnd}
+use Rattle.pager_core.specs.RunParts.{given_over, IsNew, AreNewSpaces, AreAtRest}
+use Rattle.pager_core.specs.Running.{EndsWith, StoresEnd}
 use Rattle.pager_core.proofs.Lists.{slice_get-push}
 
 -- Their order.
@@ -35,6 +32,20 @@ in_order seen others all own behind =
     ∙ reverse-append (map seen others) (reverse own)
     ∙ ap (λ l. l ++ reverse (map seen others)) (reverse-reverse own)
     ∙ ap (λ l. own ++ l) (sym (map-reverse seen others))
+
+-- so they do once they are turned round, and there are as many
+pub given_back : {P : Type 0} (seen : P → Stored) (others all turned : List P) (own : List Stored) → turned ≡ reverse all → map seen all ≡ map seen others ++ reverse own → map seen turned ≡ own ++ map seen (reverse others)
+given_back seen others all turned own is behind = ap (map seen) is ∙ in_order seen others all own behind
+
+pub length-given_back : {P : Type 0} (seen : P → Stored) (others turned : List P) (spaces : List Kept) → map seen turned ≡ map (λ (k : Kept). k.store) spaces ++ map seen (reverse others) → length turned ≡ length spaces + length others
+length-given_back seen others turned spaces are =
+    let all = ap length are in
+    let both = length-append (map (λ (k : Kept). k.store) spaces) (map seen (reverse others)) in
+    let own = length-map spaces (λ (k : Kept). k.store) in
+    let left = length-map (reverse others) seen in
+    let same = length-map turned seen in
+    let long = length-reverse others in
+    omega (arith, all, both, own, left, same, long)
 
 -- the last of the stores goes to a space that comes behind the others
 pub in_order-more : {P : Type 0} (seen : P → Stored) (all left fewer : List P) (store : P) (spaces more : List Kept) (space : Kept) → map seen all ≡ map seen left ++ reverse (map (λ (k : Kept). k.store) spaces) → left ≡ fewer ++ store ∷ [] → more ≡ spaces ++ space ∷ [] → space.store ≡ seen store → map seen all ≡ map seen fewer ++ reverse (map (λ (k : Kept). k.store) more)
@@ -95,14 +106,6 @@ left_over spaces others all n are count =
 
 -- What is read off the stores one by one.
 
--- a trace has no daemon, so there is a mark for each processor alone
-pub marks-start : (plan : Plan) → HasText plan → replicate plan.processors 0 ≡ replicate plan.processors 0 ++ daemon_marks plan.daemon
-marks-start plan trace = sym (append-nil (replicate plan.processors 0)) ∙ ap (λ d. replicate plan.processors 0 ++ daemon_marks d) (sym trace.no_daemon)
-
-pub setting_read : (plan : Plan) (stores : List Stored) → HasText plan → (g : Given) (frames : ℕ) (marks faults : List ℕ) (told : List Bool) → g ≡ record { sizes = all_sizes; frames = frames; marks = marks; told = told; faults = faults } → frames ≡ plan.frames → marks ≡ replicate plan.processors 0 → told ≡ map (λ (s : Stored). s.told) (take plan.spaces stores) → faults ≡ map (λ (s : Stored). s.faults) (take plan.spaces stores) → g ≡ setting_over plan stores
-setting_read plan stores trace g frames marks faults told is same_frames same_marks same_told same_faults =
-    is ∙ (λ i. record { sizes = all_sizes; frames = same_frames i; marks = (same_marks ∙ marks-start plan trace) i; told = same_told i; faults = same_faults i })
-
 pub read_more : {X Y : Type 0} (f : X → Y) (xs xs' : List X) (x : X) (ys ys' : List Y) (y : Y) → xs' ≡ xs ++ x ∷ [] → ys' ≡ ys ++ y ∷ [] → ys ≡ map f xs → y ≡ f x → ys' ≡ map f xs'
 read_more f xs xs' x ys ys' y more read are is =
     read ∙ ap (λ l. l ++ y ∷ []) are ∙ ap (λ z. map f xs ++ z ∷ []) is ∙ sym (map_push f xs x) ∙ sym (ap (map f) more)
@@ -122,26 +125,31 @@ Each-push P xs xs' x more are is k store at =
 abbrev pub IsZeroIfTold : Stored → Type 0
 IsZeroIfTold store = store.told ≡ true → TellsZero store
 
--- The start: each space is over the store of its number, and what the setting says of its copies and faults is what that store said.
-pub are_new : (plan : Plan) (spaces : List Kept) (others all : List Stored) → all ≡ map (λ (k : Kept). k.store) spaces ++ others → length spaces ≡ plan.spaces
-    → ((s : ℕ) (store : Stored) → s < plan.spaces → slice_get all s ≡ Some store → store.told ≡ true → TellsZero store)
-    → ((s : ℕ) (kept : Kept) (told : Bool) → slice_get spaces s ≡ Some kept → (told ≡ true → TellsZero kept.store) → IsNew plan.frames plan.processors s told kept.store.faults kept)
-    → (s : ℕ) (kept : Kept) → slice_get spaces s ≡ Some kept → IsNew plan.frames plan.processors s (is_told (setting_over plan all) s) (faults_at_entry (setting_over plan all) s) kept
-are_new plan spaces others all are count zeros new s kept at =
-    let own : List Stored = map (λ (k : Kept). k.store) spaces in
-    let first : take plan.spaces all ≡ own = ap (take plan.spaces) are ∙ ap (λ m. take m (own ++ others)) (sym (length-map spaces (λ (k : Kept). k.store) ∙ count)) ∙ take-append_seam own others in
-    let told : is_told (setting_over plan all) s ≡ kept.store.told =
-    ap (λ l. get_or (map (λ (x : Stored). x.told) l) s false) first ∙ read_one (λ (k : Kept). k.store) (λ (x : Stored). x.told) false spaces s kept at in
-    let faults : faults_at_entry (setting_over plan all) s ≡ kept.store.faults =
-    ap (λ l. get_or (map (λ (x : Stored). x.faults) l) s 0) first ∙ read_one (λ (k : Kept). k.store) (λ (x : Stored). x.faults) 0 spaces s kept at in
-    let below = slice_get_within spaces s kept at in
-    subst (λ n. IsNew plan.frames plan.processors s (is_told (setting_over plan all) s) n kept) (sym faults)
-    (new s kept (is_told (setting_over plan all) s) at
-    (λ is. zeros s kept.store (omega (arith, below, count)) (ap (λ l. slice_get l s) are ∙ at_one (λ (k : Kept). k.store) spaces others s kept at) (sym told ∙ is)))
-
--- each space is as a machine begins with it, whatever was told of its store that is so
+-- each space is as a run begins with it, whatever was told of its store that is so
 abbrev pub AreNew : ℕ → ℕ → List Kept → Type 0
 AreNew frames processors spaces = (s : ℕ) (kept : Kept) (told : Bool) → slice_get spaces s ≡ Some kept → (told ≡ true → TellsZero kept.store) → IsNew frames processors s told kept.store.faults kept
+
+-- The start: each space is over the store of its number, and what the setting says of its copies and faults is what that store said.
+pub are_new : (frames : ℕ) (marks : List ℕ) (n : ℕ) (spaces : List Kept) (others all : List Stored) → all ≡ map (λ (k : Kept). k.store) spaces ++ others → length spaces ≡ n
+    → ((s : ℕ) (store : Stored) → s < n → slice_get all s ≡ Some store → store.told ≡ true → TellsZero store)
+    → AreNew frames (length marks) spaces
+    → AreNewSpaces (given_over frames marks (take n all)) spaces
+are_new frames marks n spaces others all are count zeros each =
+    let given = given_over frames marks (take n all) in
+    let own : List Stored = map (λ (k : Kept). k.store) spaces in
+    let first : take n all ≡ own = ap (take n) are ∙ ap (λ m. take m (own ++ others)) (sym (length-map spaces (λ (k : Kept). k.store) ∙ count)) ∙ take-append_seam own others in
+    record {
+      count = sym (ap (λ l. length (map (λ (x : Stored). x.told) l)) first ∙ length-map own (λ (x : Stored). x.told) ∙ length-map spaces (λ (k : Kept). k.store));
+      new = λ s kept at.
+          let told : is_told given s ≡ kept.store.told =
+          ap (λ l. get_or (map (λ (x : Stored). x.told) l) s false) first ∙ read_one (λ (k : Kept). k.store) (λ (x : Stored). x.told) false spaces s kept at in
+          let faults : faults_at_entry given s ≡ kept.store.faults =
+          ap (λ l. get_or (map (λ (x : Stored). x.faults) l) s 0) first ∙ read_one (λ (k : Kept). k.store) (λ (x : Stored). x.faults) 0 spaces s kept at in
+          let below = slice_get_within spaces s kept at in
+          subst (λ f. IsNew frames (length marks) s (is_told given s) f kept) (sym faults)
+          (each s kept (is_told given s) at
+          (λ is. zeros s kept.store (omega (arith, below, count)) (ap (λ l. slice_get l s) are ∙ at_one (λ (k : Kept). k.store) spaces others s kept at) (sym told ∙ is)));
+    }
 
 pub AreNew-push : (frames processors : ℕ) (spaces more : List Kept) (space : Kept) → AreNew frames processors spaces → more ≡ spaces ++ space ∷ [] → ((told : Bool) → (told ≡ true → TellsZero space.store) → IsNew frames processors (length spaces) told space.store.faults space) → AreNew frames processors more
 AreNew-push frames processors spaces more space are pushed new s kept told at zeros =
@@ -160,22 +168,18 @@ told_from st (e ∷ entries) = told_from (space_after st e) entries
 told_still : (g : Given) (h : List Entry) (s : ℕ) → (space_at g h s).told ≡ is_told g s
 told_still g h s = told_from (empty_state g.sizes (is_told g s) (faults_at_entry g s)) (space_part s h)
 
-module _ (run : Running) (spaces : List Kept) (pool : FrameState) (capacity : ℕ) (machine : IsMachine run spaces pool capacity) (ended : HasEnded run) (others all : List Stored) (are : all ≡ map (λ (k : Kept). k.store) spaces ++ others) where
-  EndsWith-kept : (s : ℕ) (kept : Kept) → slice_get spaces s ≡ Some kept → EndsWith run.given run.history s kept.store
+module _ (given : Given) (history : List Numbered) (spaces : List Kept) (pool : FrameState) (rest : AreAtRest given (entries_in history) spaces pool) where
+  EndsWith-kept : (s : ℕ) (kept : Kept) → slice_get spaces s ≡ Some kept → EndsWith given history s kept.store
   EndsWith-kept s kept at =
-      let rest = machine.rest s kept at (λ c f flies keeps. (let e : None ≡ Some f = sym (ended c) ∙ flies in cc)) in
+      let here = rest.spaces_rest s kept at in
       record {
         copies = λ is page.
-            (rest.stands.beside.told (told_still run.given (entries_in run.history) s ∙ is)).copies page
-            (ap (λ r. is_in r page) rest.resting.none_clearing) (ap (is_page page) rest.resting.none_paged);
-        counts = rest.stands.beside.highest;
+            (here.stands.beside.told (told_still given (entries_in history) s ∙ is)).copies page
+            (ap (λ r. is_in r page) here.resting.none_clearing) (ap (is_page page) here.resting.none_paged);
+        counts = here.stands.beside.highest;
       }
 
-  pub StoresEnd-ended : StoresEnd run.given run.history all
-  StoresEnd-ended s below =
-      subst (λ l. IsSomeAnd (slice_get l s) (EndsWith run.given run.history s)) (sym are)
-      (of_first (λ (k : Kept). k.store) spaces others s (EndsWith run.given run.history s) (let count = machine.told in omega (arith, below, count)) (EndsWith-kept s))
-
-  -- and those that no space uses are the last
-  pub unused-ended : drop (length run.given.told) all ≡ others
-  unused-ended = left_over spaces others all (length run.given.told) are (sym machine.told)
+  pub StoresEnd-rest : (others all : List Stored) → all ≡ map (λ (k : Kept). k.store) spaces ++ others → StoresEnd given history all
+  StoresEnd-rest others all are s below =
+      subst (λ l. IsSomeAnd (slice_get l s) (EndsWith given history s)) (sym are)
+      (of_first (λ (k : Kept). k.store) spaces others s (EndsWith given history s) (omega (arith, below, rest.count)) (EndsWith-kept s))

@@ -93,15 +93,18 @@ impl<S: Store + Send + Drop> Machine<S> {
         let mut stores = stores;
         stores.reverse();
         match parts_of(alloc, trace, &mut stores) {
-            Ok(parts) => Ok(Machine {
-                setting: parts.run.setting,
-                calls: parts.calls,
-                flights: parts.flights,
-                spaces: parts.run.spaces,
-                stores,
-                pool: parts.run.pool,
-                history: parts.history,
-            }),
+            Ok(parts) => {
+                let start = parts.start;
+                Ok(Machine {
+                    setting: start.setting,
+                    calls: parts.calls,
+                    flights: parts.flights,
+                    spaces: start.spaces,
+                    stores,
+                    pool: start.pool,
+                    history: parts.history,
+                })
+            }
             Err(NoMemory) => {
                 stores.reverse();
                 Err(stores)
@@ -200,7 +203,7 @@ struct Parts<S: Store + Send + Drop> {
     calls: Vec<Vec<Call>>,
     flights: Vec<Option<Flight>>,
     history: Vec<Numbered>,
-    run: RunParts<S>,
+    start: RunParts<S>,
 }
 
 /// The parts of a machine. The stores, last first, lose those of the spaces, unless there is no memory.
@@ -216,9 +219,9 @@ fn parts_of<S: Store + Send + Drop>(
     ensures calls { IfOk result (λ p. map (λ v. v.items) p.calls.items ≡ map (λ c. calls_of c trace.now.calls) (range_with_len 0 trace.now.processors)) }
     ensures flights { IfOk result (λ p. p.flights.items ≡ first_flights (map (λ v. v.items) p.calls.items)) }
     ensures history { IfOk result (λ p. (p.history.items ≡ []) × (8 * length trace.now.calls ≤ vec_capacity p.history)) }
-    ensures setting { IfOk result (λ p. p.run.setting ≡ setting_over trace.now (map S.seen (reverse stores.old.items))) }
-    ensures spaces { IfOk result (λ p. AreNewSpaces p.run.setting p.run.spaces.items) }
-    ensures pool { IfOk result (λ p. p.run.pool ≡ start_frames all_sizes trace.now.frames trace.now.processors) }
+    ensures setting { IfOk result (λ p. p.start.setting ≡ setting_over trace.now (map S.seen (reverse stores.old.items))) }
+    ensures spaces { IfOk result (λ p. AreNewSpaces p.start.setting p.start.spaces.items) }
+    ensures pool { IfOk result (λ p. p.start.pool ≡ start_frames all_sizes trace.now.frames trace.now.processors) }
     ensures capped { IfOk result (λ _. AreCapped trace.now.spaces (map S.seen (reverse stores.old.items))) }
 
     // The stores that no space uses are left, and for want of memory all are.
@@ -231,7 +234,7 @@ fn parts_of<S: Store + Send + Drop>(
     let calls = calls_by_processor(alloc, processors, trace.calls())?;
     let flights = first_of_each(alloc, calls.as_slice())?;
     let marks = vec![in alloc; 0; processors as usize]?;
-    let run = RunParts::create(
+    let start = RunParts::create(
         alloc,
         trace.frames(),
         marks.as_slice(),
@@ -242,7 +245,7 @@ fn parts_of<S: Store + Send + Drop>(
         calls,
         flights,
         history,
-        run,
+        start,
     })
 }
 

@@ -1,19 +1,16 @@
-use Rattle.std.proofs.Common.{◌≡◌, ℕ, ◌<◌, true, length, map, reverse, slice_get, Some, subst, sym, ap, ◌∙◌, arith}
+use Rattle.std.proofs.Common.{◌≡◌, ◌++◌, length, map, replicate, reverse, take, subst, ap, ◌∙◌, arith}
 use Rattle.std.specs.List.{range_with_len}
 use Rattle.std.proofs.lemmas.List.FromFn.{length-map-range_with_len}
 use Rattle.std.proofs.Math.ListN.{length-map}
-use Rattle.pager_model.specs.Settings.{Given, is_told, faults_at_entry}
-use Rattle.pager_model.specs.Showing.{calls_of}
-use Rattle.space_core.specs.Standing.{Kept}
-use Rattle.store_core.specs.Stored.{Stored, TellsZero}
-use Rattle.pager_core.specs.Machines.{IsNew}
-use Rattle.pager_core.specs.Running.{setting_over, AreCapped}
-use Rattle.pager_core.proofs.Stores.{are_new}
+use Rattle.pager_model.specs.Showing.{calls_of, daemon_marks}
+use Rattle.pager_core.specs.RunParts.{given_over}
+use Rattle.pager_core.specs.Running.{AreCapped}
+use Rattle.pager_core.proofs.StartMachines.{marks-start}
 use Rattle.pager_core.proofs.machine.parts_of.Goals as goal
 
 pub first_of_each-requires : goal.first_of_each-requires
 first_of_each-requires g c =
-    let trace = c.frames-frames.ensures.text in
+    let trace = c.processors-processors.ensures.text in
     let all = ap length c.in_ok-calls.ensures in
     let vs = length-map c.in_ok-calls.calls.items (λ v. v.items) in
     let n = length-map-range_with_len (λ k. calls_of k c.calls-2.result.now) 0 c.processors-processors.result in
@@ -26,15 +23,16 @@ returns-clause-calls g c =
     ∙ ap (λ l. map (λ k. calls_of k l) (range_with_len 0 c.processors-processors.result)) c.calls-2.ensures.calls
     ∙ ap (λ n. map (λ k. calls_of k c.args.trace.now.calls) (range_with_len 0 n)) c.processors-processors.ensures.processors
 
-pub returns-clause-new : goal.returns-clause-new
-returns-clause-new g c =
+pub returns-clause-setting : goal.returns-clause-setting
+returns-clause-setting g c =
     let plan = c.args.trace.now in
-    let value = c.as_slice-2.ensures.value in
-    let given = c.in_ok-setting.ensures.given ∙ ap (λ l. setting_over plan (map g.S.Store.seen (reverse l))) value in
-    let told = subst (λ l. (s : ℕ) (store : Stored) → s < plan.spaces → slice_get (map g.S.Store.seen (reverse l)) s ≡ Some store → store.told ≡ true → TellsZero store) value c.in_ok-setting.ensures.told in
-    subst (λ (s : Given). (n : ℕ) (kept : Kept) → slice_get c.in_ok-spaces.spaces.items n ≡ Some kept → IsNew plan.frames plan.processors n (is_told s n) (faults_at_entry s n) kept) (sym given)
-    (are_new plan c.in_ok-spaces.spaces.items _ _ c.in_ok-spaces.ensures.stores c.in_ok-spaces.ensures.count told c.in_ok-spaces.ensures.new)
+    let marks : c.as_slice-2.result.now ≡ replicate plan.processors 0 ++ daemon_marks plan.daemon =
+    c.as_slice-2.ensures.value
+    ∙ c.in_ok-marks.ensures.items_if_clones_equal (λ y same. same)
+    ∙ ap (λ n. replicate n 0) c.processors-processors.ensures.processors
+    ∙ marks-start plan c.frames.ensures.text in
+    c.in_ok-start.ensures.setting
+    ∙ (λ i. given_over (c.frames.ensures.frames i) (marks i) (take (c.spaces.ensures.spaces i) (map g.S.Store.seen (reverse c.args.stores.now.items))))
 
 pub returns-clause-capped : goal.returns-clause-capped
-returns-clause-capped g c =
-    subst (λ l. AreCapped c.args.trace.now.spaces (map g.S.Store.seen (reverse l))) c.as_slice-2.ensures.value c.in_ok-setting.ensures.capped
+returns-clause-capped g c = subst (λ n. AreCapped n (map g.S.Store.seen (reverse c.args.stores.now.items))) c.spaces.ensures.spaces c.in_ok-start.ensures.capped

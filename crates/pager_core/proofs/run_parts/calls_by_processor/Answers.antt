@@ -1,5 +1,5 @@
 use Rattle.pager_core.proofs.StartMachines.{calls-push}
-use Rattle.pager_core.proofs.machine.calls_by_processor.Goals as goal
+use Rattle.pager_core.proofs.run_parts.calls_by_processor.Goals as goal
 
 pub loop-processor-preserved : goal.loop-processor-preserved
 loop-processor-preserved c =

@@ -1,6 +1,6 @@
 use Rattle.std.proofs.Common.{◌≡◌, ◌+◌, ◌≤◌, ◌++◌, length, map, reverse, vec_capacity}
 use Rattle.space_core.specs.Standing.{Kept}
-use Rattle.pager_core.proofs.machine.give_back.Given as goal
+use Rattle.pager_core.proofs.run_parts.give_back.Given as goal
 
 abbrev pub invariant-loop-space : goal.invariant-loop-space
 invariant-loop-space g l =

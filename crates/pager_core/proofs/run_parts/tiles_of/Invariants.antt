@@ -1,6 +1,6 @@
 use Rattle.std.proofs.Common.{◌≡◌, take, [], ◌∷◌}
 use Rattle.pager_core.specs.Sums.{tiles_in}
-use Rattle.pager_core.proofs.machine.tiles_of.Given as goal
+use Rattle.pager_core.proofs.run_parts.tiles_of.Given as goal
 
 abbrev pub invariant-loop-space : goal.invariant-loop-space
 invariant-loop-space g l =

@@ -1,15 +1,16 @@
-use Rattle.std.proofs.Common.{◌≡◌, ℕ, ◌<◌, ◌≤◌, map, replicate, reverse, take, slice_get, Some, sym, ap, ◌∙◌}
+use Rattle.std.proofs.Common.{◌≡◌, ℕ, ◌<◌, ◌≤◌, map, reverse, take, slice_get, Some, sym, ap, ◌∙◌}
 use Rattle.std.specs.Iterator.Adapters.{rev_source, take_source, take_count}
 use Rattle.std.specs.Slice.Iter.{iter_rest}
 use Rattle.std.proofs.lemmas.Iterator.{YieldsList-from_take}
 use Rattle.std.proofs.lemmas.Iterator.Adapters.{YieldsList-from_rev_slice}
 use Rattle.std.proofs.lemmas.Iterator.Consumers.{YieldsList-end}
 use Rattle.std.proofs.lemmas.List.{map_push, take-map}
+use Rattle.pager_model.specs.SizeSets.{all_sizes}
 use Rattle.pager_model.specs.SpaceStates.{last_count}
 use Rattle.store_core.specs.Stored.{Stored}
-use Rattle.pager_core.proofs.Stores.{slice_get-take, setting_read, read_more, Each-push, IsZeroIfTold}
-use Rattle.pager_core.proofs.machine.setting_of.Given.{Over}
-use Rattle.pager_core.proofs.machine.setting_of.Goals as goal
+use Rattle.pager_core.proofs.Stores.{slice_get-take, read_more, Each-push, IsZeroIfTold}
+use Rattle.pager_core.proofs.run_parts.setting_of.Given.{Over}
+use Rattle.pager_core.proofs.run_parts.setting_of.Goals as goal
 
 pub loop-store-preserved : goal.loop-store-preserved
 loop-store-preserved g c =
@@ -22,30 +23,30 @@ loop-store-preserved g c =
     )
 
 -- the stores that it read are the first
-read : (g : Over) (c : goal.After-of g) → map g.S.Store.seen (map (λ y. y.now) c.loop-store.yielded) ≡ take c.args.trace.now.spaces (map g.S.Store.seen (reverse c.args.stores.now))
+read : (g : Over) (c : goal.After-of g) → map g.S.Store.seen (map (λ y. y.now) c.loop-store.yielded) ≡ take c.args.count (map g.S.Store.seen (reverse c.args.stores.now))
 read g c =
     let rest =
     ap (λ s. iter_rest (rev_source (take_source s))) c.into_iter-store-iterator.ensures.into_iter_gives
     ∙ ap (λ s. iter_rest (rev_source s)) c.take-store-items.ensures.source
     ∙ ap iter_rest c.rev.ensures.source
     ∙ c.iter.ensures.rest in
-    let count = ap take_count c.into_iter-store-iterator.ensures.into_iter_gives ∙ c.take-store-items.ensures.count in
-    let all = YieldsList-end (YieldsList-from_take c.spaces-spaces.result (YieldsList-from_rev_slice c.args.stores.now rest) count) c.loop-store.yielded _ c.loop-store.yielded_by _ _ c.in-None.is c.next.ensures.steps in
-    ap (map g.S.Store.seen) all.0
-    ∙ sym (take-map g.S.Store.seen c.spaces-spaces.result (reverse c.args.stores.now))
-    ∙ ap (λ n. take n (map g.S.Store.seen (reverse c.args.stores.now))) c.spaces-spaces.ensures.spaces
+    let many = ap take_count c.into_iter-store-iterator.ensures.into_iter_gives ∙ c.take-store-items.ensures.count in
+    let all = YieldsList-end (YieldsList-from_take c.args.count (YieldsList-from_rev_slice c.args.stores.now rest) many) c.loop-store.yielded _ c.loop-store.yielded_by _ _ c.in-None.is c.next.ensures.steps in
+    ap (map g.S.Store.seen) all.0 ∙ sym (take-map g.S.Store.seen c.args.count (reverse c.args.stores.now))
 
 pub returns-clause-given : goal.returns-clause-given
 returns-clause-given g c =
-    setting_read c.args.trace.now (map g.S.Store.seen (reverse c.args.stores.now)) c.frames.ensures.text c.of.result c.frames.result c.in_ok-marks.marks.items c.loop-store.faults.items c.loop-store.told.items c.of.ensures
-    c.frames.ensures.frames
-    (c.in_ok-marks.ensures.items_if_clones_equal (λ y same. same) ∙ ap (λ n. replicate n 0) c.processors.ensures.processors)
-    (c.loop-store.invariant.0 ∙ ap (map (λ (s : Stored). s.told)) (read g c))
-    (c.loop-store.invariant.1 ∙ ap (map (λ (s : Stored). s.faults)) (read g c))
+    c.of.ensures ∙ (λ i. record {
+      sizes = all_sizes;
+      frames = c.args.frames;
+      marks = c.in_ok-marks.ensures.items_if_clones_equal (λ x y same. same) i;
+      told = (c.loop-store.invariant.0 ∙ ap (map (λ (s : Stored). s.told)) (read g c)) i;
+      faults = (c.loop-store.invariant.1 ∙ ap (map (λ (s : Stored). s.faults)) (read g c)) i;
+    })
 
 -- each that a space uses is one that it read
-is_read : (g : Over) (c : goal.After-of g) (s : ℕ) (store : Stored) → s < c.args.trace.now.spaces → slice_get (map g.S.Store.seen (reverse c.args.stores.now)) s ≡ Some store → slice_get (map g.S.Store.seen (map (λ y. y.now) c.loop-store.yielded)) s ≡ Some store
-is_read g c s store below at = ap (λ l. slice_get l s) (read g c) ∙ slice_get-take c.args.trace.now.spaces (map g.S.Store.seen (reverse c.args.stores.now)) s below ∙ at
+is_read : (g : Over) (c : goal.After-of g) (s : ℕ) (store : Stored) → s < c.args.count → slice_get (map g.S.Store.seen (reverse c.args.stores.now)) s ≡ Some store → slice_get (map g.S.Store.seen (map (λ y. y.now) c.loop-store.yielded)) s ≡ Some store
+is_read g c s store below at = ap (λ l. slice_get l s) (read g c) ∙ slice_get-take c.args.count (map g.S.Store.seen (reverse c.args.stores.now)) s below ∙ at
 
 pub returns-clause-told : goal.returns-clause-told
 returns-clause-told g c = λ s store below at. c.loop-store.invariant.2 s store (is_read g c s store below at)

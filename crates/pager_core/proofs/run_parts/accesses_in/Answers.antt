@@ -5,7 +5,7 @@ use Rattle.pager_model.specs.declared.entry.Numbered.{Numbered}
 use Rattle.pager_model.specs.Counts.{hits_in, misses_in, is_hit_in, is_miss_in}
 use Rattle.pager_model.specs.Legal.{entries_in}
 use Rattle.pager_core.proofs.RunCounts.{count_by-map}
-use Rattle.pager_core.proofs.machine.accesses_in.Goals as goal
+use Rattle.pager_core.proofs.run_parts.accesses_in.Goals as goal
 
 pub returns : goal.returns
 returns c =
