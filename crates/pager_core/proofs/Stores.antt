@@ -173,6 +173,7 @@ module _ (given : Given) (history : List Numbered) (spaces : List Kept) (pool : 
   EndsWith-kept s kept at =
       let here = rest.spaces_rest s kept at in
       record {
+        tells = λ is. (here.stands.beside.told (told_still given (entries_in history) s ∙ is)).tells;
         copies = λ is page.
             (here.stands.beside.told (told_still given (entries_in history) s ∙ is)).copies page
             (ap (λ r. is_in r page) here.resting.none_clearing) (ap (is_page page) here.resting.none_paged);

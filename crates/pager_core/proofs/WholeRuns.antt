@@ -49,9 +49,9 @@ module _ (run : Running) (spaces : List Kept) (pool : FrameState) (capacity : �
   IsWholeRun-ended =
       IsWholeRun-legal run.given run.calls run.history machine.lawful.legal machine.lawful.numbered
       (λ c below.
-        machine.lawful.answers c below
-        ∙ ap (λ x. enumerate_from 0 (take (progress_by_flight (calls_at run.calls c) x).made (calls_at run.calls c))) (ended c)
-        ∙ ap (enumerate_from 0) (take-length (calls_at run.calls c)))
+      machine.lawful.answers c below
+      ∙ ap (λ x. enumerate_from 0 (take (progress_by_flight (calls_at run.calls c) x).made (calls_at run.calls c))) (ended c)
+      ∙ ap (enumerate_from 0) (take-length (calls_at run.calls c)))
       whole mark_none (marked run.given (length run.calls) machine.marks)
 
   -- no flight keeps a space, so all of them are at rest

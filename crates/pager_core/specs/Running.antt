@@ -142,9 +142,10 @@ pub record IsWholeRun (given : Given) (calls : List (List Call)) (history : List
   pub none_held : NothingHeld (frames_at given (entries_in history))
   pub agrees : Agrees given (entries_in history)
 
--- What holds of the store of a space after a history: where it tells its copies they are the flat memory's, and no failure in the history
--- has a higher count than it.
+-- What holds of the store of a space after a history: where it told its copies at the start it tells them still, and they are the flat
+-- memory's; and no failure in the history has a higher count than it.
 pub record EndsWith (given : Given) (history : List Numbered) (s : ℕ) (store : Stored) : Type 0 where
+  pub tells : is_told given s ≡ true → store.tells ≡ true
   pub copies : is_told given s ≡ true → (page : ℕ) → IsCopy ((space_at given (entries_in history) s).flat.copies page) (copy_at store page)
   pub counts : (space_at given (entries_in history) s).highest ≤ store.faults
 

@@ -53,7 +53,8 @@ impl<S: Store + Send + Drop> RunParts<S> {
         // Each store that a space uses was asked for its count of faults.
         ensures capped { IfOk result (λ _. AreCapped spaces (map S.seen (reverse stores.old.items))) }
 
-        // The stores that no space uses are left, and for want of memory all are.
+        // In their order, the stores are those of the spaces and those that are left, which no space uses. For want of memory all are left.
+        ensures stores { IfOk result (λ p. map S.seen (reverse stores.old.items) ≡ map (λ (k : Kept). k.store) p.spaces.items ++ map S.seen (reverse stores.new.items)) }
         ensures left { IfOk result (λ _. map S.seen (reverse stores.new.items) ≡ drop spaces (map S.seen (reverse stores.old.items))) }
         ensures back { IfErr result (λ _. map S.seen stores.new.items ≡ map S.seen stores.old.items) }
         ensures capacity { vec_capacity stores.new ≡ vec_capacity stores.old }
@@ -94,7 +95,8 @@ impl<S: Store + Send + Drop> Gathered<S> {
         requires few { (length history.items ≤ most_in_history) × (length spaces.items ≤ 16) }
         requires room { length unused.items + length spaces.items ≤ vec_capacity unused }
         ensures history { result.history ≡ history }
-        ensures stores { (given : Given) → AreAtRest given (entries_in history.items) spaces.items pool → StoresEnd given history.items (map S.seen result.stores.items) }
+        ensures stores { map S.seen result.stores.items ≡ map (λ (k : Kept). k.store) spaces.items ++ map S.seen (reverse unused.items) }
+        ensures ends { (given : Given) → AreAtRest given (entries_in history.items) spaces.items pool → StoresEnd given history.items (map S.seen result.stores.items) }
         ensures unused { drop (length spaces.items) (map S.seen result.stores.items) ≡ map S.seen (reverse unused.items) }
         ensures count { length result.stores.items ≡ length spaces.items + length unused.items }
         ensures summary { (given : Given) → AreAtRest given (entries_in history.items) spaces.items pool → result.summary ≡ counts given (entries_in history.items) }
@@ -188,7 +190,7 @@ fn spaces_over<S: Store + Send + Drop>(
 }
 
 /// Puts the stores of the spaces behind these, the first space's last.
-fn give_back<S: Store + Send + Drop>(spaces: Vec<Space<S>>, stores: &mut Vec<S>)
+pub fn give_back<S: Store + Send + Drop>(spaces: Vec<Space<S>>, stores: &mut Vec<S>)
     requires room { length stores.old.items + length spaces.items ≤ vec_capacity stores.old }
     ensures stores { map S.seen stores.new.items ≡ map S.seen stores.old.items ++ reverse (map (λ (k : Kept). k.store) spaces.items) }
     ensures capacity { vec_capacity stores.new ≡ vec_capacity stores.old }

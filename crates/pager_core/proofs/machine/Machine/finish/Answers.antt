@@ -22,7 +22,7 @@ pub returns-clause-stores : goal.returns-clause-stores
 returns-clause-stores g c =
     let i = c.self.inside in
     subst (λ (m : Running). StoresEnd m.given m.history (map g.S.Store.seen c.of.result.stores.items)) c.self.view_is
-    (c.of.ensures.stores i.setting (AreAtRest-ended _ i.spaces.items i.pool _ c.self.invariant.0 (subst HasEnded (sym c.self.view_is) c.requires)))
+    (c.of.ensures.ends i.setting (AreAtRest-ended _ i.spaces.items i.pool _ c.self.invariant.0 (subst HasEnded (sym c.self.view_is) c.requires)))
 
 pub returns-clause-unused : goal.returns-clause-unused
 returns-clause-unused g c =

@@ -25,6 +25,10 @@ moves_of-promotions-requires-clause-demotions g c κs within =
 
 pub returns-clause-stores : goal.returns-clause-stores
 returns-clause-stores g c =
+    given_back g.S.Store.seen c.args.unused.items c.give_back.new.stores.items c.reverse.new.self.items (map (λ (k : Kept). k.store) c.args.spaces.items) c.reverse.ensures.items c.give_back.ensures.stores
+
+pub returns-clause-ends : goal.returns-clause-ends
+returns-clause-ends g c =
     let order = given_back g.S.Store.seen c.args.unused.items c.give_back.new.stores.items c.reverse.new.self.items (map (λ (k : Kept). k.store) c.args.spaces.items) c.reverse.ensures.items c.give_back.ensures.stores in
     λ given rest. StoresEnd-rest given c.args.history.items c.args.spaces.items c.args.pool rest _ _ order
 
