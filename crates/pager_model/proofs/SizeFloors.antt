@@ -1,6 +1,6 @@
 -- The largest size of some that is at most another one.
-use Rattle.std.proofs.Common.{◌≡◌, ℕ, zero, suc, ◌<◌, ◌≤◌, Bool, true, false, refl, sym, ap, inl, inr, ◌∙◌, arith}
-use Rattle.std.proofs.lemmas.Bool.{cases_Bool, cases_eq, cases_lt, cond-true, cond-false, false≢true}
+use Rattle.std.proofs.Common.{◌≡◌, ℕ, zero, suc, ◌≤◌, true, false, refl, sym, ap, inl, inr, ◌∙◌, arith}
+use Rattle.std.proofs.lemmas.Bool.{cases_Bool, cases_eq, cond-true, cond-false, false≢true}
 use Rattle.pager_model.specs.SizeSets.{SizeSet, has_size, size_within}
 
 pub within_has : (z : SizeSet) (k : ℕ) → has_size z k ≡ true → size_within z k ≡ k
@@ -35,9 +35,3 @@ within_largest z (suc k) j has low = elim (cases_Bool (has_size z (suc k))) [
     | inr other ↦ let rest = within_largest z k j has (omega arith) in omega (arith, rest, within_skips z k not)
   ]
 ]
-
-pub within_grows : (z : SizeSet) (a b : ℕ) → a ≤ b → size_within z a ≤ size_within z b
-within_grows z a b le = within_largest z b (size_within z a) (has_within z a) (omega (arith, within_at_most z a))
-
-pub within_twice : (z : SizeSet) (k : ℕ) → size_within z (size_within z k) ≡ size_within z k
-within_twice z k = within_has z (size_within z k) (has_within z k)

@@ -1,5 +1,5 @@
 -- The counts of a whole history.
-use Rattle.std.specs.Prelude.{ℕ, Bool, true, false, ◌&&◌, not, List, [], ◌∷◌, length, count_by, sum_by, is_some}
+use Rattle.std.specs.Prelude.{ℕ, Bool, false, ◌&&◌, not, List, [], ◌∷◌, length, count_by, sum_by, is_some}
 use Rattle.std.specs.List.{range_with_len}
 use Rattle.pager_model.specs.declared.entry.Entry.{Entry}
 use Rattle.pager_model.specs.declared.entry.What.{What}

@@ -1,5 +1,5 @@
 -- Small values on which the definitions are computed.
-use Rattle.std.specs.Prelude.{ℕ, ◌+◌, ◌==◌, Bool, true, false, nat_lt, if◌then◌else◌, List, [], ◌∷◌, fold, Option, Some, None, option_map}
+use Rattle.std.specs.Prelude.{ℕ, ◌+◌, ◌%◌, ◌==◌, Bool, true, false, nat_lt, if◌then◌else◌, List, [], ◌∷◌, fold, Option, Some, None, option_map}
 use Rattle.pager_model.specs.declared.call.Call.{Call}
 use Rattle.pager_model.specs.declared.call.Call.TheVariants.{Map, Load, Store}
 use Rattle.pager_model.specs.declared.entry.Entry.{Entry}
@@ -15,11 +15,21 @@ use Rattle.pager_model.specs.Flat.{Flat, empty_space, after_call}
 use Rattle.pager_model.specs.FrameStates.{FrameState, start_frames, take_frame, state_taken, give_page, claimed, counted}
 use Rattle.pager_model.specs.Plans.{Plan}
 use Rattle.pager_model.specs.Settings.{Given}
-use Rattle.pager_model.specs.SizeSets.{all_sizes}
+use Rattle.pager_model.specs.SizeSets.{SizeSet, all_sizes}
 use Rattle.pager_model.specs.SpaceStates.{SpaceState, empty_state, space_after}
 use Rattle.pager_model.specs.Tiles.{tile_with}
 use Rattle.pager_model.specs.declared.tile.Mapping.{Mapping}
 use Rattle.pager_model.specs.declared.tile.Tile.{Tile}
+
+-- base pages and superpages of one size alone, and all sizes but that of eight pages
+abbrev pub base_and_64 : SizeSet
+base_and_64 = record { one = false; two = true; three = false }
+
+abbrev pub base_and_512 : SizeSet
+base_and_512 = record { one = false; two = false; three = true }
+
+abbrev pub all_but_8 : SizeSet
+all_but_8 = record { one = false; two = true; three = true }
 
 -- eight pages that may be written, from page 0 on
 abbrev pub map_eight : Call
@@ -109,6 +119,20 @@ after_taking_all st page = counted (state_taken st (take_frame st 0 page want_al
 
 abbrev pub eight_parts_used : FrameState
 eight_parts_used = fold after_taking_all (start_frames all_sizes 64 1) (0 ∷ 8 ∷ 16 ∷ 24 ∷ 32 ∷ 40 ∷ 48 ∷ 56 ∷ [])
+
+-- sixty-four frames without superpages of eight, of which the first taking reserves all
+abbrev pub one_of_sixty_four : FrameState
+one_of_sixty_four = after_taking_all (start_frames base_and_64 64 1) 3
+
+abbrev pub sixty_four_places : Reservation
+sixty_four_places = record { space = 0; first = 0; size = 2; frame = 0; stamp = 0 }
+
+-- a reservation of 512 places, where in the first part of 64 each eighth place is used, and in each other part the first one
+abbrev pub all_places : Reservation
+all_places = record { space = 0; first = 0; size = 3; frame = 0; stamp = 0 }
+
+abbrev pub is_spread : ℕ → Bool
+is_spread frame = if nat_lt frame 64 then frame % 8 == 0 else frame % 64 == 0
 
 -- an entry on the frames alone, on a space alone, and on both
 abbrev pub on_frames : What → Entry

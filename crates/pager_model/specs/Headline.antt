@@ -48,7 +48,7 @@ is_taking what = false
 abbrev pub size_at : FrameState → ℕ → Option ℕ
 size_at st frame = option_map (λ (r : Reservation). r.size) (record_at (layout_of st) frame)
 
--- the yield of a reservation: its list, where it isn't full
+-- its yield by the sizes that there are: its list, where it isn't full
 abbrev pub list_in : FrameState → Reservation → Option ℕ
 list_in st r = yield_in st.sizes (is_used (layout_of st).used) r
 

@@ -1,6 +1,6 @@
 -- The layout of the frames: which are free, which reservations there are, and which of their places are used. What a page's
 -- taking, a page's giving up and a processor's claim do to it.
-use Rattle.std.specs.Prelude.{ℕ, ◌+◌, ◌-◌, ◌*◌, ◌/◌, ◌^◌, zero, suc, Bool, true, false, ◌&&◌, ◌==◌, not, nat_le, nat_lt, if◌then◌else◌, List, [], ◌∷◌, replicate, slice_index_or, slice_set, fold, option_map, Option, Some, None, is_none}
+use Rattle.std.specs.Prelude.{ℕ, ◌+◌, ◌-◌, ◌/◌, ◌^◌, zero, suc, Bool, true, false, ◌&&◌, ◌==◌, not, nat_le, nat_lt, if◌then◌else◌, List, [], ◌∷◌, replicate, slice_index_or, slice_set, fold, option_map, Option, Some, None, is_none}
 use Rattle.std.specs.List.{range_with_len, list_any, list_all}
 use Rattle.std.specs.Option.{option_or, option_and_then, option_map_or}
 use Rattle.pager_model.specs.declared.entry.Want.{Want}
@@ -126,7 +126,7 @@ oldest_from l k zero = None
 oldest_from l k (suc count) = option_or (oldest_of l k) (oldest_from l (k + 1) count)
 
 -- The reservation that is broken for an extent of size k: the oldest of the first of the lists k to 2 that isn't empty. A list of a
--- size that there isn't is empty.
+-- size that there isn't is empty, and so is that of the largest size, since a reservation has a used place.
 abbrev pub to_break : Layout → ℕ → Option ℕ
 to_break l k = oldest_from l k (3 - k)
 
@@ -151,7 +151,7 @@ chosen size broken l = option_map (λ first. record { layout = l; size = size; f
 abbrev pub extent_of : ℕ → Layout → Option Found
 extent_of size l = option_or (chosen size 0 l) (option_and_then (λ id. chosen size 1 (broken_at id l)) (to_break l size))
 
--- that of the largest size of those that there are, up to this one, that has one
+-- the extent of the largest size, up to this one, for which one can be had
 abbrev pub largest_extent : ℕ → Layout → Option Found
 largest_extent zero l = extent_of 0 l
 largest_extent (suc size) l =

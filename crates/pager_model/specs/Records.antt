@@ -26,11 +26,11 @@ abbrev pub yield_up_to : (ℕ → Bool) → Reservation → ℕ → Option ℕ
 yield_up_to used r zero = if has_empty used r 0 then Some 0 else None
 yield_up_to used r (suc k) = if has_empty used r (suc k) then Some (suc k) else yield_up_to used r k
 
--- the yield of a reservation: the largest size of an extent inside it without a used place; a full one has none
+-- the yield of a reservation by all four sizes: the largest size of an extent inside it without a used place; a full one has none
 abbrev pub yield_of : (ℕ → Bool) → Reservation → Option ℕ
 yield_of used r = yield_up_to used r r.size
 
--- the i-th of the eight parts of a reservation of size 1 or more, which keeps the stamp
+-- the i-th of the eight parts, by all four sizes, of a reservation of size 1 or more, which keeps the stamp
 abbrev pub part_of : Reservation → ℕ → Reservation
 part_of r i =
     record { space = r.space; first = r.first + i * 8 ^ (r.size - 1); size = r.size - 1; frame = r.frame + i * 8 ^ (r.size - 1); stamp = r.stamp }
@@ -38,11 +38,11 @@ part_of r i =
 abbrev pub is_part_empty : (ℕ → Bool) → Reservation → ℕ → Bool
 is_part_empty used r i = none_used used (part_of r i).frame (8 ^ (r.size - 1))
 
--- a part with a used place stays a reservation
+-- one of these eight with a used place stays a reservation
 abbrev pub kept_part : (ℕ → Bool) → Reservation → ℕ → Option Reservation
 kept_part used r i = if is_part_empty used r i then None else Some (part_of r i)
 
--- the reservation is split into its eight parts, of which the empty ones are no reservations
+-- by all four sizes the reservation is split into its eight parts, of which the empty ones are no reservations
 abbrev pub split_records : (ℕ → Bool) → Reservation → List (Option Reservation) → List (Option Reservation)
 split_records used r records = fold (λ rs i. slice_set rs (part_of r i).frame (kept_part used r i)) records (range_with_len 0 8)
 
@@ -52,17 +52,17 @@ same_size None (Some b) = false
 same_size (Some a) None = false
 same_size (Some a) (Some b) = a == b
 
--- Of some sizes.
+-- By some sizes.
 
 abbrev pub largest_empty : SizeSet → (ℕ → Bool) → Reservation → ℕ → Option ℕ
 largest_empty z used r zero = if has_empty used r 0 then Some 0 else None
 largest_empty z used r (suc k) = if has_size z (suc k) && has_empty used r (suc k) then Some (suc k) else largest_empty z used r k
 
--- the yield of a reservation: the largest of these sizes of an extent inside it without a used place; a full one has none
+-- the yield of a reservation by these sizes: the largest of them of which an extent inside it has no used place; a full one has none
 abbrev pub yield_in : SizeSet → (ℕ → Bool) → Reservation → Option ℕ
 yield_in z used r = largest_empty z used r r.size
 
--- the size of the parts into which a reservation of size 1 or more is split: the next smaller one
+-- the size of the parts into which, by these sizes, a reservation of size 1 or more is split: the next smaller one
 abbrev pub part_size : SizeSet → Reservation → ℕ
 part_size z r = size_within z (r.size - 1)
 
@@ -77,7 +77,7 @@ part_at k r i = record { space = r.space; first = r.first + i * 8 ^ k; size = k;
 abbrev pub is_empty_at : ℕ → (ℕ → Bool) → Reservation → ℕ → Bool
 is_empty_at k used r i = none_used used (part_at k r i).frame (8 ^ k)
 
--- a part with a used place stays a reservation
+-- one of them with a used place stays a reservation
 abbrev pub kept_at : ℕ → (ℕ → Bool) → Reservation → ℕ → Option Reservation
 kept_at k used r i = if is_empty_at k used r i then None else Some (part_at k r i)
 
@@ -86,7 +86,7 @@ abbrev pub parted_records : ℕ → (ℕ → Bool) → Reservation → List (Opt
 parted_records k used r records =
     fold (λ rs i. slice_set rs (part_at k r i).frame (kept_at k used r i)) records (range_with_len 0 (part_count k r))
 
--- the lowest part of size k with the yield of the whole
+-- the lowest part of size k with the yield of the whole, by these sizes
 abbrev pub lowest_as_wide : SizeSet → ℕ → (ℕ → Bool) → Reservation → Option ℕ
 lowest_as_wide z k used r =
     find (λ i. same_size (yield_in z used (part_at k r i)) (yield_in z used r)) (range_with_len 0 (part_count k r))
@@ -96,6 +96,6 @@ abbrev pub goes_on_in : SizeSet → ℕ → (ℕ → Bool) → Reservation → O
 goes_on_in z k used r =
     if list_any (is_empty_at k used r) (range_with_len 0 (part_count k r)) then None else option_map (part_at k r) (lowest_as_wide z k used r)
 
--- the part at which a breaking goes on, where parts have more than one frame
+-- the part at which, by these sizes, a breaking goes on, where parts have more than one frame
 abbrev pub goes_on_at : SizeSet → (ℕ → Bool) → Reservation → Option Reservation
 goes_on_at z used r = if nat_lt 0 (part_size z r) then goes_on_in z (part_size z r) used r else None

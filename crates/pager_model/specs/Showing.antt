@@ -18,8 +18,8 @@ abbrev pub daemon_marks : Option Daemon → List ℕ
 daemon_marks None = []
 daemon_marks (Some d) = d.low ∷ []
 
--- The setting of a trace: its frames, a mark of 0 for each processor and the daemon's low mark for one more, and for each space a
--- store that tells its copies and has not failed.
+-- The setting of a trace: its frames, all four page sizes, a mark of 0 for each processor and the daemon's low mark for one more, and
+-- for each space a store that tells its copies and has not failed.
 abbrev pub setting_of : Plan → Given
 setting_of plan =
     record {

@@ -1,5 +1,5 @@
 -- Which page sizes there are: some of the levels from 0 to 3, and always 0.
-use Rattle.std.specs.Prelude.{ℕ, ◌-◌, zero, suc, Bool, true, false, if◌then◌else◌, Option, Some, None}
+use Rattle.std.specs.Prelude.{ℕ, zero, suc, Bool, true, false, if◌then◌else◌, Option, Some, None}
 
 pub record SizeSet : Type 0 where
   pub one : Bool

@@ -1,5 +1,5 @@
 -- Tiles: the largest extents of resident pages that one translation maps.
-use Rattle.std.specs.Prelude.{ℕ, zero, suc, ◌≡◌, ◌+◌, ◌-◌, ◌%◌, ◌^◌, ◌<◌, ◌≤◌, Bool, true, false, ◌&&◌, ◌==◌, not, nat_lt, if◌then◌else◌, List, count_by, option_map, Option, Some, None}
+use Rattle.std.specs.Prelude.{ℕ, zero, suc, ◌≡◌, ◌+◌, ◌-◌, ◌%◌, ◌^◌, ◌<◌, ◌≤◌, Bool, false, ◌&&◌, ◌==◌, not, nat_lt, if◌then◌else◌, count_by, Option, Some, None}
 use Rattle.std.specs.List.{range_with_len, list_all}
 use Rattle.std.specs.Option.{option_or}
 use Rattle.pager_model.specs.declared.region.Region.{Region}
@@ -74,11 +74,11 @@ abbrev pub largest_up_to : (ℕ → Option Mapping) → ℕ → ℕ → Option T
 largest_up_to pages zero page = eligible_at pages 0 page
 largest_up_to pages (suc k) page = option_or (eligible_at pages (suc k) page) (largest_up_to pages k page)
 
--- the tile of a page: the largest eligible extent round it; a page has one exactly where it is resident
+-- the tile of a page by all four sizes: the largest eligible extent round it; a page has one exactly where it is resident
 abbrev pub tile_of : (ℕ → Option Mapping) → ℕ → Option Tile
 tile_of pages page = largest_up_to pages 3 page
 
--- A tile is an eligible extent that lies in no larger eligible one.
+-- A tile by all four sizes is an eligible extent that lies in no larger eligible one.
 pub record IsTile (pages : ℕ → Option Mapping) (t : Tile) : Type 0 where
   pub extent : IsExtent t.extent.size t.extent.first
   pub eligible : eligible_at pages t.extent.size t.extent.first ≡ Some t
@@ -88,11 +88,11 @@ abbrev pub is_that_tile : Tile → Option Tile → Bool
 is_that_tile t None = false
 is_that_tile t (Some u) = same_tile t u
 
--- it is a tile of these pages
+-- it is a tile of these pages by all four sizes
 abbrev pub is_tile : (ℕ → Option Mapping) → Tile → Bool
 is_tile pages t = is_that_tile t (tile_of pages t.extent.first)
 
--- Moves and counts.
+-- Moves and counts, by all four sizes.
 
 abbrev pub size_in : Option Tile → ℕ
 size_in None = 0
@@ -102,7 +102,7 @@ abbrev pub begins_at : ℕ → Option Tile → Bool
 begins_at page None = false
 begins_at page (Some t) = t.extent.first == page
 
--- the size of the page's tile, and 0 where it has none
+-- the size of the page's tile by all four sizes, and 0 where it has none
 abbrev pub size_at : (ℕ → Option Mapping) → ℕ → ℕ
 size_at pages page = size_in (tile_of pages page)
 
@@ -114,54 +114,56 @@ is_promoted before after page = begins_at page (tile_of after page) && nat_lt (s
 unfoldable pub count_pages : (ℕ → Bool) → ℕ
 count_pages test = count_by test (range_with_len 0 1048576)
 
--- promotions: the extents of size 1 or more that are tiles after a change and lay in no tile before it
+-- promotions by all four sizes: the extents of size 1 or more that are tiles after a change and lay in no tile before it
 abbrev pub promotions_between : (ℕ → Option Mapping) → (ℕ → Option Mapping) → ℕ
 promotions_between before after = count_pages (is_promoted before after)
 
--- demotions: the extents of size 1 or more that were tiles before it and lie in no tile after it
+-- demotions by all four sizes: the extents of size 1 or more that were tiles before it and lie in no tile after it
 abbrev pub demotions_between : (ℕ → Option Mapping) → (ℕ → Option Mapping) → ℕ
 demotions_between before after = promotions_between after before
 
--- the page is the first of a tile of this size
+-- the page is the first of a tile of this size, by all four sizes
 abbrev pub begins_tile : (ℕ → Option Mapping) → ℕ → ℕ → Bool
 begins_tile pages size page = begins_at page (tile_of pages page) && (size_at pages page == size)
 
--- how many tiles of this size there are
+-- how many tiles of this size there are, by all four sizes
 abbrev pub tiles_of_size : (ℕ → Option Mapping) → ℕ → ℕ
 tiles_of_size pages size = count_pages (begins_tile pages size)
 
--- Tiles of some sizes.
+-- Tiles, moves and counts, by some sizes.
 
 abbrev pub largest_among : SizeSet → (ℕ → Option Mapping) → ℕ → ℕ → Option Tile
 largest_among z pages zero page = eligible_at pages 0 page
 largest_among z pages (suc k) page =
     if has_size z (suc k) then option_or (eligible_at pages (suc k) page) (largest_among z pages k page) else largest_among z pages k page
 
--- the tile of a page: the largest eligible extent of these sizes round it
+-- the tile of a page by these sizes: the largest eligible extent of one of them round it
 abbrev pub tile_in : SizeSet → (ℕ → Option Mapping) → ℕ → Option Tile
 tile_in z pages page = largest_among z pages 3 page
 
--- it is a tile of these pages
+-- it is a tile of these pages by these sizes
 abbrev pub is_tile_in : SizeSet → (ℕ → Option Mapping) → Tile → Bool
 is_tile_in z pages t = is_that_tile t (tile_in z pages t.extent.first)
 
-abbrev pub size_in_at : SizeSet → (ℕ → Option Mapping) → ℕ → ℕ
-size_in_at z pages page = size_in (tile_in z pages page)
+-- the size of the page's tile by these sizes, and 0 where it has none
+abbrev pub tile_size_in : SizeSet → (ℕ → Option Mapping) → ℕ → ℕ
+tile_size_in z pages page = size_in (tile_in z pages page)
 
+-- the page is the first of a tile by these sizes that is larger than its tile was before
 abbrev pub is_promoted_in : SizeSet → (ℕ → Option Mapping) → (ℕ → Option Mapping) → ℕ → Bool
-is_promoted_in z before after page = begins_at page (tile_in z after page) && nat_lt (size_in_at z before page) (size_in_at z after page)
+is_promoted_in z before after page = begins_at page (tile_in z after page) && nat_lt (tile_size_in z before page) (tile_size_in z after page)
 
--- promotions: the extents of size 1 or more that are tiles after a change and lay in no tile before it
+-- promotions by these sizes: the extents of size 1 or more that are tiles after a change and lay in no tile before it
 abbrev pub promotions_in : SizeSet → (ℕ → Option Mapping) → (ℕ → Option Mapping) → ℕ
 promotions_in z before after = count_pages (is_promoted_in z before after)
 
--- demotions: the extents of size 1 or more that were tiles before it and lie in no tile after it
+-- demotions by these sizes: the extents of size 1 or more that were tiles before it and lie in no tile after it
 abbrev pub demotions_in : SizeSet → (ℕ → Option Mapping) → (ℕ → Option Mapping) → ℕ
 demotions_in z before after = promotions_in z after before
 
--- how many tiles of this size there are
+-- how many tiles of this size there are, by these sizes
 abbrev pub tiles_of_size_in : SizeSet → (ℕ → Option Mapping) → ℕ → ℕ
-tiles_of_size_in z pages size = count_pages (λ page. begins_at page (tile_in z pages page) && (size_in_at z pages page == size))
+tiles_of_size_in z pages size = count_pages (λ page. begins_at page (tile_in z pages page) && (tile_size_in z pages page == size))
 
 -- the part of size k round a page of a tile
 abbrev pub part_round : ℕ → ℕ → Tile → Tile

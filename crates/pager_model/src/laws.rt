@@ -1,31 +1,47 @@
 //! Examples of the definitions, and laws over them: each is a function that does nothing, whose contract the gate proves.
 
-ghost use Rattle.std.specs.Prelude.{◌≡◌, ℕ, ◌∷◌, ◌++◌, ◌==◌, ◌<◌, [], Some, None, true, false, List, codes, nat_lt, option_map};
+ghost use Rattle.std.specs.Prelude.{◌≡◌, ℕ, ◌∷◌, ◌++◌, ◌==◌, [], Some, None, true, false, List, codes, nat_lt, option_map};
 ghost use Rattle.pager_model.specs.declared.entry.Entry.{Entry};
 ghost use Rattle.pager_model.specs.declared.entry.What.TheVariants.{Claim, Rest};
 ghost use Rattle.pager_model.specs.declared.call.Call.TheVariants.{Grow, Unmap, Protect, Load, Store, Sync, Evict};
-ghost use Rattle.pager_model.specs.declared.region.Rights.TheVariants.{NoAccess, Read};
-ghost use Rattle.pager_model.specs.declared.reply.Reply.TheVariants.{Done, Value, Denied, Unmapped};
+ghost use Rattle.pager_model.specs.declared.region.Rights.TheVariants.{NoAccess};
+ghost use Rattle.pager_model.specs.declared.reply.Reply.TheVariants.{Value, Unmapped};
 ghost use Rattle.pager_model.specs.Ages.{with_member, oldest_in};
-ghost use Rattle.pager_model.specs.Examples.{eight_pages, two_frames, one_taken, one_broken, one_given, one_carved, both_taken, want_eight, small_setting, legal_history, exchanged_history, small_plan, take_page_one, on_both, on_frames, eight_places, eight_parts_used, one_turn, failing_load, made_up_fault, untold_space, run_of_pages, with_dirty, with_read, with_region, writable, small_tile};
+ghost use Rattle.pager_model.specs.Examples.{eight_pages, two_frames, one_taken, one_broken, one_given, one_carved, both_taken, want_eight, small_setting, legal_history, exchanged_history, small_plan, take_page_one, on_both, on_frames, eight_places, eight_parts_used, one_turn, failing_load, made_up_fault, untold_space, run_of_pages, with_dirty, with_read, with_region, writable, small_tile, base_and_64, base_and_512, all_but_8, one_of_sixty_four, sixty_four_places, all_places, is_spread};
 ghost use Rattle.pager_model.specs.Order.{progress_of, at_rest};
 ghost use Rattle.pager_model.specs.SpaceStates.{IsAsked};
 ghost use Rattle.pager_model.specs.Flat.{after_call, reply_of};
-ghost use Rattle.pager_model.specs.FrameStates.{take_frame, frame_of, held_by, dropped, free_count, reserved_count};
+ghost use Rattle.pager_model.specs.FrameStates.{layout_of, take_frame, frame_of, held_by, dropped, free_count, reserved_count};
 ghost use Rattle.pager_model.specs.FreeBlocks.{choice};
-ghost use Rattle.pager_model.specs.PreferredSize.{preferred_size};
+ghost use Rattle.pager_model.specs.Headline.{list_in};
+ghost use Rattle.pager_model.specs.Layouts.{oldest_of};
+ghost use Rattle.pager_model.specs.PreferredSize.{preferred_size, preferred_among};
 ghost use Rattle.pager_model.specs.PrintedText.{answers_text, history_line};
-ghost use Rattle.pager_model.specs.Records.{yield_of, kept_part};
+ghost use Rattle.pager_model.specs.Records.{is_used, yield_of, kept_part, part_at, goes_on_at};
 ghost use Rattle.pager_model.specs.TraceText.{call_line, line_words, text_of};
-ghost use Rattle.pager_model.specs.Legal.{IsLegal, MayFollow};
+ghost use Rattle.pager_model.specs.Legal.{IsLegal, MayFollow, space_at};
 ghost use Rattle.pager_model.specs.Settings.{Given};
-ghost use Rattle.pager_model.specs.SizeSets.{all_sizes};
+ghost use Rattle.pager_model.specs.SizeSets.{all_sizes, size_within, size_below};
 ghost use Rattle.pager_model.specs.Images.{is_in_image, images_with, touched, still_tiles};
-ghost use Rattle.pager_model.specs.Tiles.{tile_of, tile_with, size_at, is_promoted};
+ghost use Rattle.pager_model.specs.Tiles.{tile_of, tile_with, size_at, is_promoted, tile_in, tile_size_in, is_promoted_in};
 
 /// A legal history goes on by an entry that may follow it.
 pub fn legal_goes_on()
     ensures { (g : Given) (history : List Entry) (e : Entry) → IsLegal g history → MayFollow g history e → IsLegal g (history ++ e ∷ []) }
+{}
+
+/// No entry changes which page sizes a space has.
+pub fn a_space_keeps_its_sizes()
+    ensures { (g : Given) (history : List Entry) (s : ℕ) → (space_at g history s).sizes ≡ g.sizes }
+{}
+
+/// Where only base pages and pages of 512 are there, the largest size up to that of 64 pages is the base page's, and so is the next one
+/// below that of 512.
+pub fn sizes_may_be_missing()
+    ensures within { size_within base_and_512 2 ≡ 0 }
+    ensures itself { size_within base_and_512 3 ≡ 3 }
+    ensures below { size_below base_and_512 3 ≡ Some 0 }
+    ensures last { size_below base_and_512 0 ≡ None }
 {}
 
 /// Of free blocks of two frames at 2 and one frame at 5, the choice of one frame is the block of one: the lowest free frames
@@ -132,11 +148,14 @@ pub fn small_texts()
 {}
 
 /// Page 5 of a region of pages 0 to 15 has a reservation of eight pages, and one of a single page where a reservation has
-/// page 7, or where at most seven pages may be had.
+/// page 7, where at most seven pages may be had, or where the size is missing. In a region of 512 pages it has one of the largest size
+/// that there is.
 pub fn preferred_sizes()
     ensures eight { preferred_size (λ k first. false) 5 (record { low = 0; high = 16; cap = 16; wired = false }) ≡ 1 }
     ensures in_the_way { preferred_size (λ k first. nat_lt 0 k) 5 (record { low = 0; high = 16; cap = 16; wired = false }) ≡ 0 }
     ensures capped { preferred_size (λ k first. false) 5 (record { low = 0; high = 16; cap = 7; wired = false }) ≡ 0 }
+    ensures missing { preferred_among base_and_512 (λ k first. false) 5 (record { low = 0; high = 16; cap = 16; wired = false }) ≡ 0 }
+    ensures largest { preferred_among base_and_64 (λ k first. false) 5 (record { low = 0; high = 512; cap = 512; wired = false }) ≡ 2 }
 {}
 
 /// A reservation of eight places with its fourth used yields one page; with all used it yields nothing; and its parts are
@@ -146,6 +165,22 @@ pub fn yields_and_parts()
     ensures full { yield_of (λ frame. nat_lt 15 frame) eight_places ≡ None }
     ensures used_part { kept_part (λ frame. frame == 19) eight_places 3 ≡ Some (record { space = 0; first = 11; size = 0; frame = 19; stamp = 7 }) }
     ensures empty_part { kept_part (λ frame. frame == 19) eight_places 4 ≡ None }
+{}
+
+/// A reservation of 64 places with one used place has eight together without one. Where the size of eight is missing it yields one frame,
+/// and stands in that list alone.
+pub fn a_reservation_is_listed_by_the_sizes()
+    ensures by_all { yield_of (is_used (layout_of one_of_sixty_four).used) sixty_four_places ≡ Some 1 }
+    ensures by_these { list_in one_of_sixty_four sixty_four_places ≡ Some 0 }
+    ensures listed { oldest_of (layout_of one_of_sixty_four) 0 ≡ Some 0 }
+    ensures alone { oldest_of (layout_of one_of_sixty_four) 1 ≡ None }
+{}
+
+/// Of a reservation of 512 places whose first part of 64 yields one frame, and each other part eight, a breaking goes on at the second
+/// part; and at the first where the size of eight is missing, so that all parts yield one.
+pub fn a_break_goes_on_by_the_sizes()
+    ensures by_all { goes_on_at all_sizes is_spread all_places ≡ Some (part_at 2 all_places 1) }
+    ensures by_these { goes_on_at all_but_8 is_spread all_places ≡ Some (part_at 2 all_places 0) }
 {}
 
 /// Of two reservations with one stamp the one with the lower frame is the older.
@@ -171,6 +206,14 @@ pub fn a_tile_is_the_largest()
     ensures eight { size_at (run_of_pages 512 511) 449 ≡ 1 }
     ensures one { size_at (run_of_pages 512 511) 510 ≡ 0 }
     ensures all { size_at (run_of_pages 512 512) 300 ≡ 3 }
+{}
+
+/// Where sizes are missing, a page's tile is the largest of those that there are: the page alone in place of its 64 pages, and these in
+/// place of 512. An extent of a missing size is not promoted.
+pub fn a_tile_is_of_the_sizes()
+    ensures alone { tile_in base_and_512 (run_of_pages 512 511) 300 ≡ Some (tile_with 0 300 (writable 812 false)) }
+    ensures sixty_four { tile_size_in base_and_64 (run_of_pages 512 512) 300 ≡ 2 }
+    ensures not_promoted { is_promoted_in base_and_512 (run_of_pages 16 7) (run_of_pages 16 8) 0 ≡ false }
 {}
 
 /// The eighth page promotes its extent once, and the first dirty page demotes it once.

@@ -24,7 +24,7 @@ impl Model for Setting {
 
 impl Setting {
     /// The number of frames; for each processor 0 where it makes calls, and a daemon's low mark; and for each space
-    /// whether its store tells its copies, and its store's count of faults at entry.
+    /// whether its store tells its copies, and its store's count of faults at entry. All four page sizes are there.
     pub fn of(frames: u32, marks: Vec<u32>, told: Vec<bool>, faults: Vec<u64>) -> Setting
         requires spaces { (1 ≤ vec_len told) × (vec_len told ≤ 16) }
         requires counts { vec_len faults ≡ vec_len told }
