@@ -1,6 +1,6 @@
 -- The counts of the spaces at the end of a run.
-use Rattle.std.proofs.Common.{◌≡◌, ℕ, zero, suc, ◌+◌, ◌*◌, ◌^◌, ◌<◌, ◌≤◌, Bool, cond, not, List, [], ◌∷◌, length, map, take, fold, slice_get, Option, Some, refl, ap, sym, ◌∙◌, arith}
-use Rattle.std.specs.List.{range_with_len, sum_by, count_by}
+use Rattle.std.proofs.Common.{◌≡◌, ℕ, zero, suc, ◌+◌, ◌*◌, ◌^◌, ◌<◌, ◌≤◌, not, List, [], ◌∷◌, length, take, fold, slice_get, Option, Some, refl, ap, sym, ◌∙◌, arith}
+use Rattle.std.specs.List.{range_with_len, sum_by}
 use Rattle.std.proofs.lemmas.List.Filters.{length-filter_both}
 use Rattle.std.proofs.lemmas.List.FromFn.{length-range_with_len}
 use Rattle.std.proofs.lemmas.List.Sums.{sum_by-cons, sum_by-take-le}
@@ -20,15 +20,9 @@ use Rattle.space_core.specs.Standing.{Kept}
 use Rattle.space_core.specs.Tables.{mapping_in}
 use Rattle.tiles.proofs.Counting.{count_pages_most}
 use Rattle.pager_core.specs.RunParts.{AreAtRest, most_in_history}
-use Rattle.pager_core.proofs.Lists.{count-cons}
 use Rattle.pager_core.specs.Sums.{AreFewer, tiles_in, promotions_in, demotions_in}
 
 -- Sums.
-
--- a count of what is mapped
-pub count_by-map : {X Y : Type 0} (p : Y → Bool) (f : X → Y) (xs : List X) → count_by p (map f xs) ≡ count_by (λ x. p (f x)) xs
-count_by-map p f [] = refl
-count_by-map p f (x ∷ xs) = count-cons p (f x) (map f xs) ∙ ap (λ n. cond (p (f x)) 1 0 + n) (count_by-map p f xs) ∙ sym (count-cons (λ y. p (f y)) x xs)
 
 -- a sum over a list is one over its places
 sum_by-places : {X : Type 0} (f : X → ℕ) (g : ℕ → ℕ) (a : ℕ) (xs : List X) → ((s : ℕ) (x : X) → slice_get xs s ≡ Some x → f x ≡ g (a + s)) → sum_by f xs ≡ sum_by g (range_with_len a (length xs))

@@ -246,15 +246,16 @@ fn moves_of<S: Store + Send + Drop>(spaces: &[Space<S>]) -> (u64, u64)
 fn accesses_in(history: &[Numbered]) -> (u64, u64)
     ensures { result ≡ (hits_in (entries_in history.now), misses_in (entries_in history.now)) }
 {
-    let hits = history
-        .iter()
-        .filter(|numbered| is_hit(&numbered.entry.what))
-        .count();
-    let misses = history
-        .iter()
-        .filter(|numbered| is_miss(&numbered.entry.what))
-        .count();
-    (hits as u64, misses as u64)
+    let (mut hits, mut misses): (u64, u64) = (0, 0);
+    for numbered in history {
+        if is_hit(&numbered.entry.what) {
+            hits += 1;
+        }
+        if is_miss(&numbered.entry.what) {
+            misses += 1;
+        }
+    }
+    (hits, misses)
 }
 
 /// Whether it is an answer whose page's tile stood in its processor's image.

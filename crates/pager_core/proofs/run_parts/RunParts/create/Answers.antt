@@ -1,4 +1,4 @@
-use Rattle.std.proofs.Common.{◌≡◌, ℕ, ◌<◌, true, map, reverse, take, slice_get, Some, subst, sym, ap, ◌∙◌}
+use Rattle.std.proofs.Common.{◌≡◌, ℕ, ◌<◌, true, map, reverse, take, slice_get, Some, subst, sym}
 use Rattle.store_core.specs.Stored.{Stored, TellsZero}
 use Rattle.pager_core.specs.RunParts.{given_over, AreNewSpaces}
 use Rattle.pager_core.specs.Running.{AreCapped}
