@@ -81,7 +81,8 @@ impl Pass {
 
     /// The number of its processor.
     pub fn processor(&self) -> u32
-        ensures { result ≡ self.now.processor }
+        ensures number { result ≡ self.now.processor }
+        ensures known { result < length self.now.journal.setting.marks }
     {
         self.log.processor
     }
