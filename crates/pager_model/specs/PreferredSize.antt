@@ -17,8 +17,8 @@ abbrev pub fits : (ℕ → ℕ → Bool) → ℕ → Want → ℕ → Bool
 fits meets page want k =
     (nat_le want.low (extent_start k page) && nat_le (extent_start k page + 8 ^ k) want.high) && (nat_le (8 ^ k) want.cap && not (meets k (extent_start k page)))
 
--- The preferred size by all four sizes: the largest whose extent round the page fits. Where the want is one for the page and no reservation of the
--- space has it, the page alone always fits; a taking asks for the size only there, so that size 0 needs no test.
+-- The preferred size by all four sizes: the largest whose extent round the page fits. Where the want is one for the page and no
+-- reservation of the space has it, the page alone always fits; a taking asks for the size only there, so that size 0 needs no test.
 abbrev pub preferred_size : (ℕ → ℕ → Bool) → ℕ → Want → ℕ
 preferred_size meets page want =
     if fits meets page want 3 then 3 else (if fits meets page want 2 then 2 else (if fits meets page want 1 then 1 else 0))

@@ -1,9 +1,9 @@
--- Equal tiles, and what stays true of an image as tiles go and come.
+-- What stays true of an image as tiles go and come.
 use Rattle.std.proofs.Common.{◌≡◌, ◌≢◌, ℕ, zero, suc, ◌+◌, ◌-◌, ◌<◌, ◌≤◌, Bool, true, false, not, cond, ◌||◌, List, [], ◌∷◌, ◌++◌, length, inl, inr, get_or, take, drop, filter, nat_lt, is_some, Some, None, refl, sym, ap, ◌∙◌, subst, add-one, length-take, take_all, arith}
 use Rattle.std.specs.List.{All, AllPairs, list_any, list_all, position, position_or_len, remove}
 use Rattle.std.specs.Bool.{⊤}
 use Rattle.std.specs.List.Retain.{RetainsInTurn}
-use Rattle.std.proofs.lemmas.Bool.{cases_lt, lt-ltb, le-ltb, and_parts, and_from, eq-eqb, eqb-true, false_from_ne_true, false≢true, or_parts, cond-true, cond-false, cond_both, not_from_true, not_from_false, not-true}
+use Rattle.std.proofs.lemmas.Bool.{cases_lt, lt-ltb, le-ltb, and_parts, false_from_ne_true, false≢true, or_parts, cond-true, cond-false, cond_both, not_from_true, not_from_false, not-true}
 use Rattle.std.proofs.lemmas.List.{length-take-le, take_more, take-take, get_or-take, drop_at}
 use Rattle.std.proofs.lemmas.List.Edits.{length-remove}
 use Rattle.std.proofs.lemmas.List.Elements.{All-cons, All-head, All-tail, filter_passes}
@@ -15,27 +15,8 @@ use Rattle.pager_model.specs.declared.region.Rights.TheVariants.{NoAccess}
 use Rattle.pager_model.specs.declared.tile.Tile.{Tile}
 use Rattle.pager_model.specs.Images.{image_room, touched}
 use Rattle.pager_model.specs.Tiles.{same_tile}
-use Rattle.pager_model.proofs.TileParts.{same_rights-true, same_flag-true, same_rights-refl, same_flag-refl}
+use Rattle.pager_model.proofs.TileParts.{same_tile-true, same_tile-refl}
 use Rattle.tlb_images.specs.Image.{IsImage}
-
--- the test of equal tiles passes just where they are equal
-pub same_tile-true : (t u : Tile) → same_tile t u ≡ true → t ≡ u
-same_tile-true t u h =
-    let halves = and_parts _ _ h in
-    let extents = and_parts _ _ halves.0 in
-    let others = and_parts _ _ halves.1 in
-    let flags = and_parts _ _ others.1 in
-    let size = eqb-true t.extent.size u.extent.size extents.0 in
-    let first = eqb-true t.extent.first u.extent.first extents.1 in
-    let frame = eqb-true t.frame u.frame others.0 in
-    let rights = same_rights-true t.rights u.rights flags.0 in
-    let dirty = same_flag-true t.dirty u.dirty flags.1 in
-    λ i. record { extent = record { size = size i; first = first i }; frame = frame i; rights = rights i; dirty = dirty i }
-
-pub same_tile-refl : (t : Tile) → same_tile t t ≡ true
-same_tile-refl t =
-    and_from _ _ (and_from _ _ (eq-eqb t.extent.size t.extent.size refl) (eq-eqb t.extent.first t.extent.first refl))
-    (and_from _ _ (eq-eqb t.frame t.frame refl) (and_from _ _ (same_rights-refl t.rights) (same_flag-refl t.dirty)))
 
 pub same_tile-ne : (t u : Tile) → t ≢ u → same_tile t u ≡ false
 same_tile-ne t u differ = false_from_ne_true (same_tile t u) (λ h. differ (same_tile-true t u h))
