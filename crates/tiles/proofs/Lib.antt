@@ -2,6 +2,7 @@ pub mod Blocks
 pub mod SizeChanges
 pub mod Cleared
 pub mod Counting
+pub mod CutTiles
 pub mod Eligible
 pub mod Extents
 pub mod KeptPages

@@ -2,4 +2,5 @@ pub mod Beside
 pub mod Blocks
 pub mod Cleared
 pub mod Kept
+pub mod Parts
 pub mod Resident

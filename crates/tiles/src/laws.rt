@@ -1,11 +1,13 @@
 //! What tiles are, and what becomes of them: each is a function that does nothing, whose contract the gate proves.
 
-ghost use Rattle.std.specs.Prelude.{◌≡◌, ℕ, ◌+◌, ◌%◌, ◌^◌, ◌<◌, Option, Some};
+ghost use Rattle.std.specs.Prelude.{◌≡◌, ℕ, ◌+◌, ◌%◌, ◌^◌, ◌<◌, Option, Some, option_map, true};
 ghost use Rattle.pager_model.specs.declared.tile.Mapping.{Mapping};
 ghost use Rattle.pager_model.specs.declared.tile.Tile.{Tile};
 ghost use Rattle.pager_model.specs.Extents.{extent_start};
-ghost use Rattle.pager_model.specs.Tiles.{IsTile, tile_of, is_tile, promotions_between, demotions_between};
+ghost use Rattle.pager_model.specs.SizeSets.{SizeSet};
+ghost use Rattle.pager_model.specs.Tiles.{IsTile, tile_of, is_tile, tile_in, is_tile_in, cut_to, promotions_between, demotions_between};
 ghost use Rattle.tiles.specs.Cleared.{Clears};
+ghost use Rattle.tiles.specs.Parts.{IsPart};
 ghost use Rattle.tiles.specs.Resident.{large_tiles_in};
 
 /// The tile of a page is an eligible extent round it that lies in no larger one, and each such extent is the tile of its pages.
@@ -14,6 +16,14 @@ pub fn a_tile_is_a_largest_eligible_extent()
         → IsTile pages t × (extent_start t.extent.size page ≡ t.extent.first) }
     ensures conversely { (pages : ℕ → Option Mapping) (page : ℕ) (t : Tile) → IsTile pages t
         → extent_start t.extent.size page ≡ t.extent.first → tile_of pages page ≡ Some t }
+{}
+
+/// The tile of a page by some sizes is a part of its tile by all four: the extent round the page of the largest of these sizes that fits.
+/// So the tiles by these sizes are just such parts.
+pub fn a_tile_is_cut_to_the_sizes()
+    ensures cut { (z : SizeSet) (pages : ℕ → Option Mapping) (page : ℕ) → tile_in z pages page ≡ option_map (cut_to z page) (tile_of pages page) }
+    ensures parts { (z : SizeSet) (pages : ℕ → Option Mapping) (t : Tile) → is_tile_in z pages t ≡ true → IsPart z pages t }
+    ensures all_parts { (z : SizeSet) (pages : ℕ → Option Mapping) (t : Tile) → IsPart z pages t → is_tile_in z pages t ≡ true }
 {}
 
 /// Two tiles with a page in common are one.
