@@ -39,7 +39,7 @@ calls-push items vs vs' v lines n more are is = map_range-push (λ c. calls_of c
 
 -- The calls of a processor.
 
-call_on : (spaces : ℕ) (call : Call) → IsCall spaces call → space_of_call call < spaces
+pub call_on : (spaces : ℕ) (call : Call) → IsCall spaces call → space_of_call call < spaces
 call_on spaces (Map s page len kind rights) is = is.0
 call_on spaces (Grow s page by) is = is.0
 call_on spaces (Unmap s page) is = is.0
@@ -55,12 +55,12 @@ first_call Q c line lines call own rest true zero at = subst Q (let e : Some lin
 first_call Q c line lines call own rest true (suc n) at = rest n at
 
 -- what each line's call is, each of theirs is
-call_of_line : (Q : Call → Type 0) (c : ℕ) (lines : List Line) → ((i : ℕ) (d : Line) → i < length lines → Q (get_or lines i d).call) → (n : ℕ) (call : Call) → slice_get (calls_of c lines) n ≡ Some call → Q call
+pub call_of_line : (Q : Call → Type 0) (c : ℕ) (lines : List Line) → ((i : ℕ) (d : Line) → i < length lines → Q (get_or lines i d).call) → (n : ℕ) (call : Call) → slice_get (calls_of c lines) n ≡ Some call → Q call
 call_of_line Q c [] all n call at = cc
 call_of_line Q c (line ∷ lines) all n call at =
     first_call Q c line lines call (all 0 line (omega arith)) (λ k there. call_of_line Q c lines (λ i d below. all (suc i) d (omega (arith, below))) k call there) (line.processor == c) n at
 
-length-calls : (c : ℕ) (lines : List Line) → length (calls_of c lines) ≤ length lines
+pub length-calls : (c : ℕ) (lines : List Line) → length (calls_of c lines) ≤ length lines
 length-calls c lines =
     let passing = length-filter_both (λ (l : Line). l.processor == c) (λ (l : Line). not (l.processor == c)) (λ l. refl) lines in
     let same = length-map (filter (λ (l : Line). l.processor == c) lines) (λ (l : Line). l.call) in

@@ -5,3 +5,5 @@ pub mod RunLemmas
 pub mod StandingLemmas
 pub mod TurnLemmas
 pub mod OrderLemmas
+pub mod JobLemmas
+pub mod ThreadLemmas

@@ -80,27 +80,33 @@ module _ (plan : Plan) (stores after : List Stored) (history : List Numbered) (e
         | inr past ↦ absurd (omega (arith, below, enough, past.0))
       ]
 
-pub IsReplay-whole : (plan : Plan) (stores after : List Stored) (run : Running) → plan.spaces ≤ length stores → AreCapped plan.spaces stores → IsRunOf plan stores run → IsWholeRun run.given run.calls run.history → StoresEnd run.given run.history after → drop (length run.given.told) after ≡ run.unused → IsReplay plan stores run.history after
-IsReplay-whole plan stores after run enough capped now whole ends unused =
-    let g = now.given in
-    let legal : IsLegal (setting_over plan stores) (entries_in run.history) = subst (λ g. IsLegal g (entries_in run.history)) g whole.legal in
-    let ended : StoresEnd (setting_over plan stores) run.history after = subst (λ g. StoresEnd g run.history after) g ends in
+-- a whole run of its calls over the stores is its replay, whoever makes it
+pub IsReplay-of : (plan : Plan) (stores after : List Stored) (given : Given) (calls : List (List Call)) (history : List Numbered) → plan.spaces ≤ length stores → AreCapped plan.spaces stores → given ≡ setting_over plan stores → calls ≡ map (λ c. calls_of c plan.calls) (range_with_len 0 plan.processors) → IsWholeRun given calls history → StoresEnd given history after → drop plan.spaces after ≡ drop plan.spaces stores → IsReplay plan stores history after
+IsReplay-of plan stores after given calls history enough capped g are whole ends unused =
+    let legal : IsLegal (setting_over plan stores) (entries_in history) = subst (λ g. IsLegal g (entries_in history)) g whole.legal in
+    let ended : StoresEnd (setting_over plan stores) history after = subst (λ g. StoresEnd g history after) g ends in
     record {
       numbered = whole.numbered;
       legal = legal;
       shows = λ c known.
-          let there : c < length run.calls = subst (λ n. c < n) (sym (length-calls plan run.calls now.calls)) known in
-          (whole.answers c there ∙ ap (enumerate_from 0) (calls_known plan run.calls now.calls c known), whole.whole c there);
-      laws = KeepsLawsAllAlong-legal (setting_over plan stores) (entries_in run.history) legal;
-      oldest = PreemptsOldest-legal (setting_over plan stores) (entries_in run.history) legal;
-      refusals = RefusesRightly-legal (setting_over plan stores) (entries_in run.history) legal;
-      served = λ none. AllServed-legal (setting_over plan stores) (entries_in run.history) legal (none_failed plan stores after run.history enough capped ended none);
-      partition = subst (λ g. IsPartition g.frames (frames_at g (entries_in run.history))) g whole.partition;
-      none_held = subst (λ g. NothingHeld (frames_at g (entries_in run.history))) g whole.none_held;
-      agrees = subst (λ g. Agrees g (entries_in run.history)) g whole.agrees;
+          let there : c < length calls = subst (λ n. c < n) (sym (length-calls plan calls are)) known in
+          (whole.answers c there ∙ ap (enumerate_from 0) (calls_known plan calls are c known), whole.whole c there);
+      laws = KeepsLawsAllAlong-legal (setting_over plan stores) (entries_in history) legal;
+      oldest = PreemptsOldest-legal (setting_over plan stores) (entries_in history) legal;
+      refusals = RefusesRightly-legal (setting_over plan stores) (entries_in history) legal;
+      served = λ none. AllServed-legal (setting_over plan stores) (entries_in history) legal (none_failed plan stores after history enough capped ended none);
+      partition = subst (λ g. IsPartition g.frames (frames_at g (entries_in history))) g whole.partition;
+      none_held = subst (λ g. NothingHeld (frames_at g (entries_in history))) g whole.none_held;
+      agrees = subst (λ g. Agrees g (entries_in history)) g whole.agrees;
       stores = ended;
-      unused = sym (ap (λ n. drop n after) (ap (λ (g : Given). length g.told) g ∙ told-over plan stores enough)) ∙ unused ∙ now.unused;
+      unused = unused;
     }
+
+-- as a machine's is
+pub IsReplay-whole : (plan : Plan) (stores after : List Stored) (run : Running) → plan.spaces ≤ length stores → AreCapped plan.spaces stores → IsRunOf plan stores run → IsWholeRun run.given run.calls run.history → StoresEnd run.given run.history after → drop (length run.given.told) after ≡ run.unused → IsReplay plan stores run.history after
+IsReplay-whole plan stores after run enough capped now whole ends unused =
+    IsReplay-of plan stores after run.given run.calls run.history enough capped now.given now.calls whole ends
+    (sym (ap (λ n. drop n after) (ap (λ (g : Given). length g.told) now.given ∙ told-over plan stores enough)) ∙ unused ∙ now.unused)
 
 -- its counts are the run's
 pub AreItsCounts-whole : (plan : Plan) (stores : List Stored) (run : Running) (history : List Numbered) (summary : Summary) → IsRunOf plan stores run → history ≡ run.history → summary ≡ counts run.given (entries_in run.history) → AreItsCounts plan stores history summary

@@ -1,3 +1,4 @@
 pub mod Replays
 pub mod Orders
 pub mod Turns
+pub mod Jobs

@@ -9,7 +9,7 @@ use Rattle.pager_model.specs.Extents.{extent_start}
 use Rattle.pager_model.specs.SizeSets.{SizeSet, has_size}
 use Rattle.pager_model.specs.Tiles.{same_tile, tile_with, is_eligible, eligible_with, eligible_at, largest_among, tile_in, is_tile_in}
 use Rattle.pager_model.proofs.ExtentLemmas.{coarser, first_of_extent}
-use Rattle.tlb_images.proofs.ImageLemmas.{same_tile-refl}
+use Rattle.pager_model.proofs.TileParts.{same_tile-refl}
 
 module _ (z : SizeSet) (pages : ℕ → Option Mapping) where
   first_with : (k first : ℕ) (o : Option Mapping) (t : Tile) → eligible_with pages k first o ≡ Some t → t.extent.first ≡ first

@@ -1,0 +1,158 @@
+-- The spaces and the authors that come back and what they stand for, and the one history.
+use Rattle.std.proofs.Common.{◌≡◌, ℕ, zero, suc, ◌+◌, ◌<◌, ◌≤◌, List, [], ◌∷◌, ◌++◌, length, map, get_or, slice_get, cond, Some, refl, ap, sym, subst, ◌∙◌, inl, inr, arith}
+use Rattle.std.specs.List.{All, range_with_len}
+use Rattle.std.proofs.lemmas.Bool.{cases_lt, ne_eqb, eq-eqb}
+use Rattle.std.proofs.lemmas.List.{length_push, get_or-map}
+use Rattle.std.proofs.lemmas.List.FromFn.{length-range_with_len, get_or-range_with_len}
+use Rattle.std.proofs.lemmas.List.Elements.{All-nil, All-push, All-same}
+use Rattle.std.proofs.lemmas.Option.{none-some, same_Some, slice_get_within, slice_get_cases}
+use Rattle.std.proofs.Math.ListN.{length-map}
+use Rattle.journal_core.specs.Clauses.{IsPartOf, IsOwnOf}
+use Rattle.journal_core.specs.Journals.{JournalName, AuthorState, PassState, new_pass}
+use Rattle.journal_core.specs.Parts.{part_list, numbered, numbered_from}
+use Rattle.pager_model.specs.declared.entry.Entry.{Entry}
+use Rattle.pager_model.specs.declared.entry.Numbered.{Numbered}
+use Rattle.pager_model.specs.Entries.{space_part, frames_part, entries_of}
+use Rattle.pager_model.specs.FrameStates.{FrameState}
+use Rattle.pager_model.specs.Legal.{state_of_space, frames_state, space_at, entries_in}
+use Rattle.pager_model.specs.Order.{IsWhole}
+use Rattle.pager_model.specs.Settings.{mark_of}
+use Rattle.space_core.specs.Standing.{Kept}
+use Rattle.pager_core.specs.Flights.{IsAtRest}
+use Rattle.pager_core.specs.RunParts.{AreAtRest}
+use Rattle.pager_core.specs.Running.{IsNumbered}
+use Rattle.pager_core.proofs.Lists.{slice_get-push}
+use Rattle.pager_locks.specs.Locks.{AreParts}
+use Rattle.pager_locks.specs.Locked.{IsLockedSpace, IsPoolAt}
+
+pub slice_get-kept : {X : Type 0} (xs : List X) (y : X) (i : ℕ) (x : X) → slice_get xs i ≡ Some x → slice_get (xs ++ y ∷ []) i ≡ Some x
+slice_get-kept [] y i x at = cc
+slice_get-kept (z ∷ xs) y zero x at = at
+slice_get-kept (z ∷ xs) y (suc i) x at = slice_get-kept xs y i x at
+
+pub slice_get-last : {X : Type 0} (xs : List X) (y : X) → slice_get (xs ++ y ∷ []) (length xs) ≡ Some y
+slice_get-last [] y = refl
+slice_get-last (z ∷ xs) y = slice_get-last xs y
+
+all_at : {X : Type 0} (P : X → Type 0) (xs : List X) (i : ℕ) (x : X) → All P xs → slice_get xs i ≡ Some x → P x
+all_at P xs i x all at = elim (slice_get_cases xs i).1 [
+  | inl there ↦ subst P (there.3 ∙ same_Some _ _ (sym there.2 ∙ at)) (all i there.0 there.1)
+  | inr past ↦ absurd (none-some x (sym past.1 ∙ at))
+]
+
+pub AreParts-none : (j : JournalName) (spaces : List Kept) (authors : List AuthorState) → spaces ≡ [] → authors ≡ [] → AreParts j 0 spaces authors
+AreParts-none j spaces authors no_spaces no_authors =
+    let none : length spaces ≡ 0 = ap length no_spaces in
+    let none_too : length authors ≡ 0 = ap length no_authors in
+    record {
+      same_count = none_too ∙ sym none;
+      no_more = omega (arith, none);
+      known = omega (arith, none);
+      all = λ _. none;
+      journals = All-same (λ (a : AuthorState). a.journal ≡ j) authors [] no_authors (All-nil (λ (a : AuthorState). a.journal ≡ j));
+      each = λ s kept at. (let below = slice_get_within spaces s kept at in absurd (omega (arith, below, none)));
+    }
+
+-- the next space is one more
+pub AreParts-more : (j : JournalName) (k : ℕ) (spaces more : List Kept) (authors grown : List AuthorState) (kept : Kept) (a : AuthorState) → AreParts j k spaces authors → IsLockedSpace j k kept (Some a)
+    → more ≡ spaces ++ kept ∷ [] → grown ≡ authors ++ a ∷ [] → AreParts j (k + 1) more grown
+AreParts-more j k spaces more authors grown kept a parts locked are are_authors =
+    let below : k < length j.setting.told = subst (λ n. n < length j.setting.told) locked.part_is locked.stands.within in
+    let long : length more ≡ length spaces + 1 = ap length are ∙ length_push spaces kept in
+    let long_authors : length grown ≡ length authors + 1 = ap length are_authors ∙ length_push authors a in
+    let same = parts.same_count in
+    let most = parts.no_more in
+    let full : length spaces ≡ k = parts.all (omega (arith, most, below)) in
+    let own : AuthorState = locked.author in
+    let is_own : a ≡ own = same_Some a own locked.there in
+    record {
+      same_count = omega (arith, long, long_authors, same);
+      no_more = omega (arith, long, full);
+      known = omega (arith, long, full, below);
+      all = λ _. omega (arith, long, full);
+      journals = All-same (λ (b : AuthorState). b.journal ≡ j) grown (authors ++ a ∷ []) are_authors (All-push (λ (b : AuthorState). b.journal ≡ j) authors a parts.journals (ap (λ (b : AuthorState). b.journal) is_own ∙ locked.stands.journal));
+      each = λ s other at. elim (slice_get-push spaces kept s other (subst (λ l. slice_get l s ≡ Some other) are at)) [
+        | inl before ↦
+            let part = parts.each s other before in
+            record { author = part.author; at = subst (λ l. slice_get l s ≡ Some part.author) (sym are_authors) (slice_get-kept authors a s part.author part.at); locked = part.locked }
+        | inr last ↦
+            let at_end : s ≡ length authors = last.0 ∙ sym same in
+            record {
+              author = a;
+              at = subst (λ n. slice_get grown n ≡ Some a) (sym at_end) (subst (λ l. slice_get l (length authors) ≡ Some a) (sym are_authors) (slice_get-last authors a));
+              locked = subst (λ n. IsLockedSpace j n other (Some a)) (sym (last.0 ∙ full)) (subst (λ x. IsLockedSpace j k x (Some a)) last.1 locked);
+            }
+      ];
+    }
+
+-- where there is no next space they stay
+pub AreParts-still : (j : JournalName) (k : ℕ) (spaces : List Kept) (authors : List AuthorState) → AreParts j k spaces authors → length j.setting.told ≤ k → AreParts j (k + 1) spaces authors
+AreParts-still j k spaces authors parts past =
+    let most = parts.no_more in
+    record {
+      same_count = parts.same_count;
+      no_more = omega (arith, most);
+      known = parts.known;
+      all = λ few. (let full = parts.all few in absurd (omega (arith, full, few, past)));
+      journals = parts.journals;
+      each = parts.each;
+    }
+
+pub journals_all : (j : JournalName) (k : ℕ) (spaces : List Kept) (authors all : List AuthorState) (pool : FrameState) (frames : AuthorState) → AreParts j k spaces authors → IsPoolAt j pool frames → all ≡ authors ++ frames ∷ [] → All (λ (a : AuthorState). a.journal ≡ j) all
+journals_all j k spaces authors all pool frames parts pool_at are =
+    All-same (λ (a : AuthorState). a.journal ≡ j) all (authors ++ frames ∷ []) are (All-push (λ (a : AuthorState). a.journal ≡ j) authors frames parts.journals pool_at.journal)
+
+-- With all spaces back and the one history, each is at rest after its part.
+pub AreAtRest-closed : (j : JournalName) (spaces : List Kept) (authors all : List AuthorState) (pool : FrameState) (frames : AuthorState) (h : List Entry) → AreParts j 16 spaces authors → length j.setting.told ≤ 16 → IsPoolAt j pool frames → all ≡ authors ++ frames ∷ [] → All (λ (a : AuthorState). IsPartOf a h) all → AreAtRest j.setting h spaces pool
+AreAtRest-closed j spaces authors all pool frames h parts few pool_at are of =
+    let most = parts.no_more in
+    let known = parts.known in
+    record {
+      count = elim (cases_lt (length spaces) (length j.setting.told)) [
+        | inl less ↦ (let full = parts.all less in omega (arith, full, less, few))
+        | inr whole ↦ omega (arith, whole, known)
+      ];
+      spaces_rest = λ s kept at.
+          let part = parts.each s kept at in
+          let own : AuthorState = part.locked.author in
+          let is_own : part.author ≡ own = same_Some part.author own part.locked.there in
+          let stands = part.locked.stands in
+          let in_all : slice_get all s ≡ Some own = subst (λ l. slice_get l s ≡ Some own) (sym are) (slice_get-kept authors frames s own (part.at ∙ ap Some is_own)) in
+          let entries : own.entries ≡ part_list (length own.journal.setting.told) own.part h = all_at (λ (a : AuthorState). IsPartOf a h) all s own of in_all in
+          let listed : own.entries ≡ space_part own.part h =
+          entries ∙ ap (λ (x : JournalName). part_list (length x.setting.told) own.part h) stands.journal
+          ∙ ap (λ b. cond b (frames_part h) (space_part own.part h)) (ne_eqb own.part (length j.setting.told) (λ same. (let within = stands.within in absurd (omega (arith, within, same))))) in
+          let state : state_of_space own.journal.setting own.part own.entries ≡ space_at j.setting h s =
+          ap (λ (x : JournalName). state_of_space x.setting own.part own.entries) stands.journal ∙ ap (state_of_space j.setting own.part) listed ∙ ap (space_at j.setting h) part.locked.part_is in
+          subst (IsAtRest kept) state part.locked.rest;
+      pool_is =
+          let at_end : slice_get all (length authors) ≡ Some frames = subst (λ l. slice_get l (length authors) ≡ Some frames) (sym are) (slice_get-last authors frames) in
+          let entries : frames.entries ≡ part_list (length frames.journal.setting.told) frames.part h = all_at (λ (a : AuthorState). IsPartOf a h) all (length authors) frames of at_end in
+          let listed : frames.entries ≡ frames_part h =
+          entries ∙ ap (λ (x : JournalName). part_list (length x.setting.told) frames.part h) pool_at.journal
+          ∙ ap (λ b. cond b (frames_part h) (space_part frames.part h)) (eq-eqb frames.part (length j.setting.told) pool_at.part) in
+          pool_at.state ∙ ap (λ (x : JournalName). frames_state x.setting frames.entries) pool_at.journal ∙ ap (frames_state j.setting) listed;
+    }
+
+-- The numbers of a history are its places.
+
+numbers_from : (place : ℕ) (es : List Entry) → map (λ (n : Numbered). n.number) (numbered_from place es) ≡ range_with_len place (length es)
+numbers_from place [] = refl
+numbers_from place (e ∷ es) = ap (λ l. place ∷ l) (numbers_from (suc place) es ∙ ap (λ k. range_with_len k (length es)) (let next : suc place ≡ place + 1 = omega arith in next))
+
+pub IsNumbered-closed : (history : List Numbered) → history ≡ numbered (entries_in history) → IsNumbered history
+IsNumbered-closed history are =
+    ap (λ l. map (λ (n : Numbered). n.number) l) are ∙ numbers_from 0 (entries_in history) ∙ ap (range_with_len 0) (length-map history (λ (n : Numbered). n.entry))
+
+-- Each processor's list is whole where the passes' lists are.
+pub whole_at : (j : JournalName) (passes : List PassState) (h : List Entry) → map (λ (p : PassState). p.processor) passes ≡ range_with_len 0 (length j.setting.marks)
+    → All (λ (p : PassState). IsWhole (mark_of j.setting p.processor) (entries_in p.entries)) passes → All (λ (p : PassState). IsOwnOf p h) passes
+    → (c : ℕ) → c < length j.setting.marks → IsWhole (mark_of j.setting c) (entries_of c h)
+whole_at j passes h processors whole own c below =
+    let d : PassState = new_pass j 0 0 in
+    let p : PassState = get_or passes c d in
+    let count : length passes ≡ length j.setting.marks = sym (length-map passes (λ (p : PassState). p.processor)) ∙ ap length processors ∙ length-range_with_len 0 (length j.setting.marks) in
+    let within : c < length passes = omega (arith, below, count) in
+    let number : p.processor ≡ c =
+    sym (get_or-map (λ (p : PassState). p.processor) passes c d 0 within) ∙ ap (λ l. get_or l c 0) processors ∙ get_or-range_with_len 0 (length j.setting.marks) c 0 below ∙ (let e : 0 + c ≡ c = omega arith in e) in
+    subst (λ n. IsWhole (mark_of j.setting n) (entries_of n h)) number (subst (IsWhole (mark_of j.setting p.processor)) (own c d within).1 (whole c d within))

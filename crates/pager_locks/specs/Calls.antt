@@ -1,0 +1,38 @@
+-- A call as it begins, and a whole call, as the caller's pass shows them.
+use Rattle.std.specs.Prelude.{ℕ, ◌≡◌, ◌≤◌, false, List, [], ◌∷◌, ◌++◌, length, count_by, Some}
+use Rattle.journal_core.specs.Journals.{PassState, is_numbered_answer}
+use Rattle.pager_model.specs.declared.call.Call.{Call}
+use Rattle.pager_model.specs.declared.call.Line.{Line}
+use Rattle.pager_model.specs.declared.entry.Numbered.{Numbered}
+use Rattle.pager_model.specs.declared.reply.Reply.{Reply}
+use Rattle.pager_model.specs.Legal.{entries_in}
+use Rattle.pager_model.specs.Order.{at_rest, progress_of, IsWhole}
+use Rattle.pager_model.specs.Settings.{Given}
+use Rattle.pager_model.specs.Showing.{IsSequence}
+use Rattle.pager_core.specs.declared.flight.Flight.{Flight}
+use Rattle.pager_core.specs.declared.flight.Phase.TheVariants.{Start}
+use Rattle.pager_locks.specs.Locked.{replies_in}
+
+-- the flight of the pass's next call, of which nothing was done
+pub record IsNextFlight (p : PassState) (f : Flight) : Type 0 where
+  pub processor : f.processor ≡ p.processor
+  pub number : f.number ≡ count_by is_numbered_answer p.entries
+  pub start : f.phase ≡ Start
+  pub unclaimed : f.claimed ≡ false
+
+abbrev pub line_of : ℕ → Call → Line
+line_of c call = record { processor = c; call = call }
+
+-- The pass's list has one sequence more, which is the call's: its one answer is of this call, with this reply.
+pub record MakesCall (g : Given) (old new : PassState) (call : Call) (reply : Reply) : Type 0 where
+  pub journal : new.journal ≡ old.journal
+  pub processor : new.processor ≡ old.processor
+  pub room : new.room ≡ old.room
+  pub piece : List Numbered
+  pub entries : new.entries ≡ old.entries ++ piece
+  pub few : length piece ≤ 8
+  pub sequence : IsSequence (line_of old.processor call) (entries_in piece)
+  -- and it comes where the list was
+  pub before : progress_of 0 (entries_in old.entries) ≡ Some (at_rest 0 sequence.made)
+  pub replies : replies_in (entries_in piece) ≡ reply ∷ []
+  pub whole : IsWhole 0 (entries_in new.entries)

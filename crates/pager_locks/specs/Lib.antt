@@ -1,0 +1,4 @@
+pub mod Locked
+pub mod Locks
+pub mod Calls
+pub mod Prepared

@@ -1,0 +1,47 @@
+-- The spaces as they go behind their locks and as they come back, each with the author of its part.
+use Rattle.std.specs.Prelude.{ℕ, ◌≡◌, ◌+◌, ◌<◌, ◌≤◌, Bool, true, List, [], length, slice_get, Some}
+use Rattle.std.specs.List.{All}
+use Rattle.journal_core.specs.Journals.{JournalName, AuthorState}
+use Rattle.space_core.specs.Standing.{Kept}
+use Rattle.pager_locks.specs.Locked.{IsLockedSpace}
+
+-- Which of the sixteen locks are there: at least those below the count.
+pub record AreThere (count : ℕ) (s0 s1 s2 s3 s4 s5 s6 s7 s8 s9 s10 s11 s12 s13 s14 s15 : Bool) : Type 0 where
+  pub there0 : 0 < count → s0 ≡ true
+  pub there1 : 1 < count → s1 ≡ true
+  pub there2 : 2 < count → s2 ≡ true
+  pub there3 : 3 < count → s3 ≡ true
+  pub there4 : 4 < count → s4 ≡ true
+  pub there5 : 5 < count → s5 ≡ true
+  pub there6 : 6 < count → s6 ≡ true
+  pub there7 : 7 < count → s7 ≡ true
+  pub there8 : 8 < count → s8 ≡ true
+  pub there9 : 9 < count → s9 ≡ true
+  pub there10 : 10 < count → s10 ≡ true
+  pub there11 : 11 < count → s11 ≡ true
+  pub there12 : 12 < count → s12 ≡ true
+  pub there13 : 13 < count → s13 ≡ true
+  pub there14 : 14 < count → s14 ≡ true
+  pub there15 : 15 < count → s15 ≡ true
+
+-- the spaces from this number on, the last first, each with its author
+pub record AreLeft (j : JournalName) (from : ℕ) (spaces : List Kept) (authors : List AuthorState) : Type 0 where
+  pub same_count : length authors ≡ length spaces
+  pub all : from < length j.setting.told → from + length spaces ≡ length j.setting.told
+  pub none : length j.setting.told ≤ from → spaces ≡ []
+  pub each : (i s : ℕ) (kept : Kept) (a : AuthorState) → i + s + 1 ≡ length j.setting.told → slice_get spaces i ≡ Some kept → slice_get authors i ≡ Some a → IsLockedSpace j s kept (Some a)
+
+-- a space, with its author, who is there
+pub record IsPart (j : JournalName) (authors : List AuthorState) (s : ℕ) (kept : Kept) : Type 0 where
+  pub author : AuthorState
+  pub at : slice_get authors s ≡ Some author
+  pub locked : IsLockedSpace j s kept (Some author)
+
+-- the spaces below this number, as far as there are any, with their authors
+pub record AreParts (j : JournalName) (below : ℕ) (spaces : List Kept) (authors : List AuthorState) : Type 0 where
+  pub same_count : length authors ≡ length spaces
+  pub no_more : length spaces ≤ below
+  pub known : length spaces ≤ length j.setting.told
+  pub all : length spaces < length j.setting.told → length spaces ≡ below
+  pub journals : All (λ (a : AuthorState). a.journal ≡ j) authors
+  pub each : (s : ℕ) (kept : Kept) → slice_get spaces s ≡ Some kept → IsPart j authors s kept

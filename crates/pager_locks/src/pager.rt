@@ -1,0 +1,176 @@
+//! A pager that many threads call.
+
+ghost use Rattle.std.specs.Prelude.{◌≡◌, ◌≤◌, ◌+◌, ℕ, IsSome, IsSomeAnd, [], length, map, sum, vec_capacity, None};
+ghost use Rattle.std.specs.List.{All, range_with_len};
+ghost use Rattle.journal_core.specs.Clauses.{IsHistory, IsOwnOf};
+ghost use Rattle.journal_core.specs.Journals.{new_author};
+ghost use Rattle.pager_model.specs.Agreement.{NothingHeld};
+ghost use Rattle.pager_model.specs.Counts.{counts};
+ghost use Rattle.pager_model.specs.FrameStates.{start_frames};
+ghost use Rattle.pager_model.specs.Laws.{KeepsLawsAllAlong};
+ghost use Rattle.pager_model.specs.Legal.{entries_in, frames_at};
+ghost use Rattle.pager_model.specs.Order.{IsWhole};
+ghost use Rattle.pager_model.specs.Settings.{mark_of};
+ghost use Rattle.pager_core.specs.Machines.{CanFly};
+ghost use Rattle.pager_core.specs.Rows.{row_of};
+ghost use Rattle.pager_core.specs.Running.{IsNumbered, StoresEnd};
+ghost use Rattle.pager_locks.specs.Locked.{Departure, IsFlying};
+ghost use Rattle.pager_locks.specs.Calls.{MakesCall, IsNextFlight};
+ghost use Rattle.pager_locks.specs.Prepared.{MayCall, AreNewParts};
+
+use crate::locked::LockedPool;
+use crate::locks::Locks;
+use crate::naming::Named;
+use frame_pool::Pool;
+use journal_core::{Author, Journal, Pass, close};
+use pager_core::{Flight, Gathered};
+use pager_model::{Call, Reply};
+use space_core::Space;
+use std::marker::{Model, PhantomData};
+use std::sync::{Mutex, Wait};
+use store_core::Store;
+
+/// Emptied vectors, with room for what `close` gives back.
+#[derive(Drop)]
+pub struct Spare<N: Named, S: Store + Send + Drop> {
+    spaces: Vec<Space<S>>,
+    authors: Vec<Author>,
+    stores: Vec<S>,
+    of: PhantomData<N>,
+    ghost no_spaces: { (spaces.items ≡ []) × (length N.journal.setting.told ≤ vec_capacity spaces) },
+    ghost no_authors: { (authors.items ≡ []) × (length N.journal.setting.told + 1 ≤ vec_capacity authors) },
+    ghost no_stores: { (stores.items ≡ []) × (length N.journal.setting.told ≤ vec_capacity stores) },
+}
+
+/// The spaces and the pool behind their locks, and the journal.
+#[derive(Drop)]
+pub struct Pager<N: Named, S: Store + Send + Drop> {
+    // Behind no lock: it changes by single atomic steps.
+    journal: Journal,
+    // Each space behind its own.
+    spaces: Locks<N, S>,
+    // Behind the pool's lock, which is taken under a space's.
+    pool: Mutex<LockedPool<N>>,
+    // Behind a lock that no call takes, so that threads may share a pager over stores that they may not share.
+    spare: Mutex<Spare<N, S>>,
+}
+
+impl<N: Named, S: Store + Send + Drop> Model for Pager<N, S> {
+    ghost use Rattle.std.specs.Prelude.{◌≡◌};
+    ghost use Rattle.journal_core.specs.Journals.{JournalState};
+
+    ghost Value = { JournalState };
+
+    ghost view = { λ p. p.journal };
+
+    ghost invariant = { λ p. p.journal.name ≡ N.journal };
+}
+
+impl<N: Named, S: Store + Send + Drop> Pager<N, S> {
+    /// A pager of new parts, over a journal without entries. `stores` is empty, and has room for those of the spaces.
+    pub(crate) fn open(
+        journal: Journal,
+        mut spaces: Vec<Space<S>>,
+        mut authors: Vec<Author>,
+        pool: Pool,
+        stores: Vec<S>,
+    ) -> Pager<N, S>
+        requires journal { journal.name ≡ N.journal }
+        requires parts { AreNewParts N.journal spaces.items authors.items pool }
+        requires stores { (stores.items ≡ []) × (length N.journal.setting.told ≤ vec_capacity stores) }
+        ensures { result ≡ journal }
+    {
+        let Some(frames) = authors.pop() else {
+            unreachable!()
+        };
+        spaces.reverse();
+        authors.reverse();
+        let locks = Locks::of(&mut spaces, &mut authors);
+        Pager {
+            journal,
+            spaces: locks,
+            pool: Mutex::new(LockedPool::new(pool, frames)),
+            spare: Mutex::new(Spare {
+                spaces,
+                authors,
+                stores,
+                of: PhantomData,
+            }),
+        }
+    }
+
+    /// Makes a call of the pass's processor.
+    pub fn call<R: Wait>(&self, rt: &R, pass: Pass, call: &Call) -> (Reply, Pass)
+        requires pass { MayCall N.journal pass }
+        requires can { CanFly (length N.journal.setting.told) call.now }
+        ensures { MakesCall N.journal.setting pass result.1 call.now result.0 }
+    {
+        let flight = Flight::of_call(pass.processor(), pass.answers(), *call);
+        let (flight, pass) = self.fly(rt, flight, pass);
+        let Some(reply) = flight.reply() else {
+            unreachable!()
+        };
+        (reply, pass)
+    }
+
+    /// Does all steps of a flight of which nothing was done: its processor is the pass's, and its number counts the calls that the processor
+    /// made before.
+    pub fn fly<R: Wait>(&self, rt: &R, flight: Flight, pass: Pass) -> (Flight, Pass)
+        requires pass { MayCall N.journal pass }
+        requires next { IsNextFlight pass flight }
+        requires can { CanFly (length N.journal.setting.told) flight.call }
+        ensures { IsSomeAnd (row_of result.0).reply (λ reply. MakesCall N.journal.setting pass result.1 flight.call reply) }
+    {
+        let processor = pass.processor();
+        prove!(flight.processor == processor);
+        self.fly_on(rt, flight, pass)
+    }
+
+    /// Does the flight's steps to its end, from one that is made under a space that it doesn't keep.
+    fn fly_on<R: Wait>(&self, rt: &R, flight: Flight, pass: Pass) -> (Flight, Pass)
+        requires flying { (from : Departure) × IsFlying N.journal from flight pass }
+        requires keeps { (row_of flight).keeps ≡ None }
+        ensures flying { (from : Departure) → IsFlying N.journal from flight pass → IsFlying N.journal from result.0 result.1 }
+        ensures ended { IsSome (row_of result.0).reply }
+    {
+        let mut flight = flight;
+        let mut pass = pass;
+        while let Some(space) = flight.under() {
+            pass = self
+                .spaces
+                .fly(rt, space, &self.journal, &self.pool, &mut flight, pass);
+        }
+        (flight, pass)
+    }
+
+    /// Gives up the pager: the one history of all calls, the stores, and the counts. `passes` are those of all processors, in their order, each
+    /// with every call that it began answered.
+    pub fn close(self, passes: Vec<Pass>) -> Gathered<S>
+        requires journal { All (λ p. p.journal ≡ N.journal) passes.items }
+        requires processors { map (λ p. p.processor) passes.items ≡ range_with_len 0 (length N.journal.setting.marks) }
+        requires whole { All (λ p. IsWhole (mark_of N.journal.setting p.processor) (entries_in p.entries)) passes.items }
+        requires room { sum (map (λ p. p.room) passes.items) ≤ self.room }
+        ensures numbered { IsNumbered result.history.items }
+        ensures history { IsHistory N.journal.setting (entries_in result.history.items) }
+
+        // Each pass's list is its processor's.
+        ensures passes { All (λ p. IsOwnOf p (entries_in result.history.items)) passes.items }
+        ensures laws { KeepsLawsAllAlong N.journal.setting (entries_in result.history.items) }
+        ensures none_held { NothingHeld (frames_at N.journal.setting (entries_in result.history.items)) }
+        ensures stores { StoresEnd N.journal.setting result.history.items (map S.seen result.stores.items) }
+        ensures count { length result.stores.items ≡ length N.journal.setting.told }
+        ensures summary { result.summary ≡ counts N.journal.setting (entries_in result.history.items) }
+    {
+        let Spare {
+            mut spaces,
+            mut authors,
+            stores,
+            of: _,
+        } = self.spare.into_inner();
+        self.spaces.into_parts(&mut spaces, &mut authors);
+        let (pool, frames) = self.pool.into_inner().into_parts();
+        authors.push_reserved(frames);
+        let history = close(self.journal, authors, passes);
+        Gathered::of(history, spaces, pool, stores)
+    }
+}
