@@ -1,5 +1,5 @@
 -- A pager that was made and isn't opened yet, and the pass that a call is made with.
-use Rattle.std.specs.Prelude.{ℕ, ◌≡◌, ◌+◌, ◌≤◌, List, length, map}
+use Rattle.std.specs.Prelude.{◌≡◌, ◌+◌, ◌≤◌, List, length, map}
 use Rattle.std.specs.List.{range_with_len}
 use Rattle.journal_core.specs.Journals.{JournalName, JournalState, AuthorState, PassState, new_author}
 use Rattle.pager_model.specs.FrameStates.{FrameState, start_frames}
