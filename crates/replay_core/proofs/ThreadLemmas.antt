@@ -1,5 +1,5 @@
 -- What a trace's threads begin with, and the stores before and after their run.
-use Rattle.std.proofs.Common.{◌≡◌, ℕ, zero, suc, ◌+◌, ◌-◌, ◌*◌, ◌^◌, ◌<◌, ◌≤◌, List, [], ◌∷◌, ◌++◌, length, map, take, drop, get_or, slice_get, replicate, sum, Some, IsSomeAnd, ap, ap₂, sym, subst, ◌∙◌, inl, inr, arith}
+use Rattle.std.proofs.Common.{◌≡◌, ℕ, zero, suc, ◌^◌, ◌<◌, ◌≤◌, List, [], ◌∷◌, ◌++◌, length, map, take, drop, get_or, slice_get, replicate, sum, IsSomeAnd, ap, ap₂, sym, subst, ◌∙◌, inl, inr, arith}
 use Rattle.std.specs.List.{All, range_with_len}
 use Rattle.std.proofs.lemmas.Bool.{cases_lt}
 use Rattle.std.proofs.lemmas.List.{get_or-map, get_or_past, map-append, take-append-drop, take-map, drop-map, length-take-le}
@@ -22,8 +22,8 @@ use Rattle.pager_core.specs.Machines.{CanFly}
 use Rattle.pager_core.specs.RunParts.{given_over}
 use Rattle.pager_core.specs.Running.{calls_at, setting_over, IsWholeRun, EndsWith, StoresEnd, AreCapped}
 use Rattle.pager_core.proofs.MachineTurns.{mark-zero}
-use Rattle.pager_core.proofs.StartMachines.{call_on, call_of_line, length-calls as length-calls_of}
-use Rattle.pager_core.proofs.Stores.{marks-start, slice_get-take}
+use Rattle.pager_core.proofs.StartMachines.{marks-start, call_on, call_of_line, length-calls as length-calls_of}
+use Rattle.pager_core.proofs.Stores.{slice_get-take}
 use Rattle.pager_locks.specs.Prepared.{PreparedState}
 use Rattle.store_core.specs.Stored.{Stored}
 use Rattle.replay_core.specs.Jobs.{room_for, IsPreparedFor}
@@ -76,13 +76,13 @@ module _ (plan : Plan) (trace : HasText plan) (calls : List (List Call)) (are : 
       (omega (arith, some.0, all), omega (arith, some.1, all), omega (arith, all, own))
 
   -- and that it is one for them
-  pub is_prepared : (prepared : PreparedState) (stores : List Stored) (marks rooms : List ℕ) → prepared.journal.name.setting ≡ given_over plan.frames marks stores → length stores ≡ plan.spaces → marks ≡ replicate plan.processors 0 → rooms ≡ map room_for calls → prepared.passes ≡ new_passes prepared.journal.name 0 rooms → prepared.journal.room ≡ sum rooms → IsPreparedFor prepared calls
-  is_prepared prepared stores marks rooms setting count marks_are rooms_are passes room =
+  pub is_prepared : (prepared : PreparedState) (stores : List Stored) (rooms : List ℕ) → prepared.journal.name.setting ≡ given_over plan.frames (replicate plan.processors 0) stores → length stores ≡ plan.spaces → rooms ≡ map room_for calls → prepared.passes ≡ new_passes prepared.journal.name 0 rooms → prepared.journal.room ≡ sum rooms → IsPreparedFor prepared calls
+  is_prepared prepared stores rooms setting count rooms_are passes room =
       record {
         may = record {
           passes = passes ∙ ap (new_passes prepared.journal.name 0) rooms_are;
-          count = ap (λ (g : Given). length g.marks) setting ∙ ap length marks_are ∙ length-replicate plan.processors 0 ∙ sym (length-calls plan calls are);
-          marks = λ c. mark-zero prepared.journal.name.setting plan.processors c (ap (λ (g : Given). g.marks) setting ∙ marks_are);
+          count = ap (λ (g : Given). length g.marks) setting ∙ length-replicate plan.processors 0 ∙ sym (length-calls plan calls are);
+          marks = λ c. mark-zero prepared.journal.name.setting plan.processors c (ap (λ (g : Given). g.marks) setting);
           can = λ c.
               subst (λ n. All (CanFly n) (calls_at calls c)) (sym (ap (λ (g : Given). length g.told) setting ∙ length-map stores (λ (s : Stored). s.told) ∙ count)) (can_fly c);
         };
@@ -94,45 +94,65 @@ IsSomeAnd-append P [] ys i at = absurd at
 IsSomeAnd-append P (x ∷ xs) ys zero at = at
 IsSomeAnd-append P (x ∷ xs) ys (suc i) at = IsSomeAnd-append P xs ys i at
 
--- The first of some stores are the spaces' own, and the others come back behind them.
-module _ {P : Type 0} (seen : P → Stored) (plan : Plan) (stores own others : List P) (enough : plan.spaces ≤ length stores) (first : own ≡ take plan.spaces stores) (rest : others ≡ drop plan.spaces stores) where
+-- The first of the stores are the spaces' own, and the others come back behind them.
+pub record AreParted {P : Type 0} (plan : Plan) (stores own others : List P) : Type 0 where
+  pub enough : plan.spaces ≤ length stores
+  pub first : own ≡ take plan.spaces stores
+  pub rest : others ≡ drop plan.spaces stores
+
+-- as they were parted
+pub are_parted : {P : Type 0} (plan : Plan) {stores own others : List P} {count : ℕ} → plan.spaces ≤ length stores → count ≡ plan.spaces → (own ≡ take count stores) × (others ≡ drop count stores) → AreParted plan stores own others
+are_parted plan {stores = stores} enough same parts =
+    record {
+      enough = enough;
+      first = parts.0 ∙ ap (λ n. take n stores) same;
+      rest = parts.1 ∙ ap (λ n. drop n stores) same;
+    }
+
+module _ {P : Type 0} (seen : P → Stored) {plan : Plan} {stores own others : List P} (parted : AreParted plan stores own others) where
   pub own_count : length own ≡ plan.spaces
-  own_count = ap length first ∙ length-take-le plan.spaces stores enough
+  own_count = ap length parted.first ∙ length-take-le plan.spaces stores parted.enough
 
   own_seen : map seen own ≡ take plan.spaces (map seen stores)
-  own_seen = ap (map seen) first ∙ sym (take-map seen plan.spaces stores)
+  own_seen = ap (map seen) parted.first ∙ sym (take-map seen plan.spaces stores)
 
   capped_own : AreCapped (length own) (map seen own) → AreCapped plan.spaces (map seen stores)
   capped_own capped = λ s store below at.
       capped s store (subst (λ n. s < n) (sym own_count) below)
       (ap (λ l. slice_get l s) own_seen ∙ slice_get-take plan.spaces (map seen stores) s below ∙ at)
 
-  pub same_joined : (after : List P) → map seen after ≡ map seen own → map seen (after ++ others) ≡ map seen stores
-  same_joined after same =
-      map-append seen after others
+  pub same_joined : (after joined : List P) → joined ≡ after ++ others → map seen after ≡ map seen own → map seen joined ≡ map seen stores
+  same_joined after joined is same =
+      ap (map seen) is
+      ∙ map-append seen after others
       ∙ ap (λ l. l ++ map seen others) same
       ∙ sym (map-append seen own others)
-      ∙ ap₂ (λ xs ys. map seen (xs ++ ys)) first rest
+      ∙ ap₂ (λ xs ys. map seen (xs ++ ys)) parted.first parted.rest
       ∙ ap (map seen) (take-append-drop plan.spaces stores)
 
   unused_joined : (after : List P) → length after ≡ plan.spaces → drop plan.spaces (map seen (after ++ others)) ≡ drop plan.spaces (map seen stores)
   unused_joined after count =
       ap₂ drop (sym (length-map after seen ∙ count)) (map-append seen after others)
       ∙ drop-append_seam (map seen after) (map seen others)
-      ∙ ap (map seen) rest
+      ∙ ap (map seen) parted.rest
       ∙ sym (drop-map seen plan.spaces stores)
 
   -- The run of a pager over them.
-  module _ (trace : HasText plan) (given : Given) (marks : List ℕ) (setting : given ≡ given_over plan.frames marks (map seen own)) (marks_are : marks ≡ replicate plan.processors 0) where
+  module _ (trace : HasText plan) (given : Given) (setting : given ≡ given_over plan.frames (replicate plan.processors 0) (map seen own)) where
     is_setting : given ≡ setting_over plan (map seen stores)
-    is_setting = setting ∙ ap₂ (given_over plan.frames) (marks_are ∙ marks-start plan trace) own_seen
+    is_setting = setting ∙ ap₂ (given_over plan.frames) (marks-start plan trace) own_seen
 
-    pub replayed : (calls : List (List Call)) (history : List Numbered) (after : List P) → calls ≡ map (λ c. calls_of c plan.calls) (range_with_len 0 plan.processors) → AreCapped (length own) (map seen own) → IsWholeRun given calls history → StoresEnd given history (map seen after) → length after ≡ length given.told → IsReplay plan (map seen stores) history (map seen (after ++ others))
-    replayed calls history after are capped whole ends count =
+    pub replayed : (calls : List (List Call)) (history : List Numbered) (after joined : List P) → joined ≡ after ++ others → calls ≡ map (λ c. calls_of c plan.calls) (range_with_len 0 plan.processors) → AreCapped (length own) (map seen own) → IsWholeRun given calls history → StoresEnd given history (map seen after) → length after ≡ length given.told → IsReplay plan (map seen stores) history (map seen joined)
+    replayed calls history after joined is are capped whole ends count =
         let told : length given.told ≡ plan.spaces = ap (λ (g : Given). length g.told) setting ∙ length-map (map seen own) (λ (s : Stored). s.told) ∙ length-map own seen ∙ own_count in
-        IsReplay-of plan (map seen stores) (map seen (after ++ others)) given calls history (let all = length-map stores seen in omega (arith, all, enough)) (capped_own capped) is_setting are whole
-        (λ s below. subst (λ l. IsSomeAnd (slice_get l s) (EndsWith given history s)) (sym (map-append seen after others)) (IsSomeAnd-append (EndsWith given history s) (map seen after) (map seen others) s (ends s below)))
-        (unused_joined after (count ∙ told))
+        let seen_joined : map seen joined ≡ map seen after ++ map seen others = ap (map seen) is ∙ map-append seen after others in
+        IsReplay-of plan (map seen stores) (map seen joined) given calls history (let all = length-map stores seen in let enough = parted.enough in omega (arith, all, enough)) (capped_own capped) is_setting are whole
+        (λ s below. subst (λ l. IsSomeAnd (slice_get l s) (EndsWith given history s)) (sym seen_joined) (IsSomeAnd-append (EndsWith given history s) (map seen after) (map seen others) s (ends s below)))
+        (ap (λ l. drop plan.spaces (map seen l)) is ∙ unused_joined after (count ∙ told))
 
     pub counted : (history : List Numbered) (summary : Summary) → summary ≡ counts given (entries_in history) → AreItsCounts plan (map seen stores) history summary
     counted history summary = subst (λ (g : Given). summary ≡ counts g (entries_in history)) is_setting
+
+-- the setting of a pager that was made for a trace
+pub setting_made : (plan : Plan) {frames : ℕ} {lent marks : List ℕ} {given : Given} (stores : List Stored) → given ≡ given_over frames lent stores → frames ≡ plan.frames → lent ≡ marks → marks ≡ replicate plan.processors 0 → given ≡ given_over plan.frames (replicate plan.processors 0) stores
+setting_made plan stores setting same_frames same_marks zeros = setting ∙ ap₂ (λ n l. given_over n l stores) same_frames (same_marks ∙ zeros)

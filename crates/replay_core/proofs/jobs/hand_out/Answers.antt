@@ -1,4 +1,4 @@
-use Rattle.std.proofs.Common.{◌≡◌, ◌∙◌, ◌<◌, ◌+◌, ◌++◌, Option, Some, None, IsSome, option_to_list, get_or, length, map, reverse, take, ap, refl, arith}
+use Rattle.std.proofs.Common.{◌≡◌, ◌∙◌, ◌<◌, ◌++◌, Option, Some, None, IsSome, option_to_list, get_or, length, map, reverse, take, ap, refl, arith}
 use Rattle.std.proofs.lemmas.List.{length-reverse, map_push, reverse-reverse, take_more_set}
 use Rattle.std.proofs.Math.Seq.{map-set_same}
 use Rattle.journal_core.specs.Journals.{PassState}

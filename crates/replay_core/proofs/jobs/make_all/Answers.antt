@@ -1,7 +1,6 @@
-use Rattle.std.proofs.Common.{◌≡◌, ◌∙◌, List, length, ap, subst, sym, arith}
+use Rattle.std.proofs.Common.{◌≡◌, ◌∙◌, List, length, ap, subst, sym}
 use Rattle.std.proofs.Math.ListN.{length-map}
 use Rattle.journal_core.specs.Journals.{JournalName, PassState}
-use Rattle.pager_model.specs.declared.call.Call.{Call}
 use Rattle.replay_core.specs.declared.jobs.Job.{Job}
 use Rattle.replay_core.specs.Jobs.{MayMakeAll, HaveMade, calls_in, room_for}
 use Rattle.replay_core.proofs.JobLemmas.{length-new_passes, are_ready, have_passes, have_made}

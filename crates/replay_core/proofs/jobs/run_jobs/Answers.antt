@@ -1,15 +1,13 @@
-use Rattle.std.proofs.Common.{◌≡◌, ℕ, ◌∙◌, List, length, sum, ap, subst, sym, arith}
+use Rattle.std.proofs.Common.{◌≡◌, ℕ, ◌∙◌, List, length, map, sum, ap, subst, sym, arith}
 use Rattle.std.specs.List.{range_with_len}
 use Rattle.journal_core.specs.Journals.{JournalName, JournalState, PassState}
-use Rattle.pager_model.specs.declared.entry.Numbered.{Numbered}
-use Rattle.pager_model.specs.declared.summary.Summary.{Summary}
 use Rattle.pager_model.specs.Counts.{counts}
 use Rattle.pager_model.specs.Legal.{entries_in}
 use Rattle.pager_model.specs.Settings.{mark_of}
-use Rattle.pager_core.specs.Running.{IsWholeRun}
+use Rattle.pager_core.specs.Running.{IsWholeRun, StoresEnd}
 use Rattle.replay_core.specs.declared.jobs.Job.{Job}
 use Rattle.replay_core.specs.Jobs.{HaveMade, calls_in}
-use Rattle.replay_core.proofs.JobLemmas.{processors_done, rooms_done, whole_done, run_done}
+use Rattle.replay_core.proofs.JobLemmas.{journals_done, processors_done, rooms_done, whole_done, run_done}
 use Rattle.replay_core.proofs.jobs.run_jobs.Goals as goal
 
 -- the slice that was lent has the jobs
@@ -22,6 +20,11 @@ marks_of a b named = subst (λ (j : JournalName). (c : ℕ) → mark_of j.settin
 
 count_of : (a b : JournalName) (n : ℕ) → a ≡ b → length a.setting.marks ≡ n → length b.setting.marks ≡ n
 count_of a b n named = subst (λ (j : JournalName). length j.setting.marks ≡ n) named
+
+pub close-requires-clause-journal : goal.close-requires-clause-journal
+close-requires-clause-journal g c κs within =
+    journals_done g.N.Named.journal (calls_in c.args.jobs.items) c.make_all-passes.result.items
+    (of_jobs g.N.Named.journal _ _ _ c.as_mut_slice.ensures.value c.make_all-passes.ensures)
 
 pub close-requires-clause-processors : goal.close-requires-clause-processors
 close-requires-clause-processors g c κs within =
@@ -53,6 +56,10 @@ returns-clause-run g c =
     c.close.result.history.items c.close.ensures.numbered c.close.ensures.history.legal c.close.ensures.passes
     (marks_of _ _ c.requires.named c.requires.prepared.may.marks)
     (count_of _ _ _ c.requires.named c.requires.prepared.may.count))
+
+pub returns-clause-stores : goal.returns-clause-stores
+returns-clause-stores g c =
+    subst (λ (j : JournalName). StoresEnd j.setting c.close.result.history.items (map g.S.Store.seen c.close.result.stores.items)) (sym c.requires.named) c.close.ensures.stores
 
 pub returns-clause-summary : goal.returns-clause-summary
 returns-clause-summary g c =

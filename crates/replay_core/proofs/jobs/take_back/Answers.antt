@@ -1,6 +1,5 @@
-use Rattle.std.proofs.Common.{◌≡◌, ◌≢◌, ◌<◌, ◌∙◌, ◌++◌, ◌∷◌, [], Some, get_or, length, map, set, take, ap, sym, arith}
+use Rattle.std.proofs.Common.{◌≡◌, ◌≢◌, ◌∙◌, ◌++◌, ◌∷◌, [], Some, get_or, map, take, ap, sym, arith}
 use Rattle.std.proofs.lemmas.List.{map_push, map_more, get_or-set_other}
-use Rattle.replay_core.specs.declared.jobs.Job.{Job}
 use Rattle.replay_core.proofs.JobLemmas.{pass_of}
 use Rattle.replay_core.proofs.jobs.take_back.Goals as goal
 
