@@ -1,17 +1,14 @@
 -- Breaking a reservation frees an extent of its yield.
 use Rattle.std.proofs.Common.{◌≡◌, ◌≢◌, ℕ, zero, suc, ◌+◌, ◌-◌, ◌*◌, ◌%◌, ◌^◌, ◌<◌, ◌≤◌, ◌⊎◌, Bool, true, false, cond, nat_lt, length, Option, Some, None, inl, inr, refl, sym, ap, subst, ◌∙◌, arith}
-use Rattle.std.specs.List.{range_with_len, list_any}
 use Rattle.std.specs.Option.{option_map_or}
 use Rattle.std.proofs.Math.Nat.{pow-le-pow_right}
 use Rattle.std.proofs.lemmas.Bool.{cases_Bool, cases_eq, cases_lt, cond-true, lt-ltb, false≢true, false_from_ne_true}
-use Rattle.std.proofs.lemmas.List.Folds.{Any-from_list_any}
-use Rattle.std.proofs.lemmas.List.FromFn.{get_or-range_with_len}
 use Rattle.pager_model.specs.declared.reservation.Reservation.{Reservation}
 use Rattle.pager_model.specs.Agreement.{has_frame}
 use Rattle.pager_model.specs.FreeBlocks.{choice}
 use Rattle.pager_model.specs.Layouts.{Layout, parted, split_layout, break_layout, split_on, record_at, is_free}
 use Rattle.pager_model.specs.Records.{is_used, has_empty, yield_in, part_size, part_count, part_at, is_empty_at, goes_on_at}
-use Rattle.pager_model.specs.SizeSets.{SizeSet, has_size, size_within}
+use Rattle.pager_model.specs.SizeSets.{SizeSet}
 use Rattle.pager_model.proofs.SizeFloors.{has_within, within_largest}
 use Rattle.buddy_extents.proofs.Runs.{run_free_exactly, run_free_part, no_choice_exactly}
 use Rattle.reservations.specs.Kept.{IsPlaced}

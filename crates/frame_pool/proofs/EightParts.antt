@@ -1,8 +1,8 @@
 -- The eight parts of a reservation are its extents of the next smaller of all four sizes.
-use Rattle.std.proofs.Common.{◌≡◌, ◌<◌, ℕ, ◌-◌, ◌^◌, Bool, List, Option, ap, sym, ◌∙◌, arith, set, fold}
+use Rattle.std.proofs.Common.{◌≡◌, ◌<◌, ℕ, ◌-◌, ◌^◌, Bool, List, Option, ap, arith, set, fold}
 use Rattle.std.specs.List.{range_with_len}
 use Rattle.pager_model.specs.declared.reservation.Reservation.{Reservation}
-use Rattle.pager_model.specs.Layouts.{freed_part, parted_free}
+use Rattle.pager_model.specs.Layouts.{parted_free}
 use Rattle.pager_model.specs.Records.{part_count, part_at, kept_at, parted_records, split_records}
 use Rattle.frame_pool.proofs.SplitFrames.{free_up_to}
 

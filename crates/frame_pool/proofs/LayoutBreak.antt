@@ -1,6 +1,6 @@
 -- What breaking a reservation keeps, and what narrowing one down to a used frame leaves.
-use Rattle.std.proofs.Common.{◌≡◌, ℕ, zero, suc, ◌+◌, ◌-◌, ◌*◌, ◌^◌, ◌<◌, ◌≤◌, Bool, true, false, get_or, Option, Some, None, find, option_map, inl, inr, refl, sym, ap, subst, ◌∙◌, arith}
-use Rattle.std.specs.List.{range_with_len, list_any}
+use Rattle.std.proofs.Common.{◌≡◌, ℕ, zero, suc, ◌+◌, ◌-◌, ◌^◌, ◌<◌, ◌≤◌, Bool, true, false, get_or, Option, Some, None, find, option_map, inl, inr, refl, sym, ap, subst, ◌∙◌, arith}
+use Rattle.std.specs.List.{range_with_len}
 use Rattle.std.specs.Option.{option_map_or}
 use Rattle.std.proofs.lemmas.Bool.{cases_Bool, cases_lt, cond-true, cond-false, false≢true, lt-ltb, le-ltb}
 use Rattle.std.proofs.lemmas.List.FromFn.{get_or-range_with_len, length-range_with_len}
@@ -9,7 +9,7 @@ use Rattle.std.proofs.lemmas.Option.{none-some, same_Some}
 use Rattle.pager_model.specs.declared.reservation.Reservation.{Reservation}
 use Rattle.pager_model.specs.Agreement.{has_frame}
 use Rattle.pager_model.specs.Layouts.{Layout, parted, split_layout, break_layout, part_with, narrows_to, narrow_layout, split_on, record_at}
-use Rattle.pager_model.specs.Records.{is_used, none_used, has_empty, yield_in, part_size, part_count, part_at, is_empty_at, kept_at, same_size, lowest_as_wide, goes_on_in, goes_on_at}
+use Rattle.pager_model.specs.Records.{is_used, has_empty, yield_in, part_size, part_count, part_at, is_empty_at, kept_at, same_size, lowest_as_wide, goes_on_in, goes_on_at}
 use Rattle.pager_model.specs.SizeSets.{SizeSet}
 use Rattle.pager_model.proofs.ExtentLemmas.{extent_of_frame}
 use Rattle.pager_model.proofs.SizeFloors.{within_at_most}

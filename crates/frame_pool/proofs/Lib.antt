@@ -44,3 +44,4 @@ pub mod MappedRecords
 pub mod MappedParts
 pub mod MappedLooks
 pub mod LayoutMapped
+pub mod KeptSizes

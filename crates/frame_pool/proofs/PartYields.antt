@@ -1,14 +1,14 @@
 -- The yield of a reservation and of its parts, by the sizes that there are.
 use Rattle.std.proofs.Common.{◌≡◌, ◌≢◌, ◌<◌, ◌≤◌, ℕ, zero, suc, ◌+◌, ◌-◌, ◌*◌, ◌/◌, ◌%◌, ◌^◌, Bool, true, false, ◌&&◌, not, cond, Option, Some, None, refl, ap, sym, ◌∙◌, arith, inl, inr, find, option_map}
-use Rattle.std.specs.List.{range_with_len, list_any}
+use Rattle.std.specs.List.{range_with_len}
 use Rattle.std.proofs.Math.Nat.{pow-le-pow_right}
 use Rattle.std.proofs.lemmas.List.Folds.{Any-from_list_any}
 use Rattle.std.proofs.lemmas.List.FromFn.{length-range_with_len, get_or-range_with_len}
 use Rattle.std.proofs.lemmas.Bool.{cases_eq, cases_lt, cases_Bool, cond-true, cond-false, and_from, and_parts, eqb-true, eq-eqb, false≢true, not_from_false}
-use Rattle.std.proofs.lemmas.Nat.{div_below, div-add-mod', mod_below, mul-le}
+use Rattle.std.proofs.lemmas.Nat.{div_below, div-add-mod', mod_below}
 use Rattle.std.proofs.lemmas.Option.{none-some, same_Some}
 use Rattle.pager_model.specs.Agreement.{has_frame}
-use Rattle.pager_model.specs.Records.{none_used, has_empty, yield_up_to, yield_of, largest_empty, yield_in, part_count, part_at, is_empty_at, same_size, lowest_as_wide, goes_on_in}
+use Rattle.pager_model.specs.Records.{none_used, has_empty, yield_up_to, yield_of, largest_empty, yield_in, part_count, part_at, same_size, lowest_as_wide, goes_on_in}
 use Rattle.pager_model.specs.SizeSets.{SizeSet, has_size, size_within}
 use Rattle.pager_model.specs.declared.reservation.Reservation.{Reservation}
 use Rattle.pager_model.proofs.ExtentLemmas.{eight_pos, eight_split, part_inside}

@@ -1,21 +1,21 @@
 -- A reservation that is split and split again, down to one size, was split into its extents of that size: the layout is the same.
-use Rattle.std.proofs.Common.{◌≡◌, ◌≢◌, ℕ, zero, suc, ◌+◌, ◌-◌, ◌*◌, ◌/◌, ◌%◌, ◌^◌, ◌<◌, ◌≤◌, ◌⊎◌, inl, inr, Bool, true, false, List, length, get_or, Option, Some, None, refl, sym, ap, subst, ◌∙◌, arith}
-use Rattle.std.proofs.lemmas.Bool.{cases_Bool, cases_eq, cases_lt, cond-true, cond-false, false≢true, false_from_ne_true, ltb-true, ltb-false}
-use Rattle.std.proofs.lemmas.List.{ext_get_or, get_or_past}
+use Rattle.std.proofs.Common.{◌≡◌, ◌≢◌, ℕ, ◌+◌, ◌-◌, ◌*◌, ◌/◌, ◌^◌, ◌<◌, ◌≤◌, ◌⊎◌, inl, inr, Bool, true, false, List, length, Option, Some, None, refl, sym, ap, subst, ◌∙◌, arith}
+use Rattle.std.proofs.lemmas.Bool.{cases_eq, cases_lt, false≢true, ltb-true, ltb-false}
+use Rattle.std.proofs.lemmas.List.{ext_get_or}
 use Rattle.std.specs.Option.{IfSome, IsSomeAnd}
 use Rattle.std.proofs.lemmas.Option.{none-some, same_Some}
 use Rattle.std.proofs.lemmas.Nat.{div_below}
 use Rattle.pager_model.specs.declared.reservation.Reservation.{Reservation}
 use Rattle.pager_model.specs.Agreement.{has_frame}
 use Rattle.pager_model.specs.Layouts.{Layout, parted, record_at, is_free}
-use Rattle.pager_model.specs.Records.{is_used, part_count, part_at, is_empty_at, kept_at}
+use Rattle.pager_model.specs.Records.{is_used, part_count, part_at, kept_at}
 use Rattle.pager_model.proofs.ExtentLemmas.{eight_pos, eight_split, part_inside, extent_of_frame}
 use Rattle.pager_model.specs.SizeSets.{SizeSet}
 use Rattle.reservations.proofs.FrameIds.{has_frame_bounds, has_frame_from}
-use Rattle.frame_pool.specs.Laid.{IsLaid, IsIn}
+use Rattle.frame_pool.specs.Laid.{IsLaid}
 use Rattle.frame_pool.specs.Placed.{is_larger}
-use Rattle.frame_pool.proofs.PartsAt.{part_ends, find_part, same_part, which_part, kept_at-cases, part_in_whole}
-use Rattle.frame_pool.proofs.SplitFrames.{IsSplit, IsSplit-parted, some_used_in}
+use Rattle.frame_pool.proofs.PartsAt.{part_ends, same_part, kept_at-cases}
+use Rattle.frame_pool.proofs.SplitFrames.{IsSplit-parted}
 use Rattle.frame_pool.proofs.LayoutReplaced.{holder}
 use Rattle.frame_pool.proofs.LayoutSplit.{Settles, Settles-parted, placed_own, who_stands}
 use Rattle.frame_pool.proofs.LayoutBreak.{Settles-same, Settles-then}

@@ -1,5 +1,5 @@
 -- The records after a reservation was split into its extents of a smaller size, and which of them has a frame.
-use Rattle.std.proofs.Common.{◌≡◌, ◌<◌, ◌≤◌, ℕ, zero, suc, ◌+◌, ◌-◌, ◌*◌, ◌/◌, ◌%◌, ◌^◌, ◌⊎◌, Bool, true, false, List, [], ◌∷◌, ◌++◌, length, get_or, set, fold, Option, Some, None, refl, ap, sym, subst, ◌∙◌, arith, inl, inr}
+use Rattle.std.proofs.Common.{◌≡◌, ◌<◌, ◌≤◌, ℕ, zero, suc, ◌+◌, ◌-◌, ◌*◌, ◌/◌, ◌%◌, ◌^◌, ◌⊎◌, Bool, true, false, List, [], ◌∷◌, ◌++◌, length, get_or, set, fold, Option, Some, None, refl, ap, sym, ◌∙◌, arith, inl, inr}
 use Rattle.std.specs.List.{range_with_len}
 use Rattle.std.proofs.Math.Numerals.{add-one}
 use Rattle.std.proofs.lemmas.List.{get_or-set_same, get_or-set_other, length-set}
@@ -7,7 +7,7 @@ use Rattle.std.proofs.lemmas.List.Sums.{fold_push}
 use Rattle.std.proofs.lemmas.Bool.{cases_eq, cases_Bool, cond-true, cond-false, false≢true}
 use Rattle.std.proofs.lemmas.Nat.{div_below, div-add-mod', mod_below, same_from_place}
 use Rattle.pager_model.specs.Agreement.{has_frame}
-use Rattle.pager_model.specs.Records.{part_count, part_at, is_empty_at, kept_at, parted_records}
+use Rattle.pager_model.specs.Records.{part_count, part_at, is_empty_at, kept_at}
 use Rattle.pager_model.specs.declared.reservation.Reservation.{Reservation}
 use Rattle.reservations.specs.Kept.{IsPlaced}
 use Rattle.pager_model.proofs.ExtentLemmas.{eight_pos, eight_split, part_inside, aligned_part, extent_of_frame}

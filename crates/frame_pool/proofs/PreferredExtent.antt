@@ -9,7 +9,7 @@ use Rattle.pager_model.specs.Extents.{extent_start}
 use Rattle.pager_model.specs.Layouts.{Layout, covers, covering, meets, meets_any, preferred_in, record_at}
 use Rattle.pager_model.specs.PreferredSize.{fits, preferred_size, largest_fitting, preferred_among}
 use Rattle.pager_model.specs.SizeSets.{SizeSet, has_size, size_within}
-use Rattle.pager_model.proofs.SizeFloors.{within_has, within_skips, within_at_most}
+use Rattle.pager_model.proofs.SizeFloors.{within_has, within_skips}
 use Rattle.size_policy.proofs.Sizes.{Suits-from_fits}
 use Rattle.pager_model.proofs.ExtentLemmas.{eight_pos, eight_split}
 use Rattle.pager_model.proofs.Lists.{get_or_within}

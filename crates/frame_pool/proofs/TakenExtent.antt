@@ -1,7 +1,7 @@
 -- What finding an extent of free frames for a reservation gives, and what taking it out leaves.
 use Rattle.std.proofs.Common.{◌≡◌, ℕ, zero, suc, ◌+◌, ◌-◌, ◌^◌, ◌<◌, ◌≤◌, true, false, cond, length, Option, Some, None, option_map, refl, sym, ap, subst, ◌∙◌, arith}
 use Rattle.std.specs.Option.{option_or, option_and_then, option_map_or, is_some, IsSome, IsSomeAnd}
-use Rattle.std.proofs.lemmas.Bool.{cond-true, cond-false, false≢true}
+use Rattle.std.proofs.lemmas.Bool.{false≢true}
 use Rattle.buddy_extents.proofs.Runs.{IsExtent-choice, choice_within, run_free-choice, run_free_exactly}
 use Rattle.buddy_extents.proofs.Ranges.{length-with_range, with_range_inside, with_range_outside, range_cases}
 use Rattle.pager_model.specs.Agreement.{has_frame}

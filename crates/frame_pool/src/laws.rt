@@ -1,19 +1,19 @@
 //! Laws over the frames' state: each is a clause of a function that does nothing.
 
-ghost use Rattle.std.specs.Prelude.{◌≡◌, ℕ, ◌<◌, Bool, List, Option, option_map, Some, None, length};
+ghost use Rattle.std.specs.Prelude.{◌≡◌, ℕ, ◌<◌, Bool, List, Option, option_map, Some, None, true, length};
 ghost use Rattle.pager_model.specs.Agreement.{Agrees, IsPartition, NothingHeld, OwnsBy};
 ghost use Rattle.pager_model.specs.declared.entry.Entry.{Entry};
 ghost use Rattle.pager_model.specs.declared.entry.Want.{Want};
 ghost use Rattle.pager_model.specs.declared.reservation.Reservation.{Reservation};
-ghost use Rattle.pager_model.specs.FrameStates.{frame_of, take_frame, IsFull};
+ghost use Rattle.pager_model.specs.FrameStates.{layout_of, frame_of, take_frame, IsFull};
 ghost use Rattle.pager_model.specs.Headline.{PreemptsOldest, RefusesRightly};
 ghost use Rattle.pager_model.specs.Laws.{KeepsFrames};
-ghost use Rattle.pager_model.specs.Layouts.{Layout, break_layout, meets_any, parted, record_at};
+ghost use Rattle.pager_model.specs.Layouts.{Layout, break_layout, meets_any, record_at};
 ghost use Rattle.pager_model.specs.Legal.{AllWhole, IsLegal, frames_at, frames_state, progress_at};
 ghost use Rattle.pager_model.specs.Order.{Progress};
-ghost use Rattle.pager_model.specs.Records.{is_used, yield_of, yield_in, part_at};
+ghost use Rattle.pager_model.specs.Records.{is_used, yield_of, yield_in};
 ghost use Rattle.pager_model.specs.PreferredSize.{preferred_size, preferred_among};
-ghost use Rattle.pager_model.specs.SizeSets.{SizeSet, size_within};
+ghost use Rattle.pager_model.specs.SizeSets.{SizeSet, has_size, size_within};
 ghost use Rattle.pager_model.specs.Settings.{Given};
 ghost use Rattle.frame_pool.specs.Allowed.{AreFrameEntries};
 ghost use Rattle.frame_pool.specs.Breaking.{Breaks};
@@ -31,10 +31,17 @@ pub fn a_yield_is_cut_to_the_sizes()
     ensures { (z : SizeSet) (used : ℕ → Bool) (r : Reservation) → yield_in z used r ≡ option_map (size_within z) (yield_of used r) }
 {}
 
-/// The preferred size of some sizes is the largest of them that is at most the one of all four.
+/// The preferred size by some sizes is the largest of them that is at most the one by all four.
 pub fn a_preferred_size_is_cut_to_the_sizes()
     ensures { (z : SizeSet) (space page : ℕ) (records : List (Option Reservation)) (want : Want)
         → preferred_among z (meets_any space records) page want ≡ size_within z (preferred_size (meets_any space records) page want) }
+{}
+
+/// No entry changes which page sizes there are, and each reservation is of one of them.
+pub fn the_sizes_stay()
+    ensures stay { (g : Given) (history : List Entry) → (frames_at g history).sizes ≡ g.sizes }
+    ensures kept { (g : Given) (history : List Entry) (id : ℕ) (r : Reservation)
+        → record_at (layout_of (frames_at g history)) id ≡ Some r → has_size g.sizes r.size ≡ true }
 {}
 
 /// Whatever entries the frames allow, each frame is in one role; every reservation has a used place, and no two of one space have a

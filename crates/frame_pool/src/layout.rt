@@ -1,9 +1,8 @@
-ghost use Rattle.std.specs.Prelude.{◌≡◌, ℕ, Bool, ◌+◌, ◌-◌, ◌%◌, ◌^◌, ◌<◌, ◌≤◌, Some, true, false, length, slice_index_or, count_by, IfOk, IfSome, IfNone, IsSome, IsSomeAnd, None};
-ghost use Rattle.std.specs.List.{list_any};
+ghost use Rattle.std.specs.Prelude.{◌≡◌, ℕ, Bool, ◌+◌, ◌-◌, ◌%◌, ◌<◌, ◌≤◌, Some, true, false, length, slice_index_or, count_by, IfOk, IfSome, IfNone, IsSome, IsSomeAnd, None};
 ghost use Rattle.std.specs.Option.{option_and_then};
 ghost use Rattle.pager_model.specs.Agreement.{has_frame};
 ghost use Rattle.pager_model.specs.Layouts.{start_layout, frame_for, frame_in, parted, parted_free, split_layout, broken_at, to_break, record_at};
-ghost use Rattle.pager_model.specs.Layouts.{carve_layout, narrow_layout, take_out, vacate_layout, put_back};
+ghost use Rattle.pager_model.specs.Layouts.{carve_layout, narrow_layout, vacate_layout, put_back};
 ghost use Rattle.pager_model.specs.Layouts.{extent_of, largest_extent, populated, placing};
 ghost use Rattle.pager_model.specs.PreferredSize.{IsWanted};
 ghost use Rattle.pager_model.specs.Records.{is_used, yield_in, part_size, same_size, goes_on_at};
@@ -15,7 +14,7 @@ ghost use Rattle.frame_pool.specs.Placed.{CanBreak, extent_there, is_larger, Fin
 use crate::free::{give, take};
 use crate::lists::{enlist, enlist_parts, unlist};
 use crate::mapped;
-use crate::records::{covering, lowest_as_wide, page_at, preferred, width_of};
+use crate::records::{covering, lowest_as_wide, page_at, preferred, yields_in};
 use buddy_extents::Free;
 use pager_model::{Extent, NoMemory, Reservation, Size, Sizes, Want};
 use population_map::PopulationMap;
@@ -28,9 +27,9 @@ use std::marker::Model;
 /// How many spaces a map of pages knows at most.
 const MOST_MAPPED: u32 = 1024;
 
-/// Which frames are free, the reservations with their used places, the lists of reservations by age, and the map by which the
-/// reservation that has a page is found. The map knows as many spaces as were announced; the pages of others are looked for among all
-/// reservations.
+/// Which page sizes there are, which frames are free, the reservations with their used places, the lists of reservations by age, and the
+/// map by which the reservation that has a page is found. The map knows as many spaces as were announced; the pages of others are looked
+/// for among all reservations.
 ///
 /// Contracts see it as the layout of the frames.
 #[derive(Debug, Drop)]
@@ -112,7 +111,7 @@ impl Layout {
     /// Gives a page of a space, which has none, a place: in the reservation that has the page, or in a new one. `None` exactly
     /// where there is none, and then nothing changes.
     ///
-    /// In an announced space at most four looks find the reservation, and for each size that is tried at most four tell whether the
+    /// In an announced space at most four looks find the reservation, and for each of the sizes 3, 2 and 1 at most four tell whether the
     /// extent round the page meets one.
     pub(crate) fn place(&mut self, stamp: u64, space: u32, page: u32, want: &Want) -> Option<Place>
         requires unplaced { frame_in self.old space page ≡ None }
@@ -205,7 +204,7 @@ impl Layout {
         None
     }
 
-    /// The same for a size that there may not be: of such a size there is no extent.
+    /// An extent of this size, where there is the size.
     fn extent_there(&mut self, size: Size) -> Option<Found>
         ensures found { IfSome result (λ f. FindsExtent self.new (extent_there size self.old) f.size f.first f.broken) }
         ensures none { IfNone result ((extent_there size self.old ≡ None) × (self.new ≡ self.old)) }
@@ -273,25 +272,25 @@ impl Layout {
         ensures breaks { IfSome result (CanBreak self.new) }
     {
         let whole = self.reservations.get(id).unwrap();
-        let width = self.width(id);
+        let yields = self.yields(id);
         let size = self.part_size(&whole);
         self.split_down(id);
         if size.level() == 0 {
             return None;
         }
-        if is_size(&width, size) {
+        if is_size(&yields, size) {
             return None;
         }
         let sizes = self.sizes;
-        lowest_as_wide(&self.reservations, sizes, &whole, size, width)
+        lowest_as_wide(&self.reservations, sizes, &whole, size, yields)
     }
 
     /// The yield of the reservation that begins at the frame `id`.
-    fn width(&self, id: u32) -> Option<Size>
+    fn yields(&self, id: u32) -> Option<Size>
         requires { IsSome (record_at self.now id) }
         ensures { IfSome (record_at self.now id) (λ r. result ≡ yield_in self.now.sizes (is_used self.now.used) r) }
     {
-        width_of(&self.reservations, self.sizes, id)
+        yields_in(&self.reservations, self.sizes, id)
     }
 
     /// The size of the parts into which a reservation is split.
@@ -419,11 +418,11 @@ impl Layout {
     }
 }
 
-/// Whether the width is this size.
-fn is_size(width: &Option<Size>, size: Size) -> bool
-    ensures { result ≡ same_size width.now (Some size) }
+/// Whether the yield is this size.
+fn is_size(yields: &Option<Size>, size: Size) -> bool
+    ensures { result ≡ same_size yields.now (Some size) }
 {
-    *width == Some(size)
+    *yields == Some(size)
 }
 
 /// Frees the frames of those parts of a reservation that have no used place.

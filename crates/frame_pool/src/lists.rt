@@ -1,10 +1,10 @@
-ghost use Rattle.std.specs.Prelude.{◌≡◌, ℕ, ◌<◌, false, List, Option, length, slice_set, slice_index_or, None, IsSome, IsSomeAnd};
+ghost use Rattle.std.specs.Prelude.{◌≡◌, ◌<◌, false, List, Option, length, slice_set, slice_index_or, None, IsSome, IsSomeAnd};
 ghost use Rattle.pager_model.specs.declared.reservation.Reservation.{Reservation};
 ghost use Rattle.reservation_lists.specs.Kept.{is_listed};
 ghost use Rattle.reservations.specs.Kept.{reservation_at, ArePlaced};
 ghost use Rattle.frame_pool.specs.Listed.{AreListed, WasSplit};
 
-use crate::records::width_of;
+use crate::records::yields_in;
 use pager_model::{Reservation, Sizes};
 use reservation_lists::Lists;
 use reservations::Reservations;
@@ -17,7 +17,7 @@ pub(crate) fn unlist(lists: &mut Lists, reservations: &Reservations, sizes: Size
     ensures listed { AreListed sizes lists.new.lists reservations.now.used (slice_set reservations.now.records id None) }
     ensures room { lists.new.frames ≡ lists.old.frames }
 {
-    if let Some(size) = width_of(reservations, sizes, id) {
+    if let Some(size) = yields_in(reservations, sizes, id) {
         if size.level() < 3 {
             let reservation = reservations.get(id).unwrap();
             lists.remove(size, reservation.stamp, id);
@@ -35,7 +35,7 @@ pub(crate) fn enlist(lists: &mut Lists, reservations: &Reservations, sizes: Size
         → AreListed sizes lists.new.lists reservations.now.used (slice_set records id (reservation_at reservations.now id)) }
     ensures room { lists.new.frames ≡ lists.old.frames }
 {
-    if let Some(size) = width_of(reservations, sizes, id) {
+    if let Some(size) = yields_in(reservations, sizes, id) {
         if size.level() < 3 {
             let reservation = reservations.get(id).unwrap();
             lists.insert(size, reservation.stamp, id);

@@ -81,8 +81,9 @@ impl Model for Pool {
 }
 
 impl Pool {
-    /// All frames are free. All the memory that the pool ever takes is taken here. `frames` is a multiple of 512, and `processors`
-    /// counts a daemon. In spaces below `spaces` a page's reservation is found in a few looks, and in others it is looked for.
+    /// All frames are free, and there are these page sizes. All the memory that the pool ever takes is taken here. `frames` is a multiple
+    /// of 512, and `processors` counts a daemon. In spaces below `spaces` a page's reservation is found in a few looks, and in others it
+    /// is looked for.
     pub fn create(
         alloc: Global,
         frames: u32,

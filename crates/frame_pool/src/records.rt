@@ -1,10 +1,10 @@
-ghost use Rattle.std.specs.Prelude.{◌≡◌, ℕ, ◌<◌, ◌≤◌, Some, true, length, option_map, IsSome, IfSome};
-ghost use Rattle.pager_model.specs.Layouts.{covers, covering, frame_for, meets, meets_any};
+ghost use Rattle.std.specs.Prelude.{◌≡◌, ℕ, ◌<◌, Some, true, length, option_map, IsSome, IfSome};
+ghost use Rattle.pager_model.specs.Layouts.{covers, covering, meets, meets_any};
 ghost use Rattle.pager_model.specs.PreferredSize.{IsWanted, preferred_size};
 ghost use Rattle.pager_model.specs.Agreement.{has_frame};
 ghost use Rattle.pager_model.specs.Extents.{IsExtent};
 ghost use Rattle.pager_model.specs.Records.{is_used, part_at, part_count, yield_in, lowest_as_wide};
-ghost use Rattle.reservations.specs.Kept.{ArePlaced, CoversPage, IsPlaced, reservation_at};
+ghost use Rattle.reservations.specs.Kept.{ArePlaced, IsPlaced, reservation_at};
 ghost use Rattle.frame_pool.specs.Mapped.{IsMapped, OneCovers};
 ghost use Rattle.frame_pool.specs.Placed.{IsPageAt, first_of};
 
@@ -116,7 +116,7 @@ fn meets_among_all(reservations: &Reservations, frames: u32, space: u32, extent:
     false
 }
 
-/// The size that is tried first for a page.
+/// The preferred size for a page, by all four sizes.
 pub(crate) fn preferred(
     reservations: &Reservations,
     map: &PopulationMap,
@@ -136,7 +136,7 @@ pub(crate) fn preferred(
 }
 
 /// The yield, by these sizes, of the reservation that begins at the frame `id`.
-pub(crate) fn width_of(reservations: &Reservations, sizes: Sizes, id: u32) -> Option<Size>
+pub(crate) fn yields_in(reservations: &Reservations, sizes: Sizes, id: u32) -> Option<Size>
     requires { IsSome (reservation_at reservations.now id) }
     ensures { IfSome (reservation_at reservations.now id) (λ r. result ≡ yield_in sizes (is_used reservations.now.used) r) }
 {
@@ -150,18 +150,18 @@ pub(crate) fn lowest_as_wide(
     sizes: Sizes,
     whole: &Reservation,
     size: Size,
-    width: Option<Size>,
+    yields: Option<Size>,
 ) -> Option<u32>
     requires splits { size < whole.now.size }
     requires placed { IsPlaced (length reservations.now.records) whole.now.frame whole.now }
     requires parts { (i : ℕ) → i < part_count size whole.now → reservation_at reservations.now (part_at size whole.now i).frame ≡ Some (part_at size whole.now i) }
-    requires width { width ≡ yield_in sizes (is_used reservations.now.used) whole.now }
+    requires yields { yields ≡ yield_in sizes (is_used reservations.now.used) whole.now }
     ensures { result ≡ first_of (option_map (part_at size whole.now) (lowest_as_wide sizes size (is_used reservations.now.used) whole.now)) }
 {
     let pages = size.pages();
     for i in 0..whole.size.pages() / pages {
         let first = whole.frame + i * pages;
-        if width_of(reservations, sizes, first) == width {
+        if yields_in(reservations, sizes, first) == yields {
             return Some(first);
         }
     }

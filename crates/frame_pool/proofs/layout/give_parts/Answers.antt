@@ -1,7 +1,7 @@
 use Rattle.std.proofs.Common.{◌≡◌, ◌∙◌, ◌<◌, ◌-◌, ℕ, Bool, List, length, get_or, ap, sym, arith}
 use Rattle.std.proofs.lemmas.List.FromFn.{get_or-map-range_with_len}
 use Rattle.pager_model.specs.declared.reservation.Reservation.{Reservation}
-use Rattle.pager_model.specs.Records.{part_of, part_count}
+use Rattle.pager_model.specs.Records.{part_of}
 use Rattle.reservations.specs.declared.part.Part.{Part}
 use Rattle.reservations.specs.Parts.{told_part, told_parts}
 use Rattle.pager_model.proofs.ExtentLemmas.{aligned_part, part_of_eight}

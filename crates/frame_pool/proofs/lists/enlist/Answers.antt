@@ -9,7 +9,7 @@ returns-then-level-lt3-clause-listed c = λ records none known are.
     let st = c.args.reservations.now in
     let r = c.unwrap-reservation.result in
     let is : reservation_at st c.args.id ≡ Some r = sym c.get.ensures.record ∙ c.unwrap-reservation.ensures in
-    let told = rw is at c.width_of.ensures in
+    let told = rw is at c.yields_in.ensures in
     let named = rw is at c.requires.there in
     rw (c.insert.ensures, is)
     (AreListed-enlisted c.args.sizes c.args.lists.now.lists st.used records c.args.id r none known are c.in-Some.size named (sym told ∙ c.in-Some.is) (omega arith))
@@ -18,7 +18,7 @@ pub returns-else-level-lt3-clause-listed : goal.returns-else-level-lt3-clause-li
 returns-else-level-lt3-clause-listed c = λ records none known are.
     let st = c.args.reservations.now in
     let found = found_record_and (reservation_at st c.args.id) (λ r. r.frame ≡ c.args.id) c.requires.there in
-    let told = rw found.1 at c.width_of.ensures in
+    let told = rw found.1 at c.yields_in.ensures in
     rw found.1
     (AreListed-not_enlisted c.args.sizes c.args.lists.now.lists st.used records c.args.id found.0 none known are
     (λ k yields. omega (arith, same_Some c.in-Some.size k (sym c.in-Some.is ∙ told ∙ yields))))
@@ -27,7 +27,7 @@ pub returns-in_default-clause-listed : goal.returns-in_default-clause-listed
 returns-in_default-clause-listed c = λ records none known are.
     let st = c.args.reservations.now in
     let found = found_record_and (reservation_at st c.args.id) (λ r. r.frame ≡ c.args.id) c.requires.there in
-    let told = rw found.1 at c.width_of.ensures in
+    let told = rw found.1 at c.yields_in.ensures in
     rw found.1
     (AreListed-not_enlisted c.args.sizes c.args.lists.now.lists st.used records c.args.id found.0 none known are
     (λ k yields. absurd (none-some k (sym c.in_default.is ∙ told ∙ yields))))

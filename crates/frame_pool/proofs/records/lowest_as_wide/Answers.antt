@@ -1,4 +1,4 @@
-use Rattle.std.proofs.Common.{◌≡◌, ℕ, ◌<◌, ◌≤◌, ◌-◌, ◌/◌, ◌^◌, Bool, true, false, inl, inr, sym, ap, ◌∙◌, option_map, arith}
+use Rattle.std.proofs.Common.{◌≡◌, ℕ, ◌<◌, ◌-◌, ◌/◌, ◌^◌, Bool, true, false, inl, inr, sym, ap, ◌∙◌, option_map, arith}
 use Rattle.std.proofs.lemmas.Bool.{cases_eq}
 use Rattle.pager_model.specs.Records.{is_used, part_at, part_count, yield_in, same_size}
 use Rattle.pager_model.proofs.ExtentLemmas.{eight_pos, eight_quotient, aligned_end}
@@ -23,8 +23,8 @@ overflow_add-first c =
     let last = aligned_end r.size r.frame c.requires.placed.aligned.0 c.requires.placed.aligned.1 (omega arith) in
     rw c.pages-pages.ensures (omega (arith, ends, last, eight_pos c.args.size))
 
-pub width_of-requires : goal.width_of-requires
-width_of-requires c =
+pub yields_in-requires : goal.yields_in-requires
+yields_in-requires c =
     let r = c.args.whole.now in
     let one : c.loop-i.i < part_count c.args.size r = omega (arith, c.loop-i-test.true, counted c.args.size r.size c.pages.result c.pages-pages.result c.requires.splits c.pages.ensures c.pages-pages.ensures) in
     let is = c.requires.parts c.loop-i.i one in
@@ -38,10 +38,10 @@ returns-then-eq c =
     let used = is_used c.args.reservations.now.used in
     let one : i < part_count c.args.size r = omega (arith, c.loop-i-test.true, counted c.args.size r.size c.pages.result c.pages-pages.result c.requires.splits c.pages.ensures c.pages-pages.ensures) in
     let is = c.requires.parts i one in
-    let yields = rw (c.pages-pages.ensures, is) at c.width_of.ensures in
-    let tells : c.eq.result ≡ same_size c.width_of.result c.args.width = c.eq.ensures ∙ same_size-is c.width_of.result c.args.width in
+    let yields = rw (c.pages-pages.ensures, is) at c.yields_in.ensures in
+    let tells : c.eq.result ≡ same_size c.yields_in.result c.args.yields = c.eq.ensures ∙ same_size-is c.yields_in.result c.args.yields in
     let test : ℕ → Bool = λ k. same_size (yield_in z used (part_at c.args.size r k)) (yield_in z used r) in
-    let same : test i ≡ true = rw (← yields, ← c.requires.width) (sym tells ∙ c.if-eq.true) in
+    let same : test i ≡ true = rw (← yields, ← c.requires.yields) (sym tells ∙ c.if-eq.true) in
     let found = find_first test 0 (part_count c.args.size r) i (λ k _ below. c.loop-i.invariant k below) (omega arith) (omega (arith, one)) same in
     rw c.pages-pages.ensures (ap (λ o. first_of (option_map (part_at c.args.size r) o)) (sym found))
 
@@ -53,10 +53,10 @@ loop-i-preserved c =
     let used = is_used c.args.reservations.now.used in
     let one : i < part_count c.args.size r = omega (arith, c.loop-i-test.true, counted c.args.size r.size c.pages.result c.pages-pages.result c.requires.splits c.pages.ensures c.pages-pages.ensures) in
     let is = c.requires.parts i one in
-    let yields = rw (c.pages-pages.ensures, is) at c.width_of.ensures in
-    let tells : c.eq.result ≡ same_size c.width_of.result c.args.width = c.eq.ensures ∙ same_size-is c.width_of.result c.args.width in
+    let yields = rw (c.pages-pages.ensures, is) at c.yields_in.ensures in
+    let tells : c.eq.result ≡ same_size c.yields_in.result c.args.yields = c.eq.ensures ∙ same_size-is c.yields_in.result c.args.yields in
     let test : ℕ → Bool = λ k. same_size (yield_in z used (part_at c.args.size r k)) (yield_in z used r) in
-    let other : test i ≡ false = rw (← yields, ← c.requires.width) (sym tells ∙ c.if-eq.false) in
+    let other : test i ≡ false = rw (← yields, ← c.requires.yields) (sym tells ∙ c.if-eq.false) in
     λ k below. elim (cases_eq k i) [ inl here ↦ ap test here ∙ other | inr before ↦ c.loop-i.invariant k (omega arith) ]
 
 pub returns : goal.returns

@@ -1,5 +1,5 @@
-use Rattle.std.proofs.Common.{◌≡◌, ◌∙◌, ◌<◌, ◌≤◌, ◌-◌, Some, sym, arith}
-use Rattle.pager_model.specs.Layouts.{Layout, parted, parted_free, record_at}
+use Rattle.std.proofs.Common.{◌≡◌, ◌∙◌, ◌<◌, ◌-◌, Some, sym, arith}
+use Rattle.pager_model.specs.Layouts.{Layout, parted_free, record_at}
 use Rattle.pager_model.specs.Records.{is_used, split_records}
 use Rattle.reservations.specs.Parts.{told_parts}
 use Rattle.frame_pool.proofs.LayoutInOrder.{WasSplit-from, not_free_there}

@@ -1,4 +1,4 @@
-use Rattle.std.proofs.Common.{ℕ, ◌+◌, ◌-◌, ◌*◌}
+use Rattle.std.proofs.Common.{◌+◌, ◌-◌, ◌*◌}
 use Rattle.pager_model.specs.Layouts.{record_at}
 use Rattle.frame_pool.proofs.PartedOnce.{IsGoing, size_there}
 use Rattle.frame_pool.proofs.layout.Layout.split_to.Given as goal

@@ -1,4 +1,4 @@
-use Rattle.std.proofs.Common.{◌≡◌, ◌<◌, ◌≤◌, ◌+◌, ◌-◌, ◌*◌, ◌^◌, Some, None, false, option_map, sym, ap, subst, ◌∙◌, arith}
+use Rattle.std.proofs.Common.{◌≡◌, ◌<◌, Some, false, option_map, sym, ap, subst, ◌∙◌, arith}
 use Rattle.pager_model.specs.Layouts.{Layout, record_at}
 use Rattle.pager_model.specs.Records.{is_used, part_at, part_size, yield_in, same_size, lowest_as_wide}
 use Rattle.frame_pool.specs.Laid.{IsLaid}
@@ -21,9 +21,9 @@ returns-then-is_size-clause-next c =
     let l = c.args.self.now in
     let r = c.unwrap-whole.result in
     let found : record_at l c.args.id ≡ Some r = sym (ap (λ m. record_at m c.args.id) c.self.view_is) ∙ sym c.get.ensures.record ∙ c.unwrap-whole.ensures in
-    let width = rw found at c.width-width.ensures in
+    let yields = rw found at c.yields-yields.ensures in
     let is : yield_in l.sizes (is_used l.used) r ≡ Some (part_size l.sizes r) =
-    sym width ∙ same_size_from c.width-width.result c.part_size-size.result (sym c.is_size.ensures ∙ c.if-is_size.true) ∙ ap Some c.part_size-size.ensures in
+    sym yields ∙ same_size_from c.yields-yields.result c.part_size-size.result (sym c.is_size.ensures ∙ c.if-is_size.true) ∙ ap Some c.part_size-size.ensures in
     rw found (sym (stops_there l.sizes (is_used l.used) r is))
 
 pub lowest_as_wide-requires-clause-splits : goal.lowest_as_wide-requires-clause-splits
@@ -41,10 +41,10 @@ lowest_as_wide-requires-clause-parts c =
     let new = c.split_down.new.self in
     let laid = subst IsLaid c.self.view_is c.self.invariant.laid in
     let found : record_at l c.args.id ≡ Some r = sym (ap (λ m. record_at m c.args.id) c.self.view_is) ∙ sym c.get.ensures.record ∙ c.unwrap-whole.ensures in
-    let width = rw found at c.width-width.ensures in
+    let yields = rw found at c.yields-yields.ensures in
     let size = c.part_size-size.ensures in
     let split = rw found at c.split_down.ensures in
-    let other : same_size (yield_in l.sizes (is_used l.used) r) (Some (part_size l.sizes r)) ≡ false = ap (λ o. same_size o (Some (part_size l.sizes r))) (sym width) ∙ ap (λ n. same_size c.width-width.result (Some n)) (sym size) ∙ sym c.is_size.ensures ∙ c.if-is_size.false in
+    let other : same_size (yield_in l.sizes (is_used l.used) r) (Some (part_size l.sizes r)) ≡ false = ap (λ o. same_size o (Some (part_size l.sizes r))) (sym yields) ∙ ap (λ n. same_size c.yields-yields.result (Some n)) (sym size) ∙ sym c.is_size.ensures ∙ c.if-is_size.false in
     let large : 0 < part_size l.sizes r = omega (arith, size, c.level.ensures.level, c.if-level-eq0.false) in
     let fills = Fills-from l new c.args.id r laid found c.requires split large other in
     rw size (λ i one. subst (λ m. record_at m (part_at (part_size l.sizes r) r i).frame ≡ Some (part_at (part_size l.sizes r) r i)) (sym c.self-2.view_is) (part_stands l new c.args.id r fills i one))
@@ -57,10 +57,10 @@ returns-clause-next c =
     let next = c.lowest_as_wide.result in
     let laid = subst IsLaid c.self.view_is c.self.invariant.laid in
     let found : record_at l c.args.id ≡ Some r = sym (ap (λ m. record_at m c.args.id) c.self.view_is) ∙ sym c.get.ensures.record ∙ c.unwrap-whole.ensures in
-    let width = rw found at c.width-width.ensures in
+    let yields = rw found at c.yields-yields.ensures in
     let size = c.part_size-size.ensures in
     let split = rw found at c.split_down.ensures in
-    let other : same_size (yield_in l.sizes (is_used l.used) r) (Some (part_size l.sizes r)) ≡ false = ap (λ o. same_size o (Some (part_size l.sizes r))) (sym width) ∙ ap (λ n. same_size c.width-width.result (Some n)) (sym size) ∙ sym c.is_size.ensures ∙ c.if-is_size.false in
+    let other : same_size (yield_in l.sizes (is_used l.used) r) (Some (part_size l.sizes r)) ≡ false = ap (λ o. same_size o (Some (part_size l.sizes r))) (sym yields) ∙ ap (λ n. same_size c.yields-yields.result (Some n)) (sym size) ∙ sym c.is_size.ensures ∙ c.if-is_size.false in
     let large : 0 < part_size l.sizes r = omega (arith, size, c.level.ensures.level, c.if-level-eq0.false) in
     let fills = Fills-from l new c.args.id r laid found c.requires split large other in
     let used = ap (λ (m : Layout). m.used) (c.self-2.view_is ∙ fills.split) in
@@ -76,10 +76,10 @@ returns-clause-breaks c =
     let next = c.lowest_as_wide.result in
     let laid = subst IsLaid c.self.view_is c.self.invariant.laid in
     let found : record_at l c.args.id ≡ Some r = sym (ap (λ m. record_at m c.args.id) c.self.view_is) ∙ sym c.get.ensures.record ∙ c.unwrap-whole.ensures in
-    let width = rw found at c.width-width.ensures in
+    let yields = rw found at c.yields-yields.ensures in
     let size = c.part_size-size.ensures in
     let split = rw found at c.split_down.ensures in
-    let other : same_size (yield_in l.sizes (is_used l.used) r) (Some (part_size l.sizes r)) ≡ false = ap (λ o. same_size o (Some (part_size l.sizes r))) (sym width) ∙ ap (λ n. same_size c.width-width.result (Some n)) (sym size) ∙ sym c.is_size.ensures ∙ c.if-is_size.false in
+    let other : same_size (yield_in l.sizes (is_used l.used) r) (Some (part_size l.sizes r)) ≡ false = ap (λ o. same_size o (Some (part_size l.sizes r))) (sym yields) ∙ ap (λ n. same_size c.yields-yields.result (Some n)) (sym size) ∙ sym c.is_size.ensures ∙ c.if-is_size.false in
     let large : 0 < part_size l.sizes r = omega (arith, size, c.level.ensures.level, c.if-level-eq0.false) in
     let fills = Fills-from l new c.args.id r laid found c.requires split large other in
     let used = ap (λ (m : Layout). m.used) (c.self-2.view_is ∙ fills.split) in
