@@ -11,6 +11,5 @@ pub mod RegionChanges
 pub mod ClearedRegions
 pub mod SpareFrames
 pub mod CopyLaws
-pub mod TilesInSizes
 pub mod Translations
 pub mod TranslationLaws

@@ -1,5 +1,5 @@
 -- What becomes of what a space and a state have in common of translations, as pages change and tiles are used.
-use Rattle.std.proofs.Common.{◌≡◌, ℕ, zero, suc, ◌+◌, ◌*◌, ◌^◌, ◌<◌, ◌≤◌, Bool, true, false, ◌&&◌, ◌==◌, not, nat_lt, min, if◌then◌else◌, List, [], ◌∷◌, filter, take, map, length, slice_index_or, slice_set, Option, Some, None, is_some, option_map, refl, sym, ap, subst, inl, inr, ◌∙◌, arith}
+use Rattle.std.proofs.Common.{◌≡◌, ℕ, zero, suc, ◌+◌, ◌<◌, ◌≤◌, Bool, true, false, ◌&&◌, ◌==◌, not, nat_lt, min, if◌then◌else◌, List, [], ◌∷◌, filter, take, map, length, slice_index_or, slice_set, Option, Some, None, is_some, option_map, refl, sym, ap, subst, inl, inr, ◌∙◌, arith}
 use Rattle.std.specs.List.{list_all}
 use Rattle.std.proofs.lemmas.Bool.{cases_Bool, cases_eq, cases_lt, and_parts, cond-true, cond-false, eq-eqb, ne_eqb}
 use Rattle.std.proofs.lemmas.Bool.Decides.{nat_tests}
@@ -23,7 +23,7 @@ use Rattle.space_core.proofs.TableLemmas.{frame-absent, frame-mapped, dirty-mapp
 use Rattle.tiles.specs.declared.moves.Moves.{Moves}
 use Rattle.tiles.specs.Resident.{AreMoves, with_flag}
 use Rattle.tiles.proofs.Cleared.{no_promotions, no_demotions}
-use Rattle.space_core.proofs.TilesInSizes.{tile_is}
+use Rattle.tiles.proofs.CutTiles.{tile_in-is_tile}
 use Rattle.tlb_images.proofs.ImageLemmas.{filter-all}
 
 -- Lists of tiles.
@@ -78,7 +78,7 @@ untouched false ts = refl
 -- the tile of a page is a tile
 pub used_at : (z : SizeSet) (pages : ℕ → Option Mapping) (page : ℕ) (o : Option Tile) → tile_in z pages page ≡ o → IsUsed z pages o
 used_at z pages page None at = tt
-used_at z pages page (Some t) at = tile_is z pages page t at
+used_at z pages page (Some t) at = tile_in-is_tile z pages page t at
 
 -- a count that stands still at its type's end is the whole count, as long as that is in the type
 counted_to : (last kept count by : ℕ) → (count ≤ last → kept ≡ count) → count + by ≤ last → (if nat_lt (kept + by) last then kept + by else last) ≡ count + by

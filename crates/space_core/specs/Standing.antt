@@ -131,8 +131,8 @@ pub record StandsBeside (aside : ℕ → Bool) (kept : Kept) (state : SpaceState
   -- no fault that was told is above those that the store had
   pub highest : state.highest ≤ kept.store.faults
 
--- What a space and a state have in common of translations: all four sizes of pages; each processor's image, which has tiles of the resident pages alone; and the
--- counts of promotions and demotions, up to their type's end.
+-- What a space and a state have in common of translations: all four sizes of pages; each processor's image, which has tiles of the
+-- resident pages alone; and the counts of promotions and demotions, up to their type's end.
 pub record Translates (kept : Kept) (state : SpaceState) : Type 0 where
   pub sizes : state.sizes ≡ all_sizes
   pub images : (c : ℕ) → c < length kept.images → state.images c ≡ image_at kept c
