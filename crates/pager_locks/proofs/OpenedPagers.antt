@@ -21,7 +21,7 @@ use Rattle.pager_locks.specs.Prepared.{AreNewParts}
 use Rattle.pager_locks.proofs.ClosedPagers.{slice_get-kept, slice_get-last}
 
 -- two lists of one length that end so
-same_ends : {X : Type 0} (xs ys : List X) (x y : X) → xs ++ x ∷ [] ≡ ys ++ y ∷ [] → (xs ≡ ys) × (x ≡ y)
+pub same_ends : {X : Type 0} (xs ys : List X) (x y : X) → xs ++ x ∷ [] ≡ ys ++ y ∷ [] → (xs ≡ ys) × (x ≡ y)
 same_ends [] [] x y same = (refl, same_Some x y (ap (λ l. slice_get l 0) same))
 same_ends [] (z ∷ ys) x y same = (let long = length_push ys y in let e : 1 ≡ suc (length (ys ++ y ∷ [])) = ap length same in absurd (omega (arith, long, e)))
 same_ends (z ∷ xs) [] x y same = (let long = length_push xs x in let e : suc (length (xs ++ x ∷ [])) ≡ 1 = ap length same in absurd (omega (arith, long, e)))
