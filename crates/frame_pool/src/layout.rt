@@ -101,6 +101,24 @@ impl Layout {
         self.reservations.get(id)
     }
 
+    /// The frame of the page's place, where it has one.
+    ///
+    /// In an announced space at most four looks find it.
+    pub(crate) fn frame_of(&self, space: u32, page: u32) -> Option<u32>
+        requires { page < 1048576 }
+        ensures { result ≡ frame_in self.now space page }
+    {
+        let reservation = covering(
+            &self.reservations,
+            &self.map,
+            self.frames,
+            space,
+            page,
+        )?;
+        let frame = frame_for(&reservation, page);
+        self.reservations.used(frame).then_some(frame)
+    }
+
     /// How many frames are free.
     pub(crate) fn free_frames(&self) -> u32
         ensures { result ≡ count_by (λ free. free) self.now.free }
@@ -439,6 +457,3 @@ fn give_parts(free: &mut Free, whole: &Reservation, parts: &[Part])
         }
     }
 }
-
-#[cfg(test)]
-pub(crate) mod tests;

@@ -1,4 +1,4 @@
-ghost use Rattle.std.specs.Prelude.{◌≡◌, ℕ, ◌+◌, ◌%◌, ◌^◌, ◌<◌, ◌≤◌, ◌⊎◌, ◌==◌, ◌&&◌, if◌then◌else◌, false, Some, None, IfOk, IfErr, IsErr, IsSome, is_some, length, map, count_by};
+ghost use Rattle.std.specs.Prelude.{◌≡◌, ℕ, ◌+◌, ◌%◌, ◌^◌, ◌<◌, ◌≤◌, ◌⊎◌, ◌↔◌, ◌==◌, ◌&&◌, if◌then◌else◌, false, Some, None, IsTrue, IfOk, IfErr, IsErr, IfSome, IfNone, IsSome, is_some, length, map, count_by};
 ghost use Rattle.std.specs.List.{range_with_len};
 ghost use Rattle.pager_model.specs.Frame.{zero_frame};
 ghost use Rattle.pager_model.specs.FrameStates.{FrameState, Taking, start_frames, used_at, held_by, frame_of, claim_in, HasNothing};
@@ -106,6 +106,43 @@ impl Pool {
         })
     }
 
+    /// The frame of the page's place, where it has one.
+    pub fn frame_of(&self, space: u32, page: u32) -> Option<u32>
+        requires { page < 1048576 }
+        ensures { result ≡ frame_of self.now space page }
+    {
+        self.layout.frame_of(space, page)
+    }
+
+    /// The frame that the processor claims, where it claims one.
+    pub fn claimed_by(&self, processor: u32) -> Option<u32>
+        ensures found { IfSome result (λ frame. claim_in (used_at self.now frame) ≡ Some processor) }
+        ensures none { IfNone result ((frame : ℕ) → claim_in (used_at self.now frame) ≡ Some processor → ⊥) }
+    {
+        self.used.claimed_by(processor)
+    }
+
+    /// The frame that the processor holds, where it holds one.
+    pub fn held_by(&self, processor: u32) -> Option<u32>
+        ensures { result ≡ held_by self.now processor }
+    {
+        self.held.get(processor as usize).copied().flatten()
+    }
+
+    /// How many processors there are.
+    pub fn processors(&self) -> usize
+        ensures { result ≡ length self.now.held }
+    {
+        self.held.len()
+    }
+
+    /// Whether one more entry can be counted.
+    pub fn has_room(&self) -> bool
+        ensures { IsTrue result ↔ (self.now.entries < 2 ^ 45) }
+    {
+        self.entries < 1 << 45
+    }
+
     /// Takes a frame for a page of a space, which has none. `Full` exactly where no frame is free and every reservation is full,
     /// and then nothing changes.
     pub fn take(&mut self, space: u32, page: u32, want: &Want) -> Result<Frame, Full>
@@ -186,7 +223,7 @@ impl Pool {
         ensures held { result ≡ Collected.Held → IsSome (held_by self.now processor) }
         ensures claimed { result ≡ Collected.Claimed → (frame : ℕ) × (claim_in (used_at self.now frame) ≡ Some processor) }
     {
-        match self.held.get(processor as usize).copied().flatten() {
+        match self.held_by(processor) {
             Some(_) => Collected::Held,
             None => Collected::Claimed,
         }
@@ -294,6 +331,3 @@ fn held_frames(held: &[Option<u32>]) -> u32
 {
     held.iter().filter(|frame| frame.is_some()).count() as u32
 }
-
-#[cfg(test)]
-mod tests;

@@ -46,7 +46,7 @@ pub(crate) fn covering(
 }
 
 /// The reservation that has the page of the space, if one has it, looked for among all.
-pub(crate) fn covering_among_all(
+fn covering_among_all(
     reservations: &Reservations,
     frames: u32,
     space: u32,
