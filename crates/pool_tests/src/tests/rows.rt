@@ -1,0 +1,250 @@
+//! The frames that the rules say, in worked rows.
+
+use super::{PLAIN, calls, sizes_of};
+use frame_pool::Pool;
+use pager_model::Want;
+use std::alloc::Global;
+use std::process::Abort;
+use std::test::Fail;
+
+/// A page that takes a frame: its space, the page, the cap of a reservation for it, and the frame that the rules say.
+type Told = (u32, u32, u32, u32);
+
+/// A new pool, and the pages that take a frame of it, in order.
+#[derive(Clone, Copy)]
+struct Row {
+    frames: u32,
+    /// The levels of the sizes beside base pages.
+    levels: &'static [u8],
+    /// How many reservations are broken.
+    broken: u64,
+    pages: &'static [Told],
+}
+
+/// Rows with all four sizes.
+const ALL_SIZES: [Row; 5] = [
+    // Of two reservations the one that was allocated from least recently is broken.
+    Row {
+        frames: 1024,
+        levels: &[1, 2, 3],
+        broken: 1,
+        pages: &[
+            (0, 0, 512, 0),
+            (1, 0, 512, 512),
+            (0, 1, 512, 1),
+            (2, 0, 512, 576),
+        ],
+    },
+    // The second reservation of the row begins beside the one part of the first that has a used place.
+    Row {
+        frames: 512,
+        levels: &[1, 2, 3],
+        broken: 1,
+        pages: &[(0, 0, 512, 0), (0, 512, 512, 64)],
+    },
+    // Each part of the first has a used place, so its lowest part is broken too.
+    Row {
+        frames: 512,
+        levels: &[1, 2, 3],
+        broken: 1,
+        pages: &[
+            (0, 0, 512, 0),
+            (0, 64, 512, 64),
+            (0, 128, 512, 128),
+            (0, 192, 512, 192),
+            (0, 256, 512, 256),
+            (0, 320, 512, 320),
+            (0, 384, 512, 384),
+            (0, 448, 512, 448),
+            (0, 512, 512, 8),
+        ],
+    },
+    // An older reservation that can give back more is left alone.
+    Row {
+        frames: 1024,
+        levels: &[1, 2, 3],
+        broken: 1,
+        pages: &[
+            (1, 0, 512, 0),
+            (0, 0, 512, 512),
+            (0, 64, 512, 576),
+            (0, 128, 512, 640),
+            (0, 192, 512, 704),
+            (0, 256, 512, 768),
+            (0, 320, 512, 832),
+            (0, 384, 512, 896),
+            (0, 448, 512, 960),
+            (2, 0, 8, 520),
+        ],
+    },
+    // The part that stayed of a broken reservation is the next to be broken.
+    Row {
+        frames: 512,
+        levels: &[1, 2, 3],
+        broken: 2,
+        pages: &[
+            (0, 0, 512, 0),
+            (0, 512, 512, 64),
+            (0, 576, 512, 128),
+            (0, 640, 512, 192),
+            (0, 704, 512, 256),
+            (0, 768, 512, 320),
+            (0, 832, 512, 384),
+            (0, 896, 512, 448),
+            (0, 960, 512, 8),
+        ],
+    },
+];
+
+/// Rows with some sizes.
+const SOME_SIZES: [Row; 6] = [
+    // The fourth page is in no reservation, and eight of the 496 frames that were given back are for it.
+    Row {
+        frames: 512,
+        levels: &[1, 3],
+        broken: 1,
+        pages: &[
+            (0, 0, 512, 0),
+            (0, 9, 512, 9),
+            (1, 0, 512, 16),
+            (0, 16, 512, 24),
+            (0, 1, 512, 1),
+            (0, 10, 512, 10),
+        ],
+    },
+    // Eight parts, of which one stays.
+    Row {
+        frames: 512,
+        levels: &[2, 3],
+        broken: 1,
+        pages: &[
+            (0, 0, 512, 0),
+            (0, 9, 512, 9),
+            (1, 0, 512, 64),
+            (0, 16, 512, 16),
+            (0, 64, 512, 128),
+        ],
+    },
+    // The lowest part of 64 frames is broken into 64, of which one stays.
+    Row {
+        frames: 512,
+        levels: &[2],
+        broken: 1,
+        pages: &[
+            (0, 0, 512, 0),
+            (0, 64, 512, 64),
+            (0, 128, 512, 128),
+            (0, 192, 512, 192),
+            (0, 256, 512, 256),
+            (0, 320, 512, 320),
+            (0, 384, 512, 384),
+            (0, 448, 512, 448),
+            (1, 0, 512, 1),
+            (0, 1, 512, 2),
+        ],
+    },
+    // The first reservation has eight empty frames in a row, and the second none; but there are no pages of eight frames, so both give
+    // back one, and the older one is broken.
+    Row {
+        frames: 512,
+        levels: &[2],
+        broken: 1,
+        pages: &[
+            (0, 0, 64, 0),
+            (0, 64, 64, 64),
+            (0, 72, 64, 72),
+            (0, 80, 64, 80),
+            (0, 88, 64, 88),
+            (0, 96, 64, 96),
+            (0, 104, 64, 104),
+            (0, 112, 64, 112),
+            (0, 120, 64, 120),
+            (0, 128, 64, 128),
+            (0, 192, 64, 192),
+            (0, 256, 64, 256),
+            (0, 320, 64, 320),
+            (0, 384, 64, 384),
+            (0, 448, 64, 448),
+            (1, 0, 1, 1),
+        ],
+    },
+    // A region that may have 100 pages has eight, for want of a size between.
+    Row {
+        frames: 512,
+        levels: &[1, 3],
+        broken: 0,
+        pages: &[
+            (0, 0, 100, 0),
+            (1, 0, 100, 8),
+            (0, 8, 100, 16),
+            (0, 1, 100, 1),
+        ],
+    },
+    // There are reservations of eight frames, and none larger.
+    Row {
+        frames: 512,
+        levels: &[1],
+        broken: 0,
+        pages: &[
+            (0, 0, 512, 0),
+            (1, 0, 512, 8),
+            (0, 8, 512, 16),
+            (0, 1, 512, 1),
+        ],
+    },
+];
+
+/// The pages of a row, where so many spaces are announced, get the frames that the rules say.
+fn assert_told(rt: &impl Abort, alloc: Global, announced: u32, row: &Row) -> Result<(), Fail> {
+    assert!(rt; row.frames % 512 == 0 && row.frames <= 32768);
+    let mut pool = Pool::create(alloc, row.frames, announced, 1, sizes_of(row.levels))?;
+    for (space, page, cap, frame) in row.pages {
+        let want = Want { cap: *cap, ..PLAIN };
+        let taken = calls::take(rt, &mut pool, *space, *page, &want)?;
+        assert_eq!(rt; taken.number(), *frame, "page {page} of space {space}");
+    }
+    assert_eq!(rt; pool.preempted(), row.broken);
+    Ok(())
+}
+
+/// The pages of each row get the frames that the rules say.
+fn assert_all_told(rt: &impl Abort, alloc: Global, rows: &[Row]) -> Result<(), Fail> {
+    for row in rows {
+        assert_told(rt, alloc, 3, row)?;
+    }
+    Ok(())
+}
+
+#[test]
+fn pages_get_the_frames_that_the_rules_say(rt: HostRuntime) -> Result<(), Fail> {
+    assert_all_told(&rt, rt.alloc(), &ALL_SIZES)
+}
+
+#[test]
+fn with_fewer_sizes_pages_get_the_frames_that_the_rules_say(rt: HostRuntime) -> Result<(), Fail> {
+    assert_all_told(&rt, rt.alloc(), &SOME_SIZES)
+}
+
+/// Pages of three spaces, of which the first alone is announced.
+const UNANNOUNCED: Row = Row {
+    frames: 1024,
+    levels: &[1, 2, 3],
+    broken: 1,
+    pages: &[
+        (0, 0, 512, 0),
+        (7, 0, 512, 512),
+        (0, 1, 512, 1),
+        // Space 7's reservation is broken, whose latest page allocation is least recent.
+        (u32::MAX, 0, 512, 576),
+        (7, 1, 512, 513),
+        // The extent of 512 pages round this one meets what stayed of it.
+        (7, 64, 512, 640),
+    ],
+};
+
+#[test]
+fn pages_of_spaces_that_were_not_announced_get_the_frames_that_the_rules_say(
+    rt: HostRuntime,
+) -> Result<(), Fail> {
+    assert_told(&rt, rt.alloc(), 1, &UNANNOUNCED)
+}
