@@ -1,0 +1,216 @@
+//! Runs over stores that fail, with few frames left: each failure that is answered is one that the call met.
+ghost use Rattle.std.specs.Prelude.{◌<◌};
+
+use super::printed::{read_text, run_threads};
+use pager_model::{Numbered, Reply, What};
+use replay_core::Generator;
+use std::alloc::{AllocError, Global};
+use std::process::Abort;
+use std::test::Fail;
+use store_core::{MemoryStore, Store};
+
+/// How many runs are drawn.
+const RUNS: u64 = 50;
+
+/// How many pages all processors touch at first: more than there are frames.
+const PAGES: u32 = 540;
+
+/// How many calls are drawn behind these.
+const CALLS: u32 = 200;
+
+/// How many pages lie from the beginning of a processor's region to that of the next one's.
+const REGION: u64 = 512;
+
+const MOST_PROCESSORS: usize = 6;
+
+/// How often each store has failed before the run.
+const FAILED_BEFORE: u64 = 3;
+
+/// What a drawn run has: its processors, its spaces, and how many pages a processor's region has.
+#[derive(Clone, Copy)]
+struct Shape {
+    processors: u32,
+    spaces: u32,
+    pages: u32,
+    ghost some_processors: { 0 < processors },
+    ghost some_spaces: { 0 < spaces },
+    ghost some_pages: { 0 < pages },
+}
+
+fn draw_shape(random: &mut Generator) -> Shape {
+    let processors = 2 + random.draw(5);
+    Shape {
+        processors,
+        spaces: 1 + random.draw(3),
+        pages: PAGES / processors,
+    }
+}
+
+/// The number of a page of a processor's region.
+fn page_of(owner: u32, page: u32) -> u64
+    ensures { result < 2 ^ 42 }
+{
+    u64::from(owner) * REGION + u64::from(page)
+}
+
+/// Adds the lines by which a processor maps its region and touches each page: eight by a store, the next eight by a load, and so on.
+fn put_region(
+    alloc: Global,
+    text: &mut String,
+    shape: Shape,
+    processor: u32,
+) -> Result<(), AllocError> {
+    let (c, space, pages) = (processor, processor % shape.spaces, shape.pages);
+    let first = page_of(c, 0);
+    text.push_str(format!(in alloc; "{c} map {space} {first} {pages} fixed write\n")?.as_str())?;
+    for page in 0..pages {
+        let address = page_of(c, page) * 8192;
+        let line = if page / 8 % 2 == 0 {
+            format!(in alloc; "{c} store {space} {address} {page}\n")?
+        } else {
+            format!(in alloc; "{c} load {space} {address}\n")?
+        };
+        text.push_str(line.as_str())?;
+    }
+    Ok(())
+}
+
+/// Adds a drawn call to a page of some processor's region.
+fn put_call(
+    alloc: Global,
+    text: &mut String,
+    shape: Shape,
+    random: &mut Generator,
+) -> Result<(), AllocError> {
+    let c = random.draw(shape.processors);
+    let owner = random.draw(shape.processors);
+    let space = owner % shape.spaces;
+    let page = page_of(owner, random.draw(shape.pages));
+    let address = page * 8192;
+    let line = match random.draw(8) {
+        0..3 => format!(in alloc; "{c} store {space} {address} {page}\n")?,
+        3..6 => format!(in alloc; "{c} load {space} {address}\n")?,
+        6 => format!(in alloc; "{c} sync {space} {page}\n")?,
+        _ => format!(in alloc; "{c} evict {space} {page}\n")?,
+    };
+    text.push_str(line.as_str())
+}
+
+/// The text of a drawn trace.
+fn draw_text(alloc: Global, shape: Shape, random: &mut Generator) -> Result<String, AllocError> {
+    let (processors, spaces) = (shape.processors, shape.spaces);
+    let mut text = format!(in alloc; "trace 1 512 {processors} {spaces}\n")?;
+    for processor in 0..processors {
+        put_region(alloc, &mut text, shape, processor)?;
+    }
+    for _ in 0..CALLS {
+        put_call(alloc, &mut text, shape, random)?;
+    }
+    text.push_str("end\n")?;
+    Ok(text)
+}
+
+/// The first numbers, up to this one, and twenty drawn ones behind them.
+fn draw_numbers(
+    alloc: Global,
+    first: u64,
+    most: u32,
+    random: &mut Generator,
+) -> Result<Vec<u64>, AllocError>
+    requires { 0 < most }
+{
+    let mut numbers = Vec::new(alloc);
+    for number in 1..=first {
+        numbers.push(number)?;
+    }
+    for _ in 0..20 {
+        numbers.push(first.saturating_add(u64::from(random.draw(most))))?;
+    }
+    Ok(numbers)
+}
+
+/// A store that has failed before, fails at its first read of the run and its first write, and at drawn ones.
+fn draw_store(alloc: Global, random: &mut Generator) -> Result<MemoryStore, AllocError> {
+    let reads = draw_numbers(alloc, FAILED_BEFORE + 1, 400, random)?;
+    let writes = draw_numbers(alloc, 1, 100, random)?;
+    let mut store = MemoryStore::of(alloc, reads, writes);
+    for _ in 0..FAILED_BEFORE {
+        let _ = store.read(0, &mut [0; 1024]);
+    }
+    Ok(store)
+}
+
+/// A store for each space.
+fn draw_stores(
+    alloc: Global,
+    spaces: u32,
+    random: &mut Generator,
+) -> Result<Vec<MemoryStore>, AllocError> {
+    let mut stores = Vec::new(alloc);
+    for _ in 0..spaces {
+        stores.push(draw_store(alloc, random)?)?;
+    }
+    Ok(stores)
+}
+
+/// A store's failure: the space that its entry names, and its count.
+type Failure = (Option<u32>, u64);
+
+/// Asserts of an entry what it must say of its processor's failure since its last answer, and notes that. Whether a failure was answered.
+fn meets_failure(rt: &impl Abort, failure: &mut Option<Failure>, numbered: &Numbered) -> bool {
+    let entry = &numbered.entry;
+    match entry.what {
+        What::Failed { count, .. } => {
+            assert!(rt; count > FAILED_BEFORE, "entry {}", numbered.number);
+            *failure = Some((entry.space, count));
+            false
+        }
+        What::Answer { answered, .. } => {
+            let met = failure.take();
+            let Reply::StoreFault { space, count } = answered.reply else {
+                return false;
+            };
+            assert_eq!(rt;
+                met,
+                Some((Some(space), count)),
+                "entry {}",
+                numbered.number
+            );
+            true
+        }
+        _ => false,
+    }
+}
+
+/// Asserts that the entries have the numbers from 0 on, and that each failure that is answered is one of its own call. How many are.
+fn count_failures(rt: &impl Abort, history: &[Numbered]) -> u32 {
+    let mut failures = [None; MOST_PROCESSORS];
+    let mut answered = 0u32;
+    for (place, numbered) in history.iter().enumerate() {
+        assert_eq!(rt; numbered.number, place as u64);
+        let Some(failure) = failures.get_mut(numbered.entry.processor as usize) else {
+            panic!(rt; "another processor");
+        };
+        if meets_failure(rt, failure, numbered) {
+            answered = answered.saturating_add(1);
+        }
+    }
+    answered
+}
+
+#[test]
+fn a_failure_is_answered_where_the_call_met_it(rt: HostRuntime) -> Result<(), Fail> {
+    let alloc = rt.alloc();
+    for seed in 0..RUNS {
+        let mut random = Generator::of(seed);
+        let shape = draw_shape(&mut random);
+        let text = draw_text(alloc, shape, &mut random)?;
+        let stores = draw_stores(alloc, shape.spaces, &mut random)?;
+        let trace = read_text(alloc, text.as_str())?;
+        let gathered = run_threads(&rt, alloc, &trace, stores)?;
+        let answered = count_failures(&rt, gathered.history.as_slice());
+        // The first read of each store fails.
+        assert!(rt; answered >= shape.spaces, "seed {seed}");
+    }
+    Ok(())
+}

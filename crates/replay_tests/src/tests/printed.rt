@@ -1,0 +1,69 @@
+//! What a run in threads prints.
+ghost use Rattle.std.specs.Prelude.{IfOk};
+ghost use Rattle.pager_model.specs.Legal.{entries_in};
+ghost use Rattle.pager_model.specs.Showing.{Shows};
+
+use io_core::{MemorySink, MemorySource};
+use pager_model::{NoMemory, Trace};
+use replay_core::{Gathered, replay};
+use report_text::{Parts, Report};
+use std::alloc::{AllocError, Global};
+use std::sync::Wait;
+use std::test::Fail;
+use std::thread::Threads;
+use store_core::{MemoryStore, Store};
+use trace_reader::read_trace;
+
+/// More bytes than any of these runs prints.
+const MOST_BYTES: usize = 131_072;
+
+/// The trace of a text.
+pub(super) fn read_text(alloc: Global, text: &str) -> Result<Trace, Fail> {
+    let bytes = text.as_bytes().to_vec(alloc)?;
+    let mut source = MemorySource::of(bytes, 4096, Vec::new(alloc));
+    Ok(read_trace(alloc, &mut source)?)
+}
+
+/// So many stores in memory that don't fail.
+pub(super) fn memory_stores(alloc: Global, count: u32) -> Result<Vec<MemoryStore>, AllocError> {
+    let mut stores = Vec::new(alloc);
+    for _ in 0..count {
+        stores.push(MemoryStore::of(alloc, Vec::new(alloc), Vec::new(alloc)))?;
+    }
+    Ok(stores)
+}
+
+/// Runs a trace with a thread for each processor.
+pub(super) fn run_threads<S: Store + Send + Drop, R: Threads + Wait + Sync>(
+    rt: &R,
+    alloc: Global,
+    trace: &Trace,
+    stores: Vec<S>,
+) -> Result<Gathered<S>, Fail>
+    ensures { IfOk result (λ g. Shows trace.now (entries_in g.history.items)) }
+{
+    if stores.len() < trace.spaces() as usize {
+        return Err(Fail::from("too few stores"));
+    }
+    match replay(rt, alloc, trace, stores) {
+        Ok(gathered) => Ok(gathered),
+        Err(_) => Err(Fail::from("no memory for the run")),
+    }
+}
+
+/// What a run of a trace's text in threads prints without its history.
+pub(super) fn printed<S: Store + Send + Drop, R: Threads + Wait + Sync>(
+    rt: &R,
+    alloc: Global,
+    text: &str,
+    stores: Vec<S>,
+) -> Result<String, Fail> {
+    let trace = read_text(alloc, text)?;
+    let report = Report::create(alloc, &trace)?;
+    let gathered = run_threads(rt, alloc, &trace, stores)?;
+    let room = Vec::with_capacity(alloc, MOST_BYTES)?;
+    let mut sink = MemorySink::of(room, MOST_BYTES, Vec::new(alloc));
+    let history = gathered.history.as_slice();
+    report.write(&mut sink, Parts::Answers, history, &gathered.summary)?;
+    Ok(String::from_utf8(sink.bytes().to_vec(alloc)?)?)
+}
