@@ -2,3 +2,4 @@ pub mod Words
 pub mod Completeness
 mod OneForm
 mod PrintedRuns
+mod FormRuns

@@ -5,8 +5,8 @@ use Rattle.std.specs.Borrow.{Bor}
 use Rattle.report_text.specs.declared.report.Parts.{Parts}
 use Rattle.report_text.specs.declared.report.Parts.TheVariants.{Answers, AnswersAndHistory}
 use Rattle.superpager.specs.declared.form.Form.{Form}
-use Rattle.superpager.specs.declared.form.Form.TheVariants.{Order, Turns}
-use Rattle.superpager.specs.Forms.{AreWords, parts_words, words_of}
+use Rattle.superpager.specs.declared.form.Form.TheVariants.{Order, Turns, Replay}
+use Rattle.superpager.specs.Forms.{AreWords, HasSeed, parts_words, words_of}
 
 one_parts : (p q : Parts) → parts_words p ≡ parts_words q → p ≡ q
 one_parts Answers Answers same = refl
@@ -14,21 +14,34 @@ one_parts Answers AnswersAndHistory same = cc
 one_parts AnswersAndHistory Answers same = cc
 one_parts AnswersAndHistory AnswersAndHistory same = refl
 
--- no words are of both forms: their first letters differ
-differ : (p : Parts) (seed : ℕ) (q : Parts) → words_of (Order p) ≡ words_of (Turns seed q) → ⊥
-differ p seed q same =
-    let letters : 111 ≡ 116 = ap (λ (ws : List (List ℕ)). get_or (get_or ws 0 []) 0 0) same in
-    omega (arith, letters)
+-- the first letter of a form's words
+abbrev letter : Form → ℕ
+letter (Order parts) = 111
+letter (Turns seed parts) = 116
+letter (Replay parts) = 114
+
+begins : (form : Form) → get_or (get_or (words_of form) 0 []) 0 0 ≡ letter form
+begins (Order parts) = refl
+begins (Turns seed parts) = refl
+begins (Replay parts) = refl
+
+-- no words are of two forms: their first letters differ
+one_letter : (a b : Form) → words_of a ≡ words_of b → letter a ≡ letter b
+one_letter a b same = sym (begins a) ∙ ap (λ (ws : List (List ℕ)). get_or (get_or ws 0 []) 0 0) same ∙ begins b
+
+same_form : (a b : Form) → HasSeed a → HasSeed b → words_of a ≡ words_of b → letter a ≡ letter b → a ≡ b
+same_form (Order p) (Order q) seed other same letters = ap Order (one_parts p q cc)
+same_form (Turns m p) (Turns n q) seed other same letters =
+    let e : words_of (Turns m p) ≡ words_of (Turns n q) = same in
+    let digits : decimal m ≡ decimal n = cc in
+    ap (λ k. Turns k p) (decimal_injective m n seed other digits) ∙ ap (λ p. Turns n p) (one_parts p q cc)
+same_form (Replay p) (Replay q) seed other same letters = ap Replay (one_parts p q cc)
+same_form (Order p) (Turns n q) seed other same letters = absurd (omega (arith, letters))
+same_form (Order p) (Replay q) seed other same letters = absurd (omega (arith, letters))
+same_form (Turns m p) (Order q) seed other same letters = absurd (omega (arith, letters))
+same_form (Turns m p) (Replay q) seed other same letters = absurd (omega (arith, letters))
+same_form (Replay p) (Order q) seed other same letters = absurd (omega (arith, letters))
+same_form (Replay p) (Turns n q) seed other same letters = absurd (omega (arith, letters))
 
 pub one_form : (words : List (Bor (List ℕ))) (a b : Form) → AreWords words a → AreWords words b → a ≡ b
-one_form words (Order p) (Order q) is also =
-    let e : words_of (Order p) ≡ words_of (Order q) = sym is.are ∙ also.are in
-    let same : parts_words p ≡ parts_words q = cc in
-    ap Order (one_parts p q same)
-one_form words (Order p) (Turns seed q) is also = absurd (differ p seed q (sym is.are ∙ also.are))
-one_form words (Turns seed p) (Order q) is also = absurd (differ q seed p (sym also.are ∙ is.are))
-one_form words (Turns seed p) (Turns other q) is also =
-    let e : words_of (Turns seed p) ≡ words_of (Turns other q) = sym is.are ∙ also.are in
-    let digits : decimal seed ≡ decimal other = cc in
-    let same : parts_words p ≡ parts_words q = cc in
-    ap (λ n. Turns n p) (decimal_injective seed other is.seed also.seed digits) ∙ ap (λ p. Turns other p) (one_parts p q same)
+one_form words a b is also = (let same = sym is.are ∙ also.are in same_form a b is.seed also.seed same (one_letter a b same))

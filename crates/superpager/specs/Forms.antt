@@ -8,7 +8,7 @@ use Rattle.replay_core.specs.Orders.{IsSeeded}
 use Rattle.report_text.specs.declared.report.Parts.{Parts}
 use Rattle.report_text.specs.declared.report.Parts.TheVariants.{Answers, AnswersAndHistory}
 use Rattle.superpager.specs.declared.form.Form.{Form}
-use Rattle.superpager.specs.declared.form.Form.TheVariants.{Order, Turns}
+use Rattle.superpager.specs.declared.form.Form.TheVariants.{Order, Turns, Replay}
 
 -- the words that ask for the parts, behind those of an order
 abbrev pub parts_words : Parts → List (List ℕ)
@@ -19,16 +19,25 @@ parts_words AnswersAndHistory = codes "--history" ∷ []
 abbrev pub words_of : Form → List (List ℕ)
 words_of (Order parts) = codes "order" ∷ parts_words parts
 words_of (Turns seed parts) = codes "turns" ∷ decimal seed ∷ parts_words parts
+words_of (Replay parts) = codes "replay" ∷ parts_words parts
 
 -- the parts that a form prints
 abbrev pub parts_of : Form → Parts
 parts_of (Order parts) = parts
 parts_of (Turns seed parts) = parts
+parts_of (Replay parts) = parts
 
 -- a seed is a number of 64 bits
 abbrev pub HasSeed : Form → Type 0
 HasSeed (Order parts) = Unit {0}
 HasSeed (Turns seed parts) = seed < 2 ^ 64
+HasSeed (Replay parts) = Unit {0}
+
+-- the entries are made in turns, by one thread
+abbrev pub IsInTurns : Form → Type 0
+IsInTurns (Order parts) = Unit {0}
+IsInTurns (Turns seed parts) = Unit {0}
+IsInTurns (Replay parts) = ⊥
 
 -- what the words are
 abbrev pub are_of : List (Bor (List ℕ)) → List (List ℕ)
@@ -43,7 +52,9 @@ pub record AreWords (words : List (Bor (List ℕ))) (form : Form) : Type 0 where
 abbrev pub IsForm : List (Bor (List ℕ)) → Type 0
 IsForm words = (form : Form) × AreWords words form
 
--- the history comes in the order of the form: of the lines, or of turns that are drawn from the seed
+-- the history comes in the order of the form: of the lines, or of turns that are drawn from the seed; nothing is said of the order in
+-- which threads come to the locks
 abbrev pub ComesBy : Form → Plan → List Entry → Type 0
 ComesBy (Order parts) plan history = IsFiled plan.calls history
 ComesBy (Turns seed parts) plan history = IsSeeded plan seed history
+ComesBy (Replay parts) plan history = Unit {0}

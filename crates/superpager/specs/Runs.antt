@@ -1,5 +1,6 @@
 -- What a run of the program promises, by its status.
-use Rattle.std.specs.Prelude.{ℕ, ◌≡◌, ◌<◌, ◌≤◌, ◌⊎◌, List, [], Option, Some, IsSome, IfSome}
+use Rattle.std.specs.Prelude.{ℕ, ◌≡◌, ◌≢◌, ◌<◌, ◌≤◌, ◌⊎◌, List, [], length, map, Option, Some, None, IsSome, IfSome, IsSomeAnd}
+use Rattle.io_core.specs.Faults.{Rose}
 use Rattle.pager_core.specs.Running.{setting_over}
 use Rattle.pager_model.specs.declared.entry.Numbered.{Numbered}
 use Rattle.pager_model.specs.Counts.{counts}
@@ -7,11 +8,14 @@ use Rattle.pager_model.specs.Legal.{entries_in}
 use Rattle.pager_model.specs.Plans.{Plan}
 use Rattle.pager_model.specs.PrintedText.{out_text}
 use Rattle.pager_model.specs.TraceText.{IsTextOf}
+use Rattle.replay_core.specs.Replays.{IsReplay}
 use Rattle.report_text.specs.Parts.{has_history}
+use Rattle.report_text.specs.Written.{WroteAll, WrotePart}
 use Rattle.store_core.specs.Stored.{Stored}
 use Rattle.superpager.specs.declared.form.Form.{Form}
+use Rattle.superpager.specs.declared.run.Outcome.{Outcome}
 use Rattle.superpager.specs.declared.run.TheConstants.{DONE, USAGE, REFUSED, READ_FAULT, MEMORY, WRITE_FAULT}
-use Rattle.superpager.specs.Forms.{parts_of}
+use Rattle.superpager.specs.Forms.{parts_of, ComesBy}
 use Rattle.trace_reader.specs.declared.fault.TraceFault.{TraceFault}
 use Rattle.trace_reader.specs.declared.fault.TraceFault.TheVariants.{ReadFault, TooFewStores, NoMemory}
 use Rattle.trace_reader.specs.Refusals.{refusal_of}
@@ -59,3 +63,34 @@ WasRead plan before after = IfSome before (λ bytes. IsTextOf bytes plan × (aft
 abbrev pub run_text : Form → Plan → List Stored → List Numbered → List ℕ
 run_text form plan stores history =
     out_text (has_history (parts_of form)) plan.processors history (counts (setting_over plan stores) (entries_in history))
+
+-- Why no run is made over so many stores: the bytes are refused as they should be, a read failed, or there was no memory. The bytes and the
+-- faults are the source's, before and after.
+pub record IsStopped (left left' : Option (List ℕ)) (faults faults' stores status : ℕ) (refusal : Option TraceFault) : Type 0 where
+  pub statuses : (status ≡ REFUSED) ⊎ ((status ≡ READ_FAULT) ⊎ (status ≡ MEMORY))
+  pub told : IsTold status refusal
+  pub refused : status ≡ REFUSED → IfSome left (λ bytes. IsSomeAnd refusal (IsRefused stores bytes))
+  pub read_fault : status ≡ READ_FAULT → Rose faults faults'
+  pub memory : status ≡ MEMORY → refusal ≡ None → WasText left left'
+  pub complete : IsSomeAnd left (IsRunnable stores) → (Rose faults faults' → ⊥) → status ≡ MEMORY
+
+-- What a run by a form promises, whichever threads make its entries. A source tells its bytes by `left` and its faults by `reads`, a sink its
+-- bytes by `taken` and its faults by `writes`, and a store itself by `seen`.
+pub record RunsBy {T K P : Type 0} (left : T → Option (List ℕ)) (reads : T → ℕ) (taken : K → Option (List ℕ)) (writes : K → ℕ) (seen : P → Stored) (form : Form) (source source' : T) (sink sink' : K) (stores : List P) (outcome : Outcome P) : Type 0 where
+  pub statuses : IsStatus outcome.status
+  pub no_usage : outcome.status ≢ USAGE
+  pub told : IsTold outcome.status outcome.refusal
+  -- no run was made
+  pub unwritten : outcome.status ≢ DONE → outcome.status ≢ WRITE_FAULT → sink' ≡ sink
+  pub no_trace : outcome.status ≢ DONE → outcome.status ≢ WRITE_FAULT → (outcome.trace ≡ None) × (outcome.history.items ≡ [])
+  pub same_stores : outcome.status ≢ DONE → outcome.status ≢ WRITE_FAULT → map seen outcome.stores.items ≡ map seen stores
+  pub refused : outcome.status ≡ REFUSED → IfSome (left source) (λ bytes. IsSomeAnd outcome.refusal (IsRefused (length stores) bytes))
+  pub read_fault : outcome.status ≡ READ_FAULT → Rose (reads source) (reads source')
+  pub write_fault : outcome.status ≡ WRITE_FAULT → Rose (writes sink) (writes sink')
+  pub memory : outcome.status ≡ MEMORY → outcome.refusal ≡ None → WasText (left source) (left source')
+  pub complete : IsSomeAnd (left source) (IsRunnable (length stores)) → (Rose (reads source) (reads source') → ⊥) → (Rose (writes sink) (writes sink') → ⊥) → (outcome.status ≡ DONE) ⊎ (outcome.status ≡ MEMORY)
+  -- one was made, and its text was written, or a part of it
+  pub trace : (outcome.status ≡ DONE) ⊎ (outcome.status ≡ WRITE_FAULT) → IsSomeAnd outcome.trace (λ plan. WasRead plan (left source) (left source') × IsReplay plan (map seen stores) outcome.history.items (map seen outcome.stores.items))
+  pub ordered : (outcome.status ≡ DONE) ⊎ (outcome.status ≡ WRITE_FAULT) → IfSome outcome.trace (λ plan. ComesBy form plan (entries_in outcome.history.items))
+  pub wrote : outcome.status ≡ DONE → IfSome outcome.trace (λ plan. WroteAll (run_text form plan (map seen stores) outcome.history.items) (taken sink) (taken sink'))
+  pub part : outcome.status ≡ WRITE_FAULT → IfSome outcome.trace (λ plan. WrotePart (run_text form plan (map seen stores) outcome.history.items) (taken sink) (taken sink'))

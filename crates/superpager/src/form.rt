@@ -14,6 +14,8 @@ pub enum Form {
     Order { parts: Parts },
     /// To run it in an order of turns that is drawn from this seed.
     Turns { seed: u64, parts: Parts },
+    /// To run it with a thread for each processor, in the order in which they come to the locks.
+    Replay { parts: Parts },
 }
 
 impl Form {
@@ -22,7 +24,7 @@ impl Form {
         ensures { result ≡ parts_of self.now }
     {
         match *self {
-            Form::Order { parts } | Form::Turns { parts, .. } => parts,
+            Form::Order { parts } | Form::Turns { parts, .. } | Form::Replay { parts } => parts,
         }
     }
 }
@@ -38,6 +40,9 @@ pub fn form_of(words: &[&str]) -> Option<Form>
         }),
         [word, seed, rest @ ..] if *word == "turns" => Some(Form::Turns {
             seed: number_of(seed)?,
+            parts: parts_asked(rest)?,
+        }),
+        [word, rest @ ..] if *word == "replay" => Some(Form::Replay {
             parts: parts_asked(rest)?,
         }),
         _ => None,

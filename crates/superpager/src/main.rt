@@ -4,11 +4,14 @@
 mod form;
 mod run;
 
-use io_core::{RealSink, RealSource};
+use io_core::{RealSink, RealSource, Sink, Source};
 pub use run::{Outcome, run};
 use run::{DONE, MEMORY, READ_FAULT, REFUSED, USAGE, WRITE_FAULT};
 use std::alloc::{AllocError, Global};
 use std::process::ExitCode;
+use std::rt::Env;
+use std::sync::Wait;
+use std::thread::Threads;
 use std::{env, io};
 use store_core::MemoryStore;
 use trace_reader::TraceFault;
@@ -20,7 +23,9 @@ mod tests;
 const MOST_SPACES: usize = 16;
 
 fn main(rt: HostRuntime) -> ExitCode {
-    let (status, refusal) = match run_words(&rt) {
+    let mut source = RealSource::of(rt.stdin());
+    let mut sink = RealSink::of(rt.stdout());
+    let (status, refusal) = match run_words(&rt, &mut source, &mut sink) {
         Ok(ended) => ended,
         Err(error) => (unread_words(&error), None),
     };
@@ -31,14 +36,16 @@ fn main(rt: HostRuntime) -> ExitCode {
 }
 
 /// Runs with the words after the program's name, and answers the status and why no trace was run.
-fn run_words(rt: &HostRuntime) -> io::Result<(u8, Option<TraceFault>)> {
+fn run_words<R: AllocGlobal + Env + Threads + Wait + Sync, T: Source, K: Sink>(
+    rt: &R,
+    source: &mut T,
+    sink: &mut K,
+) -> io::Result<(u8, Option<TraceFault>)> {
     let alloc = rt.alloc();
     let arguments: Vec<String> = env::args(rt)?.skip(1).collect(alloc)?;
     let words: Vec<&str> = arguments.iter().map(|word| word.as_str()).collect(alloc)?;
-    let mut source = RealSource::of(rt.stdin());
-    let mut sink = RealSink::of(rt.stdout());
     let stores = empty_stores(alloc)?;
-    let outcome = run(rt, alloc, words.as_slice(), &mut source, &mut sink, stores);
+    let outcome = run(rt, alloc, words.as_slice(), source, sink, stores);
     Ok((outcome.status, outcome.refusal))
 }
 

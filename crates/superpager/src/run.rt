@@ -10,15 +10,17 @@ ghost use Rattle.report_text.specs.Parts.{has_history};
 ghost use Rattle.report_text.specs.Reports.{IsReadyFor};
 ghost use Rattle.report_text.specs.Written.{WroteAll, WrotePart};
 ghost use Rattle.superpager.specs.declared.form.Form.{Form as Asked};
-ghost use Rattle.superpager.specs.Forms.{AreWords, IsForm, ComesBy};
-ghost use Rattle.superpager.specs.Runs.{IsRunnable, IsRefused, IsStatus, IsTold, WasText, WasRead, run_text, status_of};
+ghost use Rattle.superpager.specs.Forms.{AreWords, IsForm, IsInTurns, ComesBy};
+ghost use Rattle.superpager.specs.Runs.{IsRunnable, IsRefused, IsStatus, IsStopped, IsTold, RunsBy, WasText, WasRead, run_text, status_of};
 
 use crate::form::{Form, form_of};
 use io_core::{Sink, Source, WriteFailed};
 use pager_model::{NoMemory, Numbered, Trace};
-use replay_core::{Gathered, replay_file_order, replay_turns};
+use replay_core::{Gathered, replay, replay_file_order, replay_turns};
 use report_text::{Parts, Report};
 use std::alloc::Global;
+use std::sync::Wait;
+use std::thread::Threads;
 use store_core::Store;
 use trace_reader::{TraceFault, read_trace};
 
@@ -53,8 +55,11 @@ pub struct Outcome<S: Store + Send + Drop> {
 /// Runs the program with these words over these backing stores, of which each space uses the one of its number: it reads a trace to the end
 /// of the source, runs it in the order that the words' form says, and writes the answers, where the form asks for it the history, and the counts to
 /// the sink.
-pub fn run<T: Source, K: Sink, S: Store + Send + Drop, R>(
-    _rt: &R,
+///
+/// The handle is for the form `replay`, which starts threads and waits for locks: nothing is proved of when such a run returns. A run of
+/// another form, and one of words of no form, has no use for it, and is proved to return.
+pub fn run<T: Source, K: Sink, S: Store + Send + Drop, R: Threads + Wait + Sync>(
+    rt: &R,
     alloc: Global,
     words: &[&str],
     source: &mut T,
@@ -100,9 +105,56 @@ pub fn run<T: Source, K: Sink, S: Store + Send + Drop, R>(
     let Some(form) = form_of(words) else {
         return stopped(alloc, USAGE, None, stores);
     };
-    match read_trace(alloc, source) {
-        Ok(trace) => run_trace(alloc, form, trace, sink, stores),
-        Err(fault) => refused(alloc, fault, stores),
+    match form {
+        Form::Replay { parts } => run_in_threads(rt, alloc, parts, source, sink, stores),
+        _ => run_in_turns(alloc, form, source, sink, stores),
+    }
+}
+
+/// Runs by a form whose entries are made in turns. It takes no handle, so it is proved to return.
+fn run_in_turns<T: Source, K: Sink, S: Store + Send + Drop>(
+    alloc: Global,
+    form: Form,
+    source: &mut T,
+    sink: &mut K,
+    stores: Vec<S>,
+) -> Outcome<S>
+    requires in_turns { IsInTurns form }
+    ensures { RunsBy T.left T.faults K.taken K.faults S.seen form source.old source.new sink.old sink.new stores.items result }
+{
+    let Ready { trace, report } = match ready_to_run(alloc, source, stores.len()) {
+        Ok(ready) => ready,
+        Err(stop) => return stopped(alloc, stop.status, stop.refusal, stores),
+    };
+    match replay_in_turns(alloc, form, &trace, stores) {
+        Ok(gathered) => write_run(report, form.parts(), trace, gathered, sink),
+        Err(stores) => stopped(alloc, MEMORY, None, stores),
+    }
+}
+
+/// Runs with a thread for each processor. By its handle it may wait for locks, and nothing is proved of when it returns.
+fn run_in_threads<
+    T: Source,
+    K: Sink,
+    S: Store + Send + Drop,
+    R: Threads + Wait + Sync,
+>(
+    rt: &R,
+    alloc: Global,
+    parts: Parts,
+    source: &mut T,
+    sink: &mut K,
+    stores: Vec<S>,
+) -> Outcome<S>
+    ensures { RunsBy T.left T.faults K.taken K.faults S.seen (Asked.Replay parts) source.old source.new sink.old sink.new stores.items result }
+{
+    let Ready { trace, report } = match ready_to_run(alloc, source, stores.len()) {
+        Ok(ready) => ready,
+        Err(stop) => return stopped(alloc, stop.status, stop.refusal, stores),
+    };
+    match replay(rt, alloc, &trace, stores) {
+        Ok(gathered) => write_run(report, parts, trace, gathered, sink),
+        Err(stores) => stopped(alloc, MEMORY, None, stores),
     }
 }
 
@@ -128,70 +180,72 @@ fn stopped<S: Store + Send + Drop>(
     }
 }
 
-/// The outcome of a text that was not read, or whose trace wants more stores.
-fn refused<S: Store + Send + Drop>(alloc: Global, fault: TraceFault, stores: Vec<S>) -> Outcome<S>
+/// A trace that can be run, and the report of its run.
+#[derive(Drop)]
+struct Ready {
+    trace: Trace,
+    report: Report,
+}
+
+/// Why no run is made of what a source has.
+#[derive(Drop)]
+struct Stop {
+    status: u8,
+    refusal: Option<TraceFault>,
+}
+
+/// Reads a trace, and takes the memory for the report of its run over so many stores; where there are fewer than spaces it is refused.
+fn ready_to_run<T: Source>(
+    alloc: Global,
+    source: &mut T,
+    stores: usize,
+) -> Result<Ready, Stop>
+    ensures read { IfOk result (λ ready. WasRead ready.trace (T.left source.old) (T.left source.new)) }
+    ensures report { IfOk result (λ ready. IsReadyFor ready.trace ready.report) }
+    ensures enough { IfOk result (λ ready. ready.trace.spaces ≤ stores) }
+    ensures stopped { IfErr result (λ stop. IsStopped (T.left source.old) (T.left source.new) (T.faults source.old) (T.faults source.new) stores stop.status stop.refusal) }
+{
+    let trace = match read_trace(alloc, source) {
+        Ok(trace) => trace,
+        Err(fault) => return Err(refused(fault)),
+    };
+    let (stores, spaces) = (stores as u64, trace.spaces());
+    if stores < u64::from(spaces) {
+        return Err(refused(TraceFault::TooFewStores { stores, spaces }));
+    }
+    match Report::create(alloc, &trace) {
+        Ok(report) => Ok(Ready { trace, report }),
+        Err(NoMemory) => Err(Stop {
+            status: MEMORY,
+            refusal: None,
+        }),
+    }
+}
+
+/// The refusal of a text that was not read, or whose trace wants more stores.
+fn refused(fault: TraceFault) -> Stop
     ensures status { result.status ≡ status_of fault }
     ensures refusal { result.refusal ≡ Some fault }
-    ensures trace { result.trace ≡ None }
-    ensures history { result.history.items ≡ [] }
-    ensures stores { result.stores ≡ stores }
 {
     let status = match fault {
         TraceFault::ReadFault => READ_FAULT,
         TraceFault::NoMemory => MEMORY,
         _ => REFUSED,
     };
-    stopped(alloc, status, Some(fault), stores)
-}
-
-/// Runs the trace in the form's order, and writes what is printed; where there are fewer stores than spaces the trace is refused.
-fn run_trace<K: Sink, S: Store + Send + Drop>(
-    alloc: Global,
-    form: Form,
-    trace: Trace,
-    sink: &mut K,
-    stores: Vec<S>,
-) -> Outcome<S>
-    ensures statuses { (result.status ≡ DONE) ⊎ ((result.status ≡ MEMORY) ⊎ ((result.status ≡ REFUSED) ⊎ (result.status ≡ WRITE_FAULT))) }
-    ensures no_refusal { result.status ≢ REFUSED → result.refusal ≡ None }
-    ensures refused { result.status ≡ REFUSED → (length stores.items < trace.spaces)
-        × (result.refusal ≡ Some (TraceFault.TooFewStores (length stores.items) trace.spaces)) }
-    ensures no_run { result.status ≢ DONE → result.status ≢ WRITE_FAULT → (sink.new ≡ sink.old) × (result.trace ≡ None) × (result.history.items ≡ [])
-        × (map S.seen result.stores.items ≡ map S.seen stores.items) }
-    ensures write_fault { result.status ≡ WRITE_FAULT → Rose (K.faults sink.old) (K.faults sink.new) }
-    ensures trace { (result.status ≡ DONE) ⊎ (result.status ≡ WRITE_FAULT)
-        → (result.trace ≡ Some trace) × IsReplay trace (map S.seen stores.items) result.history.items (map S.seen result.stores.items)
-        × ComesBy form trace (entries_in result.history.items) }
-    ensures wrote { result.status ≡ DONE
-        → WroteAll (run_text form trace (map S.seen stores.items) result.history.items) (K.taken sink.old) (K.taken sink.new) }
-    ensures part { result.status ≡ WRITE_FAULT
-        → WrotePart (run_text form trace (map S.seen stores.items) result.history.items) (K.taken sink.old) (K.taken sink.new) }
-{
-    let (count, spaces) = (stores.len() as u64, trace.spaces());
-    if count < u64::from(spaces) {
-        let fault = TraceFault::TooFewStores {
-            stores: count,
-            spaces,
-        };
-        return refused(alloc, fault, stores);
-    }
-    let report = match Report::create(alloc, &trace) {
-        Ok(report) => report,
-        Err(NoMemory) => return stopped(alloc, MEMORY, None, stores),
-    };
-    match replay(alloc, form, &trace, stores) {
-        Ok(gathered) => write_run(report, form.parts(), trace, gathered, sink),
-        Err(stores) => stopped(alloc, MEMORY, None, stores),
+    Stop {
+        status,
+        refusal: Some(fault),
     }
 }
 
-/// Runs the trace in the form's order.
-fn replay<S: Store + Send + Drop>(
+/// Replays the trace in the form's order of turns.
+fn replay_in_turns<S: Store + Send + Drop>(
     alloc: Global,
     form: Form,
     trace: &Trace,
     stores: Vec<S>,
 ) -> Result<Gathered<S>, Vec<S>>
+    requires in_turns { IsInTurns form }
     requires enough { trace.now.spaces ≤ length stores.items }
     ensures run { IfOk result (λ g. IsReplay trace.now (map S.seen stores.items) g.history.items (map S.seen g.stores.items)) }
     ensures ordered { IfOk result (λ g. ComesBy form trace.now (entries_in g.history.items)) }
@@ -201,6 +255,7 @@ fn replay<S: Store + Send + Drop>(
     match form {
         Form::Order { .. } => replay_file_order(alloc, trace, stores),
         Form::Turns { seed, .. } => replay_turns(alloc, trace, stores, seed),
+        Form::Replay { .. } => unreachable!(),
     }
 }
 
