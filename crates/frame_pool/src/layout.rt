@@ -108,13 +108,7 @@ impl Layout {
         requires { page < 1048576 }
         ensures { result ≡ frame_in self.now space page }
     {
-        let reservation = covering(
-            &self.reservations,
-            &self.map,
-            self.frames,
-            space,
-            page,
-        )?;
+        let reservation = covering(&self.reservations, &self.map, self.frames, space, page)?;
         let frame = frame_for(&reservation, page);
         self.reservations.used(frame).then_some(frame)
     }

@@ -133,12 +133,7 @@ fn run_in_turns<T: Source, K: Sink, S: Store + Send + Drop>(
 }
 
 /// Runs with a thread for each processor. By its handle it may wait for locks, and nothing is proved of when it returns.
-fn run_in_threads<
-    T: Source,
-    K: Sink,
-    S: Store + Send + Drop,
-    R: Threads + Wait + Sync,
->(
+fn run_in_threads<T: Source, K: Sink, S: Store + Send + Drop, R: Threads + Wait + Sync>(
     rt: &R,
     alloc: Global,
     parts: Parts,
@@ -195,11 +190,7 @@ struct Stop {
 }
 
 /// Reads a trace, and takes the memory for the report of its run over so many stores; where there are fewer than spaces it is refused.
-fn ready_to_run<T: Source>(
-    alloc: Global,
-    source: &mut T,
-    stores: usize,
-) -> Result<Ready, Stop>
+fn ready_to_run<T: Source>(alloc: Global, source: &mut T, stores: usize) -> Result<Ready, Stop>
     ensures read { IfOk result (λ ready. WasRead ready.trace (T.left source.old) (T.left source.new)) }
     ensures report { IfOk result (λ ready. IsReadyFor ready.trace ready.report) }
     ensures enough { IfOk result (λ ready. ready.trace.spaces ≤ stores) }
