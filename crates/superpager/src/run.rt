@@ -56,8 +56,8 @@ pub struct Outcome<S: Store + Send + Drop> {
 /// of the source, runs it in the order that the words' form says, and writes the answers, where the form asks for it the history, and the counts to
 /// the sink.
 ///
-/// The handle is for the form `replay`, which starts threads and waits for locks: nothing is proved of when such a run returns. A run of
-/// another form, and one of words of no form, has no use for it, and is proved to return.
+/// The handle is for the form `replay` alone, which starts threads and waits for locks: nothing is proved of when such a run returns. A run
+/// of any other form is made by a function that takes no handle, and so is proved to return.
 pub fn run<T: Source, K: Sink, S: Store + Send + Drop, R: Threads + Wait + Sync>(
     rt: &R,
     alloc: Global,
@@ -111,7 +111,7 @@ pub fn run<T: Source, K: Sink, S: Store + Send + Drop, R: Threads + Wait + Sync>
     }
 }
 
-/// Runs by a form whose entries are made in turns. It takes no handle, so it is proved to return.
+/// Runs by a form whose entries are made in turns, by one thread. It takes no handle, and so is proved to return.
 fn run_in_turns<T: Source, K: Sink, S: Store + Send + Drop>(
     alloc: Global,
     form: Form,
@@ -132,7 +132,7 @@ fn run_in_turns<T: Source, K: Sink, S: Store + Send + Drop>(
     }
 }
 
-/// Runs with a thread for each processor. By its handle it may wait for locks, and nothing is proved of when it returns.
+/// Runs with a thread for each processor. By its handle it starts threads and may wait for locks: nothing is proved of when it returns.
 fn run_in_threads<T: Source, K: Sink, S: Store + Send + Drop, R: Threads + Wait + Sync>(
     rt: &R,
     alloc: Global,

@@ -27,6 +27,9 @@ const LAST_PAGE_TEXT: &[u8] =
 const LAST_PAGE_HISTORY_TEXT: &[u8] =
     b"0 0 done\n0 1 done miss 0\n0 2 value 18446744073709551615 hit 0\n0 0 s0 answer 0 done\n1 0 s0+f take 1048575 0 1048575 1048576 1 0\n2 0 s0 answer 1 done miss 0\n3 0 s0 answer 2 value 18446744073709551615 hit 0\ntiles 1 0 0 0\npromotions 0\ndemotions 0\npreemptions 0\nimages 1 1\nframes 511 0 1\nend\n";
 
+const TWO_SPACES: &[u8] =
+    b"trace 1 512 2 2\n0 map 0 0 8 fixed write\n1 map 1 0 16 fixed write\n1 store 1 0 5\n0 store 0 8 7\n0 load 0 8\n1 sync 1 0\n1 load 1 0\n0 load 0 65536\n1 unmap 1 0\nend\n";
+
 /// Why a run did not end as it should.
 const OTHER: &str = "another end";
 
@@ -155,10 +158,45 @@ fn drawn_turns_of_one_processor_come_in_the_order_of_its_lines(
     Ok(())
 }
 
+// What a trace over two stores prints in the order that the words ask for.
+fn printed<R: Threads + Wait + Sync>(
+    rt: &R,
+    alloc: Global,
+    words: &[&str],
+    trace: &[u8],
+) -> Result<MemorySink, Fail> {
+    let mut source = source_of(alloc, trace, 0)?;
+    let mut sink = sink_of(alloc, 8192, 0)?;
+    let stores = stores_of(alloc, 2, &[], &[])?;
+    let outcome = run(rt, alloc, words, &mut source, &mut sink, stores);
+    if outcome.status != DONE {
+        return Err(Fail::from(OTHER));
+    }
+    Ok(sink)
+}
+
+#[test]
+fn threads_that_share_nothing_print_what_the_order_of_lines_prints(
+    rt: HostRuntime,
+) -> Result<(), Fail> {
+    let alloc = rt.alloc();
+    // One processor, and two that have a space each.
+    for trace in [EMPTY, LAST_PAGE, WRITTEN_TWICE, TWO_SPACES] {
+        let in_order = printed(&rt, alloc, &ORDER, trace)?;
+        let in_threads = printed(&rt, alloc, &["replay"], trace)?;
+        assert_eq!(rt; in_threads.bytes(), in_order.bytes());
+    }
+    Ok(())
+}
+
 #[test]
 fn the_history_is_printed_where_the_words_ask_for_it(rt: HostRuntime) -> Result<(), Fail> {
     let alloc = rt.alloc();
-    let table: [&[&str]; 2] = [&["order", "--history"], &["turns", "5", "--history"]];
+    let table: [&[&str]; 3] = [
+        &["order", "--history"],
+        &["turns", "5", "--history"],
+        &["replay", "--history"],
+    ];
     for words in table {
         let mut source = source_of(alloc, LAST_PAGE, 0)?;
         let mut sink = sink_of(alloc, 8192, 0)?;
@@ -172,7 +210,7 @@ fn the_history_is_printed_where_the_words_ask_for_it(rt: HostRuntime) -> Result<
 
 #[test]
 fn other_words_read_and_write_nothing(rt: HostRuntime) -> Result<(), Fail> {
-    let table: [&[&str]; 14] = [
+    let table: [&[&str]; 17] = [
         &[],
         &[""],
         &["--history"],
@@ -183,6 +221,9 @@ fn other_words_read_and_write_nothing(rt: HostRuntime) -> Result<(), Fail> {
         &["turns", "--history"],
         &["turns", "05"],
         &["turns", "5", "x"],
+        &["replay", "x"],
+        &["replay", "5"],
+        &["replay", "--history", "--history"],
         &["Order"],
         &["order "],
         &["order", "x"],
