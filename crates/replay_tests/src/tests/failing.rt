@@ -1,5 +1,5 @@
 //! Runs over stores that fail, with few frames left: each failure that is answered is one that the call met.
-ghost use Rattle.std.specs.Prelude.{◌<◌};
+ghost use Rattle.std.specs.Prelude.{◌^◌, ◌<◌};
 
 use super::printed::{read_text, run_threads};
 use pager_model::{Numbered, Reply, What};

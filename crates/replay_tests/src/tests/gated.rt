@@ -8,10 +8,11 @@ use std::sync::atomic::{AtomicBool, Ordering};
 use std::thread;
 use store_core::{Store, StoreFailed, WriteRefused};
 
-/// How often a call that waits lets other threads run, and how often it looks at the other store's flag before each time.
-const ROUNDS: u32 = 500;
+/// How often a call that waits lets other threads run.
+const ROUNDS: u32 = 5_000;
 
-const LOOKS: u32 = 100_000;
+/// How often it looks at the other store's flag before each time.
+const LOOKS: u32 = 10_000;
 
 /// Which calls of a store show that they have begun.
 #[derive(Clone, Copy, PartialEq, Eq)]
@@ -63,10 +64,11 @@ fn new_store(gate: Gate, own: Arc<AtomicBool, Global>, other: Arc<AtomicBool, Gl
     }
 }
 
-/// Whether the flag is raised, within so many looks.
+/// Whether the flag is raised, within so many looks. A look exchanges it for itself, which takes longer than a load, so that others have time.
 fn is_raised(flag: &AtomicBool, looks: u32) -> bool {
     for _ in 0..looks {
-        if flag.load(Ordering::SeqCst) {
+        let look = flag.compare_exchange(true, true, Ordering::SeqCst, Ordering::SeqCst);
+        if look.is_ok() {
             return true;
         }
     }
