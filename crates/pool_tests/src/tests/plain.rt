@@ -393,32 +393,29 @@ impl Plain {
         frame
     }
 
-    /// How many used places are like this.
-    fn used_where(&self, test: impl Fn(&Used) -> bool) -> u32 {
-        number(
-            self.used
-                .iter()
-                .filter(|place| match place {
-                    Some(used) => test(used),
-                    None => false,
-                })
-                .count(),
-        )
-    }
-
     /// How many frames are free, unused places, used ones, and of these wired and claimed ones, and how many are held.
     pub fn counts(&self) -> Counts {
         let places = self.records.iter().fold(
             0,
             |sum: u32, record| sum.saturating_add(record.size.pages()),
         );
-        let used = self.used_where(|_| true);
+        let used = number(self.used.iter().filter(|place| place.is_some()).count());
+        let wired = self
+            .used
+            .iter()
+            .filter(|place| place.is_some_and(|used| used.wired))
+            .count();
+        let claimed = self
+            .used
+            .iter()
+            .filter(|place| place.is_some_and(|used| used.claim.is_some()))
+            .count();
         Counts {
             free: number(self.free.iter().filter(|free| **free).count()),
             reserved: places.saturating_sub(used),
             used,
-            wired: self.used_where(|used| used.wired),
-            claimed: self.used_where(|used| used.claim.is_some()),
+            wired: number(wired),
+            claimed: number(claimed),
             held: number(self.held.iter().filter(|frame| frame.is_some()).count()),
         }
     }
