@@ -3,6 +3,7 @@ use Rattle.std.proofs.Common.{◌≡◌, ℕ, zero, suc, ◌+◌, Bool, true, fa
 use Rattle.std.specs.Option.{option_and_then}
 use Rattle.std.proofs.lemmas.Bool.{and_parts, eqb-true, false≢true}
 use Rattle.std.proofs.lemmas.Option.{none-some, same_Some}
+use Rattle.pager_model.specs.declared.entry.Victim.{Victim}
 use Rattle.pager_model.specs.declared.call.Call.{Call}
 use Rattle.pager_model.specs.declared.call.Call.TheVariants.{Unmap, Sync, Evict}
 use Rattle.pager_model.specs.declared.entry.Entry.{Entry}
@@ -15,7 +16,7 @@ use Rattle.pager_model.specs.Entries.{is_of, IsOn}
 use Rattle.pager_model.specs.FrameStates.{FramesAllow}
 use Rattle.pager_model.specs.Headline.{NoneToHave, WasRefused, RefusesRightly}
 use Rattle.pager_model.specs.Legal.{IsLegal, MayFollow, frames_at, progress_at}
-use Rattle.pager_model.specs.Order.{Victim, Purpose, Doing, Progress, between, at_rest, leads, is_answered_alone, may_answer, after_answer, after_take, after_use, after_clear, after_out, after_failure, after_give, after_claim, after_got, after_unclaim, lacking_for, faulted_for, after_drop, dropped_for, after_refusal, after_rest, progress_after}
+use Rattle.pager_model.specs.Order.{Purpose, Doing, Progress, between, at_rest, leads, is_answered_alone, may_answer, after_answer, after_take, after_use, after_clear, after_out, after_failure, after_give, after_claim, after_got, after_unclaim, lacking_for, faulted_for, after_drop, dropped_for, after_refusal, after_rest, progress_after}
 use Rattle.pager_model.specs.Order.Purpose.{ForAccess, ForTurn}
 use Rattle.pager_model.specs.Order.Doing.{Idle, Looking, Cleared, Uncopied, Filling, Unfilling, Claiming, Emptied, Unwritten, Holding, Late, Faulted, Lacking, Refusing}
 use Rattle.pager_model.specs.Settings.{Given, mark_of}

@@ -3,12 +3,12 @@ use Rattle.std.proofs.Common.{◌≡◌, ◌≢◌, ◌⊎◌, inl, inr, ℕ, �
 use Rattle.std.proofs.lemmas.Bool.{cases_Bool, cases_eq, cases_lt, and_parts, false≢true, cond-false, eqb-true}
 use Rattle.std.proofs.lemmas.List.{get_or-set_same, get_or-set_other, get_or_past}
 use Rattle.std.proofs.lemmas.Option.{none-some, same_Some}
+use Rattle.pager_model.specs.declared.entry.Victim.{Victim}
 use Rattle.pager_model.specs.declared.entry.Want.{Want}
 use Rattle.pager_model.specs.declared.reservation.Used.{Used}
 use Rattle.pager_model.specs.Agreement.{ClaimsOrHolds, OwnsVictim}
 use Rattle.pager_model.specs.FrameStates.{FrameState, Taking, layout_of, used_at, held_by, claim_in, frame_of, HasNothing, IsVictim, taken, take_frame, held_given, give_page, give_if_used, with_claim, claimed, dropped, dropped_in, counted, is_evictable}
 use Rattle.pager_model.specs.Layouts.{Placing, placing, frame_in}
-use Rattle.pager_model.specs.Order.{Victim}
 use Rattle.pager_model.proofs.Options.{none_from_is_none}
 use Rattle.frame_pool.specs.Laid.{IsSound}
 use Rattle.frame_pool.proofs.PageMoves.{GivesPage, GivesPage-give_page, place_in_layout}

@@ -14,4 +14,4 @@ mod mapped;
 mod pool;
 mod records;
 
-pub use pool::{Collected, Counts, Full, NoneLeft, Pool, Victim};
+pub use pool::{Collected, Counts, Full, NoneLeft, Pool};

@@ -8,7 +8,7 @@ ghost use Rattle.pager_model.specs.PreferredSize.{IsWanted};
 
 use crate::layout::Layout;
 use crate::records::page_at;
-use pager_model::{Frame, NoMemory, Sizes, Want, frames_of};
+use pager_model::{Frame, NoMemory, Sizes, Victim, Want, frames_of};
 use std::alloc::Global;
 use std::marker::Model;
 use used_frames::UsedFrames;
@@ -16,14 +16,6 @@ use used_frames::UsedFrames;
 /// No frame can be had.
 #[derive(Clone, Copy, Debug, PartialEq, Eq)]
 pub struct Full;
-
-/// The page whose frame is claimed, and the frame.
-#[derive(Clone, Copy, Debug, PartialEq, Eq)]
-pub struct Victim {
-    pub space: u32,
-    pub page: u32,
-    pub frame: u32,
-}
 
 /// Every used frame is wired or claimed: how many are wired and claimed, and how many frames are held by a processor.
 #[derive(Clone, Copy, Debug, PartialEq, Eq)]

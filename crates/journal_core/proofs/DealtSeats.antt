@@ -15,7 +15,7 @@ use Rattle.journal_core.specs.declared.view.Own.{Own}
 use Rattle.journal_core.specs.Journals.{JournalName, new_author, new_pass, new_passes}
 use Rattle.journal_core.specs.Parts.{part_list, own_list}
 use Rattle.journal_core.specs.Seats.{author_view, pass_view, author_of, pass_of, IsAuthor, IsPass}
-use Rattle.journal_core.specs.Views.{most_entries, most_processors, one_below, blank_part, blank_own, Knows, Stands, opener, first_author, without_author, first_pass, without_pass}
+use Rattle.journal_core.specs.Views.{most_entries, most_processors, one_below, blank_part, blank_own, Knows, Stands, opener, first_author, without_author, first_pass, without_pass, words_of}
 use Rattle.journal_core.proofs.HistoryLength.{hit, one_below-more}
 use Rattle.journal_core.proofs.HistoryLists.{part_list-nil}
 
@@ -46,7 +46,7 @@ alone g zero v is = subst (Knows g []) (some-injective _ _ is) (opener_knows g)
 alone g (suc seat) v is = absurd (some-ne-none v (sym is))
 
 -- the empty history meets the rule
-pub begins : (g : Given) → length g.marks ≤ most_processors → Stands g (0 ∷ []) (opener g ∷ [])
+pub begins : (g : Given) → length g.marks ≤ most_processors → Stands g (words_of 0) (opener g ∷ [])
 begins g few = record {
   history = [];
   word = refl;

@@ -17,7 +17,7 @@ use Rattle.journal_core.specs.declared.view.View.{View}
 use Rattle.journal_core.specs.declared.view.Part.{Part}
 use Rattle.journal_core.specs.declared.view.Own.{Own}
 use Rattle.journal_core.specs.Parts.{part_list, names_part, own_list}
-use Rattle.journal_core.specs.Views.{most_entries, is_part, is_own, authors_of, passes_of, Knows, Stands, Holds, MayGrow, Commits, part_grown, own_grown, grown}
+use Rattle.journal_core.specs.Views.{most_entries, is_part, is_own, authors_of, passes_of, Knows, Stands, Holds, MayGrow, Commits, part_grown, own_grown, grown, words_of}
 use Rattle.journal_core.proofs.ViewTotals.{total_set, total_two}
 use Rattle.pager_model.proofs.Histories.{IsLegal-push}
 use Rattle.journal_core.proofs.HistoryLists.{part_list-push, part_list-same, own_list-push, own_list-same, entries_of-push, entries_of-same}
@@ -78,7 +78,7 @@ short_by history e c room short false is = omega (arith, ap length (entries_of-s
 
 module _ (words : List ℕ) (views : List View) (seat : ℕ) (v : View) (e : Entry) (s : Stands v.setting words views) (at : get_elem? views seat ≡ some v) (may : MayGrow v e) where
   place : ℕ
-  place = slice_index words 0
+  place = slice_index words 16
 
   mine : Knows v.setting s.history v
   mine = s.known seat v at
@@ -86,18 +86,18 @@ module _ (words : List ℕ) (views : List View) (seat : ℕ) (v : View) (e : Ent
   fits : length s.history < 17 * 2 ^ 31 + 1
   fits = let b = length_bound v.setting s.history most_entries s.legal s.short in let f = s.few in omega (arith, mul-le-mul_right most_entries f)
 
-  grown_word : slice_set words 0 ((slice_index words 0 + 1) % 18446744073709551616) ≡ length (s.history ++ e ∷ []) ∷ []
+  grown_word : slice_set words 16 ((slice_index words 16 + 1) % 18446744073709551616) ≡ words_of (length (s.history ++ e ∷ []))
   grown_word =
       let f = fits in
-      ap (λ ws. slice_set ws 0 ((slice_index ws 0 + 1) % 18446744073709551616)) s.word
-      ∙ ap (λ (k : ℕ). k ∷ []) (mod-eq_of_lt (omega arith) ∙ sym (length_push s.history e))
+      ap (λ ws. slice_set ws 16 ((slice_index ws 16 + 1) % 18446744073709551616)) s.word
+      ∙ ap words_of (mod-eq_of_lt (omega arith) ∙ sym (length_push s.history e))
 
-  grown_knows : Knows v.setting (s.history ++ e ∷ []) (grown (slice_index words 0) e v)
+  grown_knows : Knows v.setting (s.history ++ e ∷ []) (grown (slice_index words 16) e v)
   grown_knows = record {
     setting = λ live. refl;
     spent_has_none = λ spent. absurd (true≢false (sym may.live ∙ spent));
     authors = own_parts (length v.setting.told) s.history e v.authors may.named mine.authors;
-    passes = own_owns (length v.setting.told) s.history e (slice_index words 0) (found_is v.setting words views s) v.passes may.own mine.passes;
+    passes = own_owns (length v.setting.told) s.history e (slice_index words 16) (found_is v.setting words views s) v.passes may.own mine.passes;
   }
 
   other_knows : (j : ℕ) (u : View) → j ≢ seat → get_elem? views j ≡ some u → Knows v.setting (s.history ++ e ∷ []) u
@@ -112,28 +112,28 @@ module _ (words : List ℕ) (views : List View) (seat : ℕ) (v : View) (e : Ent
         k.passes;
   }
 
-  grows : Stands v.setting (slice_set words 0 ((slice_index words 0 + 1) % 18446744073709551616)) (set views seat (grown (slice_index words 0) e v))
+  grows : Stands v.setting (slice_set words 16 ((slice_index words 16 + 1) % 18446744073709551616)) (set views seat (grown (slice_index words 16) e v))
   grows = record {
     history = s.history ++ e ∷ [];
     word = grown_word;
     legal = IsLegal-push v.setting s.history e s.legal (may.follows s.history mine);
     few = s.few;
     short = λ c. short_by s.history e c (may.room s.history mine) (s.short c) (is_of c e) refl;
-    one_author = λ part. omega (arith, total_set (authors_of part) views seat v (grown (slice_index words 0) e v) at, parts_counted e part v.authors, s.one_author part);
-    one_pass = λ c. omega (arith, total_set (passes_of c) views seat v (grown (slice_index words 0) e v) at, owns_counted (slice_index words 0) e c v.passes, s.one_pass c);
+    one_author = λ part. omega (arith, total_set (authors_of part) views seat v (grown (slice_index words 16) e v) at, parts_counted e part v.authors, s.one_author part);
+    one_pass = λ c. omega (arith, total_set (passes_of c) views seat v (grown (slice_index words 16) e v) at, owns_counted (slice_index words 16) e c v.passes, s.one_pass c);
     known = λ j u is. ⊎_elim
-        (λ (t : (j ≡ seat) × (grown (slice_index words 0) e v ≡ u)). subst (Knows v.setting (s.history ++ e ∷ [])) t.1 grown_knows)
+        (λ (t : (j ≡ seat) × (grown (slice_index words 16) e v ≡ u)). subst (Knows v.setting (s.history ++ e ∷ [])) t.1 grown_knows)
         (λ (t : (j ≢ seat) × (get_elem? views j ≡ some u)). other_knows j u t.0 t.1)
-        (at_set views seat j (grown (slice_index words 0) e v) u is);
+        (at_set views seat j (grown (slice_index words 16) e v) u is);
   }
 
-pub writes : (g : Given) (slots seat : ℕ) (me : Me Unit View) (e : Entry) (st : Step Unit) → MayGrow me.0 e → Allows (Holds g) slots seat me 0 (λ n. (n + 1) % 18446744073709551616) (Commits e st me)
+pub writes : (g : Given) (slots seat : ℕ) (me : Me Unit View) (e : Entry) (st : Step Unit) → MayGrow me.0 e → Allows (Holds g) slots seat me 16 (λ n. (n + 1) % 18446744073709551616) (Commits e st me)
 writes g slots seat me e st may x s wide at _ =
     let is = (s.known seat me.0 at).setting may.live in
     let s' : Stands me.0.setting x.words x.views = subst (λ h. Stands h x.words x.views) (sym is) s in (
-      grown (slice_index x.words 0) e me.0,
+      grown (slice_index x.words 16) e me.0,
       keeps,
       tt,
-      subst (λ h. Stands h (slice_set x.words 0 ((slice_index x.words 0 + 1) % 18446744073709551616)) (set x.views seat (grown (slice_index x.words 0) e me.0))) is (grows x.words x.views seat me.0 e s' at may),
+      subst (λ h. Stands h (slice_set x.words 16 ((slice_index x.words 16 + 1) % 18446744073709551616)) (set x.views seat (grown (slice_index x.words 16) e me.0))) is (grows x.words x.views seat me.0 e s' at may),
       (refl, meets g x.words x.views seat me.0 s may.live at),
     )

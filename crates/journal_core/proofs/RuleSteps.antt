@@ -122,23 +122,23 @@ enters_keep g slots st x s wide _ = (
   refl,
 )
 
-pub found_is : (g : Given) (words : List ℕ) (views : List View) (s : Stands g words views) → slice_index words 0 ≡ length s.history
-found_is g words views s = ap (λ ws. slice_index ws 0) s.word
+pub found_is : (g : Given) (words : List ℕ) (views : List View) (s : Stands g words views) → slice_index words 16 ≡ length s.history
+found_is g words views s = ap (λ ws. slice_index ws 16) s.word
 
-pub meets : (g : Given) (words : List ℕ) (views : List View) (seat : ℕ) (v : View) (s : Stands g words views) → v.live ≡ true → get_elem? views seat ≡ some v → Meets v.setting (slice_index words 0) v
+pub meets : (g : Given) (words : List ℕ) (views : List View) (seat : ℕ) (v : View) (s : Stands g words views) → v.live ≡ true → get_elem? views seat ≡ some v → Meets v.setting (slice_index words 16) v
 meets g words views seat v s live at =
     let k = s.known seat v at in
-    subst (λ h. Meets h (slice_index words 0) v) (sym (k.setting live))
+    subst (λ h. Meets h (slice_index words 16) v) (sym (k.setting live))
     (record { history = s.history; long_is = sym (found_is g words views s); legal = s.legal; few = s.few; short = s.short; known = k })
 
-pub looks : (g : Given) (slots seat : ℕ) (me : Me Unit View) (st : Step Unit) → me.0.live ≡ true → Allows (Holds g) slots seat me 0 (λ n. n) (Looks st me)
+pub looks : (g : Given) (slots seat : ℕ) (me : Me Unit View) (st : Step Unit) → me.0.live ≡ true → Allows (Holds g) slots seat me 16 (λ n. n) (Looks st me)
 looks g slots seat me st live x s wide at _ = (
   me.0,
   keeps,
   tt,
   subst (Stands g _) (sym (set_again x.views seat me.0 at)) (record {
     history = s.history;
-    word = ap (λ ws. slice_set ws 0 (slice_index ws 0)) s.word;
+    word = ap (λ ws. slice_set ws 16 (slice_index ws 16)) s.word;
     legal = s.legal;
     few = s.few;
     short = s.short;

@@ -8,7 +8,7 @@ use Rattle.journal_core.specs.declared.view.View.{View}
 use Rattle.journal_core.specs.declared.view.Part.{Part}
 use Rattle.journal_core.specs.declared.view.Own.{Own}
 use Rattle.journal_core.specs.Journals.{JournalName, AuthorState, PassState}
-use Rattle.journal_core.specs.Views.{most_entries, blank_part}
+use Rattle.journal_core.specs.Views.{most_entries, blank_part, word_count}
 
 abbrev pub author_view : AuthorState → View
 author_view a = record { live = true; setting = a.journal.setting; authors = record { part = a.part; entries = a.entries } ∷ []; passes = [] }
@@ -43,7 +43,7 @@ pub record IsPass (p : PassState) (me : Me Unit View) : Type 0 where
 
 -- the journal's word and its rooms fit its setting
 pub record IsJournal (table : TableId) (g : Given) (room : ℕ) : Type 0 where
-  pub words : table.words ≡ 1
+  pub words : table.words ≡ word_count
   pub slots : table.slots ≡ 0
   pub logs : room ≡ length g.marks
 

@@ -1,5 +1,5 @@
 -- What each seat at the journal's word knows, the rule that ties it to the history, and what the steps tell.
-use Rattle.std.specs.Prelude.{ℕ, ◌≡◌, ◌+◌, ◌^◌, ◌≤◌, ◌<◌, Bool, true, false, ◌==◌, nat_lt, if◌then◌else◌, List, [], ◌∷◌, ◌++◌, map, length, take, drop, count_by, None}
+use Rattle.std.specs.Prelude.{ℕ, ◌≡◌, ◌+◌, ◌^◌, ◌≤◌, ◌<◌, Bool, true, false, ◌==◌, nat_lt, if◌then◌else◌, List, [], ◌∷◌, ◌++◌, map, length, replicate, take, drop, count_by, None}
 use Rattle.std.specs.List.{sum_by}
 use Rattle.std.specs.List.{AllByRecursion, range_with_len}
 use mathlib.Core.Option.{some}
@@ -48,12 +48,20 @@ pub record Knows (g : Given) (history : List Entry) (v : View) : Type 0 where
 abbrev pub one_below : ℕ → ℕ → ℕ
 one_below n k = if nat_lt k n then 1 else 0
 
--- The rule: there is one legal history, whose length is the word. Over all views each space and the frames have exactly one
+-- The journal's words. The length of the history stands in the middle of the others, which stay 0: so it has a cache line of its own, and a
+-- seat that boards or alights, for which the first word is read, doesn't wait for those that commit.
+abbrev pub word_count : ℕ
+word_count = 32
+
+abbrev pub words_of : ℕ → List ℕ
+words_of long = replicate 16 0 ++ long ∷ replicate 15 0
+
+-- The rule: there is one legal history, whose length the words tell. Over all views each space and the frames have exactly one
 -- author, each processor has exactly one pass, and there is no other author and no other pass. Each view knows its lists, and only
 -- live views have any. So each author and each pass stands in exactly one live view.
 pub record Stands (g : Given) (words : List ℕ) (views : List View) : Type 0 where
   pub history : List Entry
-  pub word : words ≡ length history ∷ []
+  pub word : words ≡ words_of (length history)
   pub legal : IsLegal g history
   pub few : length g.marks ≤ most_processors
   pub short : (c : ℕ) → length (entries_of c history) ≤ most_entries

@@ -4,11 +4,11 @@ ghost use Rattle.std.specs.List.{All, AllByRecursion};
 ghost use Rattle.pager_model.specs.declared.entry.Numbered.{Numbered};
 ghost use Rattle.journal_core.specs.Seats.{part_of, own_of};
 ghost use Rattle.journal_core.specs.Places.{placed, placed_all, IsPlaced};
-ghost use Rattle.journal_core.specs.Views.{Meets};
+ghost use Rattle.journal_core.specs.Views.{word_count, Meets};
 
 use crate::author::Author;
 use crate::pass::{Log, Pass};
-use crate::steps::board;
+use crate::steps::{LENGTH, board};
 use crate::view::{Order, Seat, View, Word};
 use atomic_table::Table;
 use pager_model::{Entry, Numbered, Setting, What};
@@ -16,7 +16,7 @@ use std::alloc::Global;
 
 /// Takes in all authors.
 pub fn board_authors(word: &Word, seat: &mut Seat, mut authors: Vec<Author>)
-    requires table { (seat.old.table_id ≡ word.now.table_id) × (word.now.table_id.words ≡ 1) }
+    requires table { (seat.old.table_id ≡ word.now.table_id) × (word.now.table_id.words ≡ word_count) }
     requires seat { (seat.old.me.0.live ≡ true) × (seat.old.me.0.authors ≡ []) × (seat.old.me.0.passes ≡ []) × (seat.old.me.1 ≡ []) }
     requires authors { All (λ a. a.journal.table ≡ word.now.table_id) authors.items }
     ensures { (seat.new.table_id ≡ seat.old.table_id) × (seat.new.me ≡ (record { live = true; setting = seat.old.me.0.setting; authors = map part_of (reverse authors.items); passes = [] }, [])) }
@@ -33,7 +33,7 @@ pub fn board_passes(
     mut passes: Vec<Pass>,
     logs: &mut Vec<Vec<Numbered>>,
 )
-    requires table { (seat.old.table_id ≡ word.now.table_id) × (word.now.table_id.words ≡ 1) }
+    requires table { (seat.old.table_id ≡ word.now.table_id) × (word.now.table_id.words ≡ word_count) }
     requires seat { (seat.old.me.0.live ≡ true) × (seat.old.me.0.passes ≡ []) × (seat.old.me.1 ≡ []) }
     requires passes { All (λ p. p.journal.table ≡ word.now.table_id) passes.items }
     requires logs { (logs.old.items ≡ []) × (vec_len passes ≤ vec_capacity logs.old) }
@@ -55,12 +55,12 @@ pub fn board_passes(
 
 /// How long the history has become.
 pub fn finish(table: Table<(), View, Setting, Order, Global>, seat: Seat) -> u64
-    requires table { (seat.table_id ≡ table.shared.table_id) × (table.shared.table_id.words ≡ 1) × (table.shared.table_id.slots ≡ 0) }
+    requires table { (seat.table_id ≡ table.shared.table_id) × (table.shared.table_id.words ≡ word_count) × (table.shared.table_id.slots ≡ 0) }
     requires live { seat.me.0.live ≡ true }
     ensures { Meets seat.me.0.setting result seat.me.0 }
 {
     let closed = table.close_with(seat);
-    let length = closed.word(0);
+    let length = closed.word(LENGTH);
     closed.free();
     length
 }

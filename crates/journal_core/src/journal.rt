@@ -7,12 +7,12 @@ ghost use Rattle.journal_core.specs.Clauses.{NamesOnly, AllowedAfter, IsHistory,
 ghost use Rattle.journal_core.specs.Journals.{new_author, new_passes, written, kept};
 ghost use Rattle.journal_core.specs.Parts.{numbered};
 ghost use Rattle.journal_core.specs.Seats.{name_of};
-ghost use Rattle.journal_core.specs.Views.{blank_part, blank_own};
+ghost use Rattle.journal_core.specs.Views.{blank_part, blank_own, word_count};
 
 use crate::author::Author;
 use crate::gather::{board_authors, board_passes, finish, merge};
 use crate::pass::{Log, Pass};
-use crate::steps::{alight_author, alight_pass, board, enter, look, write};
+use crate::steps::{WORDS, alight_author, alight_pass, board, enter, look, write};
 use crate::view::{Order, Seat, View, Word};
 use atomic_table::Table;
 use pager_model::{Entry, NoMemory, Numbered, Setting};
@@ -64,7 +64,7 @@ pub fn create(alloc: Global, setting: Setting, rooms: &[usize]) -> Result<Opened
     let history = Vec::with_capacity(alloc, total(rooms))?;
     let logs = Vec::with_capacity(alloc, rooms.len())?;
     let parts = setting.spaces() + 1;
-    let (table, mut seat) = Table::of_words(alloc, &[0], &setting)?;
+    let (table, mut seat) = Table::of_words(alloc, &[0; WORDS], &setting)?;
     let authors = deal_authors(alloc, &table.shared, &mut seat, parts)?;
     let passes = deal_passes(alloc, &table.shared, &mut seat, rooms)?;
     let journal = Journal {
@@ -97,7 +97,7 @@ fn deal_authors(
     seat: &mut Seat,
     count: usize,
 ) -> Result<Vec<Author>, NoMemory>
-    requires table { (seat.old.table_id ≡ word.now.table_id) × (word.now.table_id.words ≡ 1) }
+    requires table { (seat.old.table_id ≡ word.now.table_id) × (word.now.table_id.words ≡ word_count) }
     requires live { (seat.old.me.0.live ≡ true) × (seat.old.me.1 ≡ []) }
     requires authors { seat.old.me.0.authors ≡ map blank_part (range_with_len 0 count) }
     requires parts { count ≤ length seat.old.me.0.setting.told + 1 }
@@ -118,7 +118,7 @@ fn deal_passes(
     seat: &mut Seat,
     rooms: &[usize],
 ) -> Result<Vec<Pass>, NoMemory>
-    requires table { (seat.old.table_id ≡ word.now.table_id) × (word.now.table_id.words ≡ 1) }
+    requires table { (seat.old.table_id ≡ word.now.table_id) × (word.now.table_id.words ≡ word_count) }
     requires live { (seat.old.me.0.live ≡ true) × (seat.old.me.1 ≡ []) × (seat.old.me.0.authors ≡ []) }
     requires passes { seat.old.me.0.passes ≡ map blank_own (range_with_len 0 (length rooms.now)) }
     requires rooms { (length rooms.now ≤ 17) × (length rooms.now ≡ length seat.old.me.0.setting.marks) × All (λ r. r ≤ 2 ^ 31) rooms.now }

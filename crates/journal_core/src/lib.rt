@@ -1,6 +1,6 @@
 //! One history that many threads write, each in its own list, by single steps on one word.
 //!
-//! The word is the history's length. Each seat at it has a view: the authors and the passes that it has, each with its list. Each
+//! The word is the history's length, and has a cache line of its own. Each seat at it has a view: the authors and the passes that it has, each with its list. Each
 //! author and each pass stands in exactly one live view, and its list is that of the history. Six kinds of atomic step keep this so:
 //!
 //! - *cast off*: the first view, which has every author and every pass, gives one of them, with an empty list, to a new seat's view.

@@ -14,7 +14,7 @@ use Rattle.pager_model.specs.Flat.{space_of_call, page_of, can_read, can_write}
 use Rattle.pager_model.specs.FrameStates.{FrameState, FramesAllow}
 use Rattle.pager_model.specs.Order.{Progress, may_answer, is_access, is_access_at, is_answered_alone, is_done, is_plain, leads, Idle, Cleared}
 use Rattle.pager_model.specs.Regions.{in_range, has_page, region_at}
-use Rattle.pager_model.specs.SpaceStates.{SpaceState, space_after, MayGoOn, WhatAllowed, IsUnmapOf, Unmaps, access_page}
+use Rattle.pager_model.specs.SpaceStates.{SpaceState, space_after, MayGoOn, WhatAllowed, IsUnmapOf, AfterClear, access_page}
 use Rattle.space_core.specs.Beginning.{BeginsAnswered, ReadsIn, Finishes, SameRegions, Unmapped}
 use Rattle.space_core.specs.Standing.{Kept, StandsFor, IsResting, CanBegin, answer_entry, copied_page, is_allowed, rights_at}
 use Rattle.pager_core.specs.declared.flight.Flight.{Flight}
@@ -121,7 +121,7 @@ Makes-unmap f s page first len a was now st call ready unmapped =
     let at : region_at was.regions page ≡ Some r = ap (region_at was.regions) same ∙ is.at in
     let own : f.call ≡ Unmap was.number page = call ∙ ap (λ n. Unmap n page) (sym (ap space_of_call call) ∙ same_Some _ _ ready.under) in
     let within : in_range first len page ≡ true = sym (ap (λ n. in_range n r.length page) is.first_is ∙ ap (λ n. in_range first n page) is.length_is) ∙ region_at-has was.regions page r at in
-    let next : st.next ≡ Unmaps f.processor r.first r.length = ready.next ∙ sym (ap (λ n. Unmaps f.processor n r.length) is.first_is ∙ ap (Unmaps f.processor first) is.length_is) in
+    let next : st.next ≡ AfterClear f.processor r.first r.length = ready.next ∙ sym (ap (λ n. AfterClear f.processor n r.length) is.first_is ∙ ap (AfterClear f.processor first) is.length_is) in
     Makes-answer (in_phase f (Gone first len)) a was now st ready.fits.can (same_Some _ _ ready.under) unmapped.same_number unmapped.same_frames unmapped.same_processors unmapped.resting
     (subst (λ next. MayGoOn next f.processor (Answer f.number f.call a)) (sym ready.next)
     (refl, subst (λ k. IsUnmapOf first len k a.reply) (sym own) (subst (IsUnmapOf first len (Unmap was.number page)) (sym unmapped.done) within)))

@@ -2,7 +2,7 @@
 use Rattle.std.proofs.Common.{◌≡◌, ℕ, ◌<◌, Bool, true, false, cond, eqb, is_some, Option, Some, None, refl, ap, sym, subst, ◌∙◌, inl, inr, arith}
 use Rattle.std.proofs.lemmas.Bool.{cases_eq, cond-true, cond-false, and_from, and_parts, eq-eqb, ne_eqb, false≢true}
 use Rattle.std.proofs.lemmas.Option.{same_Some}
-use Rattle.frame_pool.specs.declared.pool.Victim.{Victim as Claimed}
+use Rattle.pager_model.specs.declared.entry.Victim.{Victim}
 use Rattle.pager_model.specs.Agreement.{ClaimsOrHolds, OwnsBy}
 use Rattle.pager_model.specs.declared.call.Call.{Call}
 use Rattle.pager_model.specs.declared.call.Call.TheVariants.{Map, Grow, Unmap, Protect, Load, Store, Sync, Evict}
@@ -67,12 +67,12 @@ is_no_store (Evict space page) other = refl
 abbrev pub claiming : Flight → Flight
 claiming f = record { processor = f.processor; number = f.number; call = f.call; phase = f.phase; claimed = true }
 
-abbrev pub claim_entry : Flight → ℕ → Claimed → Bool → Entry
+abbrev pub claim_entry : Flight → ℕ → Victim → Bool → Entry
 claim_entry f page v writing =
     record { processor = f.processor; space = Some (space_of_call f.call); frames = true; what = Claim v.space v.page v.frame (Some (record { page = page; writing = writing })) }
 
 -- Frame: the victim's frame is claimed
-module _ (f : Flight) (page : ℕ) (want : Want) (v : Claimed) (kept : Kept) (st : SpaceState) (before : FrameState) where
+module _ (f : Flight) (page : ℕ) (want : Want) (v : Victim) (kept : Kept) (st : SpaceState) (before : FrameState) where
   Makes-claim :
       IsReady (in_phase f (Frame page want)) kept st → HasNothing before f.processor → IsFull before → IsVictim before v.space v.page v.frame
       → Makes (in_phase f (Frame page want)) (in_phase (claiming f) (Out v)) kept kept st before (counted (claimed before v.frame (Some f.processor))) (claim_entry f page v (is_store f.call))
@@ -90,7 +90,7 @@ module _ (f : Flight) (page : ℕ) (want : Want) (v : Claimed) (kept : Kept) (st
     );
     frames_allow = λ named. (nothing, victim, full);
     frames_after = refl;
-    in_order = ap (λ p. Some (let q : Progress = record { made = f.number; doing = Claiming (ForAccess (record { space = space_of_call f.call; page = p; writing = Some (is_store f.call) })) (victim_of v) } in q)) (ap page_or_zero (sym lawful.page_is));
+    in_order = ap (λ p. Some (let q : Progress = record { made = f.number; doing = Claiming (ForAccess (record { space = space_of_call f.call; page = p; writing = Some (is_store f.call) })) v } in q)) (ap page_or_zero (sym lawful.page_is));
     reply = refl;
     answer = refl;
     left = subst (LeftBy (own_if (space_of_call f.call) v.space) (in_phase (claiming f) (Out v)) kept) (sym same)
@@ -116,7 +116,7 @@ module _ (f : Flight) (page : ℕ) (want : Want) (v : Claimed) (kept : Kept) (st
       same : after_named kept.number st (claim_entry f page v (is_store f.call)) ≡ space_after st (claim_entry f page v (is_store f.call))
       same = after_own (space_of_call f.call) kept.number st (claim_entry f page v (is_store f.call)) refl on
 
-pub victim_claimed : (f : Flight) (page : ℕ) (want : Want) (v : Claimed) (kept : Kept) (st : SpaceState) (before : FrameState) → f.phase ≡ Frame page want → OwnsBy before f.processor (row_of f).progress.doing → IsFull before → IsVictim before v.space v.page v.frame → IsReady f kept st → Makes f (in_phase (claiming f) (Out v)) kept kept st before (counted (claimed before v.frame (Some f.processor))) (claim_entry f page v (is_store f.call))
+pub victim_claimed : (f : Flight) (page : ℕ) (want : Want) (v : Victim) (kept : Kept) (st : SpaceState) (before : FrameState) → f.phase ≡ Frame page want → OwnsBy before f.processor (row_of f).progress.doing → IsFull before → IsVictim before v.space v.page v.frame → IsReady f kept st → Makes f (in_phase (claiming f) (Out v)) kept kept st before (counted (claimed before v.frame (Some f.processor))) (claim_entry f page v (is_store f.call))
 victim_claimed f page want v kept st before phase owns full victim =
     by_phase f (Frame page want) phase (λ g. IsReady g kept st → Makes g (in_phase (claiming f) (Out v)) kept kept st before (counted (claimed before v.frame (Some f.processor))) (claim_entry f page v (is_store f.call)))
     (λ ready. Makes-claim f page want v kept st before ready (HasNothing-wanting f page want before phase owns) full victim)
@@ -124,7 +124,7 @@ victim_claimed f page want v kept st before phase owns full victim =
 -- Unclaim: the victim's frame is claimed no longer
 
 -- the frame of a page that is resident is claimed by who claims or holds it
-claims_resident : (kept : Kept) (st : FrameState) (c : ℕ) (v : Claimed) → AreAgreed kept st → v.space ≡ kept.number → frame_at kept v.page ≡ Some v.frame → ClaimsOrHolds st c (victim_of v) → claim_in (used_at st v.frame) ≡ Some c
+claims_resident : (kept : Kept) (st : FrameState) (c : ℕ) (v : Victim) → AreAgreed kept st → v.space ≡ kept.number → frame_at kept v.page ≡ Some v.frame → ClaimsOrHolds st c v → claim_in (used_at st v.frame) ≡ Some c
 claims_resident kept st c v agree on at owns = elim owns.frame [
   | inl holds ↦
       let place = frame_in-found (layout_of st) kept.number v.page v.frame (sym (agree.pages v.page) ∙ at) in
@@ -136,11 +136,11 @@ abbrev pub unclaim_entry : ℕ → ℕ → ℕ → Entry
 unclaim_entry c space frame = record { processor = c; space = Some space; frames = true; what = UnclaimEntry frame }
 
 -- the phase after the claim is given up: the store failed, or there was no memory
-abbrev pub unclaimed : Claimed → Option ℕ → Phase
+abbrev pub unclaimed : Victim → Option ℕ → Phase
 unclaimed v None = Lack v.space
 unclaimed v (Some count) = Fault v.space count
 
-module _ (f : Flight) (v : Claimed) (frame : ℕ) (kept : Kept) (st : SpaceState) (before : FrameState) where
+module _ (f : Flight) (v : Victim) (frame : ℕ) (kept : Kept) (st : SpaceState) (before : FrameState) where
   -- where giving the claim up leads
   unclaim-order : (fault : Option ℕ) → is_access f.call ≡ true → frame ≡ v.frame → progress_after (row_of (in_phase f (Unclaim v fault))).progress (Some v.space) (UnclaimEntry frame) ≡ Some (row_of (in_phase f (unclaimed v fault))).progress
   unclaim-order None access is = ap (λ b. cond b (lacking_for f.number (ForAccess (access_of f.call f.claimed)) v.space) None) (and_from _ _ (eq-eqb v.space v.space refl) (eq-eqb frame v.frame is))
@@ -198,7 +198,7 @@ module _ (f : Flight) (v : Claimed) (frame : ℕ) (kept : Kept) (st : SpaceState
       is : frame ≡ v.frame
       is = agree.sound.claims_once frame v.frame f.processor claims (claims_resident kept before f.processor v agree on has.place (claims_by fault owns))
         where
-          claims_by : (o : Option ℕ) → OwnsBy before f.processor (row_of (in_phase f (Unclaim v o))).progress.doing → ClaimsOrHolds before f.processor (victim_of v)
+          claims_by : (o : Option ℕ) → OwnsBy before f.processor (row_of (in_phase f (Unclaim v o))).progress.doing → ClaimsOrHolds before f.processor v
           claims_by None own = own
           claims_by (Some count) own = own
 
@@ -223,7 +223,7 @@ module _ (f : Flight) (v : Claimed) (frame : ℕ) (kept : Kept) (st : SpaceState
       same : after_named kept.number st (unclaim_entry f.processor v.space frame) ≡ space_after st (unclaim_entry f.processor v.space frame)
       same = after_own v.space kept.number st (unclaim_entry f.processor v.space frame) refl on
 
-pub claim_ended : (f : Flight) (v : Claimed) (fault : Option ℕ) (frame : ℕ) (kept : Kept) (st : SpaceState) (before : FrameState) → f.phase ≡ Unclaim v fault → OwnsBy before f.processor (row_of f).progress.doing → claim_in (used_at before frame) ≡ Some f.processor → IsReady f kept st → AreAgreed kept before → Makes f (in_phase f (unclaimed v fault)) kept kept st before (counted (claimed before frame None)) (unclaim_entry f.processor v.space frame)
+pub claim_ended : (f : Flight) (v : Victim) (fault : Option ℕ) (frame : ℕ) (kept : Kept) (st : SpaceState) (before : FrameState) → f.phase ≡ Unclaim v fault → OwnsBy before f.processor (row_of f).progress.doing → claim_in (used_at before frame) ≡ Some f.processor → IsReady f kept st → AreAgreed kept before → Makes f (in_phase f (unclaimed v fault)) kept kept st before (counted (claimed before frame None)) (unclaim_entry f.processor v.space frame)
 claim_ended f v fault frame kept st before phase owns claims ready agree =
     by_phase f (Unclaim v fault) phase (λ g. OwnsBy before f.processor (row_of g).progress.doing → IsReady g kept st → Makes g (in_phase f (unclaimed v fault)) kept kept st before (counted (claimed before frame None)) (unclaim_entry f.processor v.space frame))
     (λ own r. Makes-unclaim f v frame kept st before fault r agree own claims) owns ready

@@ -3,7 +3,7 @@ use Rattle.std.proofs.Common.{◌≡◌, ℕ, ◌<◌, true, length, Some, None,
 use Rattle.std.specs.Option.{IsSomeAnd}
 use Rattle.std.proofs.lemmas.Bool.{and_from, eq-eqb, false≢true}
 use Rattle.std.proofs.lemmas.Option.{same_Some}
-use Rattle.frame_pool.specs.declared.pool.Victim.{Victim as Claimed}
+use Rattle.pager_model.specs.declared.entry.Victim.{Victim}
 use Rattle.frame_pool.specs.Laid.{IsSound}
 use Rattle.frame_pool.proofs.PagePlaces.{frame_in-found}
 use Rattle.frame_pool.proofs.StateSoundness.{Takes, Takes-take_frame, IsSound-dropped, frame_of-dropped}
@@ -27,7 +27,7 @@ use Rattle.pager_core.proofs.AnswerSteps.{in_phase, by_phase}
 use Rattle.pager_core.proofs.TakenFrames.{IsReady-placed, after_own}
 
 -- what stands where a held frame is used: the page of the call's own space lacks a frame
-pub wants_still : (f : Flight) (page : ℕ) (want : Want) (v : Claimed) (kept : Kept) (st : SpaceState) → f.phase ≡ Use page want v → IsReady f kept st → (space_of_call f.call ≡ kept.number) × WantsFrame f.call kept page want
+pub wants_still : (f : Flight) (page : ℕ) (want : Want) (v : Victim) (kept : Kept) (st : SpaceState) → f.phase ≡ Use page want v → IsReady f kept st → (space_of_call f.call ≡ kept.number) × WantsFrame f.call kept page want
 wants_still f page want v kept st phase =
     by_phase f (Use page want v) phase (λ g. IsReady g kept st → (space_of_call g.call ≡ kept.number) × WantsFrame g.call kept page want) (λ ready. (same_Some _ _ ready.under, ready.found))
 
@@ -53,7 +53,7 @@ abbrev pub use_entry : ℕ → ℕ → ℕ → ℕ → Want → Entry
 use_entry c space page frame want = record { processor = c; space = Some space; frames = true; what = UseHeld page frame want }
 
 -- Use: the page gets the frame that is taken once the held one is free
-module _ (f : Flight) (page : ℕ) (want : Want) (v : Claimed) (was now : Kept) (before : FrameState) (t : Taking) where
+module _ (f : Flight) (page : ℕ) (want : Want) (v : Victim) (was now : Kept) (before : FrameState) (t : Taking) where
   Makes-use :
       (st : SpaceState) → IsReady (in_phase f (Use page want v)) was st → AreAgreed was before → held_by before f.processor ≡ Some v.frame
       → take_frame (dropped before f.processor) (space_of_call f.call) page want ≡ Some t → Places was now page t.frame
@@ -93,7 +93,7 @@ module _ (f : Flight) (page : ℕ) (want : Want) (v : Claimed) (was now : Kept) 
       next = IsReady-placed f page t.frame want was now (space_after st (use_entry f.processor (space_of_call f.call) page t.frame want)) ready.fits.can on ready.found places
           (subst (λ n. StandsFor now (space_after st (take_entry f.processor n page t.frame want))) (sym on) (places.stands st f.processor want ready.stands)) refl
 
-pub held_used : (f : Flight) (page own frame : ℕ) (want : Want) (v : Claimed) (was now : Kept) (before after : FrameState) (t : Taking) → f.phase ≡ Use page want v → own ≡ space_of_call f.call → frame ≡ t.frame → AreAgreed was before → OwnsBy before f.processor (row_of f).progress.doing → take_frame (dropped before f.processor) own page want ≡ Some t → after ≡ counted t.state → Places was now page t.frame → (st : SpaceState) → IsReady f was st → Makes f (in_phase f (Fill page frame)) was now st before after (use_entry f.processor own page frame want)
+pub held_used : (f : Flight) (page own frame : ℕ) (want : Want) (v : Victim) (was now : Kept) (before after : FrameState) (t : Taking) → f.phase ≡ Use page want v → own ≡ space_of_call f.call → frame ≡ t.frame → AreAgreed was before → OwnsBy before f.processor (row_of f).progress.doing → take_frame (dropped before f.processor) own page want ≡ Some t → after ≡ counted t.state → Places was now page t.frame → (st : SpaceState) → IsReady f was st → Makes f (in_phase f (Fill page frame)) was now st before after (use_entry f.processor own page frame want)
 held_used f page own frame want v was now before after t phase same numbered agree owns takes counts places st =
     subst (λ n. IsReady f was st → Makes f (in_phase f (Fill page n)) was now st before after (use_entry f.processor own page n want)) (sym numbered)
     (subst (λ u. IsReady f was st → Makes f (in_phase f (Fill page t.frame)) was now st before u (use_entry f.processor own page t.frame want)) (sym counts)

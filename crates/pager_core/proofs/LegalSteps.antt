@@ -2,7 +2,7 @@
 use Rattle.std.proofs.Common.{◌≡◌, ◌≢◌, ℕ, ◌+◌, ◌<◌, ◌≤◌, Bool, true, false, ◌&&◌, cond, eqb, List, [], ◌∷◌, ◌++◌, length, Option, Some, None, IfSome, refl, ap, sym, subst, ◌∙◌, arith}
 use Rattle.std.proofs.lemmas.Bool.{false≢true, ne_eqb}
 use Rattle.std.proofs.lemmas.Option.{none-some, same_Some}
-use Rattle.frame_pool.specs.declared.pool.Victim.{Victim as Claimed}
+use Rattle.pager_model.specs.declared.entry.Victim.{Victim}
 use Rattle.pager_model.specs.declared.entry.Entry.{Entry}
 use Rattle.pager_model.specs.declared.entry.Need.{Need}
 use Rattle.pager_model.specs.declared.entry.What.{What}
@@ -11,7 +11,7 @@ use Rattle.pager_model.specs.Entries.{names_space, is_space, entries_of, IsOn}
 use Rattle.pager_model.specs.Flat.{space_of_call}
 use Rattle.pager_model.specs.FrameStates.{FrameState, frames_after, frame_of, FramesAllow}
 use Rattle.pager_model.specs.Legal.{IsLegal, space_at, frames_at, progress_at, progress_in, MayFollow}
-use Rattle.pager_model.specs.Order.{Progress, Doing, Purpose, ForAccess, Victim, Idle, Uncopied, Claiming, may_answer, leads, victim_in, progress_after, progress_by}
+use Rattle.pager_model.specs.Order.{Progress, Doing, Purpose, ForAccess, Idle, Uncopied, Claiming, may_answer, leads, victim_in, progress_after, progress_by}
 use Rattle.pager_model.specs.Settings.{Given, mark_of}
 use Rattle.pager_model.specs.SpaceStates.{SpaceState, space_after, SpaceAllows}
 use Rattle.pager_model.proofs.Histories.{space_at-named, space_at-other, frames_at-named, frames_at-other, IsLegal-keeps}
@@ -102,13 +102,13 @@ from_idle n space (Got frame) m purpose v goes = absurd (none-some _ goes)
 from_idle n space (Rest short) m purpose v goes = absurd (none-some _ goes)
 
 -- so the victim of a flight whose frame was just claimed has it
-pub victim_resident : (f f' : Flight) (was now : Kept) (st : SpaceState) (before after : FrameState) (e : Entry) (v : Claimed) → Makes f f' was now st before after e → f'.phase ≡ OutPhase v → frame_of before v.space v.page ≡ Some v.frame
+pub victim_resident : (f f' : Flight) (was now : Kept) (st : SpaceState) (before after : FrameState) (e : Entry) (v : Victim) → Makes f f' was now st before after e → f'.phase ≡ OutPhase v → frame_of before v.space v.page ≡ Some v.frame
 victim_resident f f' was now st before after e v makes is =
     let left : (row_of f').entries ≡ 7 = ap (λ p. (row_in f'.processor f'.number (space_of_call f'.call) f'.call f'.claimed p).entries) is in
-    let to : (row_of f').progress ≡ at f'.number (Claiming (ForAccess (access_of f'.call f'.claimed)) (victim_of v)) = ap (λ p. (row_in f'.processor f'.number (space_of_call f'.call) f'.call f'.claimed p).progress) is in
+    let to : (row_of f').progress ≡ at f'.number (Claiming (ForAccess (access_of f'.call f'.claimed)) v) = ap (λ p. (row_in f'.processor f'.number (space_of_call f'.call) f'.call f'.claimed p).progress) is in
     let fewer = makes.fewer in
     let from : (row_of f).progress ≡ at f.number Idle = idle_by f.processor f.number (space_of_call f.call) f.call f.claimed f.phase (omega (arith, left, fewer)) in
-    let claim = from_idle f.number e.space e.what f'.number (ForAccess (access_of f'.call f'.claimed)) (victim_of v) (sym (ap (λ p. progress_after p e.space e.what) from) ∙ makes.in_order ∙ ap Some to) in
+    let claim = from_idle f.number e.space e.what f'.number (ForAccess (access_of f'.call f'.claimed)) v (sym (ap (λ p. progress_after p e.space e.what) from) ∙ makes.in_order ∙ ap Some to) in
     let named = subst (IsOn e.space e.frames) claim.1 makes.parts in
     let allowed = subst (FramesAllow before 0 e.processor e.space) claim.1 (makes.frames_allow named.1) in
     allowed.1.place

@@ -6,7 +6,7 @@ use Rattle.std.proofs.lemmas.List.{append-nil, map_push, take_more, length_push,
 use Rattle.std.proofs.lemmas.List.Elements.{filter_map-append}
 use Rattle.std.proofs.lemmas.Option.{none-some, same_Some, slice_get_within, get_or_from_slice_get}
 use Rattle.std.proofs.Math.ListN.{set, length-set, length-take, length-replicate}
-use Rattle.frame_pool.specs.declared.pool.Victim.{Victim as Claimed}
+use Rattle.pager_model.specs.declared.entry.Victim.{Victim}
 use Rattle.pager_model.specs.declared.call.Call.{Call}
 use Rattle.pager_model.specs.declared.entry.Entry.{Entry}
 use Rattle.pager_model.specs.declared.entry.Numbered.{Numbered}
@@ -240,7 +240,7 @@ module _ (run : Running) (spaces : List Kept) (pool after : FrameState) (capacit
       subst (IsAtRest now) (state_here machine turns) (subst (λ x. LeftBy x f' now (after_named was.number (space_at run.given h s) e)) keeps turns.makes.left).1
 
   -- its next step is made under a space that is there
-  victim_within : M → T → (v : Claimed) → f'.phase ≡ Out v → v.space < length spaces
+  victim_within : M → T → (v : Victim) → f'.phase ≡ Out v → v.space < length spaces
   victim_within machine turns v is =
       let resident = (IsKept-legal run.given h machine.lawful.legal).agrees v.space v.page ∙ ap (λ p. frame_of p v.space v.page) (sym machine.frames) ∙ victim_resident f f' was now (space_at run.given h s) pool after e v turns.makes is in
       let all = machine.told in

@@ -2,7 +2,7 @@
 use Rattle.std.proofs.Common.{◌≡◌, ℕ, Bool, true, Some, None, refl, ap, sym, subst, ◌∙◌, arith}
 use Rattle.std.proofs.lemmas.Bool.{and_from, eq-eqb, false≢true}
 use Rattle.std.proofs.lemmas.Option.{same_Some}
-use Rattle.frame_pool.specs.declared.pool.Victim.{Victim as Claimed}
+use Rattle.pager_model.specs.declared.entry.Victim.{Victim}
 use Rattle.pager_model.specs.declared.entry.What.TheVariants.{Out as OutEntry, Failed, Give}
 use Rattle.pager_model.specs.Flat.{space_of_call}
 use Rattle.pager_model.specs.FrameStates.{FrameState, counted, frame_of, give_page}
@@ -20,11 +20,11 @@ use Rattle.pager_core.proofs.ClaimSteps.{LeftBy-own_if}
 use Rattle.pager_core.proofs.TakenFrames.{after_own}
 
 -- a victim is its own page
-is_own_victim : (v : Claimed) → is_victim (victim_of v) v.space v.page ≡ true
+is_own_victim : (v : Victim) → is_victim v v.space v.page ≡ true
 is_own_victim v = and_from _ _ (eq-eqb v.space v.space refl) (eq-eqb v.page v.page refl)
 
 -- Write: what the write of the victim's page leads to
-module _ (f : Flight) (v : Claimed) (was now : Kept) (st : SpaceState) where
+module _ (f : Flight) (v : Victim) (was now : Kept) (st : SpaceState) where
   -- the victim's page keeps its frame
   still_victim : HasVictim was v → SameFrames was now → IsResting now → HasVictim now v
   still_victim has same resting = record { resting = resting; place = same.frame v.page ∙ has.place }
@@ -42,7 +42,7 @@ module _ (f : Flight) (v : Claimed) (was now : Kept) (st : SpaceState) where
     space_allows = (subst (λ next. MayGoOn next f.processor (OutEntry v.page written)) (sym ready.next) tt, out.allowed st ready.stands f.processor);
     frames_allow = λ is. absurd (false≢true is);
     frames_after = refl;
-    in_order = ap (λ b. leads b f.number (Emptied (ForAccess (access_of f.call f.claimed)) (victim_of v))) (is_own_victim v);
+    in_order = ap (λ b. leads b f.number (Emptied (ForAccess (access_of f.call f.claimed)) v)) (is_own_victim v);
     reply = refl;
     answer = refl;
     left = (on_now, subst (IsReady (in_phase f (Hand v)) now) (sym (after_own v.space was.number st (out_entry f.processor v.space v.page written) refl on)) next);
@@ -78,7 +78,7 @@ module _ (f : Flight) (v : Claimed) (was now : Kept) (st : SpaceState) where
     space_allows = (subst (λ next. MayGoOn next f.processor (Failed v.page true count)) (sym ready.next) tt, fails.allowed st ready.stands f.processor);
     frames_allow = λ is. absurd (false≢true is);
     frames_after = refl;
-    in_order = ap (λ b. leads b f.number (Unwritten (ForAccess (access_of f.call f.claimed)) (victim_of v) count)) (is_own_victim v);
+    in_order = ap (λ b. leads b f.number (Unwritten (ForAccess (access_of f.call f.claimed)) v count)) (is_own_victim v);
     reply = refl;
     answer = refl;
     left = (on_now, subst (IsReady (in_phase f (Unclaim v (Some count))) now) (sym (after_own v.space was.number st (failed_entry f.processor v.space v.page true count) refl on)) next);
@@ -125,23 +125,23 @@ module _ (f : Flight) (v : Claimed) (was now : Kept) (st : SpaceState) where
       on : v.space ≡ was.number
       on = same_Some _ _ ready.under
 
-pub page_written : (f : Flight) (v : Claimed) (written : Bool) (was now : Kept) → f.phase ≡ Write v → WritesOut was now v.page written → (st : SpaceState) (frames : FrameState) → IsReady f was st → Makes f (in_phase f (Hand v)) was now st frames frames (out_entry f.processor v.space v.page written)
+pub page_written : (f : Flight) (v : Victim) (written : Bool) (was now : Kept) → f.phase ≡ Write v → WritesOut was now v.page written → (st : SpaceState) (frames : FrameState) → IsReady f was st → Makes f (in_phase f (Hand v)) was now st frames frames (out_entry f.processor v.space v.page written)
 page_written f v written was now phase out st frames =
     by_phase f (Write v) phase (λ g. IsReady g was st → Makes g (in_phase f (Hand v)) was now st frames frames (out_entry f.processor v.space v.page written))
     (λ ready. Makes-out f v was now st written ready out frames)
 
-pub write_failed : (f : Flight) (v : Claimed) (count : ℕ) (was now : Kept) → f.phase ≡ Write v → FailsToWrite was now v.page count → (st : SpaceState) (frames : FrameState) → IsReady f was st → Makes f (in_phase f (Unclaim v (Some count))) was now st frames frames (failed_entry f.processor v.space v.page true count)
+pub write_failed : (f : Flight) (v : Victim) (count : ℕ) (was now : Kept) → f.phase ≡ Write v → FailsToWrite was now v.page count → (st : SpaceState) (frames : FrameState) → IsReady f was st → Makes f (in_phase f (Unclaim v (Some count))) was now st frames frames (failed_entry f.processor v.space v.page true count)
 write_failed f v count was now phase fails st frames =
     by_phase f (Write v) phase (λ g. IsReady g was st → Makes g (in_phase f (Unclaim v (Some count))) was now st frames frames (failed_entry f.processor v.space v.page true count))
     (λ ready. Makes-failed f v was now st count ready fails frames)
 
-pub write_lacks_memory : (f : Flight) (v : Claimed) (was now : Kept) → f.phase ≡ Write v → LeavesUnwritten was now v.page → (st : SpaceState) → IsReady f was st → Passes f (in_phase f (Unclaim v None)) was now st
+pub write_lacks_memory : (f : Flight) (v : Victim) (was now : Kept) → f.phase ≡ Write v → LeavesUnwritten was now v.page → (st : SpaceState) → IsReady f was st → Passes f (in_phase f (Unclaim v None)) was now st
 write_lacks_memory f v was now phase leaves st =
     by_phase f (Write v) phase (λ g. IsReady g was st → Passes g (in_phase f (Unclaim v None)) was now st)
     (λ ready. Passes-unwritten f v was now st ready leaves)
 
 -- Hand: the victim's page gives its frame up
-module _ (f : Flight) (v : Claimed) (frame : ℕ) (was now : Kept) (st : SpaceState) (before : FrameState) where
+module _ (f : Flight) (v : Victim) (frame : ℕ) (was now : Kept) (st : SpaceState) (before : FrameState) where
   Makes-hand :
       IsReady (in_phase f (Hand v)) was st → AreAgreed was before → Removes was now v.page frame
       → Makes (in_phase f (Hand v)) (in_phase f (Back v)) was now st before (counted (give_page before v.space v.page)) (give_entry f.processor v.space v.page frame)
@@ -156,7 +156,7 @@ module _ (f : Flight) (v : Claimed) (frame : ℕ) (was now : Kept) (st : SpaceSt
     space_allows = (subst (λ next. MayGoOn next f.processor (Give v.page frame)) (sym ready.next) refl, removes.allowed st ready.stands f.processor);
     frames_allow = λ named. ap (λ s. frame_of before s v.page) on ∙ sym (agree.pages v.page) ∙ removes.gave.had;
     frames_after = refl;
-    in_order = ap (λ b. leads b f.number (Holding (ForAccess (access_of f.call f.claimed)) (victim_of v))) (and_from _ _ (is_own_victim v) (eq-eqb frame v.frame is));
+    in_order = ap (λ b. leads b f.number (Holding (ForAccess (access_of f.call f.claimed)) v)) (and_from _ _ (is_own_victim v) (eq-eqb frame v.frame is));
     reply = refl;
     answer = refl;
     left = subst (LeftBy (own_if (space_of_call f.call) v.space) (in_phase f (Back v)) now) (sym (after_own v.space was.number st (give_entry f.processor v.space v.page frame) refl on))
@@ -185,7 +185,7 @@ module _ (f : Flight) (v : Claimed) (frame : ℕ) (was now : Kept) (st : SpaceSt
         next = refl;
       }
 
-pub frame_handed : (f : Flight) (v : Claimed) (frame : ℕ) (was now : Kept) (before : FrameState) → f.phase ≡ Hand v → AreAgreed was before → Removes was now v.page frame → (st : SpaceState) → IsReady f was st → Makes f (in_phase f (Back v)) was now st before (counted (give_page before v.space v.page)) (give_entry f.processor v.space v.page frame)
+pub frame_handed : (f : Flight) (v : Victim) (frame : ℕ) (was now : Kept) (before : FrameState) → f.phase ≡ Hand v → AreAgreed was before → Removes was now v.page frame → (st : SpaceState) → IsReady f was st → Makes f (in_phase f (Back v)) was now st before (counted (give_page before v.space v.page)) (give_entry f.processor v.space v.page frame)
 frame_handed f v frame was now before phase agree removes st =
     by_phase f (Hand v) phase (λ g. IsReady g was st → Makes g (in_phase f (Back v)) was now st before (counted (give_page before v.space v.page)) (give_entry f.processor v.space v.page frame))
     (λ ready. Makes-hand f v frame was now st before ready agree removes)

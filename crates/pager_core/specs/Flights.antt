@@ -1,6 +1,6 @@
 -- What stands in a space while a flight goes on in it.
 use Rattle.std.specs.Prelude.{ℕ, ◌≡◌, ◌<◌, ◌⊎◌, true, false, Option, Some, None, IsSome}
-use Rattle.frame_pool.specs.declared.pool.Victim.{Victim}
+use Rattle.pager_model.specs.declared.entry.Victim.{Victim}
 use Rattle.pager_model.specs.declared.call.Call.{Call}
 use Rattle.pager_model.specs.declared.call.Call.TheVariants.{Evict as EvictCall}
 use Rattle.pager_model.specs.declared.entry.Want.{Want}
@@ -14,7 +14,8 @@ use Rattle.space_core.specs.Standing.{Kept, StandsFor, IsResting, MustWrite, fra
 use Rattle.pager_core.specs.declared.flight.Flight.{Flight}
 use Rattle.pager_core.specs.declared.flight.Phase.{Phase}
 use Rattle.pager_core.specs.declared.flight.Phase.TheVariants.{Start, Evict, Clear, Gone, Frame, Short, Fill, Unfill, Out, Write, Hand, Unclaim, Back, Drop, Late, Use, Fault, Lack, Ended}
-use Rattle.pager_core.specs.Rows.{row_of, space_under}
+use Rattle.pager_core.specs.declared.flight.Purpose.{Purpose}
+use Rattle.pager_core.specs.Rows.{call_in, claimed_in, is_of_call, row_of, space_under}
 
 -- a load or a store at this page, which the rights of the page allow
 pub record IsLawfulAt (call : Call) (kept : Kept) (page : ℕ) : Type 0 where
@@ -116,25 +117,29 @@ PhaseStands call kept (Fault space count) = HasFaulted call kept
 PhaseStands call kept (Lack space) = IsResting kept
 PhaseStands call kept (Ended reply) = IsResting kept
 
--- What a phase says of its call, whatever the space: only a load or a store goes on in another space than its own, and beside them only
--- a sync or an evict meets its store's fault.
-abbrev pub PhaseFits : Call → Phase → Type 0
-PhaseFits call (Out v) = is_access call ≡ true
-PhaseFits call (Write v) = is_access call ≡ true
-PhaseFits call (Hand v) = is_access call ≡ true
-PhaseFits call (Unclaim v fault) = is_access call ≡ true
-PhaseFits call (Back v) = is_access call ≡ true
-PhaseFits call (Drop v) = is_access call ≡ true
-PhaseFits call Late = is_access call ≡ true
-PhaseFits call (Use page want v) = is_access call ≡ true
-PhaseFits call (Fault space count) = ((space ≡ space_of_call call) × IsSome (copied_page call)) ⊎ (is_access call ≡ true)
-PhaseFits call (Lack space) = is_access call ≡ true
-PhaseFits call phase = Unit {0}
+-- What a phase says of its call, whatever the space: until a step wants a frame none was claimed; only a load or a store goes on in another
+-- space than its own; and beside them only a sync or an evict meets its store's fault.
+abbrev pub PhaseFits : Purpose → Phase → Type 0
+PhaseFits purpose Start = claimed_in purpose ≡ false
+PhaseFits purpose (Frame page want) = claimed_in purpose ≡ false
+PhaseFits purpose (Out v) = is_access (call_in purpose) ≡ true
+PhaseFits purpose (Write v) = is_access (call_in purpose) ≡ true
+PhaseFits purpose (Hand v) = is_access (call_in purpose) ≡ true
+PhaseFits purpose (Unclaim v fault) = is_access (call_in purpose) ≡ true
+PhaseFits purpose (Back v) = is_access (call_in purpose) ≡ true
+PhaseFits purpose (Drop v) = is_access (call_in purpose) ≡ true
+PhaseFits purpose Late = is_access (call_in purpose) ≡ true
+PhaseFits purpose (Use page want v) = is_access (call_in purpose) ≡ true
+PhaseFits purpose (Fault space count) =
+    ((space ≡ space_of_call (call_in purpose)) × IsSome (copied_page (call_in purpose))) ⊎ (is_access (call_in purpose) ≡ true)
+PhaseFits purpose (Lack space) = is_access (call_in purpose) ≡ true
+PhaseFits purpose phase = Unit {0}
 
--- the flight's call can be begun, and its phase fits it
+-- the flight is of a call that can be begun, and its phase fits it
 pub record Fits (f : Flight) : Type 0 where
-  pub can : CanBegin f.call
-  pub phase : PhaseFits f.call f.phase
+  pub of_call : is_of_call f.purpose ≡ true
+  pub can : CanBegin (call_in f.purpose)
+  pub phase : PhaseFits f.purpose f.phase
 
 -- The space that the flight's next step is made under stands for this state, in which the next entry may be the flight's, and what
 -- the flight found there stands.
@@ -143,7 +148,7 @@ pub record IsReady (f : Flight) (kept : Kept) (st : SpaceState) : Type 0 where
   pub fits : Fits f
   pub stands : StandsFor kept st
   pub next : st.next ≡ (row_of f).next
-  pub found : PhaseStands f.call kept f.phase
+  pub found : PhaseStands (call_in f.purpose) kept f.phase
 
 -- A space in which no flight is in the middle of a step: any may enter it.
 pub record IsAtRest (kept : Kept) (st : SpaceState) : Type 0 where

@@ -7,7 +7,7 @@ use Rattle.pager_model.specs.Flat.{space_of_call}
 use Rattle.pager_model.specs.Legal.{space_at, frames_at, entries_in}
 use Rattle.space_core.specs.Standing.{Kept, CanBegin}
 use Rattle.pager_core.specs.declared.flight.Flight.{Flight}
-use Rattle.pager_core.specs.Rows.{row_of, space_under}
+use Rattle.pager_core.specs.Rows.{call_in, row_of, space_under, Going}
 use Rattle.pager_core.specs.Flights.{Fits, IsReady, IsAtRest}
 use Rattle.pager_core.specs.Running.{Running, calls_at, flight_at, left_at, IsLawful}
 
@@ -22,12 +22,12 @@ all_left run = sum_by (left_at run) (range_with_len 0 (length run.calls))
 -- a processor's flight: it is of this processor's call of its number, and isn't ended; and where it keeps a space it is ready there
 pub record IsFlying (run : Running) (spaces : List Kept) (c : ℕ) (f : Flight) : Type 0 where
   pub processor : f.processor ≡ c
-  pub of_call : slice_get (calls_at run.calls c) f.number ≡ Some f.call
-  pub on : space_of_call f.call < length spaces
+  pub of_call : slice_get (calls_at run.calls c) f.number ≡ Some (call_in f.purpose)
+  pub on : space_of_call (call_in f.purpose) < length spaces
   pub fits : Fits f
   -- its next step is made under a space that is there
   pub under : (s : ℕ) → space_under (row_of f).needs ≡ Some s → s < length spaces
-  pub going : (row_of f).reply ≡ None
+  pub going : (row_of f).outcome ≡ Going
   pub keeps : (s : ℕ) (kept : Kept) → (row_of f).keeps ≡ Some s → slice_get spaces s ≡ Some kept → IsReady f kept (space_at run.given (entries_in run.history) s)
 
 -- a space has its number, the run's count of frames, and an image for each processor

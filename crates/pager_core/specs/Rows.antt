@@ -1,41 +1,48 @@
 -- The table of steps, one row a phase: what the next step is made under, which space's lock the flight keeps, where its processor is
--- in the order of its entries, who makes the next entry of the space, and how much is left to do.
-use Rattle.std.specs.Prelude.{ℕ, ◌+◌, ◌==◌, Bool, true, false, if◌then◌else◌, Option, Some, None}
-use Rattle.frame_pool.specs.declared.pool.Victim.{Victim as Claimed}
+-- in the order of its entries, who makes the next entry of the space, how much is left to do, and what came of it. Which space's lock that
+-- is follows from the place in the order alone, by the one table of locks.
+use Rattle.std.specs.Prelude.{ℕ, ◌+◌, Bool, true, false, if◌then◌else◌, Option, Some, None}
 use Rattle.pager_model.specs.declared.call.Call.{Call}
-use Rattle.pager_model.specs.declared.call.Call.TheVariants.{Store}
+use Rattle.pager_model.specs.declared.call.Call.TheVariants.{Load, Store}
+use Rattle.pager_model.specs.declared.entry.Victim.{Victim}
 use Rattle.pager_model.specs.declared.reply.Reply.{Reply}
 use Rattle.pager_model.specs.Flat.{space_of_call}
-use Rattle.pager_model.specs.Order.{Access, Victim, Purpose, ForAccess, Doing, Idle, Cleared, Uncopied, Filling, Unfilling, Claiming, Emptied, Unwritten, Holding, Late as AnswersLate, Faulted, Lacking, Refusing, Progress}
-use Rattle.pager_model.specs.SpaceStates.{Next, Anyone, Only, Unmaps, access_page}
+use Rattle.pager_model.specs.Locks.{under_in, keeps_in}
+use Rattle.pager_model.specs.Order.{Access, Purpose as Claimed, ForAccess, ForTurn, Doing, Idle, Cleared, Uncopied, Filling, Unfilling, Claiming, Emptied, Unwritten, Holding, Late as AnswersLate, Faulted, Lacking, Refusing, Progress}
+use Rattle.pager_model.specs.SpaceStates.{Next, Anyone, Only, AfterClear, access_page}
 use Rattle.pager_core.specs.declared.flight.Flight.{Flight}
 use Rattle.pager_core.specs.declared.flight.Phase.{Phase}
 use Rattle.pager_core.specs.declared.flight.Phase.TheVariants.{Start, Evict, Clear, Gone, Frame, Short, Fill, Unfill, Out, Write, Hand, Unclaim, Back, Drop, Late, Use, Fault, Lack, Ended}
 use Rattle.pager_core.specs.declared.flight.Needs.{Needs}
 use Rattle.pager_core.specs.declared.flight.Needs.TheVariants.{Space, Both, Frames, Ended as NoneNeeded}
+use Rattle.pager_core.specs.declared.flight.Purpose.{Purpose}
+use Rattle.pager_core.specs.declared.flight.Purpose.TheVariants.{Call as OfCall, Turn as OfTurn}
 use Rattle.space_core.specs.Standing.{copied_page}
 
-pub record Row : Type 0 where
-  pub needs : Needs
-  -- the space whose lock the flight keeps between the last step and the next
-  pub keeps : Option ℕ
-  -- how many calls the processor has answered, and where it is in the next
-  pub progress : Progress
-  -- who makes the next entry of the space that the step is made under
-  pub next : Next
-  -- at most how many steps, and how many entries, are left
-  pub steps : ℕ
-  pub entries : ℕ
-  -- the reply, once the call is answered
-  pub reply : Option Reply
+-- Purposes.
 
-abbrev pub at : ℕ → Doing → Progress
-at made doing = record { made = made; doing = doing }
+-- The call of a flight, and whether a frame was claimed for it. A turn has no call, and nothing is asked of the one that stands here.
+abbrev pub call_in : Purpose → Call
+call_in (OfCall call claimed) = call
+call_in (OfTurn mark evictions) = Load 0 0
 
--- the row of a step that has the call's answer before it still
-abbrev pub going : Needs → Option ℕ → Progress → Next → ℕ → ℕ → Row
-going needs keeps progress next steps entries =
-    record { needs = needs; keeps = keeps; progress = progress; next = next; steps = steps; entries = entries; reply = None }
+abbrev pub claimed_in : Purpose → Bool
+claimed_in (OfCall call claimed) = claimed
+claimed_in (OfTurn mark evictions) = false
+
+abbrev pub is_of_call : Purpose → Bool
+is_of_call (OfCall call claimed) = true
+is_of_call (OfTurn mark evictions) = false
+
+-- the space of its call; a turn has none of its own
+abbrev pub own_space : Purpose → Option ℕ
+own_space (OfCall call claimed) = Some (space_of_call call)
+own_space (OfTurn mark evictions) = None
+
+-- the mark of its processor
+abbrev pub mark_in : Purpose → ℕ
+mark_in (OfCall call claimed) = 0
+mark_in (OfTurn mark evictions) = mark
 
 -- the page of a load or a store; 0 never comes for one
 abbrev pub page_or_zero : Option ℕ → ℕ
@@ -51,58 +58,108 @@ abbrev pub access_of : Call → Bool → Access
 access_of call claimed =
     record { space = space_of_call call; page = page_or_zero (access_page call); writing = if claimed then Some (is_store call) else None }
 
--- the page that a frame was claimed from
-abbrev pub victim_of : Claimed → Victim
-victim_of v = record { space = v.space; page = v.page; frame = v.frame }
+abbrev pub access_in : Purpose → Access
+access_in purpose = access_of (call_in purpose) (claimed_in purpose)
 
--- a flight that goes on in another space than its call's keeps no lock between
-abbrev pub own_if : ℕ → ℕ → Option ℕ
-own_if own space = if space == own then Some own else None
+-- what it claims a frame for
+abbrev pub claims_for : Purpose → Claimed
+claims_for (OfCall call claimed) = ForAccess (access_of call claimed)
+claims_for (OfTurn mark evictions) = ForTurn mark evictions
+
+-- Rows.
+
+-- what came of a flight: it goes on, the turn of a daemon has ended, or the call was answered
+pub data Outcome : Type 0 where
+  Going : Outcome
+  TurnEnded : Outcome
+  Answered : Reply → Outcome
+
+-- the reply, once the call was answered
+abbrev pub reply_in : Outcome → Option Reply
+reply_in Going = None
+reply_in TurnEnded = None
+reply_in (Answered reply) = Some reply
+
+pub record Row : Type 0 where
+  pub needs : Needs
+  -- the space whose lock the flight keeps between the last step and the next
+  pub keeps : Option ℕ
+  -- how many calls the processor has answered, or turns it has made, and where it is in the next
+  pub progress : Progress
+  -- who makes the next entry of the space that the step is made under
+  pub next : Next
+  -- at most how many steps, and how many entries, are left
+  pub steps : ℕ
+  pub entries : ℕ
+  pub outcome : Outcome
+
+abbrev pub at : ℕ → Doing → Progress
+at made doing = record { made = made; doing = doing }
+
+-- a step under a space's lock alone, and one under that and the frames'; where there is no space it is made under the frames'
+abbrev pub alone : Option ℕ → Needs
+alone None = Frames
+alone (Some s) = Space s
+
+abbrev pub both : Option ℕ → Needs
+both None = Frames
+both (Some s) = Both s
+
+-- the row of a phase that an entry led to, or the first: it keeps what the table of locks says of its place
+abbrev pub placed : (Option ℕ → Needs) → Option ℕ → Progress → Next → ℕ → ℕ → Row
+placed made own p next steps entries =
+    record { needs = made (under_in own p.doing); keeps = keeps_in own p.doing; progress = p; next = next; steps = steps; entries = entries; outcome = Going }
+
+-- the row of a phase that a step without an entry led to: it keeps the space that this step was made under, where the next is made too
+abbrev pub found : (Option ℕ → Needs) → Option ℕ → Progress → Next → ℕ → ℕ → Row
+found made own p next steps entries =
+    record { needs = made (under_in own p.doing); keeps = under_in own p.doing; progress = p; next = next; steps = steps; entries = entries; outcome = Going }
 
 -- where a processor is whose store failed: a sync or an evict failed by itself, and an access by a page's read or a victim's write
-abbrev pub faulted : Call → Bool → ℕ → ℕ → Option ℕ → Doing
-faulted call claimed space count None = Faulted (access_of call claimed) space count
-faulted call claimed space count (Some page) = Uncopied space page count
+abbrev pub faulted : Access → ℕ → ℕ → Option ℕ → Doing
+faulted access space count None = Faulted access space count
+faulted access space count (Some page) = Uncopied space page count
 
 -- where it is after the write of a victim's page failed, for so many times, or found no memory
-abbrev pub unwritten : Purpose → Victim → Option ℕ → Doing
-unwritten purpose victim None = Claiming purpose victim
-unwritten purpose victim (Some count) = Unwritten purpose victim count
+abbrev pub unwritten : Claimed → Victim → Option ℕ → Doing
+unwritten claimed victim None = Claiming claimed victim
+unwritten claimed victim (Some count) = Unwritten claimed victim count
 
--- the row of a phase, for a processor's call of this number on this space, for which a frame was claimed or not
-abbrev pub row_in : ℕ → ℕ → ℕ → Call → Bool → Phase → Row
-row_in c n s call claimed Start = going (Space s) None (at n Idle) Anyone 10 8
-row_in c n s call claimed (Evict page) = going (Both s) (Some s) (at n Idle) Anyone 1 8
-row_in c n s call claimed (Clear first len) = going (Both s) (Some s) (at n Idle) Anyone 2 8
-row_in c n s call claimed (Gone first len) = going (Space s) (Some s) (at n (Cleared s first len)) (Unmaps c first len) 1 7
-row_in c n s call claimed (Frame page want) = going (Both s) (Some s) (at n Idle) Anyone 9 8
-row_in c n s call claimed (Short wired claims held) = going (Space s) (Some s) (at n (Refusing wired claims held)) Anyone 1 7
-row_in c n s call claimed (Out v) =
-    going (Both v.space) (own_if s v.space) (at n (Claiming (ForAccess (access_of call claimed)) (victim_of v))) Anyone 8 7
-row_in c n s call claimed (Write v) =
-    going (Space v.space) (Some v.space) (at n (Claiming (ForAccess (access_of call claimed)) (victim_of v))) Anyone 7 7
-row_in c n s call claimed (Hand v) =
-    going (Both v.space) (Some v.space) (at n (Emptied (ForAccess (access_of call claimed)) (victim_of v))) (Only c) 6 6
-row_in c n s call claimed (Unclaim v fault) =
-    going (Both v.space) (Some v.space) (at n (unwritten (ForAccess (access_of call claimed)) (victim_of v) fault)) Anyone 2 6
-row_in c n s call claimed (Back v) =
-    going (Space s) (own_if s v.space) (at n (Holding (ForAccess (access_of call claimed)) (victim_of v))) Anyone 5 5
-row_in c n s call claimed (Drop v) =
-    going (Both s) (Some s) (at n (Holding (ForAccess (access_of call claimed)) (victim_of v))) Anyone 2 5
-row_in c n s call claimed Late = going (Space s) (Some s) (at n (AnswersLate (access_of call claimed))) Anyone 1 4
-row_in c n s call claimed (Use page want v) =
-    going (Both s) (Some s) (at n (Holding (ForAccess (access_of call claimed)) (victim_of v))) Anyone 4 5
-row_in c n s call claimed (Fill page frame) = going (Space s) (Some s) (at n (Filling (access_of call claimed) frame)) (Only c) 3 4
-row_in c n s call claimed (Unfill page frame count) =
-    going (Both s) (Some s) (at n (Unfilling (access_of call claimed) frame count)) (Only c) 2 3
-row_in c n s call claimed (Fault space count) =
-    going (Space s) (own_if s space) (at n (faulted call claimed space count (copied_page call))) Anyone 1 2
-row_in c n s call claimed (Lack space) = going (Space s) (own_if s space) (at n (Lacking (access_of call claimed) space)) Anyone 1 2
-row_in c n s call claimed (Ended reply) =
-    record { needs = NoneNeeded; keeps = None; progress = at (n + 1) Idle; next = Anyone; steps = 0; entries = 0; reply = Some reply }
+-- the row of a victim's page that can't be paged out, which an entry led to where the write failed
+abbrev pub unclaiming : Option ℕ → ℕ → Claimed → Victim → Option ℕ → Row
+unclaiming own n claimed v None = found both own (at n (Claiming claimed v)) Anyone 2 6
+unclaiming own n claimed v (Some count) = placed both own (at n (Unwritten claimed v count)) Anyone 2 6
+
+-- the row of a phase, for the flight of a processor with this many calls answered or turns made, in this space of its own and for this
+-- purpose
+abbrev pub row_in : ℕ → ℕ → Option ℕ → Purpose → Phase → Row
+row_in c n own purpose Start = placed alone own (at n Idle) Anyone 10 8
+row_in c n own purpose (Evict page) = found both own (at n Idle) Anyone 1 8
+row_in c n own purpose (Clear first len) = found both own (at n Idle) Anyone 2 8
+row_in c n own purpose (Gone first len) = placed alone own (at n (Cleared (space_of_call (call_in purpose)) first len)) (AfterClear c first len) 1 7
+row_in c n own purpose (Frame page want) = found both own (at n Idle) Anyone 9 8
+row_in c n own purpose (Short wired claims held) = placed alone own (at n (Refusing wired claims held)) Anyone 1 7
+row_in c n own purpose (Out v) = placed both own (at n (Claiming (claims_for purpose) v)) Anyone 8 7
+row_in c n own purpose (Write v) = found alone own (at n (Claiming (claims_for purpose) v)) Anyone 7 7
+row_in c n own purpose (Hand v) = placed both own (at n (Emptied (claims_for purpose) v)) (Only c) 6 6
+row_in c n own purpose (Unclaim v fault) = unclaiming own n (claims_for purpose) v fault
+row_in c n own purpose (Back v) = placed alone own (at n (Holding (claims_for purpose) v)) Anyone 5 5
+row_in c n own purpose (Drop v) = found both own (at n (Holding (claims_for purpose) v)) Anyone 2 5
+row_in c n own purpose Late = placed alone own (at n (AnswersLate (access_in purpose))) Anyone 1 4
+row_in c n own purpose (Use page want v) = found both own (at n (Holding (claims_for purpose) v)) Anyone 4 5
+row_in c n own purpose (Fill page frame) = placed alone own (at n (Filling (access_in purpose) frame)) (Only c) 3 4
+row_in c n own purpose (Unfill page frame count) = placed both own (at n (Unfilling (access_in purpose) frame count)) (Only c) 2 3
+row_in c n own purpose (Fault space count) = placed alone own (at n (faulted (access_in purpose) space count (copied_page (call_in purpose)))) Anyone 1 2
+row_in c n own purpose (Lack space) = placed alone own (at n (Lacking (access_in purpose) space)) Anyone 1 2
+row_in c n own purpose (Ended reply) =
+    record { needs = NoneNeeded; keeps = None; progress = at (n + 1) Idle; next = Anyone; steps = 0; entries = 0; outcome = Answered reply }
+
+-- a processor's call of this number, of which nothing was done
+abbrev pub new_flight : ℕ → ℕ → Call → Flight
+new_flight c number call = record { processor = c; number = number; purpose = OfCall call false; phase = Start }
 
 abbrev pub row_of : Flight → Row
-row_of f = row_in f.processor f.number (space_of_call f.call) f.call f.claimed f.phase
+row_of f = row_in f.processor f.number (own_space f.purpose) f.purpose f.phase
 
 -- The phase is one that an entry leads to, or the first: between two turns of its processor a flight is in no other.
 abbrev pub is_between : Phase → Bool
@@ -121,7 +178,3 @@ space_under (Space s) = Some s
 space_under (Both s) = Some s
 space_under Frames = None
 space_under NoneNeeded = None
-
--- the mark of a flight's processor: that of one that makes calls, since each flight is of a call so far
-abbrev pub mark_of_flight : Flight → ℕ
-mark_of_flight f = 0

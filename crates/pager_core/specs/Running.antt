@@ -15,8 +15,7 @@ use Rattle.pager_model.specs.SpaceStates.{last_count}
 use Rattle.store_core.specs.Stored.{Stored, copy_at}
 use Rattle.space_core.specs.Standing.{IsCopy}
 use Rattle.pager_core.specs.declared.flight.Flight.{Flight}
-use Rattle.pager_core.specs.declared.flight.Phase.TheVariants.{Start}
-use Rattle.pager_core.specs.Rows.{row_of, is_between, space_under}
+use Rattle.pager_core.specs.Rows.{call_in, is_of_call, new_flight, row_of, is_between, space_under, Going}
 use Rattle.pager_core.specs.RunParts.{given_over}
 
 -- The setting of its history, the calls of each processor, for each processor the call that is in progress or comes next, where one is
@@ -41,8 +40,7 @@ flight_at flights c = slice_index_or flights c None
 
 -- the flight of the processor's call of this number, of which nothing was done, where there is such a call
 abbrev pub flight_of : ℕ → ℕ → List Call → Option Flight
-flight_of c number calls =
-    option_map (λ call. record { processor = c; number = number; call = call; phase = Start; claimed = false }) (slice_get calls number)
+flight_of c number calls = option_map (new_flight c number) (slice_get calls number)
 
 -- at the start each processor's first call comes next
 abbrev pub first_flights : List (List Call) → List (Option Flight)
@@ -97,7 +95,7 @@ pub record StillFlies (run : Running) (actor number : ℕ) : Type 0 where
   pub flight : Flight
   pub flies : flight_at run.flights actor ≡ Some flight
   pub same_call : flight.number ≡ number
-  pub going : (row_of flight).reply ≡ None
+  pub going : (row_of flight).outcome ≡ Going
 
 -- after a step the flight goes on, or its call was answered and the processor's next call comes next, where there is one
 abbrev pub WentOn : Running → ℕ → ℕ → Type 0
@@ -115,8 +113,9 @@ pub record OneMore (old new : Running) (actor : ℕ) : Type 0 where
 
 -- a processor's flight is of this processor's call of its number, and that call isn't answered
 pub record IsOfCall (calls : List Call) (f : Flight) : Type 0 where
-  pub call : slice_get calls f.number ≡ Some f.call
-  pub going : (row_of f).reply ≡ None
+  pub is_call : is_of_call f.purpose ≡ true
+  pub call : slice_get calls f.number ≡ Some (call_in f.purpose)
+  pub going : (row_of f).outcome ≡ Going
 
 -- What holds after any turns: the history is legal and numbered, spaces and frames agree, each processor is where its flight is, and
 -- its answers are of its first calls, in order and numbered from 0. Each flight is in a phase that an entry led to, or the first, and

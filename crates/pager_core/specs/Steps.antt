@@ -15,7 +15,7 @@ use Rattle.space_core.specs.Standing.{Kept, frame_at}
 use Rattle.frame_pool.specs.Laid.{IsSound}
 use Rattle.pager_core.specs.declared.flight.Flight.{Flight}
 use Rattle.pager_core.specs.declared.flight.Phase.TheVariants.{Short, Fault, Lack}
-use Rattle.pager_core.specs.Rows.{row_of, is_between, mark_of_flight}
+use Rattle.pager_core.specs.Rows.{call_in, is_of_call, mark_in, row_of, is_between, Going, reply_in}
 use Rattle.pager_core.specs.Flights.{IsReady, LeftBy}
 
 -- the state of a space after an entry that may name it
@@ -39,11 +39,13 @@ Refuses f (StoreFault space count) = f.phase ≡ Fault space count
 Refuses f NoMemory = (space : ℕ) × (f.phase ≡ Lack space)
 Refuses f reply = ⊥
 
--- it is the same call
-pub record SameCall (old new : Flight) : Type 0 where
+-- it is the same call, or the same turn of a daemon
+pub record SameWork (old new : Flight) : Type 0 where
   pub processor : new.processor ≡ old.processor
   pub number : new.number ≡ old.number
-  pub call : new.call ≡ old.call
+  pub same_kind : is_of_call new.purpose ≡ is_of_call old.purpose
+  pub call : call_in new.purpose ≡ call_in old.purpose
+  pub mark : mark_in new.purpose ≡ mark_in old.purpose
 
 -- the reply that an entry says, where it is an answer
 abbrev pub reply_said : What → Option Reply
@@ -53,39 +55,50 @@ reply_said what = None
 -- the number and the call that a flight's answer has, once its row has a reply
 abbrev pub answer_made : Flight → Option Reply → Option (ℕ × Call)
 answer_made f None = None
-answer_made f (Some reply) = Some (f.number, f.call)
+answer_made f (Some reply) = Some (f.number, call_in f.purpose)
 
--- A step that makes an entry, of the flight's processor, on the space that it is made under, the frames or both: the parts that it
--- names allow it, the frames then are one entry further, it keeps the processor's order, it says the flight's reply where it is its
--- answer, and the flight leaves the space, one entry further, ready for its next step or at rest.
-pub record Makes (old new : Flight) (was now : Kept) (st : SpaceState) (before after : FrameState) (e : Entry) : Type 0 where
-  pub same_call : SameCall old new
-  pub same_space : now.number ≡ was.number
-  pub same_count : now.frames ≡ was.frames
-  pub same_processors : length now.images ≡ length was.images
+-- What a step that makes an entry makes, whatever it is made under: an entry of the flight's processor, for the same call or turn. It names
+-- its parts; where it names the frames they allow it, and they are one entry further then; it keeps the processor's order; it says the
+-- flight's reply where it is its answer; and fewer entries are left.
+pub record MakesEntry (old new : Flight) (before after : FrameState) (e : Entry) : Type 0 where
+  pub same_work : SameWork old new
   pub processor : e.processor ≡ old.processor
   pub parts : NamesItsParts e
-  pub own_space : IfSome e.space (λ s. s ≡ was.number)
-  pub space_allows : IfSome e.space (λ s. SpaceAllows st e)
-  pub frames_allow : e.frames ≡ true → FramesAllow before (mark_of_flight old) e.processor e.space e.what
+  pub frames_allow : e.frames ≡ true → FramesAllow before (mark_in old.purpose) e.processor e.space e.what
   pub frames_after : after ≡ after_frames before e
   pub in_order : progress_after (row_of old).progress e.space e.what ≡ Some (row_of new).progress
-  pub reply : reply_said e.what ≡ (row_of new).reply
-  pub answer : answer_in e.what ≡ answer_made new (row_of new).reply
-  pub left : LeftBy (row_of new).keeps new now (after_named was.number st e)
+  pub reply : reply_said e.what ≡ reply_in (row_of new).outcome
+  pub answer : answer_in e.what ≡ answer_made new (reply_in (row_of new).outcome)
   pub between : is_between new.phase ≡ true
   pub fewer : (row_of new).entries < (row_of old).entries
+
+-- it is the same space, with as many frames and images
+pub record SameSpace (was now : Kept) : Type 0 where
+  pub number : now.number ≡ was.number
+  pub frames : now.frames ≡ was.frames
+  pub processors : length now.images ≡ length was.images
+
+-- How such a step leaves the space that it is made under: the entry names no other space, this one allows it where it is named, and the
+-- flight leaves it, one entry further then, ready for its next step or at rest.
+pub record LeavesSpace (new : Flight) (was now : Kept) (st : SpaceState) (e : Entry) : Type 0 where
+  pub same_space : SameSpace was now
+  pub own_space : IfSome e.space (λ s. s ≡ was.number)
+  pub space_allows : IfSome e.space (λ s. SpaceAllows st e)
+  pub left : LeftBy (row_of new).keeps new now (after_named was.number st e)
+
+-- A step that makes an entry, under a space's lock.
+pub record Makes (old new : Flight) (was now : Kept) (st : SpaceState) (before after : FrameState) (e : Entry) : Type 0 where
+  pub entry : MakesEntry old new before after e
+  pub space : LeavesSpace new was now st e
 
 -- A step that makes no entry: the flight keeps the space and is ready for its next step there, and each page has the frame that it
 -- had.
 pub record Passes (old new : Flight) (was now : Kept) (st : SpaceState) : Type 0 where
-  pub same_call : SameCall old new
-  pub same_space : now.number ≡ was.number
-  pub same_count : now.frames ≡ was.frames
-  pub same_processors : length now.images ≡ length was.images
+  pub same_work : SameWork old new
+  pub same_space : SameSpace was now
   pub same_frames : (page : ℕ) → frame_at now page ≡ frame_at was page
   pub keeps : (row_of new).keeps ≡ Some was.number
   pub ready : IsReady new now st
   pub same_progress : (row_of new).progress ≡ (row_of old).progress
-  pub no_reply : (row_of new).reply ≡ None
+  pub going : (row_of new).outcome ≡ Going
   pub no_more : (row_of new).entries ≤ (row_of old).entries

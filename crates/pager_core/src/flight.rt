@@ -1,5 +1,5 @@
-ghost use Rattle.std.specs.Prelude.{◌≡◌, ◌≢◌, ℕ, ◌^◌, ◌<◌, false, Some, None, IfSome, IfNone, length};
-ghost use Rattle.frame_pool.specs.declared.pool.Victim.{Victim as Claimed};
+ghost use Rattle.std.specs.Prelude.{◌≡◌, ◌≢◌, ℕ, ◌^◌, ◌<◌, true, false, Some, None, IfSome, IfNone, length};
+ghost use Rattle.pager_model.specs.declared.entry.Victim.{Victim};
 ghost use Rattle.pager_model.specs.Agreement.{OwnsBy};
 ghost use Rattle.pager_model.specs.declared.entry.Want.{Want as Item};
 ghost use Rattle.pager_model.specs.FrameStates.{FrameState, IsFull, counted, give_page};
@@ -7,11 +7,13 @@ ghost use Rattle.pager_model.specs.SpaceStates.{SpaceState};
 ghost use Rattle.space_core.specs.Beginning.{Removes};
 ghost use Rattle.space_core.specs.Standing.{Kept, answer_entry, dirty_at, frame_at, give_entry};
 ghost use Rattle.pager_core.specs.Flights.{IsReady};
-ghost use Rattle.pager_core.specs.Rows.{row_of, space_under, own_if};
+ghost use Rattle.pager_core.specs.Rows.{alone, both, call_in, is_of_call, new_flight, own_space, reply_in, row_of, space_under};
+ghost use Rattle.pager_model.specs.Flat.{space_of_call};
+ghost use Rattle.pager_model.specs.Locks.{own_if};
 ghost use Rattle.pager_core.specs.Steps.{AreAgreed, Makes, Passes, Refuses};
 
-use frame_pool::{Collected, Full, Pool, Victim};
-use pager_model::{Answered, Call, Entry, Need, Reply, Want, What};
+use frame_pool::{Collected, Full, Pool};
+use pager_model::{Answered, Call, Entry, Need, Reply, Victim, Want, What};
 use space_core::{Begun, OutFault, Space};
 use store_core::Store;
 
@@ -117,29 +119,73 @@ pub enum Needs {
     Ended,
 }
 
-/// One call of a processor, in progress.
+/// What a flight is for.
+#[derive(Clone, Copy, Debug, PartialEq, Eq)]
+pub enum Purpose {
+    /// A call of a processor, and whether a frame was claimed for it.
+    Call {
+        call: Call,
+        claimed: bool,
+    },
+    /// A turn of a paging daemon with this low mark, in which so many pages were evicted. (No flight is of one yet.)
+    Turn {
+        mark: u32,
+        evictions: u32,
+    },
+}
+
+/// One call of a processor, or one turn of a paging daemon, in progress.
 #[derive(Clone, Copy, Debug, PartialEq, Eq)]
 pub struct Flight {
     pub processor: u32,
-    /// The call's number, counted from 0 by its processor.
+    /// The number of the call or of the turn, counted from 0 by its processor.
     pub number: u32,
-    pub call: Call,
+    pub purpose: Purpose,
     pub phase: Phase,
-    /// Whether a frame was claimed for the call.
-    pub claimed: bool,
 }
 
 impl Flight {
     /// The processor's call of this number, counted from 0, of which nothing was done.
     pub fn of_call(processor: u32, number: u32, call: Call) -> Flight
-        ensures { result ≡ record { processor = processor; number = number; call = call; phase = Phase.Start; claimed = false } }
+        ensures { result ≡ new_flight processor number call }
     {
         Flight {
             processor,
             number,
-            call,
+            purpose: Purpose::Call {
+                call,
+                claimed: false,
+            },
             phase: Phase::Start,
-            claimed: false,
+        }
+    }
+
+    /// The call, of a flight of one.
+    fn call(&self) -> Call
+        requires { is_of_call self.now.purpose ≡ true }
+        ensures { result ≡ call_in self.now.purpose }
+    {
+        let Purpose::Call { call, .. } = self.purpose else {
+            unreachable!()
+        };
+        call
+    }
+
+    /// Its space.
+    fn own(&self) -> u32
+        requires { is_of_call self.now.purpose ≡ true }
+        ensures { result ≡ space_of_call (call_in self.now.purpose) }
+    {
+        self.call().space()
+    }
+
+    /// The space of the call; a turn has none of its own.
+    fn own_space(&self) -> Option<u32>
+        ensures { result ≡ own_space self.now.purpose }
+    {
+        match self.purpose {
+            Purpose::Call { call, .. } => Some(call.space()),
+            Purpose::Turn { .. } => None,
         }
     }
 
@@ -147,7 +193,6 @@ impl Flight {
     pub fn needs(&self) -> Needs
         ensures { result ≡ (row_of self.now).needs }
     {
-        let own = self.call.space();
         match self.phase {
             Phase::Write { victim } => Needs::Space(victim.space),
             Phase::Out { victim } | Phase::Hand { victim } | Phase::Unclaim { victim, .. } => {
@@ -158,9 +203,9 @@ impl Flight {
             | Phase::Frame { .. }
             | Phase::Unfill { .. }
             | Phase::Drop { .. }
-            | Phase::Use { .. } => Needs::Both(own),
+            | Phase::Use { .. } => both(self.own_space()),
             Phase::Ended { .. } => Needs::Ended,
-            _ => Needs::Space(own),
+            _ => alone(self.own_space()),
         }
     }
 
@@ -178,7 +223,7 @@ impl Flight {
     pub fn keeps(&self) -> Option<u32>
         ensures { result ≡ (row_of self.now).keeps }
     {
-        let own = self.call.space();
+        let own = self.own_space();
         match self.phase {
             Phase::Start | Phase::Ended { .. } => None,
             Phase::Write { victim } | Phase::Hand { victim } | Phase::Unclaim { victim, .. } => {
@@ -186,13 +231,13 @@ impl Flight {
             }
             Phase::Out { victim } | Phase::Back { victim } => own_if(own, victim.space),
             Phase::Fault { space, .. } | Phase::Lack { space } => own_if(own, space),
-            _ => Some(own),
+            _ => own,
         }
     }
 
     /// What the call was answered, once it was.
     pub fn reply(&self) -> Option<Reply>
-        ensures { result ≡ (row_of self.now).reply }
+        ensures { result ≡ reply_in (row_of self.now).outcome }
     {
         match self.phase {
             Phase::Ended { reply } => Some(reply),
@@ -277,18 +322,19 @@ impl Flight {
 
     /// Answers the call.
     fn answer(&mut self, answered: Answered) -> Entry
-        ensures entry { result ≡ answer_entry self.old.processor self.old.number self.old.call answered }
+        requires of_call { is_of_call self.old.purpose ≡ true }
+        ensures entry { result ≡ answer_entry self.old.processor self.old.number (call_in self.old.purpose) answered }
         ensures ended { self.new ≡ record self.old { phase = Phase.Ended answered.reply } }
     {
-        let flight = *self;
+        let call = self.call();
         let reply = answered.reply;
         self.phase = Phase::Ended { reply };
         let what = What::Answer {
-            number: flight.number,
-            call: flight.call,
+            number: self.number,
+            call,
             answered,
         };
-        flight.entry(Some(flight.call.space()), false, what)
+        self.entry(Some(call.space()), false, what)
     }
 
     /// Begins the call.
@@ -300,8 +346,8 @@ impl Flight {
         ensures none { IfNone result ((st : SpaceState) → IsReady self.old space.old st → Passes self.old self.new space.old space.new st) }
         ensures nearer { (row_of self.new).steps < (row_of self.old).steps }
     {
-        let flight = *self;
-        match space.begin(flight.processor, &flight.call) {
+        let call = self.call();
+        match space.begin(self.processor, &call) {
             Begun::Answered(answered) => Some(self.answer(answered)),
             Begun::NeedsFrame { page, want } => {
                 self.phase = Phase::Frame { page, want };
@@ -316,7 +362,7 @@ impl Flight {
                 None
             }
             Begun::Failed { page, count } => {
-                let own = flight.call.space();
+                let own = call.space();
                 self.phase = Phase::Fault { space: own, count };
                 let writing = true;
                 Some(self.entry(
@@ -347,7 +393,7 @@ impl Flight {
         ensures nearer { (row_of self.new).steps < (row_of self.old).steps }
     {
         let (frame, answered) = space.evict(page);
-        pool.give(self.call.space(), page, frame);
+        pool.give(self.own(), page, frame);
         pool.end_entry();
         let mut entry = self.answer(answered);
         entry.frames = true;
@@ -361,7 +407,7 @@ impl Flight {
         ensures entry { (st : SpaceState) (frames : FrameState) → IsReady self.old space.old st → Makes self.old self.new space.old space.new st frames frames result }
         ensures nearer { (row_of self.new).steps < (row_of self.old).steps }
     {
-        let Call::Unmap { page, .. } = self.call else {
+        let Call::Unmap { page, .. } = self.call() else {
             unreachable!()
         };
         let answered = space.unmap(page);
@@ -376,17 +422,17 @@ impl Flight {
         ensures entry { (st : SpaceState) (frames : FrameState) → IsReady self.old space.old st → Makes self.old self.new space.old space.new st frames frames result }
         ensures nearer { (row_of self.new).steps < (row_of self.old).steps }
     {
-        let flight = *self;
+        let call = self.call();
         match space.read_in(page) {
             Ok(()) => {
-                let answered = space.finish(flight.processor, &flight.call);
+                let answered = space.finish(self.processor, &call);
                 self.answer(answered)
             }
             Err(count) => {
                 self.phase = Phase::Unfill { page, frame, count };
                 let writing = false;
                 self.entry(
-                    Some(flight.call.space()),
+                    Some(call.space()),
                     false,
                     What::Failed {
                         page,
@@ -406,8 +452,8 @@ impl Flight {
         ensures entry { (st : SpaceState) (frames : FrameState) → IsReady self.old space.old st → Makes self.old self.new space.old space.new st frames frames result }
         ensures nearer { (row_of self.new).steps < (row_of self.old).steps }
     {
-        let flight = *self;
-        let Begun::Answered(answered) = space.begin(flight.processor, &flight.call) else {
+        let call = self.call();
+        let Begun::Answered(answered) = space.begin(self.processor, &call) else {
             unreachable!()
         };
         self.answer(answered)
@@ -481,7 +527,7 @@ impl Flight {
         ensures none { (result ≡ None) × ((st : SpaceState) → IsReady self.old space.old st → Passes self.old self.new space.old space.new st) }
         ensures nearer { (row_of self.new).steps < (row_of self.old).steps }
     {
-        self.phase = match space.wants(&self.call) {
+        self.phase = match space.wants(&self.call()) {
             Some((page, want)) => Phase::Use { page, want, victim },
             None => Phase::Drop { victim },
         };
@@ -503,7 +549,7 @@ impl Flight {
         ensures entry { (st : SpaceState) → IsReady self.old space.old st → Makes self.old self.new space.old space.new st pool.old pool.new result }
         ensures nearer { (row_of self.new).steps < (row_of self.old).steps }
     {
-        let own = self.call.space();
+        let own = self.own();
         while let Some((page, frame)) = space.clear_next(first, length) {
             pool.give(own, page, frame);
         }
@@ -529,13 +575,11 @@ impl Flight {
         ensures entry { (st : SpaceState) → IsReady self.old space.old st → Makes self.old self.new space.old space.new st pool.old pool.new result }
         ensures nearer { (row_of self.new).steps < (row_of self.old).steps }
     {
-        let own = self.call.space();
+        let own = self.own();
         match pool.take(own, page, &want) {
             Ok(taken) => {
                 let frame = taken.number();
                 space.place(page, taken);
-                // Of an access for which no frame was claimed it isn't told whether it stores.
-                self.claimed = false;
                 self.phase = Phase::Fill { page, frame };
                 self.entry(Some(own), true, What::Take { page, frame, want })
             }
@@ -555,11 +599,13 @@ impl Flight {
     {
         match pool.claim(self.processor) {
             Ok(victim) => {
-                self.claimed = true;
+                let call = self.call();
+                let claimed = true;
+                self.purpose = Purpose::Call { call, claimed };
                 self.phase = Phase::Out { victim };
-                let writing = matches!(self.call, Call::Store { .. });
+                let writing = matches!(call, Call::Store { .. });
                 self.entry(
-                    Some(self.call.space()),
+                    Some(call.space()),
                     true,
                     What::Claim {
                         space: victim.space,
@@ -628,7 +674,7 @@ impl Flight {
         ensures entry { (st : SpaceState) → IsReady self.old space.old st → Makes self.old self.new space.old space.new st pool.old pool.new result }
         ensures nearer { (row_of self.new).steps < (row_of self.old).steps }
     {
-        let own = self.call.space();
+        let own = self.own();
         let entry = self.give_up(space, pool, own, page);
         self.phase = Phase::Fault { space: own, count };
         entry
@@ -699,7 +745,7 @@ impl Flight {
 
     /// The held frame goes free.
     fn drop_held(&mut self, pool: &mut Pool) -> Entry
-        requires phase { (victim : Claimed) × (self.old.phase ≡ Phase.Drop victim) }
+        requires phase { (victim : Victim) × (self.old.phase ≡ Phase.Drop victim) }
         requires owns { OwnsBy pool.old self.old.processor (row_of self.old).progress.doing }
         requires room { pool.old.entries < 2 ^ 45 }
         ensures entry { (kept : Kept) (st : SpaceState) → IsReady self.old kept st → Makes self.old self.new kept kept st pool.old pool.new result }
@@ -718,7 +764,7 @@ impl Flight {
         page: u32,
         want: Want,
     ) -> Entry
-        requires phase { (victim : Claimed) × (self.old.phase ≡ Phase.Use page want victim) }
+        requires phase { (victim : Victim) × (self.old.phase ≡ Phase.Use page want victim) }
         requires ready { (st : SpaceState) × IsReady self.old space.old st }
         requires agree { AreAgreed space.old pool.old }
         requires owns { OwnsBy pool.old self.old.processor (row_of self.old).progress.doing }
@@ -726,7 +772,7 @@ impl Flight {
         ensures entry { (st : SpaceState) → IsReady self.old space.old st → Makes self.old self.new space.old space.new st pool.old pool.new result }
         ensures nearer { (row_of self.new).steps < (row_of self.old).steps }
     {
-        let own = self.call.space();
+        let own = self.own();
         let taken = pool.use_held(self.processor, own, page, &want);
         let frame = taken.number();
         space.place(page, taken);
@@ -735,9 +781,23 @@ impl Flight {
     }
 }
 
-/// A flight that goes on in another space than its call's keeps no lock between.
-fn own_if(own: u32, space: u32) -> Option<u32>
+/// A step under a space's lock alone, and where there is no space under the frames'.
+fn alone(space: Option<u32>) -> Needs
+    ensures { result ≡ alone space }
+{
+    space.map_or(Needs::Frames, Needs::Space)
+}
+
+/// A step under a space's lock and the frames', and where there is no space under the frames' alone.
+fn both(space: Option<u32>) -> Needs
+    ensures { result ≡ both space }
+{
+    space.map_or(Needs::Frames, Needs::Both)
+}
+
+/// The space, where it is the call's own: what goes on in another one after this keeps no lock between.
+fn own_if(own: Option<u32>, space: u32) -> Option<u32>
     ensures { result ≡ own_if own space }
 {
-    (space == own).then_some(own)
+    own.filter(|own| *own == space)
 }

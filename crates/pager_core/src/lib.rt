@@ -9,6 +9,6 @@ mod flight;
 mod machine;
 mod run_parts;
 
-pub use flight::{Flight, Needs, Phase};
+pub use flight::{Flight, Needs, Phase, Purpose};
 pub use machine::{Machine, Turn};
 pub use run_parts::{Gathered, RunParts, calls_by_processor, give_back};

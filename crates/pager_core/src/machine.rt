@@ -10,7 +10,7 @@ ghost use Rattle.pager_model.specs.Showing.{calls_of};
 ghost use Rattle.pager_model.specs.SpaceStates.{SpaceState};
 ghost use Rattle.pager_model.specs.TraceText.{HasText};
 ghost use Rattle.pager_core.specs.Flights.{IsReady};
-ghost use Rattle.pager_core.specs.Rows.{row_of};
+ghost use Rattle.pager_core.specs.Rows.{Going, reply_in, row_of};
 ghost use Rattle.pager_core.specs.RunParts.{AreNewSpaces};
 ghost use Rattle.pager_core.specs.Running.{Running, progress_of_actor, flight_at, flight_of, first_flights, kept_by, setting_over, HasEnded, IsKeptByOther, MustWait, OneMore, IsLawful, IsWholeRun, StoresEnd, AreCapped};
 ghost use Rattle.pager_core.specs.Steps.{AreAgreed, Makes, Passes};
@@ -272,8 +272,8 @@ fn flight_of(processor: u32, number: u32, calls: &[Call]) -> Option<Flight>
 /// The flight after a step: the same, or where its call was answered that of the processor's next call.
 fn going_on(flight: Flight, calls: &[Call]) -> Option<Flight>
     requires { flight.number + 1 < 2 ^ 32 }
-    ensures going { (row_of flight).reply ≡ None → result ≡ Some flight }
-    ensures next { (row_of flight).reply ≢ None → result ≡ flight_of flight.processor (flight.number + 1) calls.now }
+    ensures going { (row_of flight).outcome ≡ Going → result ≡ Some flight }
+    ensures next { reply_in (row_of flight).outcome ≢ None → result ≡ flight_of flight.processor (flight.number + 1) calls.now }
 {
     if flight.reply().is_some() {
         return flight_of(flight.processor, flight.number + 1, calls);
@@ -316,7 +316,7 @@ fn next_entry<S: Store + Send + Drop>(
     space: &mut Space<S>,
     pool: &mut Pool,
 ) -> Entry
-    requires going { (row_of flight.old).reply ≡ None }
+    requires going { (row_of flight.old).outcome ≡ Going }
     requires ready { (st : SpaceState) × IsReady flight.old space.old st }
     requires image { flight.old.processor < length space.old.images }
     requires agree { AreAgreed space.old pool.old }
@@ -338,7 +338,7 @@ fn step<S: Store + Send + Drop>(
     space: &mut Space<S>,
     pool: &mut Pool,
 ) -> Option<Entry>
-    requires going { (row_of flight.old).reply ≡ None }
+    requires going { (row_of flight.old).outcome ≡ Going }
     requires ready { (st : SpaceState) × IsReady flight.old space.old st }
     requires image { flight.old.processor < length space.old.images }
     requires agree { AreAgreed space.old pool.old }

@@ -4,7 +4,7 @@ use Rattle.std.proofs.lemmas.Bool.{cases_lt}
 use Rattle.std.proofs.lemmas.List.Filters.{length-filter_both}
 use Rattle.std.proofs.lemmas.Option.{none-some}
 use Rattle.std.proofs.Math.ListN.{length-map}
-use Rattle.frame_pool.specs.declared.pool.Victim.{Victim as Claimed}
+use Rattle.pager_model.specs.declared.entry.Victim.{Victim}
 use Rattle.frame_pool.specs.Laid.{IsSound}
 use Rattle.frame_pool.proofs.LegalHistories.{IsKept-legal, OwnsBy-legal}
 use Rattle.journal_core.specs.Clauses.{IsHistory, AreOfTwo}
@@ -101,7 +101,7 @@ module _ (j : JournalName) (space frames : AuthorState) (p : PassState) (h : Lis
     known-met = (let known = flying.known in let held = sound.processors_known in omega (arith, known, held))
 
     -- the victim of a claim is of a space that is there
-    pub victim-met : (f' : Flight) (was now : Kept) (st : SpaceState) (after : FrameState) (e : Entry) → Makes f f' was now st pool after e → (v : Claimed) → f'.phase ≡ OutPhase v → v.space < length j.setting.told
+    pub victim-met : (f' : Flight) (was now : Kept) (st : SpaceState) (after : FrameState) (e : Entry) → Makes f f' was now st pool after e → (v : Victim) → f'.phase ≡ OutPhase v → v.space < length j.setting.told
     victim-met f' was now st after e makes v is =
         let resident = (IsKept-legal j.setting h legal).agrees v.space v.page ∙ ap (λ st. frame_of st v.space v.page) (sym frames_are) ∙ victim_resident f f' was now st pool after e v makes is in
         elim (cases_lt v.space (length j.setting.told)) [

@@ -1,5 +1,5 @@
 -- A call as it begins, and a whole call, as the caller's pass shows them.
-use Rattle.std.specs.Prelude.{ℕ, ◌≡◌, ◌≤◌, false, List, [], ◌∷◌, ◌++◌, length, count_by, Some}
+use Rattle.std.specs.Prelude.{ℕ, ◌≡◌, ◌≤◌, true, false, List, [], ◌∷◌, ◌++◌, length, count_by, Some}
 use Rattle.journal_core.specs.Journals.{PassState, is_numbered_answer}
 use Rattle.pager_model.specs.declared.call.Call.{Call}
 use Rattle.pager_model.specs.declared.call.Line.{Line}
@@ -11,14 +11,16 @@ use Rattle.pager_model.specs.Settings.{Given}
 use Rattle.pager_model.specs.Showing.{IsSequence}
 use Rattle.pager_core.specs.declared.flight.Flight.{Flight}
 use Rattle.pager_core.specs.declared.flight.Phase.TheVariants.{Start}
+use Rattle.pager_core.specs.Rows.{claimed_in, is_of_call}
 use Rattle.pager_locks.specs.Locked.{replies_in}
 
 -- the flight of the pass's next call, of which nothing was done
 pub record IsNextFlight (p : PassState) (f : Flight) : Type 0 where
   pub processor : f.processor ≡ p.processor
   pub number : f.number ≡ count_by is_numbered_answer p.entries
+  pub is_call : is_of_call f.purpose ≡ true
   pub start : f.phase ≡ Start
-  pub unclaimed : f.claimed ≡ false
+  pub unclaimed : claimed_in f.purpose ≡ false
 
 abbrev pub line_of : ℕ → Call → Line
 line_of c call = record { processor = c; call = call }

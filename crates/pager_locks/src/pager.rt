@@ -118,8 +118,8 @@ impl<N: Named, S: Store + Send + Drop> Pager<N, S> {
     pub fn fly<R: Wait>(&self, rt: &R, flight: Flight, pass: Pass) -> (Flight, Pass)
         requires pass { MayCall N.journal pass }
         requires next { IsNextFlight pass flight }
-        requires can { CanFly (length N.journal.setting.told) flight.call }
-        ensures { IsSomeAnd (row_of result.0).reply (λ reply. MakesCall N.journal.setting pass result.1 flight.call reply) }
+        requires can { CanFly (length N.journal.setting.told) (call_in flight.purpose) }
+        ensures { IsSomeAnd (reply_in (row_of result.0).outcome) (λ reply. MakesCall N.journal.setting pass result.1 (call_in flight.purpose) reply) }
     {
         let processor = pass.processor();
         prove!(flight.processor == processor);
@@ -131,7 +131,7 @@ impl<N: Named, S: Store + Send + Drop> Pager<N, S> {
         requires flying { (from : Departure) × IsFlying N.journal from flight pass }
         requires keeps { (row_of flight).keeps ≡ None }
         ensures flying { (from : Departure) → IsFlying N.journal from flight pass → IsFlying N.journal from result.0 result.1 }
-        ensures ended { IsSome (row_of result.0).reply }
+        ensures ended { IsSome (reply_in (row_of result.0).outcome) }
     {
         let mut flight = flight;
         let mut pass = pass;

@@ -5,7 +5,8 @@ use Rattle.pager_model.specs.declared.reservation.Reservation.{Reservation}
 use Rattle.pager_model.specs.FrameStates.{FrameState, layout_of, used_at, held_by, claim_in, frame_of, HasNothing}
 use Rattle.pager_model.specs.Layouts.{is_free}
 use Rattle.pager_model.specs.Legal.{space_at, frames_at}
-use Rattle.pager_model.specs.Order.{Doing, Victim, victim_in, is_holding}
+use Rattle.pager_model.specs.declared.entry.Victim.{Victim}
+use Rattle.pager_model.specs.Order.{Doing, victim_in, is_holding}
 use Rattle.pager_model.specs.Settings.{Given}
 
 -- the frame is a place of the reservation, used or not

@@ -12,7 +12,7 @@ use Rattle.pager_model.specs.Order.{Progress}
 use Rattle.pager_model.specs.Records.{is_used}
 use Rattle.pager_model.specs.Regions.{in_range}
 use Rattle.pager_model.specs.Settings.{Given}
-use Rattle.pager_model.specs.SpaceStates.{SpaceState, Next, Unmaps, IsResident}
+use Rattle.pager_model.specs.SpaceStates.{SpaceState, Next, AfterClear, IsResident}
 
 -- Copies.
 
@@ -24,7 +24,7 @@ pub record EqualsItsCopy (f : Flat) (page : ℕ) : Type 0 where
 
 -- the page is of a range whose pages gave their frames up, and whose unmap comes next
 abbrev pub WasCleared : Next → ℕ → Type 0
-WasCleared (Unmaps c first len) page = in_range first len page ≡ true
+WasCleared (AfterClear c first len) page = in_range first len page ≡ true
 WasCleared next page = ⊥
 
 -- A page that isn't dirty equals its copy; and a dirty page is resident, but for one of a range that is being unmapped.

@@ -13,11 +13,13 @@ pub mod Entries
 pub mod FrameStates
 pub mod SpaceStates
 pub mod Order
+pub mod Locks
 pub mod Legal
 pub mod Agreement
 pub mod Laws
 pub mod Headline
 pub mod Showing
+pub mod TurnOrders
 pub mod Counts
 pub mod PrintedText
 pub mod FreeBlocks

@@ -1,12 +1,33 @@
 -- The order of a processor's entries. The list of a processor that makes calls is a row of sequences, one for each call, each of
 -- which ends with its answer. The list of a paging daemon is a row of turns. Where a list leads is a place in such a sequence or
 -- turn, and an entry leads from one place to the next, or nowhere where it breaks the order.
+--
+-- The sequences of a call, with the place that each entry leads to:
+--
+--   served alone      Answer
+--   unmapped          Clear Cleared, Answer
+--   not copied        Failed Uncopied, Answer
+--   filled            Take Filling, Answer
+--   not filled        Take Filling, Failed Unfilling, Give Faulted, Answer
+--   refused           Refused Refusing, Answer
+--   paged for         Claim Claiming, and then
+--                       Out Emptied, Give Holding     the victim's page is paged out, or
+--                       Got Holding                   it gave the frame up meanwhile, or
+--                       Failed Unwritten, Unclaim Faulted, Answer      its store failed, or
+--                       Unclaim Lacking, Answer                        there was no memory to write it;
+--                     from Holding on
+--                       DropHeld Late, Answer         the frame isn't needed any more, or
+--                       UseHeld Filling, and on as filled or not filled
+--
+-- A turn of a daemon is made of evictions, each a Claim Claiming, then Out Emptied and Give Holding, or Got Holding, and DropHeld Looking;
+-- it ends with a Rest, or where a page can't be paged out with an Unclaim.
 use Rattle.std.specs.Prelude.{ℕ, zero, suc, ◌≡◌, ◌+◌, Bool, true, false, ◌&&◌, ◌||◌, ◌==◌, not, nat_lt, if◌then◌else◌, List, [], ◌∷◌, Option, Some, None}
 use Rattle.std.specs.Option.{option_and_then}
 use Rattle.pager_model.specs.declared.call.Call.{Call}
 use Rattle.pager_model.specs.declared.call.Call.TheVariants.{Unmap, Load, Store, Sync, Evict}
 use Rattle.pager_model.specs.declared.entry.Entry.{Entry}
 use Rattle.pager_model.specs.declared.entry.Need.{Need}
+use Rattle.pager_model.specs.declared.entry.Victim.{Victim}
 use Rattle.pager_model.specs.declared.entry.What.{What}
 use Rattle.pager_model.specs.declared.entry.What.TheVariants.{Answer, Out, Failed, Take, Give, Clear, Claim, UseHeld, DropHeld, Got, Unclaim, Refused, Rest}
 use Rattle.pager_model.specs.declared.reply.Reply.{Reply}
@@ -19,12 +40,6 @@ pub record Access : Type 0 where
   pub space : ℕ
   pub page : ℕ
   pub writing : Option Bool
-
--- The used place that a processor claimed: the page of a space, and its frame.
-pub record Victim : Type 0 where
-  pub space : ℕ
-  pub page : ℕ
-  pub frame : ℕ
 
 -- What a frame is claimed for: an access, or a daemon's turn of this low mark, with so many evictions made before.
 pub data Purpose : Type 0 where

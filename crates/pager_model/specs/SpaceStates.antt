@@ -20,12 +20,13 @@ use Rattle.pager_model.specs.Regions.{in_range, region_at, wanted}
 use Rattle.pager_model.specs.SizeSets.{SizeSet}
 use Rattle.pager_model.specs.Tiles.{mappings, tile_in, promotions_in, demotions_in}
 
--- Who makes the next entry of a space: anyone; where an entry left the space in the middle of a sequence, its processor; and after
--- the pages of a range gave their frames up, the unmap of that range, which is done.
+-- Who writes the next entry of a space. Anyone may, unless the last entry left the space in the middle of a sequence: after a taking, a
+-- paging out and a failed read it is the same processor; and after the pages of a range gave their frames up it is the same processor's
+-- unmap of a page of the range, which is done.
 pub data Next : Type 0 where
   Anyone : Next
   Only : (processor : ℕ) → Next
-  Unmaps : (processor first len : ℕ) → Next
+  AfterClear : (processor first len : ℕ) → Next
 
 pub record SpaceState : Type 0 where
   -- which page sizes there are
@@ -89,7 +90,7 @@ next_after c (Take page frame want) = Only c
 next_after c (UseHeld page frame want) = Only c
 next_after c (Out page written) = Only c
 next_after c (Failed page writing count) = if writing then Anyone else Only c
-next_after c (Clear first len) = Unmaps c first len
+next_after c (Clear first len) = AfterClear c first len
 next_after c what = Anyone
 
 -- the word of an answer that says one: that which was loaded, or stored
@@ -161,7 +162,7 @@ IsUnmapAnswer first len what = ⊥
 abbrev pub MayGoOn : Next → ℕ → What → Type 0
 MayGoOn Anyone c what = Unit {0}
 MayGoOn (Only d) c what = d ≡ c
-MayGoOn (Unmaps d first len) c what = (d ≡ c) × IsUnmapAnswer first len what
+MayGoOn (AfterClear d first len) c what = (d ≡ c) × IsUnmapAnswer first len what
 
 -- Replies.
 
@@ -191,7 +192,7 @@ MayFail st call = ⊥
 
 -- no page of the region is resident, and the processor cleared the region just before
 pub record IsCleared (st : SpaceState) (c : ℕ) (r : Region) : Type 0 where
-  pub next : st.next ≡ Unmaps c r.first r.length
+  pub next : st.next ≡ AfterClear c r.first r.length
   pub none : (p : ℕ) → in_range r.first r.length p ≡ true → st.base p ≡ None
 
 abbrev pub IsClearedAt : SpaceState → ℕ → Option Region → Type 0

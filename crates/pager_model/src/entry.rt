@@ -18,6 +18,14 @@ pub struct Need {
     pub writing: bool,
 }
 
+/// A page whose frame is claimed, and that frame.
+#[derive(Clone, Copy, Debug, PartialEq, Eq)]
+pub struct Victim {
+    pub space: u32,
+    pub page: u32,
+    pub frame: u32,
+}
+
 /// What happened in one atomic step. Pages are of the entry's space.
 #[derive(Clone, Copy, Debug, PartialEq, Eq)]
 pub enum What {

@@ -11,7 +11,7 @@ use Rattle.pager_core.specs.declared.machine.Turn.{Turn}
 use Rattle.pager_core.specs.declared.machine.Turn.TheVariants.{Ended as HasNone, Stepped, Waits}
 use Rattle.pager_core.specs.Running.{Running, flight_at, MustWait, OneMore, IsLawful}
 use Rattle.store_core.specs.Stored.{Stored}
-use Rattle.replay_core.specs.Orders.{can_step, next_state, drawn, turned, picked, IsDrawn, IsSeeded, AreLowest, Follows, IsScheduled}
+use Rattle.pager_model.specs.TurnOrders.{can_step, next_state, drawn, turned, picked, IsDrawn, IsSeeded, AreLowest, Follows, IsScheduled}
 use Rattle.replay_core.specs.Turns.{drawn_order, flying_in, IsStuck, FirstStepped}
 use Rattle.replay_core.proofs.RunLemmas.{IsRunOf, length-calls}
 use Rattle.replay_core.proofs.StandingLemmas.{cannot_step, can_step_free}

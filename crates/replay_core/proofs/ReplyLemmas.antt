@@ -5,6 +5,7 @@ use Rattle.std.proofs.lemmas.List.Elements.{filter-append}
 use Rattle.std.proofs.lemmas.List.Sums.{fold-append}
 use Rattle.std.proofs.lemmas.Option.{cond_some}
 use Rattle.std.specs.Option.{IfSome}
+use Rattle.pager_model.specs.declared.entry.Victim.{Victim}
 use Rattle.pager_model.specs.declared.call.Call.{Call}
 use Rattle.pager_model.specs.declared.call.Call.TheVariants.{Unmap, Sync, Evict}
 use Rattle.pager_model.specs.declared.entry.Entry.{Entry}
@@ -18,7 +19,7 @@ use Rattle.pager_model.specs.Entries.{names_space, space_part, is_of, IsOn}
 use Rattle.pager_model.specs.Flat.{space_of_call}
 use Rattle.pager_model.specs.Headline.{IsServed, AllServed}
 use Rattle.pager_model.specs.Legal.{IsLegal, MayFollow, SpaceJudges, state_of_space, space_at, progress_at}
-use Rattle.pager_model.specs.Order.{Victim, ForAccess, ForTurn, Doing, Idle, Looking, Cleared, Uncopied, Filling, Unfilling, Claiming, Emptied, Unwritten, Holding, Late, Faulted, Lacking, Refusing, Progress, leads, may_answer, is_answered_alone, is_unmap_in, is_copying, is_access, is_access_at, is_victim, between, after_answer, after_take, after_use, after_clear, after_out, after_failure, after_give, after_claim, after_got, after_unclaim, lacking_for, faulted_for, after_drop, dropped_for, after_refusal, after_rest, progress_after, progress_by}
+use Rattle.pager_model.specs.Order.{ForAccess, ForTurn, Doing, Idle, Looking, Cleared, Uncopied, Filling, Unfilling, Claiming, Emptied, Unwritten, Holding, Late, Faulted, Lacking, Refusing, Progress, leads, may_answer, is_answered_alone, is_unmap_in, is_copying, is_access, is_access_at, is_victim, between, after_answer, after_take, after_use, after_clear, after_out, after_failure, after_give, after_claim, after_got, after_unclaim, lacking_for, faulted_for, after_drop, dropped_for, after_refusal, after_rest, progress_after, progress_by}
 use Rattle.pager_model.specs.Settings.{Given, mark_of, is_told, faults_at_entry}
 use Rattle.pager_model.specs.SpaceStates.{SpaceState, Rises, ReplyAllowed, AnswerAllowed, SpaceAllows, WhatAllowed, empty_state, highest_after, space_after}
 use Rattle.pager_model.proofs.Histories.{space_at-named, progress_at-own, progress_at-other, IsLegal-keeps}

@@ -24,7 +24,7 @@ use Rattle.pager_core.specs.Rows.{row_of, row_in, own_if, faulted, is_between, s
 use Rattle.pager_core.specs.Running.{Running, calls_at, flight_at, progress_of_actor, progress_by_flight, setting_over, kept_by, IsKeptByOther, IsOfCall, IsLawful}
 use Rattle.pager_core.proofs.NextFlights.{made_going, keeps_under}
 use Rattle.store_core.specs.Stored.{Stored}
-use Rattle.replay_core.specs.Orders.{Standing, keeps_in, under_in, standing_by, standing_at, is_that, is_kept_by, is_kept_by_other, has_left, can_go, can_step}
+use Rattle.pager_model.specs.TurnOrders.{Standing, keeps_in, under_in, standing_by, standing_at, is_that, is_kept_by, is_kept_by_other, has_left, can_go, can_step}
 use Rattle.replay_core.specs.Turns.{flies, IsStuck}
 use Rattle.replay_core.proofs.RunLemmas.{IsRunOf, calls_known, length-calls}
 

@@ -16,7 +16,7 @@ use Rattle.pager_core.specs.Machines.{all_left}
 use Rattle.pager_core.specs.Running.{Running, calls_at, flight_at, left_at, entries_left, MustWait, OneMore, HasEnded, IsLawful}
 use Rattle.pager_core.proofs.Lists.{sum_by-lower}
 use Rattle.store_core.specs.Stored.{Stored}
-use Rattle.replay_core.specs.Orders.{can_step, has_left, left_of}
+use Rattle.pager_model.specs.TurnOrders.{can_step, has_left, left_of}
 use Rattle.replay_core.specs.Turns.{flies, flying_in, IsStuck, FirstStepped}
 use Rattle.replay_core.proofs.RunLemmas.{IsRunOf, length-calls}
 use Rattle.replay_core.proofs.StandingLemmas.{known_in, known_flight, left_is, cannot_step, can_step_free, not_all_stuck}

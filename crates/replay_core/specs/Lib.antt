@@ -1,4 +1,3 @@
 pub mod Replays
-pub mod Orders
 pub mod Turns
 pub mod Jobs

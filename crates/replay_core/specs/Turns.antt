@@ -3,7 +3,7 @@ use Rattle.std.specs.Prelude.{ℕ, ◌≡◌, ◌⊎◌, Bool, List, ◌∷◌, 
 use Rattle.std.specs.List.{AllByRecursion, range_with_len}
 use Rattle.pager_core.specs.declared.flight.Flight.{Flight}
 use Rattle.pager_core.specs.Running.{Running, flight_at, MustWait, OneMore, IsLawful}
-use Rattle.replay_core.specs.Orders.{drawn, turned}
+use Rattle.pager_model.specs.TurnOrders.{drawn, turned}
 
 -- the processor has a call left
 abbrev pub flies : List (Option Flight) → ℕ → Bool

@@ -1,8 +1,7 @@
-//! Replays of a trace: which processor's turn it is, and when.
+//! Replays of a trace: in one thread, whose turn it is and when, and with a thread for each processor.
 #![tactic(auto)]
 
 mod file_order;
-mod generator;
 mod jobs;
 mod scheduled;
 mod stepping;
@@ -10,7 +9,6 @@ mod threads;
 mod turns;
 
 pub use file_order::replay_file_order;
-pub use generator::Generator;
 pub use pager_core::Gathered;
 pub use scheduled::replay_schedule;
 pub use threads::replay;

@@ -3,7 +3,7 @@
 ghost use Rattle.std.specs.Prelude.{◌≡◌, ◌<◌, ◌≤◌, IfOk, IfErr, length, map};
 ghost use Rattle.std.specs.List.{All, range_with_len};
 ghost use Rattle.pager_model.specs.Legal.{entries_in};
-ghost use Rattle.replay_core.specs.Orders.{IsScheduled};
+ghost use Rattle.pager_model.specs.TurnOrders.{IsScheduled};
 ghost use Rattle.replay_core.specs.Replays.{IsReplay, AreItsCounts};
 
 use crate::stepping::{MOST_PROCESSORS, step_first};

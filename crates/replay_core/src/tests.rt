@@ -4,8 +4,8 @@ ghost use Rattle.std.specs.List.{All};
 
 mod silent;
 
-use crate::{Gathered, Generator, replay_file_order, replay_schedule, replay_turns};
-use pager_model::{Call, Kind, Line, NoMemory, Numbered, Rights, Trace};
+use crate::{Gathered, replay_file_order, replay_schedule, replay_turns};
+use pager_model::{Call, Generator, Kind, Line, NoMemory, Numbered, Rights, Trace};
 use silent::Silent;
 use std::alloc::Global;
 use std::process::Abort;

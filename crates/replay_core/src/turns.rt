@@ -3,15 +3,14 @@
 ghost use Rattle.std.specs.Prelude.{◌≡◌, ◌≤◌, IfOk, IfErr, length, map};
 ghost use Rattle.pager_model.specs.Legal.{entries_in};
 ghost use Rattle.pager_core.specs.Running.{HasEnded, IsLawful};
-ghost use Rattle.replay_core.specs.Orders.{IsSeeded, next_state};
+ghost use Rattle.pager_model.specs.TurnOrders.{IsSeeded, next_state};
 ghost use Rattle.replay_core.specs.Replays.{IsReplay, AreItsCounts};
 ghost use Rattle.replay_core.specs.Turns.{flying_in, drawn_order, FirstStepped};
 
-use crate::generator::Generator;
 use crate::stepping::{MOST_PROCESSORS, step_first};
 use arrayvec::ArrayVec;
 use pager_core::{Gathered, Machine};
-use pager_model::Trace;
+use pager_model::{Generator, Trace};
 use std::alloc::Global;
 use store_core::Store;
 

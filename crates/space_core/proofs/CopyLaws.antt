@@ -16,7 +16,7 @@ use Rattle.pager_model.specs.Flat.{Flat, reply_of, is_lawful, page_of, word_of, 
 use Rattle.pager_model.specs.Legal.{IsLegal, space_at}
 use Rattle.pager_model.specs.Regions.{in_range, region_at}
 use Rattle.pager_model.specs.Settings.{Given}
-use Rattle.pager_model.specs.SpaceStates.{SpaceState, Next, Anyone, Only, Unmaps, IsResident, IsUnmapOf, IsUnmapAnswer, MayGoOn, IsWord, HasItsPages, IsClearedAt, ReplyAllowed, AnswerAllowed, WhatAllowed, SpaceAllows, answered_flat, flat_after, base_after_answer, base_after, frees_its_page, space_after}
+use Rattle.pager_model.specs.SpaceStates.{SpaceState, Next, Anyone, Only, AfterClear, IsResident, IsUnmapOf, IsUnmapAnswer, MayGoOn, IsWord, HasItsPages, IsClearedAt, ReplyAllowed, AnswerAllowed, WhatAllowed, SpaceAllows, answered_flat, flat_after, base_after_answer, base_after, frees_its_page, space_after}
 use Rattle.pager_model.proofs.Histories.{space_at-named, space_at-other, IsLegal-keeps}
 use Rattle.pager_model.proofs.SpaceEntries.{base-unnamed, frees-unlawful}
 use Rattle.pager_model.specs.Laws.{EqualsItsCopy, WasCleared, KeepsCopies}
@@ -75,7 +75,7 @@ resident : (next : Next) (c p : ℕ) (what : What) (base : ℕ → Option ℕ) �
 resident next c p what base may other (inl is) = is
 resident Anyone c p what base may other (inr was) = absurd was
 resident (Only d) c p what base may other (inr was) = absurd was
-resident (Unmaps d first len) c p what base may other (inr was) = absurd (other first len may.1)
+resident (AfterClear d first len) c p what base may other (inr was) = absurd (other first len may.1)
 
 -- and so is each dirty page
 was_there : (st : SpaceState) (c : ℕ) (what : What) → KeepsCopies st → MayGoOn st.next c what → ((first len : ℕ) → IsUnmapAnswer first len what → ⊥) → (p : ℕ) → st.flat.dirty p ≡ true → IsResident st.base p
@@ -90,7 +90,7 @@ unmap_lawful first len call reply is = absurd is
 lawful_next : (next : Next) (c p number : ℕ) (call : Call) (answered : Answered) → MayGoOn next c (Answer number call answered) → WasCleared next p → is_lawful answered.reply ≡ true
 lawful_next Anyone c p number call answered may was = absurd was
 lawful_next (Only d) c p number call answered may was = absurd was
-lawful_next (Unmaps d first len) c p number call answered may was = unmap_lawful first len call answered.reply may.1
+lawful_next (AfterClear d first len) c p number call answered may was = unmap_lawful first len call answered.reply may.1
 
 -- and the pages of the range go with the region
 goes_cleared : (st : SpaceState) (c p : ℕ) (region : Option Region) → IsClearedAt st c region → WasCleared st.next p → goes region p ≡ true

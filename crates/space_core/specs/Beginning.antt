@@ -12,7 +12,7 @@ use Rattle.pager_model.specs.Flat.{reply_of, is_lawful}
 use Rattle.pager_model.specs.Order.{is_answered_alone, is_served}
 use Rattle.pager_model.specs.PreferredSize.{IsWanted}
 use Rattle.pager_model.specs.Regions.{in_range, region_at, wanted}
-use Rattle.pager_model.specs.SpaceStates.{SpaceState, Unmaps, space_after, access_page, Rises, WhatAllowed}
+use Rattle.pager_model.specs.SpaceStates.{SpaceState, AfterClear, space_after, access_page, Rises, WhatAllowed}
 use Rattle.space_core.specs.declared.space.Begun.{Begun}
 use Rattle.space_core.specs.declared.space.Begun.TheVariants.{Answered as HasAnswered, NeedsFrame, NeedsClear, NeedsEvict, Failed as HasFailed}
 use Rattle.space_core.specs.Standing.{Kept, StandsFor, StandsBut, IsResting, MustWrite, frame_at, rights_at, dirty_at, answer_entry, evict_entry, take_entry, give_entry, clear_entry, out_entry, failed_entry, is_allowed, is_unwired, copied_page}
@@ -245,5 +245,5 @@ pub record Unmapped (old new : Kept) (page : ℕ) (a : Answered) : Type 0 where
   pub same_frames : new.frames ≡ old.frames
   pub same_processors : length new.images ≡ length old.images
   pub resting : IsResting new
-  pub allowed : (st : SpaceState) → StandsFor old st → (c number : ℕ) (r : Region) → region_at old.regions page ≡ Some r → st.next ≡ Unmaps c r.first r.length → WhatAllowed st false c (Answer number (Unmap old.number page) a)
+  pub allowed : (st : SpaceState) → StandsFor old st → (c number : ℕ) (r : Region) → region_at old.regions page ≡ Some r → st.next ≡ AfterClear c r.first r.length → WhatAllowed st false c (Answer number (Unmap old.number page) a)
   pub stands : (st : SpaceState) → StandsFor old st → (c number : ℕ) → StandsFor new (space_after st (answer_entry c number (Unmap old.number page) a))

@@ -190,7 +190,7 @@ fn serve(
     }
 }
 
-/// Unmaps the region of this range, whose pages give their frames up, ascending.
+/// AfterClear the region of this range, whose pages give their frames up, ascending.
 fn clear(space: &mut Space<MemoryStore>, first: u32, length: u32) -> Result<Reply, Fail>
     requires resting { IsResting space.old }
     requires range { IsRange space.old first length }

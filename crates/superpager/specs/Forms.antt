@@ -4,7 +4,7 @@ use Rattle.std.specs.Borrow.{Bor}
 use Rattle.pager_model.specs.declared.entry.Entry.{Entry}
 use Rattle.pager_model.specs.Plans.{Plan}
 use Rattle.pager_model.specs.Showing.{IsFiled}
-use Rattle.replay_core.specs.Orders.{IsSeeded}
+use Rattle.pager_model.specs.TurnOrders.{IsSeeded}
 use Rattle.report_text.specs.declared.report.Parts.{Parts}
 use Rattle.report_text.specs.declared.report.Parts.TheVariants.{Answers, AnswersAndHistory}
 use Rattle.superpager.specs.declared.form.Form.{Form}

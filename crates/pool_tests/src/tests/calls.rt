@@ -1,7 +1,7 @@
 //! The pool's calls, each behind assertions of what it requires.
 
-use frame_pool::{Collected, Full, NoneLeft, Pool, Victim};
-use pager_model::{Frame, Want};
+use frame_pool::{Collected, Full, NoneLeft, Pool};
+use pager_model::{Frame, Victim, Want};
 use std::process::Abort;
 
 /// A page without a frame takes one.

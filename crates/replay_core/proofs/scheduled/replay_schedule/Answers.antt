@@ -3,7 +3,7 @@ use Rattle.std.proofs.Math.ListN.{length-map}
 use Rattle.std.proofs.lemmas.Bool.{true≢false}
 use Rattle.std.specs.List.{AllByRecursion, range_with_len}
 use Rattle.pager_model.specs.Legal.{entries_in}
-use Rattle.replay_core.specs.Orders.{IsScheduled}
+use Rattle.pager_model.specs.TurnOrders.{IsScheduled}
 use Rattle.replay_core.specs.Replays.{IsReplay}
 use Rattle.replay_core.specs.Turns.{IsStuck, FirstStepped}
 use Rattle.replay_core.proofs.RunLemmas.{length-calls, IsReplay-whole, AreItsCounts-whole}

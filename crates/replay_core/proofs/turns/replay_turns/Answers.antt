@@ -2,7 +2,7 @@ use Rattle.std.proofs.Common.{◌≤◌, map, sym, subst, ◌∙◌, arith}
 use Rattle.std.proofs.Math.ListN.{length-map}
 use Rattle.std.proofs.lemmas.Bool.{true≢false}
 use Rattle.pager_model.specs.Legal.{entries_in}
-use Rattle.replay_core.specs.Orders.{IsSeeded}
+use Rattle.pager_model.specs.TurnOrders.{IsSeeded}
 use Rattle.replay_core.specs.Replays.{IsReplay}
 use Rattle.replay_core.proofs.RunLemmas.{length-calls, IsReplay-whole, AreItsCounts-whole}
 use Rattle.replay_core.proofs.OrderLemmas.{Drawing, Drawing-start, Drawing-step, fewer_drawn}

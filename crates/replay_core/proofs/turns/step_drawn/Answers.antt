@@ -2,7 +2,7 @@ use Rattle.std.proofs.Common.{◌≡◌, ℕ, ◌<◌, List, length, sym, ap, su
 use Rattle.arrayvec.specs.ArrayVec.{ArrayVec, with_items}
 use Rattle.arrayvec.proofs.ArrayVecLemmas.{items-with_items}
 use Rattle.std.specs.List.{AllByRecursion}
-use Rattle.replay_core.specs.Orders.{turned}
+use Rattle.pager_model.specs.TurnOrders.{turned}
 use Rattle.replay_core.specs.Turns.{flying_in, IsStuck}
 use Rattle.replay_core.proofs.TurnLemmas.{all_turned, all_unturned, flying_known, flying_can, some_flying}
 use Rattle.replay_core.proofs.turns.step_drawn.Goals as goal

@@ -6,36 +6,10 @@ use Rattle.pager_model.specs.declared.call.Call.{Call}
 use Rattle.pager_model.specs.declared.entry.Entry.{Entry}
 use Rattle.pager_model.specs.Entries.{entries_of}
 use Rattle.pager_model.specs.Flat.{space_of_call}
-use Rattle.pager_model.specs.Order.{Doing, Idle, Looking, Cleared, Uncopied, Filling, Unfilling, Claiming, Emptied, Unwritten, Holding, Late, Faulted, Lacking, Refusing, Progress, progress_of}
+use Rattle.pager_model.specs.Locks.{under_in, keeps_in}
+use Rattle.pager_model.specs.Order.{Doing, Progress, progress_of}
 use Rattle.pager_model.specs.Plans.{Plan}
 use Rattle.pager_model.specs.Showing.{calls_of}
-use Rattle.pager_core.specs.Rows.{own_if}
-
--- What a processor's place says of its next step, for a call of its own on a space.
-
--- the space that the step is made under: the victim's while its page is paged out, and else the call's own
-abbrev pub under_in : ℕ → Doing → ℕ
-under_in own (Claiming purpose victim) = victim.space
-under_in own (Emptied purpose victim) = victim.space
-under_in own (Unwritten purpose victim count) = victim.space
-under_in own doing = own
-
--- the space whose lock is kept until then
-abbrev pub keeps_in : ℕ → Doing → Option ℕ
-keeps_in own Idle = None
-keeps_in own (Looking mark evictions) = None
-keeps_in own (Cleared space first len) = Some own
-keeps_in own (Uncopied space page count) = own_if own space
-keeps_in own (Filling a frame) = Some own
-keeps_in own (Unfilling a frame count) = Some own
-keeps_in own (Claiming purpose victim) = own_if own victim.space
-keeps_in own (Emptied purpose victim) = Some victim.space
-keeps_in own (Unwritten purpose victim count) = Some victim.space
-keeps_in own (Holding purpose victim) = own_if own victim.space
-keeps_in own (Late a) = Some own
-keeps_in own (Faulted a space count) = own_if own space
-keeps_in own (Lacking a space) = own_if own space
-keeps_in own (Refusing wired claimed held) = Some own
 
 -- Where a processor is after a history: in its call that is in progress or comes next, where it has one left, and there in this place.
 pub record Standing : Type 0 where
@@ -48,8 +22,9 @@ standing_by calls p = option_and_then (λ call. Some (record { call = call; doin
 abbrev pub standing_at : Plan → List Entry → ℕ → Option Standing
 standing_at plan history c = option_and_then (standing_by (calls_of c plan.calls)) (progress_of 0 (entries_of c history))
 
-abbrev pub under_of : Standing → ℕ
-under_of s = under_in (space_of_call s.call) s.doing
+-- the space that its next step is made under
+abbrev pub under_of : Standing → Option ℕ
+under_of s = under_in (Some (space_of_call s.call)) s.doing
 
 abbrev pub is_that : ℕ → Option ℕ → Bool
 is_that space None = false
@@ -57,11 +32,12 @@ is_that space (Some kept) = kept == space
 
 abbrev pub is_kept_by : ℕ → Option Standing → Bool
 is_kept_by space None = false
-is_kept_by space (Some s) = is_that space (keeps_in (space_of_call s.call) s.doing)
+is_kept_by space (Some s) = is_that space (keeps_in (Some (space_of_call s.call)) s.doing)
 
--- another processor keeps the space
-abbrev pub is_kept_by_other : Plan → List Entry → ℕ → ℕ → Bool
-is_kept_by_other plan history c space =
+-- another processor keeps the space, where there is one
+abbrev pub is_kept_by_other : Plan → List Entry → ℕ → Option ℕ → Bool
+is_kept_by_other plan history c None = false
+is_kept_by_other plan history c (Some space) =
     list_any (λ d. not (d == c) && is_kept_by space (standing_at plan history d)) (range_with_len 0 plan.processors)
 
 -- the processor has a call left
