@@ -18,7 +18,7 @@ pub fn enter(word: &Word) -> Seat
     requires { word.now.table_id.words ≡ word_count }
     ensures { (result.table_id ≡ word.now.table_id) × (result.me ≡ (rest_view word.now.key, [])) }
 {
-    word.load_new_seat::<Enter>(LENGTH).1
+    word.load_new_seat::<Enter>(0).1
 }
 
 /// Takes in what another seat has.
