@@ -36,10 +36,6 @@ Sums-put below above n b some sums low high has lacks = record { up = up; down =
               (old.0, old.1, get_or-set_other below n old.0 b false apart ∙ old.2)
         ]
 
--- the first one of the number's own word is the first
-pub first_here : (set : List Bool) (n m : ℕ) → IsNextInWord set n (Some m) → IsFirstFrom set n (Some m)
-first_here set n m found = (found.0, found.2, found.3)
-
 -- no level has a bit at first
 pub Sums-none : (low high : ℕ) → Sums (replicate low false) (replicate high false)
 Sums-none low high = record {
@@ -51,14 +47,6 @@ Sums-none low high = record {
 pub no_next : (set : List Bool) (n : ℕ) (next : Option ℕ) → is_some next ≡ false → IsNextInWord set n next → IsNextInWord set n None
 no_next set n None empty found = found
 no_next set n (Some m) empty found = absurd (false≢true (sym empty))
-
--- without one there, none is the first where no later word has one
-pub none_above : (below above : List Bool) (n : ℕ) → Sums below above → IsNextInWord below n None → IsFirstFrom above (n / 64 + 1) None → IsFirstFrom below n None
-none_above below above n sums here later k low =
-    elim (cases_eq (k / 64) (n / 64)) [
-      | inl same ↦ here k low same
-      | inr other ↦ false_from_ne_true _ (λ is. false≢true (sym (later (k / 64) (omega arith)) ∙ sums.up k is))
-    ]
 
 -- and else the first one of the first later word that has one
 pub first_above : (below above : List Bool) (n word : ℕ) (next : Option ℕ) → Sums below above → IsNextInWord below n None → IsFirstFrom above (n / 64 + 1) (Some word) → IsNextInWord below (word * 64) next → IsFirstFrom below n next

@@ -7,8 +7,9 @@ use Rattle.std.proofs.lemmas.Bool.Decides.{nat_tests}
 use Rattle.std.proofs.lemmas.List.{length-map, take_all}
 use Rattle.std.proofs.lemmas.List.FromFn.{length-range_with_len, get_or-range_with_len}
 use Rattle.std.proofs.lemmas.List.Sums.{sum_by-cons, sum_by_push, sum_by_more}
+use Rattle.pager_model.specs.Options.{is_that}
 use Rattle.pager_model.specs.declared.reservation.Reservation.{Reservation}
-use Rattle.pager_model.specs.Agreement.{has_frame, is_frame, roles}
+use Rattle.pager_model.specs.Agreement.{has_frame, roles}
 use Rattle.pager_model.specs.FrameStates.{FrameState, layout_of, used_at, free_count, used_count, places_in, reserved_count, held_count}
 use Rattle.pager_model.specs.Layouts.{Layout, is_free}
 use Rattle.pager_model.proofs.CountLemmas.{count-one_more, weight}
@@ -95,7 +96,7 @@ count-places_in n None within = count-never (range_with_len 0 n)
 count-places_in n (Some r) within = count-between r.frame (8 ^ r.size) n (within r refl)
 
 -- a known frame that is held is one
-count-held : (n : ℕ) (o : Option ℕ) → ((f : ℕ) → o ≡ Some f → f < n) → count_by (λ g. is_frame g o) (range_with_len 0 n) ≡ cond (is_some o) 1 0
+count-held : (n : ℕ) (o : Option ℕ) → ((f : ℕ) → o ≡ Some f → f < n) → count_by (λ g. is_that g o) (range_with_len 0 n) ≡ cond (is_some o) 1 0
 count-held n None known = count-never (range_with_len 0 n)
 count-held n (Some f) known =
     let one_more = count-one_more (λ g. false) (λ g. eqb f g) f refl (eq-eqb f f refl)
@@ -148,10 +149,10 @@ module _ (frames processors : ℕ) (st : FrameState) (sound : IsSound frames pro
       omega (arith, known, get_or-range_with_len 0 frames i 0 known)
 
   -- over all frames the processors that hold each are the ones that hold one
-  all_held : sum_by (λ f. count_by (is_frame f) st.held) (range_with_len 0 frames) ≡ held_count st
+  all_held : sum_by (λ f. count_by (is_that f) st.held) (range_with_len 0 frames) ≡ held_count st
   all_held =
-      exchange is_frame st.held (range_with_len 0 frames)
-      ∙ sum_by-same_at (λ o. count_by (λ f. is_frame f o) (range_with_len 0 frames)) (λ o. cond (is_some o) 1 0) st.held None
+      exchange is_that st.held (range_with_len 0 frames)
+      ∙ sum_by-same_at (λ o. count_by (λ f. is_that f o) (range_with_len 0 frames)) (λ o. cond (is_some o) 1 0) st.held None
       (λ c _. count-held frames (get_or st.held c None) (λ f is. (sound.held_apart c f is).0))
 
   -- over all frames the free ones
@@ -180,6 +181,6 @@ module _ (frames processors : ℕ) (st : FrameState) (sound : IsSound frames pro
       (λ i within. (IsPartition-sound frames processors st sound _ (below i within)).0) in
       let all = ones ∙ sum_by-ones (range_with_len 0 frames) ∙ length-range_with_len 0 frames in
       let in_layout : ℕ → ℕ = λ f. cond (is_free (layout_of st) f) 1 0 + count_by (has_frame f) st.records in
-      let parts = sum_by-plus in_layout (λ f. count_by (is_frame f) st.held) (range_with_len 0 frames) in
+      let parts = sum_by-plus in_layout (λ f. count_by (is_that f) st.held) (range_with_len 0 frames) in
       let more_parts = sum_by-plus (λ f. cond (is_free (layout_of st) f) 1 0) (λ f. count_by (has_frame f) st.records) (range_with_len 0 frames) in
       omega (arith, all, parts, more_parts, all_free, all_places, all_held, used_places_few)

@@ -5,6 +5,7 @@ use Rattle.std.specs.List.{range_with_len}
 use Rattle.std.proofs.lemmas.Bool.{cases_lt, eq-eqb, eqb-true, eqb-false, false≢true}
 use Rattle.std.proofs.lemmas.List.{get_or_past}
 use Rattle.std.proofs.lemmas.Option.{none-some, same_Some}
+use Rattle.pager_model.specs.Options.{is_that}
 use Rattle.pager_model.specs.SizeSets.{SizeSet}
 use Rattle.pager_model.specs.declared.call.Call.{Call}
 use Rattle.pager_model.specs.declared.call.Call.TheVariants.{Map, Grow, Unmap, Protect, Load, Store, Sync, Evict}
@@ -14,7 +15,7 @@ use Rattle.pager_model.specs.declared.entry.What.{What}
 use Rattle.pager_model.specs.declared.entry.What.TheVariants.{Answer, Out, Failed, Take, Give, Clear, Claim, UseHeld, DropHeld, Got, Unclaim, Refused, Rest}
 use Rattle.pager_model.specs.declared.reply.Answered.{Answered}
 use Rattle.pager_model.specs.Agreement.{Agrees, IsPartition, NothingHeld, OwnsBy}
-use Rattle.pager_model.specs.Entries.{is_space, is_of, IsOn}
+use Rattle.pager_model.specs.Entries.{is_of, IsOn}
 use Rattle.pager_model.specs.FrameStates.{FrameState, HasNothing, FramesAllow, AllowsAnswer, start_frames, layout_of, used_at, frame_of, claim_in, claimed, take_frame, state_taken, give_page, give_range, dropped, counted, moved, moved_by_answer}
 use Rattle.pager_model.specs.Layouts.{covering, used_in, frame_in}
 use Rattle.pager_model.specs.Legal.{IsLegal, MayFollow, AllWhole, space_at, frames_at, progress_at}
@@ -87,7 +88,7 @@ record GoesOn (st after : FrameState) (c : ℕ) (space : Option ℕ) (what : Wha
   pub own : (p q : Progress) → progress_after p space what ≡ Some q → OwnsBy st c p.doing → OwnsBy after c q.doing
   pub others : (d : ℕ) → d ≢ c → Keeps st after d
   pub named : (base : ℕ → Option ℕ) (s p : ℕ) → space ≡ Some s → base p ≡ frame_of st s p → base_after base true what p ≡ frame_of after s p
-  pub other : (s p : ℕ) → is_space space s ≡ false → frame_of after s p ≡ frame_of st s p
+  pub other : (s p : ℕ) → is_that s space ≡ false → frame_of after s p ≡ frame_of st s p
 
 -- the pages of a space that pass a test have this frame then, or none, and all others keep theirs
 module _ (st after : FrameState) (space : ℕ) (test : ℕ → Bool) (frame : Option ℕ) (pages : (s p : ℕ) → frame_of after s p ≡ cond (eqb space s && test p) frame (frame_of st s p)) where
@@ -249,7 +250,7 @@ progress_before None e q goes = absurd (none-some q goes)
 progress_before (Some p) e q goes = (p, refl, goes)
 
 -- the test that an entry names a space says which it names
-pub names-is : (space : Option ℕ) (s : ℕ) → is_space space s ≡ true → space ≡ Some s
+pub names-is : (space : Option ℕ) (s : ℕ) → is_that s space ≡ true → space ≡ Some s
 names-is None s h = absurd (false≢true h)
 names-is (Some t) s h = ap Some (eqb-true t s h)
 
@@ -275,7 +276,7 @@ IsKept-more g h c space false what kept may =
     record {
       sound = subst (IsSound g.frames (length g.marks)) (sym same) kept.sound;
       owns = λ d q goes. subst (λ after. OwnsBy after d q.doing) (sym same) (owns-more g h e st kept.owns (owns-alone st c space what may.parts) (λ d _. Keeps-same st d) d q goes);
-      agrees = λ s p. elim (is_space space s) as (λ b. is_space space s ≡ b → (space_at g (h ++ e ∷ []) s).base p ≡ frame_of (frames_at g (h ++ e ∷ [])) s p) [
+      agrees = λ s p. elim (is_that s space) as (λ b. is_that s space ≡ b → (space_at g (h ++ e ∷ []) s).base p ≡ frame_of (frames_at g (h ++ e ∷ [])) s p) [
         | true ↦ λ named.
             ap (λ (q : SpaceState). q.base p) (space_at-named g h e s named)
             ∙ base-alone (space_at g h s).base space what may.parts p
@@ -294,7 +295,7 @@ IsKept-more g h c space true what kept may =
     record {
       sound = subst (IsSound g.frames (length g.marks)) (sym moves) (IsSound-moved g.frames (length g.marks) st (mark_of g c) c space what kept.sound may.processor allowed);
       owns = λ d q goes. subst (λ after. OwnsBy after d q.doing) (sym moves) (owns-more g h e _ kept.owns on.own on.others d q goes);
-      agrees = λ s p. elim (is_space space s) as (λ b. is_space space s ≡ b → (space_at g (h ++ e ∷ []) s).base p ≡ frame_of (frames_at g (h ++ e ∷ [])) s p) [
+      agrees = λ s p. elim (is_that s space) as (λ b. is_that s space ≡ b → (space_at g (h ++ e ∷ []) s).base p ≡ frame_of (frames_at g (h ++ e ∷ [])) s p) [
         | true ↦ λ named.
             ap (λ (q : SpaceState). q.base p) (space_at-named g h e s named)
             ∙ on.named (space_at g h s).base s p (names-is space s named) (kept.agrees s p)

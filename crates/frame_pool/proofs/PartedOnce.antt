@@ -287,10 +287,6 @@ larger_some : (size : ℕ) (o : Option Reservation) → is_larger size o ≡ tru
 larger_some size None is = absurd (false≢true is)
 larger_some size (Some q) is = (q, refl, ltb-true size q.size is)
 
-pub larger_at : (size : ℕ) (o : Option Reservation) → is_larger size o ≡ true → IsSomeAnd o (λ q. 0 < q.size)
-larger_at size None is = absurd (false≢true is)
-larger_at size (Some q) is = let less = ltb-true size q.size is in omega (arith, less)
-
 -- From a layout the reservation at a frame is split down to a size, up to a frame of it.
 pub record IsGoing (size next end id : ℕ) (l cur : Layout) : Type 0 where
   pub whole : Reservation

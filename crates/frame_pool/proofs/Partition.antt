@@ -2,7 +2,8 @@
 use Rattle.std.proofs.Common.{◌≡◌, ℕ, zero, suc, ◌<◌, Bool, true, false, List, [], ◌∷◌, get_or, count_by, Option, Some, None, inl, inr, refl, sym, ap, ◌∙◌, arith}
 use Rattle.std.proofs.lemmas.Bool.{false≢true, false_from_ne_true, eq-eqb, eqb-true}
 use Rattle.std.proofs.lemmas.List.Sums.{sum_by-cons}
-use Rattle.pager_model.specs.Agreement.{IsPartition, has_frame, is_frame, roles}
+use Rattle.pager_model.specs.Options.{is_that}
+use Rattle.pager_model.specs.Agreement.{IsPartition, has_frame, roles}
 use Rattle.pager_model.specs.FrameStates.{FrameState, layout_of, held_by}
 use Rattle.pager_model.specs.Layouts.{record_at, is_free}
 use Rattle.pager_model.proofs.CountLemmas.{weight}
@@ -33,9 +34,9 @@ count-once p (x ∷ xs) d (suc k) past passes only =
     omega (arith, head, rest, both)
 
 -- the frame that passes is the one held
-is_frame-same : (f : ℕ) (o : Option ℕ) → is_frame f o ≡ true → o ≡ Some f
-is_frame-same f None is = absurd (false≢true is)
-is_frame-same f (Some g) is = ap Some (eqb-true g f is)
+is_that-same : (f : ℕ) (o : Option ℕ) → is_that f o ≡ true → o ≡ Some f
+is_that-same f None is = absurd (false≢true is)
+is_that-same f (Some g) is = ap Some (eqb-true g f is)
 
 module _ (frames processors : ℕ) (st : FrameState) (sound : IsSound frames processors st) (f : ℕ) where
   -- a place of a reservation is one of no other
@@ -43,14 +44,14 @@ module _ (frames processors : ℕ) (st : FrameState) (sound : IsSound frames pro
   one_place id has = count-once (has_frame f) st.records None id refl has (λ other also. sound.laid.apart f other id also has)
 
   -- a frame in the layout is held by nobody
-  none_holds : IsIn (layout_of st) f → count_by (is_frame f) st.held ≡ 0
-  none_holds within = count-nowhere (is_frame f) st.held None (λ c is. (sound.held_apart c f (is_frame-same f (held_by st c) is)).1 within)
+  none_holds : IsIn (layout_of st) f → count_by (is_that f) st.held ≡ 0
+  none_holds within = count-nowhere (is_that f) st.held None (λ c is. (sound.held_apart c f (is_that-same f (held_by st c) is)).1 within)
 
   -- a frame that is held is held by one processor
-  one_holds : (c : ℕ) → held_by st c ≡ Some f → count_by (is_frame f) st.held ≡ 1
+  one_holds : (c : ℕ) → held_by st c ≡ Some f → count_by (is_that f) st.held ≡ 1
   one_holds c holds =
-      count-once (is_frame f) st.held None c refl (ap (is_frame f) holds ∙ eq-eqb f f refl)
-      (λ other is. sound.held_once other c f (is_frame-same f (held_by st other) is) holds)
+      count-once (is_that f) st.held None c refl (ap (is_that f) holds ∙ eq-eqb f f refl)
+      (λ other is. sound.held_once other c f (is_that-same f (held_by st other) is) holds)
 
   -- it is in one role
   one_role : f < frames → roles st f ≡ 1

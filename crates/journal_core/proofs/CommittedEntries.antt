@@ -1,13 +1,14 @@
 -- What the callers of commit show lets the joined view grow.
 use Rattle.std.proofs.Common.{◌≡◌, ℕ, ◌<◌, ◌≤◌, Bool, true, false, eqb, List, length, refl, sym, ap, subst, ◌∙◌, arith, eq-eqb, ne_eqb, eqb-true, true≢false, ◌==◌, if◌then◌else◌}
 use Rattle.std.proofs.lemmas.List.{length-map}
+use Rattle.pager_model.specs.Options.{is_that}
 use Rattle.pager_model.specs.declared.entry.Numbered.{Numbered}
 use Rattle.std.specs.Prelude.{Option, Some, None, IfSome}
 use Rattle.pager_model.specs.declared.entry.Entry.{Entry}
 use Rattle.pager_model.specs.declared.entry.Need.{Need}
 use Rattle.pager_model.specs.declared.entry.What.{What}
 use Rattle.pager_model.specs.declared.entry.What.TheVariants.{Answer, Out, Failed, Take, Give, Clear, Claim, UseHeld, DropHeld, Got, Unclaim, Refused, Rest}
-use Rattle.pager_model.specs.Entries.{IsOn, ClaimIsOn, NamesItsParts, is_space, space_part, frames_part, entries_of}
+use Rattle.pager_model.specs.Entries.{IsOn, ClaimIsOn, NamesItsParts, space_part, frames_part, entries_of}
 use Rattle.pager_model.specs.Legal.{SpaceJudges, FramesJudge, KeepsOrder, entries_in}
 use Rattle.pager_model.specs.Settings.{Given}
 use Rattle.journal_core.specs.Clauses.{NamesOnly, AllowedAfter}
@@ -40,7 +41,7 @@ on_something space frames (Rest short) on none = on.1
 
 -- whether the space and the frames that an entry names are the part
 abbrev names_by : ℕ → ℕ → Option ℕ → Bool → Bool
-names_by spaces part space frames = if part == spaces then frames else is_space space part
+names_by spaces part space frames = if part == spaces then frames else is_that part space
 
 abbrev OnlyBy : ℕ → ℕ → Option ℕ → Bool → Type 0
 OnlyBy spaces part space frames = IfSome space (λ s. (s ≡ part) × (s < spaces)) × (frames ≡ true → part ≡ spaces)

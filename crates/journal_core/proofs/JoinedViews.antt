@@ -2,8 +2,9 @@
 use Rattle.std.proofs.Common.{◌≡◌, ℕ, ◌+◌, ◌<◌, ◌≤◌, Bool, true, false, cond, eqb, List, [], length, refl, sym, ap, ap₂, subst, ◌∙◌, arith, eq-eqb, ne_eqb, eqb-true, ◌⊎◌, inl, inr}
 use Rattle.std.specs.Prelude.{Some, IfSome}
 use Rattle.atomic_table.specs.Table.{Me}
+use Rattle.pager_model.specs.Options.{is_that}
 use Rattle.pager_model.specs.declared.entry.Entry.{Entry}
-use Rattle.pager_model.specs.Entries.{NamesItsParts, is_space, space_part}
+use Rattle.pager_model.specs.Entries.{NamesItsParts, space_part}
 use Rattle.pager_model.specs.Legal.{SpaceJudges, FramesJudge, KeepsOrder, entries_in}
 use Rattle.pager_model.specs.Settings.{Given}
 use Rattle.journal_core.specs.declared.view.View.{View}
@@ -58,16 +59,16 @@ two_tells s f p v n same other are is meets =
 named_space : (spaces part : ℕ) (e : Entry) → part < spaces → e.space ≡ Some part → names_part spaces part e ≡ true
 named_space spaces part e below is =
     let other : part ≡ spaces → ⊥ = λ same. absurd (omega arith) in
-    ap (λ b. cond b e.frames (is_space e.space part)) (ne_eqb part spaces other) ∙ ap (λ o. is_space o part) is ∙ eq-eqb part part refl
+    ap (λ b. cond b e.frames (is_that part e.space)) (ne_eqb part spaces other) ∙ ap (λ o. is_that part o) is ∙ eq-eqb part part refl
 
 named_frames : (spaces part : ℕ) (e : Entry) → part ≡ spaces → e.frames ≡ true → names_part spaces part e ≡ true
-named_frames spaces part e same is = ap (λ b. cond b e.frames (is_space e.space part)) (eq-eqb part spaces same) ∙ is
+named_frames spaces part e same is = ap (λ b. cond b e.frames (is_that part e.space)) (eq-eqb part spaces same) ∙ is
 
 two_named_by : (spaces space frames part : ℕ) (e : Entry) (b : Bool) → frames ≡ spaces → e.space ≡ Some space → eqb part spaces ≡ b → names_part spaces part e ≡ true → (space ≡ part) ⊎ (frames ≡ part)
 two_named_by spaces space frames part e true all is at names = inr (all ∙ sym (eqb-true part spaces at))
 two_named_by spaces space frames part e false all is at names =
-    let n : is_space e.space part ≡ true = ap (λ b. cond b e.frames (is_space e.space part)) (sym at) ∙ names in
-    inl (eqb-true space part (ap (λ o. is_space o part) (sym is) ∙ n))
+    let n : is_that part e.space ≡ true = ap (λ b. cond b e.frames (is_that part e.space)) (sym at) ∙ names in
+    inl (eqb-true space part (ap (λ o. is_that part o) (sym is) ∙ n))
 
 two_counted : (space frames part : ℕ) → (space ≡ part) ⊎ (frames ≡ part) → 0 < hit space part + hit frames part
 two_counted space frames part (inl is) = omega (arith, hit-same space part is)

@@ -2,12 +2,13 @@
 use Rattle.std.proofs.Common.{◌≡◌, ◌≢◌, ℕ, ◌+◌, ◌<◌, ◌≤◌, Bool, true, false, ◌&&◌, cond, eqb, List, [], ◌∷◌, ◌++◌, length, Option, Some, None, IfSome, refl, ap, sym, subst, ◌∙◌, arith}
 use Rattle.std.proofs.lemmas.Bool.{false≢true, ne_eqb}
 use Rattle.std.proofs.lemmas.Option.{none-some, same_Some}
+use Rattle.pager_model.specs.Options.{is_that}
 use Rattle.pager_model.specs.declared.entry.Victim.{Victim}
 use Rattle.pager_model.specs.declared.entry.Entry.{Entry}
 use Rattle.pager_model.specs.declared.entry.Need.{Need}
 use Rattle.pager_model.specs.declared.entry.What.{What}
 use Rattle.pager_model.specs.declared.entry.What.TheVariants.{Answer, Out, Failed, Take, Give, Clear, Claim, UseHeld, DropHeld, Got, Unclaim, Refused, Rest}
-use Rattle.pager_model.specs.Entries.{names_space, is_space, entries_of, IsOn}
+use Rattle.pager_model.specs.Entries.{names_space, entries_of, IsOn}
 use Rattle.pager_model.specs.Flat.{space_of_call}
 use Rattle.pager_model.specs.FrameStates.{FrameState, frames_after, frame_of, FramesAllow}
 use Rattle.pager_model.specs.Legal.{IsLegal, space_at, frames_at, progress_at, progress_in, MayFollow}
@@ -32,7 +33,7 @@ at_named : (P : ℕ → Type 0) (o : Option ℕ) (n s : ℕ) → n ≡ s → IfS
 at_named P None n s at named holds = tt
 at_named P (Some t) n s at named holds = subst P (sym (named ∙ at)) holds
 
-unnamed : (o : Option ℕ) (n s : ℕ) → IfSome o (λ t. t ≡ n) → s ≢ n → is_space o s ≡ false
+unnamed : (o : Option ℕ) (n s : ℕ) → IfSome o (λ t. t ≡ n) → s ≢ n → is_that s o ≡ false
 unnamed None n s own other = refl
 unnamed (Some t) n s own other = ne_eqb t s (λ is. other (sym is ∙ own))
 
@@ -48,7 +49,7 @@ frames_at-after g h e =
     [ true ↦ λ is. frames_at-named g h e is | false ↦ λ is. frames_at-other g h e is ] refl
 
 -- A space that isn't known has no entries, and so no resident page.
-unnamed_past : (o : Option ℕ) (n s : ℕ) → IfSome o (λ t. t < n) → n ≤ s → is_space o s ≡ false
+unnamed_past : (o : Option ℕ) (n s : ℕ) → IfSome o (λ t. t < n) → n ≤ s → is_that s o ≡ false
 unnamed_past None n s below past = refl
 unnamed_past (Some t) n s below past = ne_eqb t s (λ is. absurd (omega (arith, below, past, is)))
 

@@ -5,6 +5,7 @@ use Rattle.std.proofs.lemmas.List.{append_assoc, length-append, length-drop, len
 use Rattle.std.proofs.lemmas.Option.{slice_get_within}
 use Rattle.std.proofs.Math.ListN.{length-map}
 use Rattle.std.proofs.Math.Seq.{take-append_seam, drop-append_seam}
+use Rattle.pager_model.specs.Options.{is_that}
 use Rattle.pager_model.specs.declared.entry.Entry.{Entry}
 use Rattle.pager_model.specs.declared.entry.Numbered.{Numbered}
 use Rattle.pager_model.specs.Entries.{space_part}
@@ -12,7 +13,7 @@ use Rattle.pager_model.specs.FrameStates.{FrameState}
 use Rattle.pager_model.specs.Legal.{space_at, entries_in}
 use Rattle.pager_model.specs.Settings.{Given, is_told, faults_at_entry}
 use Rattle.pager_model.specs.SpaceStates.{SpaceState, empty_state, space_after}
-use Rattle.space_core.specs.Standing.{Kept, is_in, is_page}
+use Rattle.space_core.specs.Standing.{Kept, is_in}
 use Rattle.store_core.specs.Stored.{Stored, TellsZero}
 use Rattle.pager_core.specs.RunParts.{given_over, IsNew, AreNewSpaces, AreAtRest}
 use Rattle.pager_core.specs.Running.{EndsWith, StoresEnd}
@@ -176,7 +177,7 @@ module _ (given : Given) (history : List Numbered) (spaces : List Kept) (pool : 
         tells = λ is. (here.stands.beside.told (told_still given (entries_in history) s ∙ is)).tells;
         copies = λ is page.
             (here.stands.beside.told (told_still given (entries_in history) s ∙ is)).copies page
-            (ap (λ r. is_in r page) here.resting.none_clearing) (ap (is_page page) here.resting.none_paged);
+            (ap (λ r. is_in r page) here.resting.none_clearing) (ap (is_that page) here.resting.none_paged);
         counts = here.stands.beside.highest;
       }
 

@@ -3,10 +3,10 @@ use Rattle.std.proofs.Common.{◌≡◌, ℕ, true, false, cond, eqb, is_some, S
 use Rattle.std.specs.Option.{IsSomeAnd}
 use Rattle.std.proofs.lemmas.Bool.{cond-true, eq-eqb, false≢true}
 use Rattle.std.proofs.lemmas.Option.{same_Some}
+use Rattle.pager_model.specs.Options.{is_that}
 use Rattle.pager_model.specs.declared.entry.Entry.{Entry}
 use Rattle.pager_model.specs.declared.entry.Want.{Want}
 use Rattle.pager_model.specs.declared.entry.What.TheVariants.{Take}
-use Rattle.pager_model.specs.Entries.{is_space}
 use Rattle.pager_model.specs.Flat.{space_of_call}
 use Rattle.pager_model.specs.FrameStates.{FrameState, Taking, layout_of, used_at, frame_of, take_frame, state_taken, counted, HasNothing}
 use Rattle.pager_model.specs.Agreement.{OwnsBy}
@@ -34,7 +34,7 @@ unused_elsewhere kept st frame agree unused p is = false≢true (sym unused ∙ 
 
 -- the space that an entry names is an entry further
 pub after_own : (space number : ℕ) (st : SpaceState) (e : Entry) → e.space ≡ Some space → space ≡ number → after_named number st e ≡ space_after st e
-after_own space number st e named on = ap (λ o. cond (is_space o number) (space_after st e) st) named ∙ cond-true (eqb space number) (space_after st e) st (eq-eqb _ _ on)
+after_own space number st e named on = ap (λ o. cond (is_that number o) (space_after st e) st) named ∙ cond-true (eqb space number) (space_after st e) st (eq-eqb _ _ on)
 
 -- the flight, for which no frame is claimed
 abbrev pub unclaiming : Flight → Flight

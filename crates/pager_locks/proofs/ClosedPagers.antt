@@ -40,19 +40,6 @@ all_at P xs i x all at = elim (slice_get_cases xs i).1 [
   | inr past ↦ absurd (none-some x (sym past.1 ∙ at))
 ]
 
-pub AreParts-none : (j : JournalName) (spaces : List Kept) (authors : List AuthorState) → spaces ≡ [] → authors ≡ [] → AreParts j 0 spaces authors
-AreParts-none j spaces authors no_spaces no_authors =
-    let none : length spaces ≡ 0 = ap length no_spaces in
-    let none_too : length authors ≡ 0 = ap length no_authors in
-    record {
-      same_count = none_too ∙ sym none;
-      no_more = omega (arith, none);
-      known = omega (arith, none);
-      all = λ _. none;
-      journals = All-same (λ (a : AuthorState). a.journal ≡ j) authors [] no_authors (All-nil (λ (a : AuthorState). a.journal ≡ j));
-      each = λ s kept at. (let below = slice_get_within spaces s kept at in absurd (omega (arith, below, none)));
-    }
-
 -- the next space is one more
 pub AreParts-more : (j : JournalName) (k : ℕ) (spaces more : List Kept) (authors grown : List AuthorState) (kept : Kept) (a : AuthorState) → AreParts j k spaces authors → IsLockedSpace j k kept (Some a)
     → more ≡ spaces ++ kept ∷ [] → grown ≡ authors ++ a ∷ [] → AreParts j (k + 1) more grown
@@ -83,19 +70,6 @@ AreParts-more j k spaces more authors grown kept a parts locked are are_authors 
               locked = subst (λ n. IsLockedSpace j n other (Some a)) (sym (last.0 ∙ full)) (subst (λ x. IsLockedSpace j k x (Some a)) last.1 locked);
             }
       ];
-    }
-
--- where there is no next space they stay
-pub AreParts-still : (j : JournalName) (k : ℕ) (spaces : List Kept) (authors : List AuthorState) → AreParts j k spaces authors → length j.setting.told ≤ k → AreParts j (k + 1) spaces authors
-AreParts-still j k spaces authors parts past =
-    let most = parts.no_more in
-    record {
-      same_count = parts.same_count;
-      no_more = omega (arith, most);
-      known = parts.known;
-      all = λ few. (let full = parts.all few in absurd (omega (arith, full, few, past)));
-      journals = parts.journals;
-      each = parts.each;
     }
 
 pub journals_all : (j : JournalName) (k : ℕ) (spaces : List Kept) (authors all : List AuthorState) (pool : FrameState) (frames : AuthorState) → AreParts j k spaces authors → IsPoolAt j pool frames → all ≡ authors ++ frames ∷ [] → All (λ (a : AuthorState). a.journal ≡ j) all

@@ -1,5 +1,6 @@
 -- What holds of frames and pages together: each frame is in one role, and spaces and frames agree on the resident pages.
 use Rattle.std.specs.Prelude.{ℕ, ◌≡◌, ◌+◌, ◌<◌, ◌^◌, ◌⊎◌, Bool, true, false, ◌&&◌, ◌==◌, nat_le, nat_lt, if◌then◌else◌, List, count_by, Option, Some, None, IsSome, length}
+use Rattle.pager_model.specs.Options.{is_that}
 use Rattle.pager_model.specs.declared.entry.Entry.{Entry}
 use Rattle.pager_model.specs.declared.reservation.Reservation.{Reservation}
 use Rattle.pager_model.specs.FrameStates.{FrameState, layout_of, used_at, held_by, claim_in, frame_of, HasNothing}
@@ -14,13 +15,9 @@ abbrev pub has_frame : ℕ → Option Reservation → Bool
 has_frame frame None = false
 has_frame frame (Some r) = nat_le r.frame frame && nat_lt frame (r.frame + 8 ^ r.size)
 
-abbrev pub is_frame : ℕ → Option ℕ → Bool
-is_frame frame None = false
-is_frame frame (Some f) = f == frame
-
 -- in how many roles a frame is: free, a place of a reservation, held by a processor
 abbrev pub roles : FrameState → ℕ → ℕ
-roles st frame = (if is_free (layout_of st) frame then 1 else 0) + count_by (has_frame frame) st.records + count_by (is_frame frame) st.held
+roles st frame = (if is_free (layout_of st) frame then 1 else 0) + count_by (has_frame frame) st.records + count_by (is_that frame) st.held
 
 -- each frame is exactly one of free, a place of one reservation, and held by one processor; and a used place is a place
 abbrev pub IsPartition : ℕ → FrameState → Type 0

@@ -1,18 +1,15 @@
 -- The entries of a history, which parts they name, and the lists of the parts and of the processors.
 use Rattle.std.specs.Prelude.{ℕ, ◌≡◌, Bool, true, false, ◌==◌, List, filter, Option, Some, None}
+use Rattle.pager_model.specs.Options.{is_that}
 use Rattle.pager_model.specs.declared.entry.Entry.{Entry}
 use Rattle.pager_model.specs.declared.entry.Need.{Need}
 use Rattle.pager_model.specs.declared.entry.What.{What}
 use Rattle.pager_model.specs.declared.entry.What.TheVariants.{Answer, Out, Failed, Take, Give, Clear, Claim, UseHeld, DropHeld, Got, Unclaim, Refused, Rest}
 use Rattle.pager_model.specs.Flat.{space_of_call}
 
-abbrev pub is_space : Option ℕ → ℕ → Bool
-is_space None s = false
-is_space (Some t) s = t == s
-
 -- the entry names space s
 abbrev pub names_space : ℕ → Entry → Bool
-names_space s e = is_space e.space s
+names_space s e = is_that s e.space
 
 -- the entry names the frames
 abbrev pub names_frames : Entry → Bool

@@ -142,10 +142,6 @@ abbrev pub after_call : Flat → Call → Flat
 after_call f call =
     record { regions = regions_after f call; rights = rights_after f call; words = words_after f call; copies = copies_after f call; dirty = dirty_after f call }
 
--- the flat memory after a call, and the call's reply
-abbrev pub ask : Flat → Call → Flat × Reply
-ask f call = (after_call f call, reply_of f call)
-
 -- a page is written to its copy
 abbrev pub out : Flat → ℕ → Flat
 out f page =

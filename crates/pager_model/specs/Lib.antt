@@ -1,4 +1,5 @@
 pub mod Extents
+pub mod Options
 pub mod SizeSets
 pub mod Settings
 pub mod Plans

@@ -18,18 +18,6 @@ abbrev pub daemon_marks : Option Daemon → List ℕ
 daemon_marks None = []
 daemon_marks (Some d) = d.low ∷ []
 
--- The setting of a trace: its frames, all four page sizes, a mark of 0 for each processor and the daemon's low mark for one more, and
--- for each space a store that tells its copies and has not failed.
-abbrev pub setting_of : Plan → Given
-setting_of plan =
-    record {
-      sizes = all_sizes;
-      frames = plan.frames;
-      marks = replicate plan.processors 0 ++ daemon_marks plan.daemon;
-      told = replicate plan.spaces true;
-      faults = replicate plan.spaces 0;
-    }
-
 -- an answer's number and call
 abbrev pub answer_in : What → Option (ℕ × Call)
 answer_in (Answer number call answered) = Some (number, call)

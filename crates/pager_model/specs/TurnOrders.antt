@@ -2,6 +2,7 @@
 use Rattle.std.specs.Prelude.{ℕ, ◌≡◌, ◌+◌, ◌*◌, ◌/◌, ◌%◌, ◌^◌, ◌==◌, Bool, true, false, ◌&&◌, not, List, [], ◌∷◌, ◌++◌, length, take, drop, filter, find, slice_get, Option, Some, None, is_some}
 use Rattle.std.specs.List.{range_with_len, list_any}
 use Rattle.std.specs.Option.{option_and_then}
+use Rattle.pager_model.specs.Options.{is_that}
 use Rattle.pager_model.specs.declared.call.Call.{Call}
 use Rattle.pager_model.specs.declared.entry.Entry.{Entry}
 use Rattle.pager_model.specs.Entries.{entries_of}
@@ -25,10 +26,6 @@ standing_at plan history c = option_and_then (standing_by (calls_of c plan.calls
 -- the space that its next step is made under
 abbrev pub under_of : Standing → Option ℕ
 under_of s = under_in (Some (space_of_call s.call)) s.doing
-
-abbrev pub is_that : ℕ → Option ℕ → Bool
-is_that space None = false
-is_that space (Some kept) = kept == space
 
 abbrev pub is_kept_by : ℕ → Option Standing → Bool
 is_kept_by space None = false

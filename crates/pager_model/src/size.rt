@@ -1,4 +1,4 @@
-ghost use Rattle.std.specs.Prelude.{◌≡◌, ◌≤◌, ◌^◌};
+ghost use Rattle.std.specs.Prelude.{◌≡◌, ◌-◌, ◌<◌, ◌≤◌, ◌^◌};
 ghost use Rattle.std.specs.Option.{SomeIff};
 
 use std::marker::Model;
@@ -32,6 +32,24 @@ impl Size {
             Some(Size { level })
         } else {
             None
+        }
+    }
+
+    /// The size of a level that is at most 3.
+    pub fn at_level(level: u8) -> Size
+        requires { level ≤ 3 }
+        ensures { result ≡ level }
+    {
+        Size { level }
+    }
+
+    /// The next smaller of the four.
+    pub fn smaller(&self) -> Size
+        requires { 0 < self.now }
+        ensures { result ≡ self.now - 1 }
+    {
+        Size {
+            level: self.level - 1,
         }
     }
 

@@ -50,7 +50,7 @@ impl Sizes {
         if size.level() == 0 {
             return None;
         }
-        Some(self.within(Size::of(size.level() - 1).unwrap()))
+        Some(self.within(size.smaller()))
     }
 
     /// The largest size there is that is at most this one.
@@ -59,9 +59,9 @@ impl Sizes {
     {
         match size.level() {
             3 if self.three => size,
-            2 | 3 if self.two => Size::of(2).unwrap(),
-            1 | 2 | 3 if self.one => Size::of(1).unwrap(),
-            _ => Size::of(0).unwrap(),
+            2 | 3 if self.two => Size::at_level(2),
+            1 | 2 | 3 if self.one => Size::at_level(1),
+            _ => Size::at_level(0),
         }
     }
 }

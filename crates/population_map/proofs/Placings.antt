@@ -29,12 +29,6 @@ some_or_none (Some x) = inr refl
 pub in_none : (m : Arena Mark) (page : ℕ) → IsInNone m page → is_placed m page ≡ false
 in_none m page none = false_from_ne_true _ (λ is. let at = placed_size m page is in false≢true (sym (ap is_some (none at.0 at.1)) ∙ at.2))
 
-pub from_in_none : (m : Arena Mark) (page : ℕ) → is_placed m page ≡ false → IsInNone m page
-from_in_none m page apart size small = elim (some_or_none (id_of m size page)) [
-  | inl none ↦ none
-  | inr some ↦ absurd (false≢true (sym apart ∙ placed_by m size page small some))
-]
-
 -- ---- ids change, and no bit does
 
 -- A tree after the ids of some extents changed: bits of marks are as before, and what is kept is right.

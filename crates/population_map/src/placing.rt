@@ -109,7 +109,7 @@ fn has_populated<L: Ledger>(
 fn is_populated<L: Ledger>(tree: &ExtentTree<Mark>, page: u32, steps: &mut Steps<L>) -> bool
     ensures { result ≡ is_populated tree.now page }
 {
-    let mark = mark_at(tree, way::size_of(1), page, steps);
+    let mark = mark_at(tree, Size::at_level(1), page, steps);
     has_bit(mark.some, page % 8)
 }
 
@@ -147,13 +147,13 @@ pub(crate) fn id_over<L: Ledger>(
         (λ id. (size : ℕ) × (size ≤ 3) × (id_of tree.now size page ≡ Some id)) }
     ensures cost { steps.new ≤ steps.old + 4 }
 {
-    let mut spot = tree.at(way::size_of(3), page, steps);
+    let mut spot = tree.at(Size::at_level(3), page, steps);
     for below in 0..3 {
         let id = way::mark_at(&spot).id;
         if id.is_some() {
             return id;
         }
-        spot = tree.part(spot, way::size_of(2 - below), page, steps);
+        spot = tree.part(spot, Size::at_level(2 - below), page, steps);
     }
     way::mark_at(&spot).id
 }
@@ -170,13 +170,13 @@ pub(crate) fn is_met<L: Ledger>(
     ensures apart { OnFalse result ((other : ℕ) → other / 8 ^ size ≡ page / 8 ^ size → IsInNone tree.now other) }
     ensures cost { steps.new ≤ steps.old + 4 }
 {
-    let mut spot = tree.at(way::size_of(3), page, steps);
+    let mut spot = tree.at(Size::at_level(3), page, steps);
     let above_it = 3 - size.level();
     for above in 0..above_it {
         if way::mark_at(&spot).id.is_some() {
             return true;
         }
-        spot = tree.part(spot, way::size_of(2 - above), page, steps);
+        spot = tree.part(spot, Size::at_level(2 - above), page, steps);
     }
     if way::mark_at(&spot).id.is_some() {
         return true;

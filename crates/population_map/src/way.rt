@@ -19,14 +19,6 @@ pub(crate) struct Way {
     pub(crate) large: Mark,
 }
 
-/// The size of a level.
-pub(crate) fn size_of(level: u8) -> Size
-    requires { level ≤ 3 }
-    ensures { result ≡ level }
-{
-    Size::of(level).unwrap()
-}
-
 /// The mark that was found at an extent.
 pub(crate) fn mark_at(spot: &Spot<Mark>) -> Mark
     ensures { result ≡ unwrap_or spot.now.value unmarked }
@@ -41,9 +33,9 @@ pub(crate) fn read<L: Ledger>(tree: &ExtentTree<Mark>, page: u32, steps: &mut St
     ensures large { result.large ≡ mark_of tree.now 3 page }
     ensures cost { steps.new ≤ steps.old + 3 }
 {
-    let large = tree.at(size_of(3), page, steps);
-    let middle = tree.part(large, size_of(2), page, steps);
-    let small = tree.part(middle, size_of(1), page, steps);
+    let large = tree.at(Size::at_level(3), page, steps);
+    let middle = tree.part(large, Size::at_level(2), page, steps);
+    let small = tree.part(middle, Size::at_level(1), page, steps);
     Way {
         small: mark_at(&small),
         middle: mark_at(&middle),
@@ -94,7 +86,7 @@ pub(crate) fn change<L: Ledger>(
     let small = way.small.with_page(page % 8, is_in);
     let middle = way.middle.with_part(page / 8 % 8, small);
     let large = way.large.with_part(page / 64 % 8, middle);
-    write(tree, size_of(1), page, small, steps);
-    write(tree, size_of(2), page, middle, steps);
-    write(tree, size_of(3), page, large, steps);
+    write(tree, Size::at_level(1), page, small, steps);
+    write(tree, Size::at_level(2), page, middle, steps);
+    write(tree, Size::at_level(3), page, large, steps);
 }

@@ -28,18 +28,6 @@ use Rattle.replay_core.specs.Jobs.{calls_in, room_for, MayMake, HasMade, IsReady
 
 -- One after another.
 
--- before the first
-pub HasMade-none : (j : JournalName) (p : PassState) (calls : List Call) → MayMake j p calls → HasMade j p [] p
-HasMade-none j p calls may =
-    record {
-      journal = may.journal;
-      processor = refl;
-      room = refl;
-      progress = ap (λ (l : List Numbered). progress_of 0 (entries_in l)) may.new;
-      answers = ap (λ (l : List Numbered). answers_in (entries_in l)) may.new;
-      few = (let none : length p.entries ≡ 0 = ap length may.new in omega (arith, none));
-    }
-
 -- and after one more
 pub HasMade-more : (j : JournalName) (old p q : PassState) (calls more : List Call) (call : Call) (reply : Reply) → HasMade j old calls p → MakesCall j.setting p q call reply → more ≡ calls ++ call ∷ [] → HasMade j old more q
 HasMade-more j old p q calls more call reply has makes are =

@@ -8,6 +8,7 @@ use Rattle.std.proofs.lemmas.List.Folds.{Any-from_list_any, list_any_at}
 use Rattle.std.proofs.lemmas.Option.{none-some, same_Some, slice_get_past}
 use Rattle.std.specs.List.{slice_get, range_with_len, list_any}
 use Rattle.std.specs.Option.{option_and_then}
+use Rattle.pager_model.specs.Options.{is_that}
 use Rattle.pager_model.specs.declared.call.Call.{Call}
 use Rattle.pager_model.specs.Entries.{entries_of}
 use Rattle.pager_model.specs.Flat.{space_of_call}
@@ -24,7 +25,7 @@ use Rattle.pager_core.specs.Rows.{row_of, row_in, own_if, faulted, is_between, s
 use Rattle.pager_core.specs.Running.{Running, calls_at, flight_at, progress_of_actor, progress_by_flight, setting_over, kept_by, IsKeptByOther, IsOfCall, IsLawful}
 use Rattle.pager_core.proofs.NextFlights.{made_going, keeps_under}
 use Rattle.store_core.specs.Stored.{Stored}
-use Rattle.pager_model.specs.TurnOrders.{Standing, keeps_in, under_in, standing_by, standing_at, is_that, is_kept_by, is_kept_by_other, has_left, can_go, can_step}
+use Rattle.pager_model.specs.TurnOrders.{Standing, keeps_in, under_in, standing_by, standing_at, is_kept_by, is_kept_by_other, has_left, can_go, can_step}
 use Rattle.replay_core.specs.Turns.{flies, IsStuck}
 use Rattle.replay_core.proofs.RunLemmas.{IsRunOf, calls_known, length-calls}
 

@@ -66,14 +66,6 @@ sent_part {a = a} {b = b} {c = c} x y first more = record {
   rose = rose_then a.faults b.faults c.faults first.never_falls more.rose;
 }
 
--- nothing
-pub sent_nothing : (a : Outgoing) → Sent a a []
-sent_nothing a = record { told = by_taken a.taken; never_falls = omega arith }
-  where
-    by_taken : (taken : Option (List ℕ)) → IfSome taken (λ had. Gone taken had a.waiting a.waiting [])
-    by_taken None = tt
-    by_taken (Some had) = ([], ap Some (sym (append-nil had)), sym (append-nil a.waiting))
-
 -- bytes, and then what the result says
 pub puts_then : {E : Type 0} (r : Result (Unit {0}) E) (a b c : Outgoing) (x y : List ℕ) → Sent a b x → Puts r b c y → Puts r a c (x ++ y)
 puts_then (Ok done) a b c x y first more = sent_sent x y first more

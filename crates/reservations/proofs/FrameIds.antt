@@ -259,22 +259,6 @@ module _ (records : List (Option Reservation)) (ids : List (Option ℕ)) (used :
         };
       }
 
--- a place that is no used one any more
-pub AreKept-vacate : (records : List (Option Reservation)) (ids : List (Option ℕ)) (used : List Bool) (f : ℕ) → AreKept records ids used → AreKept records ids (set used f false)
-AreKept-vacate records ids used f are = record {
-  ids_long = are.ids_long;
-  used_long = length-set used f false ∙ are.used_long;
-  placed = are.placed;
-  noted = record {
-    exact = are.noted.exact;
-    idle = λ g out none. elim (cases_eq g f) [
-      | inl here ↦ get_or-set_default used f g false here
-      | inr other ↦ get_or-set_other used f g false false other ∙ are.noted.idle g out none
-    ];
-    gap = are.noted.gap;
-  };
-}
-
 -- where nothing from first on is used, no frame is
 pub unused_in : (p : ℕ → Bool) (first n : ℕ) → none_used p first n ≡ true → (f : ℕ) → first ≤ f → f < first + n → p f ≡ false
 unused_in p first n none f low high =

@@ -20,7 +20,7 @@ mod places;
 
 use pager_model::{NoMemory, Reservation, Size};
 pub use part::Part;
-use places::{UsedPlaces, smaller};
+use places::UsedPlaces;
 use std::alloc::Global;
 use std::marker::Model;
 
@@ -244,7 +244,7 @@ fn write_parts(
     ensures placed { ArePlaced records.new }
     ensures noted { AreNoted records.new ids.new used.now 0 0 }
 {
-    let size = smaller(whole.size);
+    let size = whole.size.smaller();
     for i in 0..8 {
         let first = whole.frame + i * size.pages();
         write(records, ids, first, size, kept_part(used, whole, i));

@@ -113,14 +113,6 @@ impl UsedPlaces {
     }
 }
 
-/// The next smaller size.
-pub(crate) fn smaller(size: Size) -> Size
-    requires { 0 < size }
-    ensures { result ≡ size - 1 }
-{
-    Size::of(size.level() - 1).unwrap()
-}
-
 /// What the used places say of a reservation.
 impl UsedPlaces {
     /// Whether some extent of a size inside the reservation has no used place.
@@ -162,7 +154,7 @@ impl UsedPlaces {
         requires one { i < 8 }
         ensures { result ≡ told_part (is_used self.now) whole.now i }
     {
-        let size = smaller(whole.size);
+        let size = whole.size.smaller();
         let first = whole.frame + i * size.pages();
         Part {
             extent: Extent { size, first },

@@ -13,14 +13,6 @@ pub mod laws;
 
 use pager_model::{Extent, Size, Want};
 
-/// The size of a level.
-fn size_at(level: u8) -> Size
-    requires { level ≤ 3 }
-    ensures { result ≡ level }
-{
-    Size::of(level).unwrap()
-}
-
 /// The extent of a size round a page.
 pub fn extent_round(size: Size, page: u32) -> Extent
     ensures size { result.size ≡ size }
@@ -66,12 +58,12 @@ pub fn preferred<F: Fn(Extent) -> bool>(page: u32, want: &Want, meets: F) -> Siz
     ensures within { LiesWithin want.now page result }
 {
     for level in (1..4u8).rev() {
-        let size = size_at(level);
+        let size = Size::at_level(level);
         if may_reserve(size, page, want, &meets) {
             return size;
         }
     }
-    size_at(0)
+    Size::at_level(0)
 }
 
 #[cfg(test)]

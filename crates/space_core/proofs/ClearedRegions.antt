@@ -4,6 +4,7 @@ use Rattle.std.proofs.lemmas.Bool.{cases_Bool, cases_eq, cases_lt, eq-eqb, ne_eq
 use Rattle.std.proofs.lemmas.Bool.Decides.{nat_tests}
 use Rattle.std.proofs.lemmas.Option.{none-some, same_Some}
 use Rattle.std.proofs.lemmas.List.{get_or-map, length-map}
+use Rattle.pager_model.specs.Options.{is_that}
 use Rattle.pager_model.specs.declared.call.Call.TheVariants.{Map, Unmap}
 use Rattle.pager_model.specs.declared.region.Kind.{Kind}
 use Rattle.pager_model.specs.declared.region.Region.{Region}
@@ -21,7 +22,7 @@ use Rattle.pager_model.proofs.Lists.{get_or-alike}
 use Rattle.space_core.specs.Beginning.{SameRegions, IsRange, ClearsOne, ClearsNone, Unmapped as IsUnmapped}
 use Rattle.space_core.specs.NewPages.{IsNew, done}
 use Rattle.space_core.specs.Pages.{Maps, Forgets, IsFirstResident, NoneFrom}
-use Rattle.space_core.specs.Standing.{Kept, StandsBut, IsCopy, IsCopied, answer_entry, clear_entry, frame_at, is_clearing, rights_by, is_page, is_settled, word_at}
+use Rattle.space_core.specs.Standing.{Kept, StandsBut, IsCopy, IsCopied, answer_entry, clear_entry, frame_at, is_clearing, rights_by, is_settled, word_at}
 use Rattle.space_core.specs.Tables.{Table, mapping_in, frame_in, own_in, dirty_in}
 use Rattle.space_core.specs.Translating.{BeginsClear, counted_up}
 use Rattle.store_core.specs.Stored.{Stored, copy_at, zero_words, DropsCopies}
@@ -65,10 +66,10 @@ module _ (number : ℕ) (regions : List Region) (t u : Table) (pending : Option 
   outside p out e = true≢false (sym within ∙ ap (in_range first len) (sym e) ∙ out)
 
   settled_other : (p : ℕ) → is_settled lacking p ≡ true → p ≢ page
-  settled_other p settled e = true≢false (sym settled ∙ ap (is_settled lacking) e ∙ ap (λ o. is_some o && not (is_page page pending)) frame_gone)
+  settled_other p settled e = true≢false (sym settled ∙ ap (is_settled lacking) e ∙ ap (λ o. is_some o && not (is_that page pending)) frame_gone)
 
   settled_others : (p : ℕ) → p ≢ page → is_settled lacking p ≡ is_settled having p
-  settled_others p n = ap (λ o. is_some o && not (is_page p pending)) (frame_others p n)
+  settled_others p n = ap (λ o. is_some o && not (is_that p pending)) (frame_others p n)
 
   word_others : (p i : ℕ) → p ≢ page → word_at having p i ≡ word_at lacking p i
   word_others p i n =
@@ -96,7 +97,7 @@ module _ (number : ℕ) (regions : List Region) (t u : Table) (pending : Option 
               words = λ p i out. w.words p i out ∙ word_others p i (outside p out);
               copies = w.copies;
               copied = λ p out level.
-                  let before = w.copied p out (ap (λ b. b && not (is_page p paged)) (dirty_others p (outside p out)) ∙ level) in
+                  let before = w.copied p out (ap (λ b. b && not (is_that p paged)) (dirty_others p (outside p out)) ∙ level) in
                   record { words = before.words; known = before.known; equal = λ i. sym (word_others p i (outside p out)) ∙ before.equal i };
             };
             tied = λ p i word said settled.

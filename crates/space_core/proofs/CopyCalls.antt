@@ -51,10 +51,6 @@ alone_sync : (space page : ℕ) (written : Bool) → is_answered_alone (Sync spa
 alone_sync space page true = refl
 alone_sync space page false = refl
 
-alone_evict : (space page : ℕ) (written : Bool) → is_answered_alone (Evict space page) (copied_reply written) ≡ true
-alone_evict space page true = refl
-alone_evict space page false = refl
-
 pub allowed_copied : (st : SpaceState) (c : ℕ) (call : Call) (written : Bool) → reply_of st.flat call ≡ copied_reply written → HasItsPages st c call → ReplyAllowed st c call (copied_reply written)
 allowed_copied st c call true asked has = (asked, λ l. has)
 allowed_copied st c call false asked has = (asked, λ l. has)

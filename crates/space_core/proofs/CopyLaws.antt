@@ -2,6 +2,7 @@
 use Rattle.std.proofs.Common.{◌≡◌, ◌≢◌, ℕ, ◌⊎◌, inl, inr, Bool, true, false, ◌&&◌, ◌==◌, if◌then◌else◌, is_some, List, Option, Some, None, refl, ap, sym, subst, ◌∙◌}
 use Rattle.std.specs.Option.{IfSome}
 use Rattle.std.proofs.lemmas.Bool.{cases_Bool, cond-true, cond-false, and_parts, eq-eqb, eqb-true, false≢true, true≢false}
+use Rattle.pager_model.specs.Options.{is_that}
 use Rattle.pager_model.specs.declared.call.Call.{Call}
 use Rattle.pager_model.specs.declared.call.Call.TheVariants.{Map, Grow, Unmap, Protect, Load, Store, Sync, Evict}
 use Rattle.pager_model.specs.declared.entry.Entry.{Entry}
@@ -11,7 +12,7 @@ use Rattle.pager_model.specs.declared.region.Region.{Region}
 use Rattle.pager_model.specs.declared.reply.Answered.{Answered}
 use Rattle.pager_model.specs.declared.reply.Reply.{Reply}
 use Rattle.pager_model.specs.declared.reply.Reply.TheVariants.{Done, Value, NoFrames, StoreFault, NoMemory}
-use Rattle.pager_model.specs.Entries.{is_space, names_space}
+use Rattle.pager_model.specs.Entries.{names_space}
 use Rattle.pager_model.specs.Flat.{Flat, reply_of, is_lawful, page_of, word_of, goes, after_call, out, lost}
 use Rattle.pager_model.specs.Legal.{IsLegal, space_at}
 use Rattle.pager_model.specs.Regions.{in_range, region_at}
@@ -266,7 +267,7 @@ module _ (st : SpaceState) (e : Entry) (keeps : KeepsCopies st) where
 -- Legal histories.
 
 -- what holds of the space that an entry names
-of_named : (space : Option ℕ) (s : ℕ) (P : ℕ → Type 0) → is_space space s ≡ true → IfSome space P → P s
+of_named : (space : Option ℕ) (s : ℕ) (P : ℕ → Type 0) → is_that s space ≡ true → IfSome space P → P s
 of_named None s P named holds = absurd (false≢true named)
 of_named (Some t) s P named holds = subst P (eqb-true t s named) holds
 

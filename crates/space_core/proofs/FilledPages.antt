@@ -2,10 +2,11 @@
 use Rattle.std.proofs.Common.{◌≡◌, ◌≢◌, ℕ, ◌≤◌, true, false, ◌&&◌, not, List, Some, None, slice_index_or, refl, sym, ap, inl, inr, ◌∙◌, arith}
 use Rattle.std.proofs.lemmas.Bool.{cases_eq, ne_eqb, eq-eqb, true≢false, and_right, cond-true}
 use Rattle.std.proofs.lemmas.Option.{none-some}
+use Rattle.pager_model.specs.Options.{is_that}
 use Rattle.pager_model.specs.SpaceStates.{SpaceState, Rises, pages_of, space_after}
 use Rattle.space_core.specs.Beginning.{SameRegions, ReadsIn, FailsToRead}
 use Rattle.space_core.specs.Pages.{Refills, HasWords}
-use Rattle.space_core.specs.Standing.{Kept, StandsFor, IsCopied, frame_at, dirty_at, is_page, is_in, is_settled, is_behind, word_at, failed_entry}
+use Rattle.space_core.specs.Standing.{Kept, StandsFor, IsCopied, frame_at, dirty_at, is_in, is_settled, is_behind, word_at, failed_entry}
 use Rattle.space_core.specs.Tables.{mapping_in}
 use Rattle.store_core.specs.Stored.{copy_at, SameCopies}
 use Rattle.space_core.proofs.SameView.{BesideAt, SameWhole, SameAt, settled_from, one_stands, raised_stands, rises_told, within_faults}
@@ -29,17 +30,17 @@ module _ (old new : Kept) (page : ℕ) (same : SameRegions old new) (clearing : 
   clean_after : dirty_at new page ≡ false
   clean_after = dirty_filled page ∙ clean
 
-  is_pending : is_page page old.pending ≡ true
-  is_pending = ap (is_page page) pending ∙ eq-eqb page page refl
+  is_pending : is_that page old.pending ≡ true
+  is_pending = ap (is_that page) pending ∙ eq-eqb page page refl
 
-  other_pending : (p : ℕ) → p ≢ page → is_page p old.pending ≡ false
-  other_pending p n = ap (is_page p) pending ∙ ne_eqb page p (λ e. n (sym e))
+  other_pending : (p : ℕ) → p ≢ page → is_that p old.pending ≡ false
+  other_pending p n = ap (is_that p) pending ∙ ne_eqb page p (λ e. n (sym e))
 
   unsettled : is_settled old page ≡ false
   unsettled = and_right _ _ (ap not is_pending)
 
   unbehind : is_behind old page ≡ false
-  unbehind = ap (λ d. d && not (is_page page old.paged)) clean
+  unbehind = ap (λ d. d && not (is_that page old.paged)) clean
 
   -- the page was read in
   module _ (done : new.pending ≡ None)
@@ -49,8 +50,8 @@ module _ (old new : Kept) (page : ℕ) (same : SameRegions old new) (clearing : 
         record {
           frame = frame_filled p;
           dirty = dirty_filled p;
-          pending = ap (is_page p) done ∙ sym (other_pending p n);
-          paged = ap (is_page p) paged;
+          pending = ap (is_that p) done ∙ sym (other_pending p n);
+          paged = ap (is_that p) paged;
           word = λ i _. refills.word p i n;
           copy = λ tells. copies.copies tells p;
         }
@@ -67,14 +68,14 @@ module _ (old new : Kept) (page : ℕ) (same : SameRegions old new) (clearing : 
         record {
           dirty = λ out. b.dirty page out ∙ sym (dirty_filled page);
           words = λ told out i. (b.told told).words page i out ∙ (is told out).equal i ∙ sym (same_word told out i);
-          copies = λ told out staying. rw (copies.copies (b.told told).tells page) ((b.told told).copies page out (ap (is_page page) (sym paged) ∙ staying));
+          copies = λ told out staying. rw (copies.copies (b.told told).tells page) ((b.told told).copies page out (ap (is_that page) (sym paged) ∙ staying));
           copied = λ told out _. record {
             words = (is told out).words;
             known = copies.copies (b.told told).tells page ∙ (is told out).known;
             equal = same_word told out;
           };
           tied = λ i word tied _. absurd (none-some word (sym (b.untied page i is_pending) ∙ tied));
-          untied = λ i is. absurd (true≢false (sym is ∙ ap (is_page page) done));
+          untied = λ i is. absurd (true≢false (sym is ∙ ap (is_that page) done));
         }
 
     pub reads_in : ReadsIn old new
@@ -96,8 +97,8 @@ module _ (old new : Kept) (page : ℕ) (same : SameRegions old new) (clearing : 
         record {
           frame = frame_filled p;
           dirty = dirty_filled p;
-          pending = ap (is_page p) waiting;
-          paged = ap (is_page p) paged;
+          pending = ap (is_that p) waiting;
+          paged = ap (is_that p) paged;
           word = λ i is. elim (cases_eq p page) [ inl e ↦ absurd (true≢false (sym is ∙ rw e unsettled)) | inr n ↦ refills.word p i n ];
           copy = λ tells. copies.copies tells p;
         }

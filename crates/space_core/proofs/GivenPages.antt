@@ -1,6 +1,7 @@
 -- What becomes of a space when a clean page, or one that is being evicted, gives its frame up.
 use Rattle.std.proofs.Common.{◌≡◌, ◌≢◌, ℕ, ◌+◌, Bool, true, false, ◌&&◌, ◌==◌, if◌then◌else◌, not, Option, Some, None, is_some, refl, sym, ap, ◌∙◌, arith, subst}
 use Rattle.std.proofs.lemmas.Bool.{ne_eqb, eq-eqb, true≢false, and_right, cond-true, cond-false}
+use Rattle.pager_model.specs.Options.{is_that}
 use Rattle.pager_model.specs.declared.call.Call.TheVariants.{Evict}
 use Rattle.pager_model.specs.declared.region.Region.{Region}
 use Rattle.pager_model.specs.Flat.{Flat, reply_of, out}
@@ -12,7 +13,7 @@ use Rattle.pager_model.specs.SpaceStates.{SpaceState, pages_of, space_after}
 use Rattle.pager_model.specs.SpaceStates.Next.{Anyone}
 use Rattle.space_core.specs.Beginning.{SameRegions, GaveUp, Removes, Evicts, IsEvicting, copied_reply}
 use Rattle.space_core.specs.Pages.{Maps}
-use Rattle.space_core.specs.Standing.{Kept, StandsFor, IsResting, IsCopied, IsCopy, frame_at, dirty_at, is_page, is_in, is_settled, is_behind, is_unwired, word_at, word_in_copy, give_entry}
+use Rattle.space_core.specs.Standing.{Kept, StandsFor, IsResting, IsCopied, IsCopy, frame_at, dirty_at, is_in, is_settled, is_behind, is_unwired, word_at, word_in_copy, give_entry}
 use Rattle.space_core.specs.Tables.{mapping_in}
 use Rattle.space_core.specs.Translating.{Retouches}
 use Rattle.store_core.specs.Stored.{Stored, copy_at}
@@ -24,15 +25,15 @@ use Rattle.space_core.proofs.CopyCalls.{evict_asked, evict_outs, allowed_copied,
 -- Which page may be pending or on its way out: this one alone.
 pub record IsOnly (kept : Kept) (page : ℕ) : Type 0 where
   pub none_clearing : kept.clearing ≡ None
-  pub pending : (p : ℕ) → p ≢ page → is_page p kept.pending ≡ false
-  pub paged : (p : ℕ) → p ≢ page → is_page p kept.paged ≡ false
+  pub pending : (p : ℕ) → p ≢ page → is_that p kept.pending ≡ false
+  pub paged : (p : ℕ) → p ≢ page → is_that p kept.paged ≡ false
 
 -- a page may be removed that is pending, or where none is
 pub clean_only : (kept : Kept) (page : ℕ) → kept.clearing ≡ None → kept.paged ≡ None → ((p : ℕ) → kept.pending ≡ Some p → p ≡ page) → IsOnly kept page
 clean_only kept page none_clearing none_paged only =
-    record { none_clearing = none_clearing; pending = none_other kept.pending only; paged = λ p n. ap (is_page p) none_paged }
+    record { none_clearing = none_clearing; pending = none_other kept.pending only; paged = λ p n. ap (is_that p) none_paged }
   where
-    none_other : (o : Option ℕ) → ((p : ℕ) → o ≡ Some p → p ≡ page) → (p : ℕ) → p ≢ page → is_page p o ≡ false
+    none_other : (o : Option ℕ) → ((p : ℕ) → o ≡ Some p → p ≡ page) → (p : ℕ) → p ≢ page → is_that p o ≡ false
     none_other None only p n = refl
     none_other (Some q) only p n = ne_eqb q p (λ e. n (sym e ∙ only q refl))
 
@@ -40,12 +41,12 @@ pub evicting_only : (kept : Kept) (page : ℕ) → IsEvicting kept page → IsOn
 evicting_only kept page is =
     record {
       none_clearing = is.none_clearing;
-      pending = λ p n. ap (is_page p) is.none_pending;
-      paged = λ p n. ap (is_page p) is.paged ∙ ne_eqb page p (λ e. n (sym e));
+      pending = λ p n. ap (is_that p) is.none_pending;
+      paged = λ p n. ap (is_that p) is.paged ∙ ne_eqb page p (λ e. n (sym e));
     }
 
 pub evicting_unbehind : (kept : Kept) (page : ℕ) → IsEvicting kept page → is_behind kept page ≡ false
-evicting_unbehind kept page is = and_right _ _ (ap not (ap (is_page page) is.paged ∙ eq-eqb page page refl))
+evicting_unbehind kept page is = and_right _ _ (ap not (ap (is_that page) is.paged ∙ eq-eqb page page refl))
 
 -- an evict's page gives its frame up
 abbrev evicted : ℕ → ℕ → SpaceState → Flat → SpaceState
@@ -88,14 +89,14 @@ module _ (old new : Kept) (page frame : ℕ) (same : SameRegions old new) (only 
       record {
         frame = frame_other p n;
         dirty = maps_dirty page None old.table new.table moves p ∙ cond-false _ _ _ (ne_eqb p page n);
-        pending = ap (is_page p) resting.none_pending ∙ sym (only.pending p n);
-        paged = ap (is_page p) resting.none_paged ∙ sym (only.paged p n);
+        pending = ap (is_that p) resting.none_pending ∙ sym (only.pending p n);
+        paged = ap (is_that p) resting.none_paged ∙ sym (only.paged p n);
         word = λ i _. moves.word p i n;
         copy = λ _. ap (λ s. copy_at s p) store;
       }
 
   unsettled : is_settled new page ≡ false
-  unsettled = ap (λ o. is_some o && not (is_page page new.pending)) gone
+  unsettled = ap (λ o. is_some o && not (is_that page new.pending)) gone
 
   out_of : is_in old.clearing page ≡ false
   out_of = ap (λ (r : Option Region). is_in r page) only.none_clearing
@@ -132,7 +133,7 @@ module _ (old new : Kept) (page frame : ℕ) (same : SameRegions old new) (only 
             (copies (sym rest.told ∙ told) (was.copied page out unbehind) (λ i. was.words page i out));
         copied = λ told out _. copied_after ((b.told (sym rest.told ∙ told)).copied page out unbehind);
         tied = λ i w tied is. absurd (true≢false (sym is ∙ unsettled));
-        untied = λ i is. absurd (true≢false (sym is ∙ ap (is_page page) resting.none_pending));
+        untied = λ i is. absurd (true≢false (sym is ∙ ap (is_that page) resting.none_pending));
       })
       (none ∙ sym gone) (is_said st after said s) (retouches old new st after c follows s.translates s.pages (is_said st after said s) retouched)
 
@@ -145,7 +146,7 @@ module _ (old new : Kept) (page frame : ℕ) (same : SameRegions old new) (only 
         stands = λ st s c. gives_up st (space_after st (give_entry c old.number page frame)) (record { regions = refl; rights = λ p. refl; told = refl }) refl
             (λ p n. record { dirty = refl; words = λ i. refl; copies = refl; tied = λ i. refl })
             (λ p n. cond-false _ _ _ (ne_eqb p page n)) (cond-true _ _ _ this) (s.beside.dirty page out_of ∙ clean) (λ i. refl)
-            (λ told is words. (s.beside.told told).copies page out_of (ap (is_page page) unpaged))
+            (λ told is words. (s.beside.told told).copies page out_of (ap (is_that page) unpaged))
             c (record { sizes = refl; images = refl; promotions = refl; demotions = refl }) (λ p. said_gone (p == page) (st.flat.dirty p) (st.base p) (region_at st.flat.regions p) (st.flat.rights p)) s;
       }
 

@@ -1,11 +1,12 @@
 -- What a space stands for page by page: what is seen the same of a page stands as before.
 use Rattle.std.proofs.Common.{nat_lt, ◌≡◌, ◌≢◌, ℕ, ◌≤◌, Bool, true, false, ◌&&◌, if◌then◌else◌, Option, Some, None, is_some, length, refl, sym, ap, inl, inr, ◌∙◌, arith, subst}
 use Rattle.std.proofs.lemmas.Bool.{cases_Bool, cases_eq, cond-true, cond-false, cond_both}
+use Rattle.pager_model.specs.Options.{is_that}
 use Rattle.pager_model.specs.declared.region.Region.{Region}
 use Rattle.pager_model.specs.Regions.{region_at}
 use Rattle.pager_model.specs.SpaceStates.{SpaceState, Rises, pages_of}
 use Rattle.space_core.specs.Beginning.{SameRegions}
-use Rattle.space_core.specs.Standing.{Kept, StandsBeside, StandsFor, Translates, IsCopy, IsCopied, frame_at, rights_at, dirty_at, is_page, is_in, is_settled, is_behind, word_at, word_in_copy}
+use Rattle.space_core.specs.Standing.{Kept, StandsBeside, StandsFor, Translates, IsCopy, IsCopied, frame_at, rights_at, dirty_at, is_in, is_settled, is_behind, word_at, word_in_copy}
 use Rattle.space_core.specs.Tables.{mapping_in, word_in, own_in}
 use Rattle.space_core.proofs.Translations.{Follows, Still, same_translates, stays}
 use Rattle.store_core.specs.Stored.{copy_at}
@@ -14,10 +15,10 @@ use Rattle.store_core.specs.Stored.{copy_at}
 pub record BesideAt (aside : Bool) (kept : Kept) (st : SpaceState) (p : ℕ) : Type 0 where
   pub dirty : aside ≡ false → st.flat.dirty p ≡ dirty_at kept p
   pub words : st.told ≡ true → aside ≡ false → (i : ℕ) → st.flat.words p i ≡ word_at kept p i
-  pub copies : st.told ≡ true → aside ≡ false → is_page p kept.paged ≡ false → IsCopy (st.flat.copies p) (copy_at kept.store p)
+  pub copies : st.told ≡ true → aside ≡ false → is_that p kept.paged ≡ false → IsCopy (st.flat.copies p) (copy_at kept.store p)
   pub copied : st.told ≡ true → aside ≡ false → is_behind kept p ≡ false → IsCopied kept p
   pub tied : (i word : ℕ) → st.tied p i ≡ Some word → is_settled kept p ≡ true → word_in kept.table p i ≡ word
-  pub untied : (i : ℕ) → is_page p kept.pending ≡ true → st.tied p i ≡ None
+  pub untied : (i : ℕ) → is_that p kept.pending ≡ true → st.tied p i ≡ None
 
 beside_at : (aside : ℕ → Bool) (kept : Kept) (st : SpaceState) → StandsBeside aside kept st → (p : ℕ) → BesideAt (aside p) kept st p
 beside_at aside kept st s p =
@@ -65,8 +66,8 @@ beside_from aside old new st after same rest highest s at =
 pub record SameAt (old new : Kept) (p : ℕ) : Type 0 where
   pub frame : frame_at new p ≡ frame_at old p
   pub dirty : dirty_at new p ≡ dirty_at old p
-  pub pending : is_page p new.pending ≡ is_page p old.pending
-  pub paged : is_page p new.paged ≡ is_page p old.paged
+  pub pending : is_that p new.pending ≡ is_that p old.pending
+  pub paged : is_that p new.paged ≡ is_that p old.paged
   pub word : (i : ℕ) → is_settled old p ≡ true → word_in new.table p i ≡ word_in old.table p i
   pub copy : old.store.tells ≡ true → copy_at new.store p ≡ copy_at old.store p
 

@@ -1,6 +1,7 @@
 -- What becomes of a space when the copy of a page is written, or isn't, while the page keeps its frame.
 use Rattle.std.proofs.Common.{◌≡◌, ◌≢◌, ℕ, ◌≤◌, ◌+◌, ◌⊎◌, Bool, true, false, if◌then◌else◌, option_map, length, ◌&&◌, ◌==◌, not, List, Option, Some, None, slice_index_or, refl, sym, ap, inl, inr, ◌∙◌, arith, subst}
 use Rattle.std.proofs.lemmas.Bool.{cases_Bool, ne_eqb, eq-eqb, true≢false, cond-true, cond-false}
+use Rattle.pager_model.specs.Options.{is_that}
 use Rattle.pager_model.specs.declared.region.Region.{Region}
 use Rattle.pager_model.specs.declared.tile.Mapping.{Mapping}
 use Rattle.pager_model.specs.Flat.{Flat, out}
@@ -12,7 +13,7 @@ use Rattle.pager_model.specs.Tiles.{mappings, promotions_in, demotions_in}
 use Rattle.space_core.specs.Beginning.{SameRegions, SameFrames, FailsToWrite, LeavesUnwritten, WritesOut}
 use Rattle.space_core.specs.Pages.{Cleans}
 use Rattle.space_core.specs.Saving.{Saves, FailsToSave, LacksRoom, with_store}
-use Rattle.space_core.specs.Standing.{Kept, StandsFor, IsResting, IsCopied, frame_at, rights_at, dirty_at, is_page, is_in, is_settled, is_behind, word_at, word_in_copy, failed_entry}
+use Rattle.space_core.specs.Standing.{Kept, StandsFor, IsResting, IsCopied, frame_at, rights_at, dirty_at, is_in, is_settled, is_behind, word_at, word_in_copy, failed_entry}
 use Rattle.space_core.specs.Tables.{Table, mapping_in, frame_in, word_in, dirty_in}
 use Rattle.space_core.specs.Translating.{Retouches, CleansPage}
 use Rattle.store_core.specs.Stored.{Stored, copy_at}
@@ -99,8 +100,8 @@ module _ (old new : Kept) (only : new ≡ with_store old new.store) where
       record {
         frame = ap (λ (k : Kept). frame_at k p) only;
         dirty = ap (λ (k : Kept). dirty_at k p) only;
-        pending = ap (λ (k : Kept). is_page p k.pending) only;
-        paged = ap (λ (k : Kept). is_page p k.paged) only;
+        pending = ap (λ (k : Kept). is_that p k.pending) only;
+        paged = ap (λ (k : Kept). is_that p k.paged) only;
         word = λ i _. ap (λ (k : Kept). word_in k.table p i) only;
         copy = copy;
       }
@@ -116,11 +117,11 @@ module _ (old : Kept) (resting : IsResting old) where
   pub none_in : (p : ℕ) → is_in old.clearing p ≡ false
   none_in p = ap (λ (r : Option Region). is_in r p) resting.none_clearing
 
-  none_pending : (p : ℕ) → is_page p old.pending ≡ false
-  none_pending p = ap (is_page p) resting.none_pending
+  none_pending : (p : ℕ) → is_that p old.pending ≡ false
+  none_pending p = ap (is_that p) resting.none_pending
 
-  none_paged : (p : ℕ) → is_page p old.paged ≡ false
-  none_paged p = ap (is_page p) resting.none_paged
+  none_paged : (p : ℕ) → is_that p old.paged ≡ false
+  none_paged p = ap (is_that p) resting.none_paged
 
   settled_if : (p : ℕ) → frame_at old p ≢ None → is_settled old p ≡ true
   settled_if p resident = settled_from old p resident resting.none_pending
@@ -146,7 +147,7 @@ module _ (old : Kept) (resting : IsResting old) where
         faults = saves.never_falls;
         others = λ tells p n. ap (λ s. copy_at s p) same;
         copied = λ st s told.
-            let is = (s.beside.told told).copied page (none_in page) (ap (λ d. d && not (is_page page old.paged)) saves.was) in
+            let is = (s.beside.told told).copied page (none_in page) (ap (λ d. d && not (is_that page old.paged)) saves.was) in
             (is.words, ap (λ s. copy_at s page) same ∙ is.known, is.equal);
       }
 
@@ -170,12 +171,12 @@ module _ (old : Kept) (resting : IsResting old) where
     copied : (copy : HasCopy old new.store page) → IsCopied new page
     copied copy = record { words = copy.0; known = copy.1; equal = λ i. word_kept copy i ∙ copy.2 i }
 
-    at_other : ((p : ℕ) → p ≢ page → dirty_at new p ≡ dirty_at old p) → ((p : ℕ) → p ≢ page → is_page p new.paged ≡ false) → (p : ℕ) → p ≢ page → SameAt old new p
+    at_other : ((p : ℕ) → p ≢ page → dirty_at new p ≡ dirty_at old p) → ((p : ℕ) → p ≢ page → is_that p new.paged ≡ false) → (p : ℕ) → p ≢ page → SameAt old new p
     at_other dirty paged p n =
         record {
           frame = frame p;
           dirty = dirty p n;
-          pending = ap (is_page p) pending ∙ sym (none_pending p);
+          pending = ap (is_that p) pending ∙ sym (none_pending p);
           paged = paged p n ∙ sym (none_paged p);
           word = λ i _. word p i;
           copy = λ tells. is_saved.others tells p n;
@@ -192,7 +193,7 @@ module _ (old : Kept) (resting : IsResting old) where
         let this : (page == page) ≡ true = eq-eqb page page refl in
         one_stands old new st after page whole (clearing ∙ sym resting.none_clearing) (record { regions = refl; rights = λ p. refl; told = refl })
         (omega (arith, b.highest, is_saved.faults))
-        (at_other (λ p n. cleans_dirty page old.table new.table cleans p ∙ cond-false _ _ _ (ne_eqb p page n)) (λ p n. ap (is_page p) unpaged))
+        (at_other (λ p n. cleans_dirty page old.table new.table cleans p ∙ cond-false _ _ _ (ne_eqb p page n)) (λ p n. ap (is_that p) unpaged))
         (λ p n. record { dirty = cond-false _ _ _ (ne_eqb p page n); words = λ i. refl; copies = cond-false _ _ _ (ne_eqb p page n); tied = λ i. refl })
         (λ p n. refl) s
         (record {
@@ -202,7 +203,7 @@ module _ (old : Kept) (resting : IsResting old) where
               rw (this, copy.1) (λ i. (b.told told).words page i out ∙ copy.2 i);
           copied = λ told out _. copied (is_saved.copied st s told);
           tied = λ i w tied is. word page i ∙ b.tied page i w tied (sym (settled page) ∙ is);
-          untied = λ i is. absurd (true≢false (sym is ∙ ap (is_page page) pending));
+          untied = λ i is. absurd (true≢false (sym is ∙ ap (is_that page) pending));
         })
         (s.base page ∙ sym (frame page)) is
         (elim turned [
@@ -215,10 +216,10 @@ module _ (old : Kept) (resting : IsResting old) where
     copied_aside mapping still paged st s =
         let dirty : (p : ℕ) → dirty_at new p ≡ dirty_at old p = λ p. dirty-same old.table new.table p (mapping p) in
         let b = s.beside in
-        let this : is_page page new.paged ≡ true = ap (is_page page) paged ∙ eq-eqb page page refl in
+        let this : is_that page new.paged ≡ true = ap (is_that page) paged ∙ eq-eqb page page refl in
         one_stands old new st st page whole (clearing ∙ sym resting.none_clearing) (record { regions = refl; rights = λ p. refl; told = refl })
         (omega (arith, b.highest, is_saved.faults))
-        (at_other (λ p n. dirty p) (λ p n. ap (is_page p) paged ∙ ne_eqb page p (λ e. n (sym e))))
+        (at_other (λ p n. dirty p) (λ p n. ap (is_that p) paged ∙ ne_eqb page p (λ e. n (sym e))))
         (λ p n. record { dirty = refl; words = λ i. refl; copies = refl; tied = λ i. refl })
         (λ p n. refl) s
         (record {
@@ -227,7 +228,7 @@ module _ (old : Kept) (resting : IsResting old) where
           copies = λ told out staying. absurd (true≢false (sym this ∙ staying));
           copied = λ told out _. copied (is_saved.copied st s told);
           tied = λ i w tied is. word page i ∙ b.tied page i w tied (sym (settled page) ∙ is);
-          untied = λ i is. absurd (true≢false (sym is ∙ ap (is_page page) pending));
+          untied = λ i is. absurd (true≢false (sym is ∙ ap (is_that page) pending));
         })
         (s.base page ∙ sym (frame page)) (λ p. s.pages p ∙ sym (mapping p)) (same_translates old new st still s.translates)
 
@@ -257,7 +258,7 @@ module _ (old : Kept) (resting : IsResting old) where
           copies = λ told out _. rw (at.copies, fails.lost.copies (b.told (sym told_same ∙ told)).tells page ∙ cond-true _ _ _ (eq-eqb page page refl)) tt;
           copied = λ told out behind. absurd (true≢false (sym still_behind ∙ behind));
           tied = λ i w tied is. word_same i ∙ b.tied page i w (sym (at.tied i) ∙ tied) (settled_if page resident);
-          untied = λ i is. absurd (true≢false (sym is ∙ ap (λ (k : Kept). is_page page k.pending) fails.same ∙ none_pending page));
+          untied = λ i is. absurd (true≢false (sym is ∙ ap (λ (k : Kept). is_that page k.pending) fails.same ∙ none_pending page));
         }
 
     pub fails_to_write : FailsToWrite old new page count

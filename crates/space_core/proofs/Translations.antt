@@ -335,19 +335,3 @@ module _ (kept : Kept) (st : SpaceState) (p : ℕ) (regions : st.flat.regions �
 -- the same is said of a page whose frame, region, rights and flag are the same
 pub said_same : (st after : SpaceState) (p : ℕ) → after.flat.regions ≡ st.flat.regions → after.flat.rights p ≡ st.flat.rights p → after.flat.dirty p ≡ st.flat.dirty p → after.base p ≡ st.base p → pages_of after p ≡ pages_of st p
 said_same st after p regions rights dirty base = rw (regions, rights, dirty, base) refl
-
--- A tile comes to the front of its processor's image.
-pub touches_tile : (old : Kept) (c : ℕ) (t : Tile) → c < length old.images → Touches old (record old { images = slice_set old.images c (touched t (image_at old c)) }) c (Some t)
-touches_tile old c t within =
-    record {
-      same = refl;
-      processors = length-set old.images c (touched t (image_at old c));
-      images = λ i inside. elim (cases_eq i c) [
-        | inl e ↦ rw e (get_or-set_same old.images c (touched t (image_at old c)) [] within ∙ ap (λ (b : Bool). touched_by (if b then Some t else None) (image_at old c)) (sym (eq-eqb c c refl)))
-        | inr n ↦ get_or-set_other old.images c i (touched t (image_at old c)) [] n ∙ ap (λ (b : Bool). touched_by (if b then Some t else None) (image_at old i)) (sym (ne_eqb i c n))
-      ];
-    }
-
--- and nothing becomes of the images where there is none
-pub touches_none : (old : Kept) (c : ℕ) → Touches old old c None
-touches_none old c = record { same = refl; processors = refl; images = λ i within. sym (untouched (i == c) (image_at old i)) }

@@ -1,5 +1,6 @@
 -- A space as contracts see it, and what it is for it to stand for its list of entries.
 use Rattle.std.specs.Prelude.{ℕ, ◌≡◌, ◌<◌, ◌≤◌, Bool, true, false, ◌&&◌, ◌==◌, not, if◌then◌else◌, List, [], length, slice_index_or, Option, Some, None, is_some}
+use Rattle.pager_model.specs.Options.{is_that}
 use Rattle.pager_model.specs.declared.call.Call.{Call}
 use Rattle.pager_model.specs.declared.call.Call.TheVariants.{Load, Store, Sync, Evict}
 use Rattle.pager_model.specs.declared.entry.Entry.{Entry}
@@ -65,13 +66,9 @@ rights_at kept page = rights_by (own_in kept.table page) (region_at kept.regions
 abbrev pub dirty_at : Kept → ℕ → Bool
 dirty_at kept page = dirty_in kept.table page
 
-abbrev pub is_page : ℕ → Option ℕ → Bool
-is_page page None = false
-is_page page (Some p) = p == page
-
 -- it is resident, and was read in
 abbrev pub is_settled : Kept → ℕ → Bool
-is_settled kept page = is_some (frame_at kept page) && not (is_page page kept.pending)
+is_settled kept page = is_some (frame_at kept page) && not (is_that page kept.pending)
 
 -- a word of a copy, and zero where the copy is unknown
 abbrev pub word_in_copy : Option (List ℕ) → ℕ → ℕ
@@ -84,7 +81,7 @@ word_at kept page i = if is_settled kept page then word_in kept.table page i els
 
 -- its copy is behind its words
 abbrev pub is_behind : Kept → ℕ → Bool
-is_behind kept page = dirty_at kept page && not (is_page page kept.paged)
+is_behind kept page = dirty_at kept page && not (is_that page kept.paged)
 
 abbrev pub is_in : Option Region → ℕ → Bool
 is_in None page = false
@@ -114,7 +111,7 @@ pub record IsCopied (kept : Kept) (page : ℕ) : Type 0 where
 pub record TellsWords (aside : ℕ → Bool) (kept : Kept) (state : SpaceState) : Type 0 where
   pub tells : kept.store.tells ≡ true
   pub words : (page i : ℕ) → aside page ≡ false → state.flat.words page i ≡ word_at kept page i
-  pub copies : (page : ℕ) → aside page ≡ false → is_page page kept.paged ≡ false → IsCopy (state.flat.copies page) (copy_at kept.store page)
+  pub copies : (page : ℕ) → aside page ≡ false → is_that page kept.paged ≡ false → IsCopy (state.flat.copies page) (copy_at kept.store page)
   pub copied : (page : ℕ) → aside page ≡ false → is_behind kept page ≡ false → IsCopied kept page
 
 -- What a space and the state that its list of entries leads to have in common, but for the words, the copies and the dirty flags of
@@ -127,7 +124,7 @@ pub record StandsBeside (aside : ℕ → Bool) (kept : Kept) (state : SpaceState
   pub told : state.told ≡ true → TellsWords aside kept state
   pub tied : (page i word : ℕ) → state.tied page i ≡ Some word → is_settled kept page ≡ true → word_in kept.table page i ≡ word
   -- nothing was said of a pending page
-  pub untied : (page i : ℕ) → is_page page kept.pending ≡ true → state.tied page i ≡ None
+  pub untied : (page i : ℕ) → is_that page kept.pending ≡ true → state.tied page i ≡ None
   -- no fault that was told is above those that the store had
   pub highest : state.highest ≤ kept.store.faults
 

@@ -70,12 +70,6 @@ frame_by r kept p (Some n) h =
 pub frame-number : (r : Resident) → ArePages r → (p : ℕ) → frame_of_page r p ≡ number_at r p
 frame-number r kept p = frame_by r kept p (number_at r p) refl
 
-number_absent : (r : Resident) → ArePages r → (p : ℕ) (o : Option ℕ) → number_at r p ≡ o → mapping_at r p ≡ None → o ≡ None
-number_absent r kept p None h none = refl
-number_absent r kept p (Some n) h none =
-    let at = place_there r kept p n h in
-    absurd (none-some _ (sym none ∙ mapping-found r p n (Some at.0) h at.1))
-
 -- a write at a number leaves what is kept of the pages with another
 mapping-other : (places : List (Option Place)) (k : ℕ) (v : Option Place) (o : Option ℕ) → o ≢ Some k → mapping_of_number (slice_set places k v) o ≡ mapping_of_number places o
 mapping-other places k v None h = refl

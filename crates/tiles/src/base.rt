@@ -7,7 +7,7 @@ ghost use Rattle.tiles.specs.Resident.{mapping_at, frames_in, frame_of_page, lar
 ghost use Rattle.tiles.specs.Blocks.{KeepsRights, ProtectsTo, ProtectsInBlock, AreSizesOfBlock, OutsideSame, AreMovesOf, begun_at};
 
 use crate::moves::Moves;
-use crate::pages::{Pages, size_of};
+use crate::pages::Pages;
 use pager_model::{Extent, Mapping, NoMemory, PAGES, Rights, Size, Tile};
 use std::alloc::Global;
 use std::marker::Model;
@@ -92,8 +92,8 @@ impl Base {
         ensures moves { AreMoves self.old self.new result }
     {
         self.pages.put(page, mapping);
-        let size = self.pages.settle(page, size_of(0));
-        Moves::of_one(size_of(0), size)
+        let size = self.pages.settle(page, Size::at_level(0));
+        Moves::of_one(Size::at_level(0), size)
     }
 
     /// A page is resident no more.

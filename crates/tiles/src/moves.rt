@@ -3,7 +3,6 @@
 ghost use Rattle.std.specs.Prelude.{◌≡◌, ◌+◌, ◌<◌, ◌≤◌, nat_lt, if◌then◌else◌};
 ghost use Rattle.tiles.specs.Blocks.{is_grown_at};
 
-use crate::pages::size_of;
 use pager_model::Size;
 
 /// How many tiles of size 1 or more a change made where there was none as large, and how many it broke.
@@ -63,5 +62,5 @@ fn is_grown_at(page: u32, before: u8, after: u8) -> bool
     requires { after ≤ 3 }
     ensures { result ≡ is_grown_at page before after }
 {
-    before < after && page % size_of(after).pages() == 0
+    before < after && page % Size::at_level(after).pages() == 0
 }

@@ -4,9 +4,8 @@ ghost use Rattle.std.specs.Prelude.{◌≡◌, ◌*◌, ◌<◌, ◌≤◌, true
 ghost use Rattle.extent_tree.specs.Counts.{splits_with};
 ghost use Rattle.extent_tree.specs.Rows.{ChangesOnly, SplitsAreRowsBelow, is_split, row};
 
-use crate::pages::size_of;
 use extent_tree::ExtentTree;
-use pager_model::Steps;
+use pager_model::{Size, Steps};
 use std::sync::ledger::{Blank, Ledger};
 
 /// The number of a page, where it has one.
@@ -18,7 +17,7 @@ pub(crate) fn find<L: Ledger>(numbers: &ExtentTree<u16>, page: u32, blank: Blank
 {
     let (book, share) = blank.open::<L>();
     numbers
-        .at(size_of(0), page, &mut Steps::begin(book, share))
+        .at(Size::at_level(0), page, &mut Steps::begin(book, share))
         .value()
 }
 
@@ -31,7 +30,7 @@ pub(crate) fn has_any<L: Ledger>(numbers: &ExtentTree<u16>, page: u32, blank: Bl
 {
     let (book, share) = blank.open::<L>();
     numbers
-        .at(size_of(3), page, &mut Steps::begin(book, share))
+        .at(Size::at_level(3), page, &mut Steps::begin(book, share))
         .is_split()
 }
 
@@ -46,7 +45,7 @@ pub(crate) fn put<L: Ledger>(numbers: &mut ExtentTree<u16>, page: u32, number: u
     ensures splits { SplitsAreRowsBelow numbers.new }
 {
     let (book, share) = blank.open::<L>();
-    numbers.put(size_of(0), page, number, &mut Steps::begin(book, share));
+    numbers.put(Size::at_level(0), page, number, &mut Steps::begin(book, share));
 }
 
 /// A page that has a number has none any more.
@@ -59,5 +58,5 @@ pub(crate) fn remove<L: Ledger>(numbers: &mut ExtentTree<u16>, page: u32, blank:
     ensures splits { SplitsAreRowsBelow numbers.new }
 {
     let (book, share) = blank.open::<L>();
-    numbers.remove(size_of(0), page, &mut Steps::begin(book, share));
+    numbers.remove(Size::at_level(0), page, &mut Steps::begin(book, share));
 }

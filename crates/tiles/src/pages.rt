@@ -49,14 +49,6 @@ impl Model for Pages {
     ghost invariant = { λ p. ArePages (record { numbers = p.numbers; places = p.places.items }) };
 }
 
-/// The size of a level.
-pub(crate) fn size_of(level: u8) -> Size
-    requires { level ≤ 3 }
-    ensures { result ≡ level }
-{
-    Size::of(level).unwrap()
-}
-
 impl Pages {
     /// Room for the pages of a space in so many frames; none is resident.
     pub(crate) fn create(alloc: Global, frames: u32) -> Result<Pages, NoMemory>
@@ -134,7 +126,7 @@ impl Pages {
     {
         match self.found(page) {
             Some((_, place)) => place.size,
-            None => size_of(0),
+            None => Size::at_level(0),
         }
     }
 
@@ -151,7 +143,7 @@ impl Pages {
             region: mapping.region,
             rights: mapping.rights,
             dirty: mapping.dirty,
-            size: size_of(0),
+            size: Size::at_level(0),
         });
         numbers::put::<Brand>(&mut self.numbers, page, mapping.frame as u16, Blank::new(1));
     }

@@ -7,7 +7,7 @@ ghost use Rattle.tiles.specs.Beside.{whole, size_beside, GoesOnAt, AreKeptBut, S
 ghost use Rattle.tiles.specs.Kept.{AreSizes};
 ghost use Rattle.tiles.specs.Resident.{mapping_at};
 
-use crate::pages::{Pages, size_of};
+use crate::pages::Pages;
 use pager_model::{Mapping, Size};
 
 /// The size of the tile of another page in the extent that a page's tile was or is: the page's, where it is in the page's tile; else the
@@ -18,11 +18,11 @@ fn size_beside(page: u32, other: u32, size: Size) -> Size
     if other / size.pages() == page / size.pages() {
         size
     } else if other / 8 == page / 8 {
-        size_of(0)
+        Size::at_level(0)
     } else if other / 64 == page / 64 {
-        size_of(1)
+        Size::at_level(1)
     } else {
-        size_of(2)
+        Size::at_level(2)
     }
 }
 
@@ -47,8 +47,8 @@ impl Pages {
             → (1 < level → whole (mapping_at self.now) (level - 1) page ≡ true)
             → result ≡ whole (mapping_at self.now) level page }
     {
-        let part = size_of(level - 1);
-        let pages = size_of(level).pages();
+        let part = Size::at_level(level - 1);
+        let pages = Size::at_level(level).pages();
         let first = page - page % pages;
         let Some(head) = self.mapping(first) else {
             return false;
@@ -75,10 +75,10 @@ impl Pages {
     {
         for level in 1..4 {
             if !self.joins(page, level) {
-                return size_of(level - 1);
+                return Size::at_level(level - 1);
             }
         }
-        size_of(3)
+        Size::at_level(3)
     }
 
     /// Keeps the size of a page's tile, and those of the tiles that its tile before broke into.
@@ -103,7 +103,7 @@ impl Pages {
         ensures size { (old : ℕ → Option Mapping) → AreKeptBut page old self.old → result ≡ size_at (mapping_at self.old) page }
     {
         let size = self.joined_size(page);
-        let over = size_of(before.level().max(size.level()));
+        let over = Size::at_level(before.level().max(size.level()));
         self.spread(page, over, size);
         size
     }

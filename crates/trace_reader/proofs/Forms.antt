@@ -45,6 +45,3 @@ too_many_words most (form ∷ forms) words short more =
 pub call_too_long : (processors spaces : ℕ) (words : List (List ℕ)) → 7 < length words → line_fault (call_forms processors spaces) words ≡ Some causes.Form
 call_too_long processors spaces words more =
     too_many_words 7 (call_forms processors spaces) words (omega arith, (omega arith, (omega arith, (omega arith, (omega arith, (omega arith, (omega arith, (omega arith, tt)))))))) more
-
-pub first_too_long : (words : List (List ℕ)) → 7 < length words → line_fault (first_form ∷ []) words ≡ Some causes.Form
-first_too_long words more = too_many_words 7 (first_form ∷ []) words (omega arith, tt) more

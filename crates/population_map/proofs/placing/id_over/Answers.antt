@@ -14,7 +14,7 @@ pub loop-below-preserved : goal.loop-below-preserved
 loop-below-preserved g c =
     let next : 3 - (2 - c.loop-below.below) ≡ c.loop-below.below + 1 = omega arith in
     record {
-      seen = c.part-spot.ensures.spot ∙ (ap (λ k. spot_of c.args.tree.now (3 - k) c.args.page) c.size_of-in-loop-below.ensures ∙ ap (λ h. spot_of c.args.tree.now h c.args.page) next);
+      seen = c.part-spot.ensures.spot ∙ (ap (λ k. spot_of c.args.tree.now (3 - k) c.args.page) c.at_level-in-loop-below.ensures ∙ ap (λ h. spot_of c.args.tree.now h c.args.page) next);
       none = none_further c.args.tree.now c.args.page c.loop-below.below c.mark_at-id.result.id (omega arith)
           (spot_id c.args.tree.now c.loop-below.below c.args.page c.loop-below.spot c.mark_at-id.result (omega arith) c.loop-below.invariant.seen c.mark_at-id.ensures)
           (sym c.is_some.ensures ∙ c.if-is_some.false) c.loop-below.invariant.none;

@@ -21,7 +21,7 @@ loop-above-preserved g c =
     let low : c.loop-above.above + 1 ≤ 3 = omega arith in
     let next : 3 - (2 - c.loop-above.above) ≡ c.loop-above.above + 1 = omega arith in
     record {
-      seen = c.part-spot.ensures.spot ∙ (ap (λ k. spot_of m (3 - k) c.args.page) c.size_of-in-loop-above.ensures ∙ ap (λ h. spot_of m h c.args.page) next);
+      seen = c.part-spot.ensures.spot ∙ (ap (λ k. spot_of m (3 - k) c.args.page) c.at_level-in-loop-above.ensures ∙ ap (λ h. spot_of m h c.args.page) next);
       none = none_further m c.args.page c.loop-above.above c.mark_at.result.id (omega arith)
           (spot_id m c.loop-above.above c.args.page c.loop-above.spot c.mark_at.result (omega arith) c.loop-above.invariant.seen c.mark_at.ensures)
           (sym c.is_some.ensures ∙ c.if-is_some.false) c.loop-above.invariant.none;

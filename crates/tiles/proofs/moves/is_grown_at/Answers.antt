@@ -3,4 +3,4 @@ use Rattle.pager_model.proofs.ExtentLemmas.{eight_pos}
 use Rattle.tiles.proofs.moves.is_grown_at.Goals as goal
 
 pub nonzero_rem-result : goal.nonzero_rem-result
-nonzero_rem-result c = omega (arith, c.pages.ensures, eight_pos c.size_of.result)
+nonzero_rem-result c = omega (arith, c.pages.ensures, eight_pos c.at_level.result)

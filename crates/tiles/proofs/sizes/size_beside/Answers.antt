@@ -17,14 +17,14 @@ returns-then-other-pages c =
 pub returns-then-other-page : goal.returns-then-other-page
 returns-then-other-page c =
     let apart : c.args.other / 8 ^ c.args.size ≢ c.args.page / 8 ^ c.args.size = λ same. c.if-other-pages.false (ap (λ n. c.args.other / n) c.pages.ensures ∙ same ∙ ap (λ n. c.args.page / n) (sym c.pages-2.ensures)) in
-    c.size_of.ensures ∙ sym (beside_zero c.args.page c.args.other c.args.size apart c.if-other-page.true)
+    c.at_level.ensures ∙ sym (beside_zero c.args.page c.args.other c.args.size apart c.if-other-page.true)
 
 pub returns-then-other-page-2 : goal.returns-then-other-page-2
 returns-then-other-page-2 c =
     let apart : c.args.other / 8 ^ c.args.size ≢ c.args.page / 8 ^ c.args.size = λ same. c.if-other-pages.false (ap (λ n. c.args.other / n) c.pages.ensures ∙ same ∙ ap (λ n. c.args.page / n) (sym c.pages-2.ensures)) in
-    c.size_of-then-other-page-2.ensures ∙ sym (beside_one c.args.page c.args.other c.args.size apart c.if-other-page.false c.if-other-page-2.true)
+    c.at_level-then-other-page-2.ensures ∙ sym (beside_one c.args.page c.args.other c.args.size apart c.if-other-page.false c.if-other-page-2.true)
 
 pub returns-else-other-page-2 : goal.returns-else-other-page-2
 returns-else-other-page-2 c =
     let apart : c.args.other / 8 ^ c.args.size ≢ c.args.page / 8 ^ c.args.size = λ same. c.if-other-pages.false (ap (λ n. c.args.other / n) c.pages.ensures ∙ same ∙ ap (λ n. c.args.page / n) (sym c.pages-2.ensures)) in
-    c.size_of-else-other-page-2.ensures ∙ sym (beside_two c.args.page c.args.other c.args.size apart c.if-other-page.false c.if-other-page-2.false)
+    c.at_level-else-other-page-2.ensures ∙ sym (beside_two c.args.page c.args.other c.args.size apart c.if-other-page.false c.if-other-page-2.false)

@@ -1,5 +1,6 @@
 use Rattle.std.proofs.Common.{◌∙◌, ◌&&◌, not, ap}
-use Rattle.space_core.specs.Standing.{Kept, is_page}
+use Rattle.pager_model.specs.Options.{is_that}
+use Rattle.space_core.specs.Standing.{Kept}
 use Rattle.space_core.proofs.SameView.{same_regions}
 use Rattle.space_core.proofs.GivenPages.{removes, clean_only}
 use Rattle.space_core.proofs.space.Space.remove.Goals as goal
@@ -21,4 +22,4 @@ returns g c =
     })
     (ap (λ (k : Kept). k.store) e.same) e.taken e.maps
     (record { processors = e.retouched.processors; images = e.retouched.images; promotions = e.retouched.promotions; demotions = e.retouched.demotions })
-    (ap (λ d. d && not (is_page c.args.page c.self.inside.paged)) clean) clean none_paged)
+    (ap (λ d. d && not (is_that c.args.page c.self.inside.paged)) clean) clean none_paged)

@@ -9,7 +9,7 @@ invariant_of-self c =
     let r = c.self.inside.pages in
     let kept = kept_but r c.put.new.self c.args.page (Some c.args.mapping) c.self.invariant c.put.ensures.maps c.put.ensures.sizes in
     let absent = rw (← c.self.view_is) at c.requires.absent in
-    c.settle-size.ensures.sizes (mapping_at r) kept (c.size_of.ensures ∙ sym (size_absent (mapping_at r) c.args.page absent))
+    c.settle-size.ensures.sizes (mapping_at r) kept (c.at_level.ensures ∙ sym (size_absent (mapping_at r) c.args.page absent))
 
 pub returns-clause-moves : goal.returns-clause-moves
 returns-clause-moves c =
@@ -17,5 +17,5 @@ returns-clause-moves c =
     let kept = kept_but r c.put.new.self c.args.page (Some c.args.mapping) c.self.invariant c.put.ensures.maps c.put.ensures.sizes in
     let absent = rw (← c.self.view_is) at c.requires.absent in
     rw (← c.self.view_is)
-    (moves_one r c.put.new.self c.settle-size.new.self c.args.page c.size_of-2.result c.settle-size.result c.of_one.result kept c.settle-size.ensures.same c.requires.page
-    (c.size_of-2.ensures ∙ sym (size_absent (mapping_at r) c.args.page absent)) (c.settle-size.ensures.size (mapping_at r) kept) c.of_one.ensures.promotions c.of_one.ensures.demotions)
+    (moves_one r c.put.new.self c.settle-size.new.self c.args.page c.at_level-2.result c.settle-size.result c.of_one.result kept c.settle-size.ensures.same c.requires.page
+    (c.at_level-2.ensures ∙ sym (size_absent (mapping_at r) c.args.page absent)) (c.settle-size.ensures.size (mapping_at r) kept) c.of_one.ensures.promotions c.of_one.ensures.demotions)

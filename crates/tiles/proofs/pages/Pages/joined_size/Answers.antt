@@ -13,7 +13,7 @@ returns-then-not-joins c old kept =
     let first = c.loop-level.auto.level in
     let last = c.loop-level-test.true in
     let fails : whole now level c.args.page ≡ false = sym (c.joins.ensures old kept (λ above. c.loop-level.invariant old kept (level - 1) (omega arith) (omega arith))) ∙ c.if-not-joins.true in
-    c.size_of.ensures
+    c.at_level.ensures
     ∙ sym (size_is now c.args.page (level - 1) (omega arith) (λ above. c.loop-level.invariant old kept (level - 1) above (omega arith)) (λ k more low. larger_none now c.args.page level k (omega arith) low fails))
 
 pub loop-level-preserved : goal.loop-level-preserved
@@ -29,5 +29,5 @@ loop-level-preserved c old kept k above below =
 
 pub returns : goal.returns
 returns c old kept =
-    c.size_of-2.ensures
+    c.at_level-2.ensures
     ∙ sym (size_is (mapping_at c.args.self.now) c.args.page 3 (omega arith) (λ above. c.loop-level.invariant old kept 3 (omega arith) (let past = c.loop-level-test.false in omega arith)) (λ k more low. absurd (omega arith)))

@@ -13,18 +13,18 @@ put-requires-clause-room c = put_room _ c.self.invariant c.args.page c.args.mapp
 
 pub invariant_of-self : goal.invariant_of-self
 invariant_of-self c =
-    rw c.size_of.ensures
+    rw c.at_level.ensures
     (put_kept _ c.self.invariant c.args.page c.args.mapping (rw (← c.self.view_is) at c.requires.known) (rw (← c.self.view_is) at c.requires.other)
     c.put.new.numbers c.put.ensures.row c.put.ensures.splits)
 
 pub returns-clause-maps : goal.returns-clause-maps
 returns-clause-maps c =
-    rw (← c.self.view_is, c.size_of.ensures)
+    rw (← c.self.view_is, c.at_level.ensures)
     (put_maps _ c.self.invariant c.args.page c.args.mapping (rw (← c.self.view_is) at c.requires.known) (rw (← c.self.view_is) at c.requires.other)
     c.put.new.numbers c.put.ensures.row c.put.ensures.splits)
 
 pub returns-clause-sizes : goal.returns-clause-sizes
 returns-clause-sizes c =
-    rw (← c.self.view_is, c.size_of.ensures)
+    rw (← c.self.view_is, c.at_level.ensures)
     (put_sizes _ c.self.invariant c.args.page c.args.mapping (rw (← c.self.view_is) at c.requires.known) (rw (← c.self.view_is) at c.requires.other)
     c.put.new.numbers c.put.ensures.row c.put.ensures.splits)
