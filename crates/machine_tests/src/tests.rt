@@ -4,6 +4,7 @@ mod fills;
 mod full;
 mod lines;
 mod named;
+mod orders;
 mod recorded;
 mod runs;
 mod turns;

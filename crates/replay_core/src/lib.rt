@@ -13,6 +13,3 @@ pub use pager_core::Gathered;
 pub use scheduled::replay_schedule;
 pub use threads::replay;
 pub use turns::replay_turns;
-
-#[cfg(test)]
-mod tests;

@@ -9,7 +9,6 @@ pub mod Refusals
 pub mod RegionSearch
 pub mod RegionChanges
 pub mod ClearedRegions
-pub mod SpareFrames
 pub mod CopyLaws
 pub mod Translations
 pub mod TranslationLaws

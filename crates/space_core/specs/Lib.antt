@@ -5,6 +5,5 @@ pub mod Beginning
 pub mod Saving
 pub mod Keeping
 pub mod NewPages
-pub mod Spares
 pub mod Copies
 pub mod Translating

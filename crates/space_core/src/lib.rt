@@ -8,6 +8,3 @@ mod space;
 mod table;
 
 pub use space::{Begun, OutFault, Space};
-
-#[cfg(test)]
-mod tests;

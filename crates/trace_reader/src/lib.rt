@@ -16,6 +16,3 @@ mod word;
 pub use fault::{LineCause, TraceFault};
 pub use input::read_trace;
 pub use text::{MAX_BYTES, MAX_CALLS, parse};
-
-#[cfg(test)]
-mod tests;

@@ -1,0 +1,14 @@
+use Rattle.space_tests.proofs.SpareFrames.{clears_one_more, range_again, may_unmap, spare_unmapped}
+use Rattle.space_tests.proofs.tests.clear.Goals as goal
+
+pub unmap-requires-clause-cleared : goal.unmap-requires-clause-cleared
+unmap-requires-clause-cleared c κs = may_unmap c.args.first c.args.length c.loop.space c.clear_next.new.self c.loop.invariant.range c.in_default.ensures.none
+
+pub returns-in_default-clause-spare : goal.returns-in_default-clause-spare
+returns-in_default-clause-spare c spare had =
+    spare_unmapped c.args.first c.args.length _ c.loop.space c.clear_next.new.self _ _ spare c.loop.invariant.clears c.in_default.ensures.none c.unmap.ensures had
+
+pub loop-preserved : goal.loop-preserved
+loop-preserved c =
+    let one = c.in-Some.ensures.some in
+    record { range = range_again c.args.first c.args.length c.loop.space _ one.gave.same c.loop.invariant.range; clears = clears_one_more c.args.first c.args.length _ _ _ c.loop.space _ c.loop.invariant.clears one }
