@@ -117,8 +117,8 @@ PhaseStands call kept (Fault space count) = HasFaulted call kept
 PhaseStands call kept (Lack space) = IsResting kept
 PhaseStands call kept (Ended reply) = IsResting kept
 
--- What a phase says of its call, whatever the space: until a step wants a frame none was claimed; only a load or a store goes on in another
--- space than its own; and beside them only a sync or an evict meets its store's fault.
+-- What a phase says of its call, whatever the space: at the start, and where a frame is to be taken, none was claimed; only a load or a store
+-- goes on in another space than its own; and beside them only a sync or an evict meets its store's fault.
 abbrev pub PhaseFits : Purpose → Phase → Type 0
 PhaseFits purpose Start = claimed_in purpose ≡ false
 PhaseFits purpose (Frame page want) = claimed_in purpose ≡ false

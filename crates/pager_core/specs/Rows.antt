@@ -1,6 +1,6 @@
 -- The table of steps, one row a phase: what the next step is made under, which space's lock the flight keeps, where its processor is
--- in the order of its entries, who makes the next entry of the space, how much is left to do, and what came of it. Which space's lock that
--- is follows from the place in the order alone, by the one table of locks.
+-- in the order of its entries, who makes the next entry of the space, how much is left to do, and what came of it. The two spaces come from
+-- the one table of locks, by the place in the order and by whether an entry led to the phase.
 use Rattle.std.specs.Prelude.{ℕ, ◌+◌, Bool, true, false, if◌then◌else◌, Option, Some, None}
 use Rattle.pager_model.specs.declared.call.Call.{Call}
 use Rattle.pager_model.specs.declared.call.Call.TheVariants.{Load, Store}
@@ -8,7 +8,7 @@ use Rattle.pager_model.specs.declared.entry.Victim.{Victim}
 use Rattle.pager_model.specs.declared.reply.Reply.{Reply}
 use Rattle.pager_model.specs.Flat.{space_of_call}
 use Rattle.pager_model.specs.Locks.{under_in, keeps_in}
-use Rattle.pager_model.specs.Order.{Access, Purpose as Claimed, ForAccess, ForTurn, Doing, Idle, Cleared, Uncopied, Filling, Unfilling, Claiming, Emptied, Unwritten, Holding, Late as AnswersLate, Faulted, Lacking, Refusing, Progress}
+use Rattle.pager_model.specs.Order.{Access, Purpose as Claims, ForAccess, ForTurn, Doing, Idle, Cleared, Uncopied, Filling, Unfilling, Claiming, Emptied, Unwritten, Holding, Late as AnswersLate, Faulted, Lacking, Refusing, Progress}
 use Rattle.pager_model.specs.SpaceStates.{Next, Anyone, Only, AfterClear, access_page}
 use Rattle.pager_core.specs.declared.flight.Flight.{Flight}
 use Rattle.pager_core.specs.declared.flight.Phase.{Phase}
@@ -21,7 +21,8 @@ use Rattle.space_core.specs.Standing.{copied_page}
 
 -- Purposes.
 
--- The call of a flight, and whether a frame was claimed for it. A turn has no call, and nothing is asked of the one that stands here.
+-- The call of a flight, and whether a frame was claimed for it. A turn has no call: some call stands here, and what is said of a flight's
+-- call is said of flights of calls alone (`is_of_call`).
 abbrev pub call_in : Purpose → Call
 call_in (OfCall call claimed) = call
 call_in (OfTurn mark evictions) = Load 0 0
@@ -62,7 +63,7 @@ abbrev pub access_in : Purpose → Access
 access_in purpose = access_of (call_in purpose) (claimed_in purpose)
 
 -- what it claims a frame for
-abbrev pub claims_for : Purpose → Claimed
+abbrev pub claims_for : Purpose → Claims
 claims_for (OfCall call claimed) = ForAccess (access_of call claimed)
 claims_for (OfTurn mark evictions) = ForTurn mark evictions
 
@@ -120,15 +121,10 @@ abbrev pub faulted : Access → ℕ → ℕ → Option ℕ → Doing
 faulted access space count None = Faulted access space count
 faulted access space count (Some page) = Uncopied space page count
 
--- where it is after the write of a victim's page failed, for so many times, or found no memory
-abbrev pub unwritten : Claimed → Victim → Option ℕ → Doing
-unwritten claimed victim None = Claiming claimed victim
-unwritten claimed victim (Some count) = Unwritten claimed victim count
-
 -- the row of a victim's page that can't be paged out, which an entry led to where the write failed
-abbrev pub unclaiming : Option ℕ → ℕ → Claimed → Victim → Option ℕ → Row
-unclaiming own n claimed v None = found both own (at n (Claiming claimed v)) Anyone 2 6
-unclaiming own n claimed v (Some count) = placed both own (at n (Unwritten claimed v count)) Anyone 2 6
+abbrev pub unclaiming : Option ℕ → ℕ → Claims → Victim → Option ℕ → Row
+unclaiming own n claims v None = found both own (at n (Claiming claims v)) Anyone 2 6
+unclaiming own n claims v (Some count) = placed both own (at n (Unwritten claims v count)) Anyone 2 6
 
 -- the row of a phase, for the flight of a processor with this many calls answered or turns made, in this space of its own and for this
 -- purpose

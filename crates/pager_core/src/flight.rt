@@ -160,7 +160,7 @@ impl Flight {
         }
     }
 
-    /// The call, of a flight of one.
+    /// The call, of a flight of a call.
     fn call(&self) -> Call
         requires { is_of_call self.now.purpose ≡ true }
         ensures { result ≡ call_in self.now.purpose }

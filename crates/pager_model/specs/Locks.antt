@@ -1,5 +1,6 @@
 -- The one table of locks: for each place of the order, the space whose lock the next step from there is made under, and the space whose
--- lock is kept until that step. The first argument is the space of the processor's call; a turn of a daemon has none of its own.
+-- lock is kept until that step. Where there is none the step is made under the frames' lock alone, and no space's is kept. The first
+-- argument is the space of the processor's call; a turn of a daemon has none of its own.
 use Rattle.std.specs.Prelude.{ℕ, ◌==◌, if◌then◌else◌, Option, Some, None}
 use Rattle.pager_model.specs.Order.{Doing, Idle, Looking, Cleared, Uncopied, Filling, Unfilling, Claiming, Emptied, Unwritten, Holding, Late, Faulted, Lacking, Refusing}
 

@@ -4,8 +4,8 @@
 --
 -- The sequences of a call, with the place that each entry leads to:
 --
---   served alone      Answer
---   unmapped          Clear Cleared, Answer
+--   answered alone    Answer
+--   cleared           Clear Cleared, Answer
 --   not copied        Failed Uncopied, Answer
 --   filled            Take Filling, Answer
 --   not filled        Take Filling, Failed Unfilling, Give Faulted, Answer
@@ -19,8 +19,9 @@
 --                       DropHeld Late, Answer         the frame isn't needed any more, or
 --                       UseHeld Filling, and on as filled or not filled
 --
--- A turn of a daemon is made of evictions, each a Claim Claiming, then Out Emptied and Give Holding, or Got Holding, and DropHeld Looking;
--- it ends with a Rest, or where a page can't be paged out with an Unclaim.
+-- A turn of a daemon is a row of evictions, at most as many as its mark, each a Claim Claiming, and then Out Emptied and Give Holding, or
+-- Got Holding, and DropHeld Looking. It ends with a Rest, which is short only after as many as its mark; or with an Unclaim, where the last
+-- Claim Claiming, or that and Failed Unwritten, can't be gone on with.
 use Rattle.std.specs.Prelude.{ℕ, zero, suc, ◌≡◌, ◌+◌, Bool, true, false, ◌&&◌, ◌||◌, ◌==◌, not, nat_lt, if◌then◌else◌, List, [], ◌∷◌, Option, Some, None}
 use Rattle.std.specs.Option.{option_and_then}
 use Rattle.pager_model.specs.declared.call.Call.{Call}

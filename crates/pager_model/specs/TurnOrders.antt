@@ -1,4 +1,5 @@
--- Orders of turns: which processor makes each entry of a history, told by what the entries before it lead to.
+-- Orders of turns: which of the processors of a trace makes each entry of a history, told by what the entries before it lead to. (A daemon
+-- has no turns yet.)
 use Rattle.std.specs.Prelude.{ℕ, ◌≡◌, ◌+◌, ◌*◌, ◌/◌, ◌%◌, ◌^◌, ◌==◌, Bool, true, false, ◌&&◌, not, List, [], ◌∷◌, ◌++◌, length, take, drop, filter, find, slice_get, Option, Some, None, is_some}
 use Rattle.std.specs.List.{range_with_len, list_any}
 use Rattle.std.specs.Option.{option_and_then}

@@ -2,8 +2,7 @@
 ghost use Rattle.std.specs.Prelude.{◌^◌, ◌<◌};
 
 use super::printed::{read_text, run_threads};
-use pager_model::{Numbered, Reply, What};
-use replay_core::Generator;
+use pager_model::{Generator, Numbered, Reply, What};
 use std::alloc::{AllocError, Global};
 use std::process::Abort;
 use std::test::Fail;
