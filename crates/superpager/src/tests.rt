@@ -61,6 +61,66 @@ fn stores_of(
     Ok(stores)
 }
 
+/// What a run is made over: how many bytes the sink takes, how many stores there are, and which read of the source, write of the sink, and
+/// read and write of the first store fail (none is 0).
+#[derive(Clone, Copy)]
+struct Setup {
+    limit: usize,
+    stores: usize,
+    failing_read: u64,
+    failing_write: u64,
+    failing_fill: u64,
+    failing_copy: u64,
+}
+
+/// Room for any text here, one store, and nothing fails.
+const AMPLE: Setup = Setup {
+    limit: 16_384,
+    stores: 1,
+    failing_read: 0,
+    failing_write: 0,
+    failing_fill: 0,
+    failing_copy: 0,
+};
+
+/// How a run ended, as plain data, so that no test carries the contract of `run`.
+struct Ran {
+    status: u8,
+    refusal: Option<TraceFault>,
+    /// How many calls the trace has, where it was run.
+    calls: Option<usize>,
+    entries: usize,
+    stores: usize,
+    printed: Vec<u8>,
+    /// The byte that the source has next.
+    unread: Option<u8>,
+}
+
+/// Runs the program with these words over a text.
+fn ran<R: Threads + Wait + Sync>(
+    rt: &R,
+    alloc: Global,
+    words: &[&str],
+    text: &[u8],
+    setup: Setup,
+) -> Result<Ran, AllocError> {
+    let mut source = source_of(alloc, text, setup.failing_read)?;
+    let mut sink = sink_of(alloc, setup.limit, setup.failing_write)?;
+    let stores = stores_of(alloc, setup.stores, &[setup.failing_fill], &[setup.failing_copy])?;
+    let outcome = run(rt, alloc, words, &mut source, &mut sink, stores);
+    let mut next = [0];
+    let count = source.read(&mut next);
+    Ok(Ran {
+        status: outcome.status,
+        refusal: outcome.refusal,
+        calls: outcome.trace.map(|trace| trace.calls().len()),
+        entries: outcome.history.len(),
+        stores: outcome.stores.len(),
+        printed: sink.bytes().to_vec(alloc)?,
+        unread: (count == Ok(1)).then_some(next[0]),
+    })
+}
+
 fn push_number(text: &mut Vec<u8>, number: u64) -> Result<(), AllocError> {
     let mut buffer = Buffer::new();
     text.extend_from_slice(buffer.format(number).as_bytes())
@@ -128,17 +188,14 @@ fn a_run_with_ample_memory_is_done_and_prints_its_text(rt: HostRuntime) -> Resul
         (LAST_PAGE, LAST_PAGE_TEXT, 3, 4),
         (long.as_slice(), long_text.as_slice(), 516, 1032),
     ];
-    for (bytes, text, calls, entries) in table {
-        let mut source = source_of(alloc, bytes, 0)?;
-        let mut sink = sink_of(alloc, 16_384, 0)?;
-        let stores = stores_of(alloc, 1, &[], &[])?;
-        let outcome = run(&rt, alloc, &ORDER, &mut source, &mut sink, stores);
-        assert_eq!(rt; outcome.status, DONE);
-        assert_eq!(rt; outcome.refusal, None);
-        assert_eq!(rt; outcome.trace.ok_or(OTHER)?.calls().len(), calls);
-        assert_eq!(rt; outcome.history.len(), entries);
-        assert_eq!(rt; sink.bytes(), text);
-        assert_eq!(rt; source.read(&mut [0]), Ok(0));
+    for (trace, text, calls, entries) in table {
+        let ran = ran(&rt, alloc, &ORDER, trace, AMPLE)?;
+        assert_eq!(rt; ran.status, DONE);
+        assert_eq!(rt; ran.refusal, None);
+        assert_eq!(rt; ran.calls, Some(calls));
+        assert_eq!(rt; ran.entries, entries);
+        assert_eq!(rt; ran.printed.as_slice(), text);
+        assert_eq!(rt; ran.unread, None);
     }
     Ok(())
 }
@@ -147,32 +204,10 @@ fn a_run_with_ample_memory_is_done_and_prints_its_text(rt: HostRuntime) -> Resul
 fn drawn_turns_of_one_processor_come_in_the_order_of_its_lines(
     rt: HostRuntime,
 ) -> Result<(), Fail> {
-    let alloc = rt.alloc();
-    let mut source = source_of(alloc, LAST_PAGE, 0)?;
-    let mut sink = sink_of(alloc, 8192, 0)?;
-    let stores = stores_of(alloc, 1, &[], &[])?;
-    let words = ["turns", "5"];
-    let outcome = run(&rt, alloc, &words, &mut source, &mut sink, stores);
-    assert_eq!(rt; outcome.status, DONE);
-    assert_eq!(rt; sink.bytes(), LAST_PAGE_TEXT);
+    let ran = ran(&rt, rt.alloc(), &["turns", "5"], LAST_PAGE, AMPLE)?;
+    assert_eq!(rt; ran.status, DONE);
+    assert_eq!(rt; ran.printed.as_slice(), LAST_PAGE_TEXT);
     Ok(())
-}
-
-// What a trace over two stores prints in the order that the words ask for.
-fn printed<R: Threads + Wait + Sync>(
-    rt: &R,
-    alloc: Global,
-    words: &[&str],
-    trace: &[u8],
-) -> Result<MemorySink, Fail> {
-    let mut source = source_of(alloc, trace, 0)?;
-    let mut sink = sink_of(alloc, 8192, 0)?;
-    let stores = stores_of(alloc, 2, &[], &[])?;
-    let outcome = run(rt, alloc, words, &mut source, &mut sink, stores);
-    if outcome.status != DONE {
-        return Err(Fail::from(OTHER));
-    }
-    Ok(sink)
 }
 
 #[test]
@@ -180,30 +215,29 @@ fn threads_that_share_nothing_print_what_the_order_of_lines_prints(
     rt: HostRuntime,
 ) -> Result<(), Fail> {
     let alloc = rt.alloc();
+    let setup = Setup { stores: 2, ..AMPLE };
     // One processor, and two that have a space each.
     for trace in [EMPTY, LAST_PAGE, WRITTEN_TWICE, TWO_SPACES] {
-        let in_order = printed(&rt, alloc, &ORDER, trace)?;
-        let in_threads = printed(&rt, alloc, &["replay"], trace)?;
-        assert_eq!(rt; in_threads.bytes(), in_order.bytes());
+        let in_order = ran(&rt, alloc, &ORDER, trace, setup)?;
+        let in_threads = ran(&rt, alloc, &["replay"], trace, setup)?;
+        assert_eq!(rt; in_order.status, DONE);
+        assert_eq!(rt; in_threads.status, DONE);
+        assert_eq!(rt; in_threads.printed.as_slice(), in_order.printed.as_slice());
     }
     Ok(())
 }
 
 #[test]
 fn the_history_is_printed_where_the_words_ask_for_it(rt: HostRuntime) -> Result<(), Fail> {
-    let alloc = rt.alloc();
     let table: [&[&str]; 3] = [
         &["order", "--history"],
         &["turns", "5", "--history"],
         &["replay", "--history"],
     ];
     for words in table {
-        let mut source = source_of(alloc, LAST_PAGE, 0)?;
-        let mut sink = sink_of(alloc, 8192, 0)?;
-        let stores = stores_of(alloc, 1, &[], &[])?;
-        let outcome = run(&rt, alloc, words, &mut source, &mut sink, stores);
-        assert_eq!(rt; outcome.status, DONE);
-        assert_eq!(rt; sink.bytes(), LAST_PAGE_HISTORY_TEXT);
+        let ran = ran(&rt, rt.alloc(), words, LAST_PAGE, AMPLE)?;
+        assert_eq!(rt; ran.status, DONE);
+        assert_eq!(rt; ran.printed.as_slice(), LAST_PAGE_HISTORY_TEXT);
     }
     Ok(())
 }
@@ -230,19 +264,14 @@ fn other_words_read_and_write_nothing(rt: HostRuntime) -> Result<(), Fail> {
         &["x", "order"],
     ];
     for words in table {
-        let mut source = source_of(rt.alloc(), LAST_PAGE, 0)?;
-        let mut sink = sink_of(rt.alloc(), 100, 0)?;
-        let stores = stores_of(rt.alloc(), 1, &[], &[])?;
-        let outcome = run(&rt, rt.alloc(), words, &mut source, &mut sink, stores);
-        assert_eq!(rt; outcome.status, USAGE);
-        assert_eq!(rt; outcome.refusal, None);
-        assert!(rt; outcome.trace.is_none());
-        assert!(rt; outcome.history.is_empty());
-        assert_eq!(rt; outcome.stores.len(), 1);
-        assert_eq!(rt; sink.bytes(), b"".as_slice());
-        let mut first = [0];
-        assert_eq!(rt; source.read(&mut first), Ok(1));
-        assert_eq!(rt; first, *b"t");
+        let ran = ran(&rt, rt.alloc(), words, LAST_PAGE, AMPLE)?;
+        assert_eq!(rt; ran.status, USAGE);
+        assert_eq!(rt; ran.refusal, None);
+        assert_eq!(rt; ran.calls, None);
+        assert_eq!(rt; ran.entries, 0);
+        assert_eq!(rt; ran.stores, 1);
+        assert!(rt; ran.printed.is_empty());
+        assert_eq!(rt; ran.unread, Some(b't'));
     }
     Ok(())
 }
@@ -267,32 +296,30 @@ fn what_is_refused_is_told_and_nothing_written(rt: HostRuntime) -> Result<(), Fa
             at_line(3, LineCause::Form),
         ),
     ];
-    for (bytes, fault) in table {
-        let mut source = source_of(rt.alloc(), bytes, 0)?;
-        let mut sink = sink_of(rt.alloc(), 100, 0)?;
-        let stores = stores_of(rt.alloc(), 1, &[], &[])?;
-        let outcome = run(&rt, rt.alloc(), &ORDER, &mut source, &mut sink, stores);
-        assert_eq!(rt; outcome.status, REFUSED);
-        assert_eq!(rt; outcome.refusal, Some(fault));
-        assert!(rt; outcome.trace.is_none());
-        assert_eq!(rt; sink.bytes(), b"".as_slice());
+    for (text, fault) in table {
+        let ran = ran(&rt, rt.alloc(), &ORDER, text, AMPLE)?;
+        assert_eq!(rt; ran.status, REFUSED);
+        assert_eq!(rt; ran.refusal, Some(fault));
+        assert_eq!(rt; ran.calls, None);
+        assert!(rt; ran.printed.is_empty());
     }
     Ok(())
 }
 
 #[test]
 fn a_failed_read_is_told_before_what_is_wrong_with_the_text(rt: HostRuntime) -> Result<(), Fail> {
-    for (bytes, failing) in [
+    for (text, failing_read) in [
         (b"x\n0 load\n".as_slice(), 4),
         (b"trace 1 512 1 1\nend\nend\n", 24),
     ] {
-        let mut source = source_of(rt.alloc(), bytes, failing)?;
-        let mut sink = sink_of(rt.alloc(), 100, 0)?;
-        let stores = stores_of(rt.alloc(), 1, &[], &[])?;
-        let outcome = run(&rt, rt.alloc(), &ORDER, &mut source, &mut sink, stores);
-        assert_eq!(rt; outcome.status, READ_FAULT);
-        assert_eq!(rt; outcome.refusal, Some(TraceFault::ReadFault));
-        assert_eq!(rt; sink.bytes(), b"".as_slice());
+        let setup = Setup {
+            failing_read,
+            ..AMPLE
+        };
+        let ran = ran(&rt, rt.alloc(), &ORDER, text, setup)?;
+        assert_eq!(rt; ran.status, READ_FAULT);
+        assert_eq!(rt; ran.refusal, Some(TraceFault::ReadFault));
+        assert!(rt; ran.printed.is_empty());
     }
     Ok(())
 }
@@ -301,22 +328,24 @@ fn a_failed_read_is_told_before_what_is_wrong_with_the_text(rt: HostRuntime) -> 
 fn each_read_that_fails_ends_the_run_with_nothing_written(rt: HostRuntime) -> Result<(), Fail> {
     // A read for each byte, and one that finds the end.
     let reads = 113;
-    for failing in 1..=reads {
-        let mut source = source_of(rt.alloc(), LAST_PAGE, failing)?;
-        let mut sink = sink_of(rt.alloc(), 100, 0)?;
-        let stores = stores_of(rt.alloc(), 1, &[], &[])?;
-        let outcome = run(&rt, rt.alloc(), &ORDER, &mut source, &mut sink, stores);
-        assert_eq!(rt; outcome.status, READ_FAULT, "at read {failing}");
-        assert_eq!(rt; outcome.refusal, Some(TraceFault::ReadFault));
-        assert!(rt; outcome.trace.is_none());
-        assert_eq!(rt; sink.bytes(), b"".as_slice());
+    for failing_read in 1..=reads {
+        let setup = Setup {
+            failing_read,
+            ..AMPLE
+        };
+        let ran = ran(&rt, rt.alloc(), &ORDER, LAST_PAGE, setup)?;
+        assert_eq!(rt; ran.status, READ_FAULT, "at read {failing_read}");
+        assert_eq!(rt; ran.refusal, Some(TraceFault::ReadFault));
+        assert_eq!(rt; ran.calls, None);
+        assert!(rt; ran.printed.is_empty());
     }
-    let mut source = source_of(rt.alloc(), LAST_PAGE, reads + 1)?;
-    let mut sink = sink_of(rt.alloc(), 300, 0)?;
-    let stores = stores_of(rt.alloc(), 1, &[], &[])?;
-    let outcome = run(&rt, rt.alloc(), &ORDER, &mut source, &mut sink, stores);
-    assert_eq!(rt; outcome.status, DONE);
-    assert_eq!(rt; sink.bytes(), LAST_PAGE_TEXT);
+    let setup = Setup {
+        failing_read: reads + 1,
+        ..AMPLE
+    };
+    let ran = ran(&rt, rt.alloc(), &ORDER, LAST_PAGE, setup)?;
+    assert_eq!(rt; ran.status, DONE);
+    assert_eq!(rt; ran.printed.as_slice(), LAST_PAGE_TEXT);
     Ok(())
 }
 
@@ -324,21 +353,20 @@ fn each_read_that_fails_ends_the_run_with_nothing_written(rt: HostRuntime) -> Re
 fn a_full_sink_has_the_first_bytes_of_the_text(rt: HostRuntime) -> Result<(), Fail> {
     // Nothing, a part of the first line, all of it, and all but the last byte.
     for limit in [0, 4, 9, LAST_PAGE_TEXT.len() - 1] {
-        let mut source = source_of(rt.alloc(), LAST_PAGE, 0)?;
-        let mut sink = sink_of(rt.alloc(), limit, 0)?;
-        let stores = stores_of(rt.alloc(), 1, &[], &[])?;
-        let outcome = run(&rt, rt.alloc(), &ORDER, &mut source, &mut sink, stores);
-        assert_eq!(rt; outcome.status, WRITE_FAULT, "after {limit} bytes");
-        assert_eq!(rt; outcome.refusal, None);
-        assert_eq!(rt; outcome.trace.ok_or(OTHER)?.calls().len(), 3);
-        assert_eq!(rt; outcome.history.len(), 4);
-        assert_eq!(rt; sink.bytes(), &LAST_PAGE_TEXT[..limit]);
+        let setup = Setup { limit, ..AMPLE };
+        let ran = ran(&rt, rt.alloc(), &ORDER, LAST_PAGE, setup)?;
+        assert_eq!(rt; ran.status, WRITE_FAULT, "after {limit} bytes");
+        assert_eq!(rt; ran.refusal, None);
+        assert_eq!(rt; ran.calls, Some(3));
+        assert_eq!(rt; ran.entries, 4);
+        assert_eq!(rt; ran.printed.as_slice(), &LAST_PAGE_TEXT[..limit]);
     }
-    let mut source = source_of(rt.alloc(), LAST_PAGE, 0)?;
-    let mut sink = sink_of(rt.alloc(), LAST_PAGE_TEXT.len(), 0)?;
-    let stores = stores_of(rt.alloc(), 1, &[], &[])?;
-    let outcome = run(&rt, rt.alloc(), &ORDER, &mut source, &mut sink, stores);
-    assert_eq!(rt; outcome.status, DONE);
+    let setup = Setup {
+        limit: LAST_PAGE_TEXT.len(),
+        ..AMPLE
+    };
+    let ran = ran(&rt, rt.alloc(), &ORDER, LAST_PAGE, setup)?;
+    assert_eq!(rt; ran.status, DONE);
     Ok(())
 }
 
@@ -354,13 +382,14 @@ fn each_write_that_fails_leaves_what_went_before(rt: HostRuntime) -> Result<(), 
         (3, WRITE_FAULT, 8188),
         (4, DONE, text.len()),
     ];
-    for (failing, status, gone) in table {
-        let mut source = source_of(alloc, &trace, 0)?;
-        let mut sink = sink_of(alloc, 16_384, failing)?;
-        let stores = stores_of(alloc, 1, &[], &[])?;
-        let outcome = run(&rt, alloc, &ORDER, &mut source, &mut sink, stores);
-        assert_eq!(rt; outcome.status, status, "at write {failing}");
-        assert_eq!(rt; sink.bytes(), text.get(..gone).ok_or(OTHER)?);
+    for (failing_write, status, gone) in table {
+        let setup = Setup {
+            failing_write,
+            ..AMPLE
+        };
+        let ran = ran(&rt, alloc, &ORDER, &trace, setup)?;
+        assert_eq!(rt; ran.status, status, "at write {failing_write}");
+        assert_eq!(rt; ran.printed.as_slice(), text.get(..gone).ok_or(OTHER)?);
     }
     Ok(())
 }
@@ -369,19 +398,16 @@ fn each_write_that_fails_leaves_what_went_before(rt: HostRuntime) -> Result<(), 
 fn a_trace_with_more_spaces_than_stores_is_refused(rt: HostRuntime) -> Result<(), Fail> {
     let trace =
         b"trace 1 512 1 2\n0 map 0 0 512 fixed write\n0 map 1 0 8 fixed write\n0 load 0 0\n0 load 1 0\nend\n";
-    let mut source = source_of(rt.alloc(), trace, 0)?;
-    let mut sink = sink_of(rt.alloc(), 100, 0)?;
-    let stores = stores_of(rt.alloc(), 1, &[], &[])?;
-    let outcome = run(&rt, rt.alloc(), &ORDER, &mut source, &mut sink, stores);
-    assert_eq!(rt; outcome.status, REFUSED);
+    let ran = ran(&rt, rt.alloc(), &ORDER, trace, AMPLE)?;
+    assert_eq!(rt; ran.status, REFUSED);
     let fault = TraceFault::TooFewStores {
         stores: 1,
         spaces: 2,
     };
-    assert_eq!(rt; outcome.refusal, Some(fault));
-    assert!(rt; outcome.trace.is_none());
-    assert_eq!(rt; outcome.stores.len(), 1);
-    assert_eq!(rt; sink.bytes(), b"".as_slice());
+    assert_eq!(rt; ran.refusal, Some(fault));
+    assert_eq!(rt; ran.calls, None);
+    assert_eq!(rt; ran.stores, 1);
+    assert!(rt; ran.printed.is_empty());
     Ok(())
 }
 
@@ -459,13 +485,15 @@ fn a_store_that_fails_is_told_and_the_run_goes_on(rt: HostRuntime) -> Result<(),
             b"0 0 done\n0 1 done miss 0\n0 2 written\n0 3 done miss 0\n0 4 written\n0 5 done miss 0\n0 6 written\n0 7 clean\ntiles 0 0 0 0\npromotions 0\ndemotions 0\npreemptions 0\nimages 0 3\nframes 512 0 0\nend\n",
         ),
     ];
-    for (trace, read, write, text) in table {
-        let mut source = source_of(rt.alloc(), trace, 0)?;
-        let mut sink = sink_of(rt.alloc(), 300, 0)?;
-        let stores = stores_of(rt.alloc(), 1, &[read], &[write])?;
-        let outcome = run(&rt, rt.alloc(), &ORDER, &mut source, &mut sink, stores);
-        assert_eq!(rt; outcome.status, DONE);
-        assert_eq!(rt; sink.bytes(), text);
+    for (trace, failing_fill, failing_copy, text) in table {
+        let setup = Setup {
+            failing_fill,
+            failing_copy,
+            ..AMPLE
+        };
+        let ran = ran(&rt, rt.alloc(), &ORDER, trace, setup)?;
+        assert_eq!(rt; ran.status, DONE);
+        assert_eq!(rt; ran.printed.as_slice(), text);
     }
     Ok(())
 }
@@ -528,16 +556,18 @@ fn where_frames_run_short_the_page_that_was_filled_first_is_paged_out(
             b"0 513 done\n0 514 noframes 512 0 0\n0 515 denied\ntiles 0 0 0 1\npromotions 64\ndemotions 0\npreemptions 0\nimages 0 512\nframes 0 0 512\nend\n",
         ),
     ];
-    for (head, rest, write, printed, last) in table {
+    for (head, rest, failing_copy, printed, last) in table {
         let trace = all_frames_used(alloc, head, rest)?;
         let text = all_frames_used_text(alloc, printed, head == stored, last)?;
-        let mut source = source_of(alloc, &trace, 0)?;
-        let mut sink = sink_of(alloc, 16_384, 0)?;
-        let stores = stores_of(alloc, 2, &[], &[write])?;
-        let outcome = run(&rt, alloc, &ORDER, &mut source, &mut sink, stores);
-        assert_eq!(rt; outcome.status, DONE);
-        assert_eq!(rt; outcome.stores.len(), 2);
-        assert_eq!(rt; sink.bytes(), text.as_slice());
+        let setup = Setup {
+            stores: 2,
+            failing_copy,
+            ..AMPLE
+        };
+        let ran = ran(&rt, alloc, &ORDER, &trace, setup)?;
+        assert_eq!(rt; ran.status, DONE);
+        assert_eq!(rt; ran.stores, 2);
+        assert_eq!(rt; ran.printed.as_slice(), text.as_slice());
     }
     Ok(())
 }
