@@ -4,9 +4,9 @@ use Rattle.std.specs.Option.{IsSomeAnd}
 use Rattle.std.proofs.lemmas.Bool.{and_from, eq-eqb, false≢true}
 use Rattle.std.proofs.lemmas.Option.{same_Some}
 use Rattle.frame_pool.specs.declared.pool.Victim.{Victim as Claimed}
-use Rattle.frame_pool.specs.Laid.{IsSound}
-use Rattle.frame_pool.proofs.PagePlaces.{frame_in-found}
-use Rattle.frame_pool.proofs.StateSoundness.{Takes, Takes-take_frame, IsSound-dropped, frame_of-dropped}
+use Rattle.pager_laws.specs.Laid.{IsSound}
+use Rattle.pager_laws.proofs.PagePlaces.{frame_in-found}
+use Rattle.pager_laws.proofs.StateSoundness.{Takes, Takes-take_frame, IsSound-dropped, frame_of-dropped}
 use Rattle.pager_model.specs.declared.entry.Entry.{Entry}
 use Rattle.pager_model.specs.declared.entry.Want.{Want}
 use Rattle.pager_model.specs.declared.entry.What.TheVariants.{UseHeld}

@@ -22,7 +22,7 @@ use Rattle.pager_model.specs.Showing.{answers_in, answer_in}
 use Rattle.pager_model.proofs.Histories.{IsLegal-push, progress_at-own, progress_at-other, filter-push_in, filter-push_out}
 use Rattle.pager_model.proofs.Lists.{get_or_within}
 use Rattle.pager_model.proofs.Ranges.{range_with_len-more}
-use Rattle.frame_pool.proofs.LegalHistories.{IsKept-legal, Agrees-legal}
+use Rattle.pager_laws.proofs.LegalHistories.{IsKept-legal, Agrees-legal}
 use Rattle.space_core.specs.Standing.{Kept}
 use Rattle.pager_core.specs.declared.flight.Flight.{Flight}
 use Rattle.pager_core.specs.declared.flight.Phase.TheVariants.{Out}

@@ -5,8 +5,8 @@ use Rattle.std.proofs.lemmas.List.Filters.{length-filter_both}
 use Rattle.std.proofs.lemmas.Option.{none-some}
 use Rattle.std.proofs.Math.ListN.{length-map}
 use Rattle.frame_pool.specs.declared.pool.Victim.{Victim as Claimed}
-use Rattle.frame_pool.specs.Laid.{IsSound}
-use Rattle.frame_pool.proofs.LegalHistories.{IsKept-legal, OwnsBy-legal}
+use Rattle.pager_laws.specs.Laid.{IsSound}
+use Rattle.pager_laws.proofs.LegalHistories.{IsKept-legal, OwnsBy-legal}
 use Rattle.journal_core.specs.Clauses.{IsHistory, AreOfTwo}
 use Rattle.journal_core.specs.Journals.{JournalName, AuthorState, PassState}
 use Rattle.journal_core.proofs.HistoryLength.{length_bound}

@@ -1,7 +1,7 @@
 -- Lists whose elements are all alike, and lists of places that may be empty.
-use Rattle.std.proofs.Common.{◌≡◌, ◌<◌, ℕ, zero, suc, Option, None, Some, List, length, get_or, replicate, inl, inr, refl, sym, ◌∙◌}
-use Rattle.std.proofs.lemmas.Bool.{cases_lt}
-use Rattle.std.proofs.lemmas.List.{get_or_past}
+use Rattle.std.proofs.Common.{◌≡◌, ◌<◌, ℕ, zero, suc, Option, None, Some, List, length, get_or, replicate, inl, inr, refl, sym, ◌∙◌, ◌≢◌, set, ap}
+use Rattle.std.proofs.lemmas.Bool.{cases_lt, cases_eq}
+use Rattle.std.proofs.lemmas.List.{get_or_past, get_or-set_same, get_or-set_other, set_past}
 use Rattle.std.proofs.lemmas.Option.{none-some}
 
 -- where all are alike, each is, and so is what is past them
@@ -15,4 +15,18 @@ pub get_or_within : {A : Type 0} (places : List (Option A)) (i : ℕ) (a : A) �
 get_or_within places i a is = elim (cases_lt i (length places)) [
   | inl within ↦ within
   | inr past ↦ absurd (none-some a (sym (get_or_past places i None past) ∙ is))
+]
+
+-- where the default was written it stands
+pub get_or-set_default : {A : Type 0} (xs : List A) (i j : ℕ) (d : A) → j ≡ i → get_or (set xs i d) j d ≡ d
+get_or-set_default xs i j d here = ap (λ k. get_or (set xs i d) k d) here ∙ elim (cases_lt i (length xs)) [
+  | inl known ↦ get_or-set_same xs i d d known
+  | inr past ↦ ap (λ ys. get_or ys i d) (set_past xs i d past) ∙ get_or_past xs i d past
+]
+
+-- another value that stands then stood before, and the default was written elsewhere
+pub unset_before : {A : Type 0} (xs : List A) (i j : ℕ) (d x : A) → d ≢ x → get_or (set xs i d) j d ≡ x → (j ≢ i) × (get_or xs j d ≡ x)
+unset_before xs i j d x apart is = elim (cases_eq j i) [
+  | inl here ↦ absurd (apart (sym (get_or-set_default xs i j d here) ∙ is))
+  | inr other ↦ (other, sym (get_or-set_other xs i j d d other) ∙ is)
 ]

@@ -25,4 +25,5 @@ pub mod PreferredSize
 pub mod Records
 pub mod Ages
 pub mod Layouts
+pub mod RecordPlaces
 pub mod Examples

@@ -16,8 +16,8 @@ use Rattle.pager_model.specs.Plans.{Plan}
 use Rattle.pager_model.specs.Settings.{Given, faults_at_entry}
 use Rattle.pager_model.specs.Showing.{calls_of}
 use Rattle.pager_model.specs.SpaceStates.{Rises, last_count}
-use Rattle.frame_pool.proofs.OldestBroken.{PreemptsOldest-legal}
-use Rattle.frame_pool.proofs.OrderedRefusals.{RefusesRightly-legal}
+use Rattle.pager_laws.proofs.OldestBroken.{PreemptsOldest-legal}
+use Rattle.pager_laws.proofs.OrderedRefusals.{RefusesRightly-legal}
 use Rattle.pager_core.specs.Running.{Running, calls_at, setting_over, IsLawful, IsWholeRun, EndsWith, StoresEnd, AreCapped}
 use Rattle.pager_core.proofs.Laws.{KeepsLawsAllAlong-legal}
 use Rattle.store_core.specs.Stored.{Stored}

@@ -1,6 +1,6 @@
 use Rattle.std.proofs.Common.{◌≡◌, length, map, Vec, Global, ap, sym, subst, ◌∙◌, arith}
 use Rattle.std.specs.List.{All}
-use Rattle.frame_pool.proofs.LegalHistories.{NothingHeld-legal}
+use Rattle.pager_laws.proofs.LegalHistories.{NothingHeld-legal}
 use Rattle.journal_core.specs.Clauses.{IsHistory, IsOwnOf}
 use Rattle.journal_core.specs.Journals.{JournalName, AuthorState, PassState}
 use Rattle.pager_model.specs.declared.entry.Numbered.{Numbered}

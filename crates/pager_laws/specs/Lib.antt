@@ -1,0 +1,4 @@
+pub mod Laid
+pub mod Listed
+pub mod Allowed
+pub mod Breaking
