@@ -17,7 +17,8 @@ use Rattle.pager_model.specs.Order.{Filling, leads}
 use Rattle.pager_model.specs.Regions.{wanted}
 use Rattle.pager_model.specs.SpaceStates.{SpaceState, MayGoOn, space_after}
 use Rattle.space_core.specs.Beginning.{Places}
-use Rattle.space_core.specs.Standing.{Kept, StandsFor, frame_at, take_entry}
+use Rattle.space_core.specs.Standing.{Kept, StandsFor, frame_at}
+use Rattle.pager_model.specs.CallEntries.{take_entry}
 use Rattle.pager_core.specs.declared.flight.Flight.{Flight}
 use Rattle.pager_core.specs.declared.flight.Phase.TheVariants.{Use, Fill}
 use Rattle.pager_core.specs.Flights.{IsReady, WantsFrame}

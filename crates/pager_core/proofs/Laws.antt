@@ -10,7 +10,7 @@ use Rattle.pager_laws.proofs.KeptFrames.{KeepsFrames-legal}
 use Rattle.pager_laws.proofs.LegalHistories.{Agrees-legal, OwnsBy-legal, NothingHeld-legal}
 use Rattle.pager_laws.proofs.LegalPrefixes.{IsLegal-at}
 use Rattle.space_core.specs.Standing.{Kept}
-use Rattle.space_core.proofs.CopyLaws.{KeepsCopies-legal}
+use Rattle.pager_laws.proofs.CopyLaws.{KeepsCopies-legal}
 use Rattle.pager_core.specs.Machines.{IsMachine}
 use Rattle.pager_core.specs.Running.{Running}
 

@@ -31,3 +31,7 @@ pub mod RefusedFrames
 pub mod OrderedRefusals
 pub mod KeptFrames
 pub mod KeptSizes
+pub mod NewPages
+pub mod CopyLaws
+pub mod ImageTiles
+pub mod TranslationLaws

@@ -1,5 +1,5 @@
 -- Which frames a reservation has, and which of them are unused.
-use Rattle.std.proofs.Common.{◌≡◌, ◌≢◌, ◌<◌, ◌≤◌, ℕ, ◌+◌, ◌^◌, Bool, true, false, ltb, leb, Option, Some, None, get_or, not, ap, sym, ◌∙◌, arith, ◌-◌, ◌*◌}
+use Rattle.std.proofs.Common.{◌≡◌, ◌<◌, ◌≤◌, ℕ, ◌+◌, ◌^◌, Bool, true, false, ltb, leb, Option, Some, None, get_or, not, ap, sym, ◌∙◌, arith, ◌-◌, ◌*◌}
 use Rattle.std.proofs.lemmas.Bool.{and_parts, and_from, leb-true, ltb-true, le-leb, lt-ltb, not-true, false≢true}
 use Rattle.pager_model.specs.Agreement.{has_frame}
 use Rattle.pager_model.specs.Records.{none_used, has_empty}

@@ -10,6 +10,7 @@ pub mod Flat
 pub mod Tiles
 pub mod Images
 pub mod Entries
+pub mod CallEntries
 pub mod FrameStates
 pub mod SpaceStates
 pub mod Order

@@ -10,6 +10,4 @@ pub mod RegionSearch
 pub mod RegionChanges
 pub mod ClearedRegions
 pub mod SpareFrames
-pub mod CopyLaws
 pub mod Translations
-pub mod TranslationLaws

@@ -4,7 +4,5 @@ pub mod Standing
 pub mod Beginning
 pub mod Saving
 pub mod Keeping
-pub mod NewPages
 pub mod Spares
-pub mod Copies
 pub mod Translating

@@ -1,5 +1,5 @@
-use Rattle.space_core.proofs.CopyLaws.{same_flat, same_frames}
-use Rattle.space_core.proofs.laws.an_answer_without_service_changes_nothing.Goals as goal
+use Rattle.pager_laws.proofs.CopyLaws.{same_flat, same_frames}
+use Rattle.pager_laws.proofs.laws.an_answer_without_service_changes_nothing.Goals as goal
 
 pub returns : goal.returns
 returns c = record {

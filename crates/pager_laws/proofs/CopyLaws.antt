@@ -20,7 +20,7 @@ use Rattle.pager_model.specs.SpaceStates.{SpaceState, Next, Anyone, Only, Unmaps
 use Rattle.pager_model.proofs.Histories.{space_at-named, space_at-other, IsLegal-keeps}
 use Rattle.pager_model.proofs.SpaceEntries.{base-unnamed, frees-unlawful}
 use Rattle.pager_model.specs.Laws.{EqualsItsCopy, WasCleared, KeepsCopies}
-use Rattle.space_core.specs.Copies.{LosesItsCopy, IsWithoutService}
+use Rattle.pager_laws.specs.Copies.{LosesItsCopy, IsWithoutService}
 
 -- A page that isn't dirty.
 

@@ -1,5 +1,5 @@
-use Rattle.space_core.proofs.CopyLaws.{dirty-written, dirty-failed}
-use Rattle.space_core.proofs.laws.a_clean_page_is_never_written.Goals as goal
+use Rattle.pager_laws.proofs.CopyLaws.{dirty-written, dirty-failed}
+use Rattle.pager_laws.proofs.laws.a_clean_page_is_never_written.Goals as goal
 
 pub returns : goal.returns
 returns c = record {

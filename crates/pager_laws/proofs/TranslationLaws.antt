@@ -21,8 +21,8 @@ use Rattle.pager_model.specs.SpaceStates.{SpaceState, SpaceAllows, WhatAllowed, 
 use Rattle.pager_model.specs.SizeSets.{SizeSet}
 use Rattle.pager_model.specs.Tiles.{tile_in}
 use Rattle.pager_model.proofs.Histories.{space_at-named, space_at-other, IsLegal-keeps}
-use Rattle.space_core.specs.Translating.{HasHit, retiled}
-use Rattle.space_core.proofs.Translations.{IsUsed, still_again, touched_if, used_at}
+use Rattle.pager_laws.specs.Hits.{HasHit, retiled}
+use Rattle.pager_laws.proofs.ImageTiles.{IsUsed, still_again, touched_if, used_at}
 
 -- Images.
 

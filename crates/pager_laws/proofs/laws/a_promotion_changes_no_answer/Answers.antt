@@ -1,7 +1,7 @@
 use Rattle.std.proofs.Common.{refl}
-use Rattle.space_core.specs.Translating.{retiled}
-use Rattle.space_core.proofs.TranslationLaws.{same_replies}
-use Rattle.space_core.proofs.laws.a_promotion_changes_no_answer.Goals as goal
+use Rattle.pager_laws.specs.Hits.{retiled}
+use Rattle.pager_laws.proofs.TranslationLaws.{same_replies}
+use Rattle.pager_laws.proofs.laws.a_promotion_changes_no_answer.Goals as goal
 
 pub returns : goal.returns
 returns c = record {
