@@ -10,7 +10,7 @@ use Rattle.pager_model.specs.FreeBlocks.{with_range}
 use Rattle.pager_model.proofs.ExtentLemmas.{extent_of_frame, range_of_extent}
 use Rattle.buddy_extents.specs.Blocks.{node, is_block, has_block, is_free, free_in, free_with, same_block, AreBlocks, InHand, IsBuddy}
 use Rattle.buddy_extents.proofs.NodeNumbers.{node_below, same_node, node_of_same, wider, halves, known_together}
-use Rattle.buddy_extents.proofs.Ranges.{length-with_range, with_range_inside, with_range_outside, range_cases}
+use Rattle.pager_model.proofs.FreeRanges.{length-with_range, with_range_inside, with_range_outside, range_cases}
 
 -- ---- which frames have a block
 

@@ -10,7 +10,8 @@ use Rattle.pager_model.specs.FreeBlocks.{run_free, block_start, block_free, is_m
 use Rattle.pager_model.proofs.ExtentLemmas.{extent_of_frame, range_of_extent}
 use Rattle.buddy_extents.specs.Blocks.{first_node, node, is_block, is_free, free_in, AreBlocks, IsBuddy}
 use Rattle.buddy_extents.proofs.NodeNumbers.{IsBuddy-xor, node_of_same, next_first_node, later_first_node, wider, wider_up, known_together}
-use Rattle.buddy_extents.proofs.Runs.{run_free_from, run_free_frames, run_free_within, NoneBefore, lowest_block-first, lowest_block-none, least_here, least_later}
+use Rattle.pager_model.proofs.FreeRuns.{run_free_from, run_free_frames, run_free_within}
+use Rattle.buddy_extents.proofs.Runs.{NoneBefore, lowest_block-first, lowest_block-none, least_here, least_later}
 use Rattle.buddy_extents.proofs.BlockMoves.{is_free-block, is_free-none, length-free_in, get_or-free_in}
 
 -- where a block isn't in, nor one round it, some frame of it isn't free

@@ -12,7 +12,7 @@ use Rattle.pager_model.specs.FreeBlocks.{choice, with_range}
 use Rattle.buddy_extents.specs.Blocks.{first_node, node, free_in, AreBlocks, InHand, IsFree}
 use Rattle.buddy_extents.proofs.NodeNumbers.{first_frame_known, later_first_node, order_by_zeros}
 use Rattle.buddy_extents.proofs.Ranges.{free_count-take, free_count-give}
-use Rattle.buddy_extents.proofs.Runs.{eight_pow, aligned_smaller, aligned_block, run_free-choice, choice_within}
+use Rattle.pager_model.proofs.FreeRuns.{eight_pow, aligned_smaller, aligned_block, run_free-choice, choice_within}
 use Rattle.buddy_extents.proofs.BlockMoves.{lift, taken, given, length-free_in}
 use Rattle.buddy_extents.proofs.Choices.{first_is_least, none_is_least}
 

@@ -1,20 +1,10 @@
 -- Sets of frames after a range went in or out.
-use Rattle.std.proofs.Common.{◌≡◌, ℕ, zero, suc, ◌+◌, ◌<◌, ◌≤◌, Bool, true, false, cond, List, ◌++◌, length, get_or, take, drop, replicate, count_by, ◌⊎◌, inl, inr, refl, sym, ap, ◌∙◌, arith}
-use Rattle.std.proofs.lemmas.Bool.{cases_lt}
-use Rattle.std.proofs.lemmas.List.{places, length-append, length-take, length-drop, length-replicate, ext_get_or}
+use Rattle.std.proofs.Common.{◌≡◌, ℕ, zero, suc, ◌+◌, ◌<◌, ◌≤◌, Bool, true, false, cond, List, ◌++◌, length, get_or, take, drop, replicate, count_by, refl, sym, ap, ◌∙◌, arith}
+use Rattle.std.proofs.lemmas.List.{ext_get_or}
 use Rattle.std.proofs.lemmas.List.Sums.{sum_by-append, sum_by-cons}
 use Rattle.pager_model.specs.FreeBlocks.{run_free, with_range}
-use Rattle.buddy_extents.proofs.Runs.{run_free_exactly, run_free_within}
-
-pub length-with_range : (free : List Bool) (first count : ℕ) (value : Bool) → first + count ≤ length free → length (with_range free first count value) ≡ length free
-length-with_range free first count value h = simp (length-append, length-take, length-replicate, length-drop) (omega arith)
-
-pub with_range_inside : (free : List Bool) (first count : ℕ) (value : Bool) → first + count ≤ length free → (frame : ℕ) → first ≤ frame → frame < first + count → get_or (with_range free first count value) frame false ≡ value
-with_range_inside free first count value h frame low high = grind (arith, places)
-
-pub with_range_outside : (free : List Bool) (first count : ℕ) (value : Bool) → first + count ≤ length free → (frame : ℕ) → (frame < first) ⊎ (first + count ≤ frame) → get_or (with_range free first count value) frame false ≡ get_or free frame false
-with_range_outside free first count value h frame (inl before) = grind (arith, places)
-with_range_outside free first count value h frame (inr behind) = grind (arith, places)
+use Rattle.pager_model.proofs.FreeRuns.{run_free_exactly, run_free_within}
+use Rattle.pager_model.proofs.FreeRanges.{range_cases, with_range_inside, length-with_range, with_range_outside}
 
 -- each frame of a range is in, or each is out
 abbrev pub Holds : List Bool → ℕ → ℕ → Bool → Type 0
@@ -22,16 +12,6 @@ Holds free first count value = (frame : ℕ) → first ≤ frame → frame < fir
 
 pub Holds-from_run : (free : List Bool) (first count : ℕ) → run_free free first count ≡ true → Holds free first count true
 Holds-from_run free first count run = (run_free_exactly free first count).0 run
-
-pub range_cases : (first count : ℕ) (P : ℕ → Type 0) → ((frame : ℕ) → (frame < first) ⊎ (first + count ≤ frame) → P frame) → ((frame : ℕ) → first ≤ frame → frame < first + count → P frame) → (frame : ℕ) → P frame
-range_cases first count P outside inside frame =
-    elim (cases_lt frame first) [
-      | inl before ↦ outside frame (inl before)
-      | inr low ↦ elim (cases_lt frame (first + count)) [
-        | inl high ↦ inside frame low high
-        | inr behind ↦ outside frame (inr behind)
-      ]
-    ]
 
 -- a range may be set to what it holds
 pub with_range_same : (free : List Bool) (first count : ℕ) (value : Bool) → first + count ≤ length free → Holds free first count value → with_range free first count value ≡ free

@@ -8,10 +8,10 @@ use Rattle.pager_model.specs.Layouts.{Layout, split_layout, broken_at, oldest_of
 use Rattle.pager_model.specs.Records.{is_used, has_empty, yield_in, part_size, part_count, part_at, same_size, lowest_as_wide, goes_on_at}
 use Rattle.pager_model.specs.SizeSets.{SizeSet}
 use Rattle.pager_model.proofs.SizeFloors.{has_within, within_largest}
-use Rattle.frame_pool.proofs.PartYields.{same_size_from, IsWidest, IsWidest-from, from_widest, whole_not_empty}
-use Rattle.frame_pool.specs.Laid.{IsLaid}
+use Rattle.pager_laws.proofs.PartYields.{same_size_from, IsWidest, IsWidest-from, from_widest, whole_not_empty}
+use Rattle.pager_laws.specs.Laid.{IsLaid}
 use Rattle.frame_pool.specs.Placed.{CanBreak, first_of}
-use Rattle.frame_pool.proofs.LayoutBreak.{Falls, Falls-goes_on, split_on-enough, part_size-most, record_at-part, kept_each, find_below}
+use Rattle.pager_laws.proofs.LayoutBreak.{Falls, Falls-goes_on, split_on-enough, part_size-most, record_at-part, kept_each, find_below}
 
 -- Which reservation is broken.
 

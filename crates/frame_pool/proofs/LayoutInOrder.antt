@@ -12,24 +12,28 @@ use Rattle.pager_model.specs.Records.{Records, is_used, yield_in, part_size, par
 use Rattle.pager_model.specs.SizeSets.{SizeSet}
 use Rattle.pager_model.specs.FreeBlocks.{with_range}
 use Rattle.reservation_lists.specs.Kept.{KeptLists, is_listed}
-use Rattle.reservations.specs.Kept.{CoversPage, IsPlaced, ArePlaced}
-use Rattle.frame_pool.proofs.PartsAt.{part_ends, used_part}
+use Rattle.reservations.specs.Kept.{CoversPage}
+use Rattle.pager_model.specs.RecordPlaces.{IsPlaced, ArePlaced}
+use Rattle.pager_laws.proofs.PartsAt.{part_ends, used_part}
 use Rattle.pager_model.proofs.ExtentLemmas.{part_inside}
-use Rattle.pager_model.proofs.Lists.{get_or_within}
-use Rattle.reservations.proofs.FrameIds.{get_or-set_default, ArePlaced-set, has_frame_bounds, has_frame_from}
+use Rattle.pager_model.proofs.Lists.{get_or_within, get_or-set_default}
+use Rattle.reservations.proofs.FrameIds.{ArePlaced-set}
+use Rattle.pager_model.proofs.RecordFrames.{has_frame_bounds, has_frame_from}
 use Rattle.reservations.proofs.SplitLemmas.{split_records-open}
-use Rattle.frame_pool.specs.Laid.{IsLaid}
-use Rattle.frame_pool.specs.Listed.{AreListed, IsInOrder, WasSplit}
+use Rattle.pager_laws.specs.Laid.{IsLaid}
+use Rattle.pager_laws.specs.Listed.{AreListed}
+use Rattle.frame_pool.specs.Listed.{IsInOrder, WasSplit}
 use Rattle.frame_pool.specs.Mapped.{IsMapped}
 use Rattle.population_map.specs.Populations.{Populations}
-use Rattle.frame_pool.proofs.LayoutBreak.{record_at-part, part_with-has, part_size-most, part_size-less, Settles-split, Falls-narrows, split_on-enough}
-use Rattle.frame_pool.proofs.PartYields.{yield_less}
-use Rattle.frame_pool.proofs.LayoutRelease.{not_in_rest}
-use Rattle.frame_pool.proofs.AgeLists.{list_of-used, is_listed-none, AreListed-full}
-use Rattle.frame_pool.proofs.PagePlaces.{covers-CoversPageOf, frame_in-is, used_in-unused}
-use Rattle.frame_pool.proofs.LayoutPlacing.{MayPut-stamped}
-use Rattle.frame_pool.proofs.LayoutWithRecord.{IsLaid-put}
-use Rattle.frame_pool.proofs.SplitFrames.{free_up_to, free_up_to-cases}
+use Rattle.pager_laws.proofs.LayoutBreak.{record_at-part, part_with-has, part_size-most, part_size-less, Settles-split, Falls-narrows, split_on-enough}
+use Rattle.pager_laws.proofs.PartYields.{yield_less}
+use Rattle.pager_laws.proofs.LayoutRelease.{not_in_rest}
+use Rattle.pager_laws.proofs.AgeLists.{list_of-used, AreListed-full}
+use Rattle.frame_pool.proofs.UnlistedFrames.{is_listed-none}
+use Rattle.pager_laws.proofs.PagePlaces.{covers-CoversPageOf, frame_in-is, used_in-unused}
+use Rattle.pager_laws.proofs.LayoutPlacing.{MayPut-stamped}
+use Rattle.pager_laws.proofs.LayoutWithRecord.{IsLaid-put}
+use Rattle.pager_laws.proofs.SplitFrames.{free_up_to, free_up_to-cases}
 
 -- Clauses on an option.
 

@@ -10,17 +10,18 @@ use Rattle.pager_model.specs.FrameStates.{places_in}
 use Rattle.pager_model.specs.Layouts.{Layout, record_at}
 use Rattle.pager_model.specs.Records.{Records, is_used, split_records}
 use Rattle.population_map.specs.Populations.{Populations}
-use Rattle.reservations.specs.Kept.{IsPlaced}
+use Rattle.pager_model.specs.RecordPlaces.{IsPlaced}
 use Rattle.pager_model.proofs.ExtentLemmas.{eight_pos}
-use Rattle.pager_model.proofs.Lists.{get_or_within}
-use Rattle.reservations.proofs.FrameIds.{has_frame_from, none_begins, unset_before}
+use Rattle.pager_model.proofs.Lists.{get_or_within, unset_before}
+use Rattle.pager_model.proofs.RecordFrames.{has_frame_from}
+use Rattle.reservations.proofs.FrameIds.{none_begins}
 use Rattle.reservations.proofs.SplitLemmas.{split_records-open}
-use Rattle.frame_pool.specs.Laid.{IsLaid}
+use Rattle.pager_laws.specs.Laid.{IsLaid}
 use Rattle.frame_pool.specs.Mapped.{IsMapped, MayEnter, WasSplitFrom}
 use Rattle.frame_pool.specs.Placed.{with_reservation}
-use Rattle.frame_pool.proofs.FrameCounts.{places_few}
+use Rattle.pager_laws.proofs.FrameCounts.{places_few}
 use Rattle.frame_pool.proofs.LayoutInOrder.{rest_placed}
-use Rattle.frame_pool.proofs.LayoutRelease.{not_in_rest}
+use Rattle.pager_laws.proofs.LayoutRelease.{not_in_rest}
 
 -- a reservation of frames that are in none, with which the layout is sound
 pub MayEnter-added : (l : Layout) (r : Reservation) (page : ℕ) → IsLaid l → IsPlaced (length l.free) r.frame r → r.first < 1048576 → ((frame id : ℕ) → has_frame frame (Some r) ≡ true → has_frame frame (record_at l id) ≡ false) → IsLaid (with_reservation r page l) → MayEnter l.records r

@@ -7,13 +7,16 @@ use Rattle.pager_model.specs.Headline.{member_of}
 use Rattle.pager_model.specs.Records.{Records, is_used, yield_in, part_of, kept_part}
 use Rattle.pager_model.specs.SizeSets.{SizeSet}
 use Rattle.reservation_lists.specs.Kept.{KeptLists, is_listed}
-use Rattle.reservations.specs.Kept.{IsPlaced, ArePlaced}
+use Rattle.pager_model.specs.RecordPlaces.{IsPlaced, ArePlaced}
 use Rattle.frame_pool.proofs.PartRecords.{split_suc, length-split, parts_apart, part_known, split_at, split_other}
 use Rattle.pager_model.proofs.ExtentLemmas.{eight_pos, part_of_eight}
-use Rattle.reservations.proofs.FrameIds.{has_frame_from, none_begins}
+use Rattle.pager_model.proofs.RecordFrames.{has_frame_from}
+use Rattle.reservations.proofs.FrameIds.{none_begins}
 use Rattle.reservations.proofs.SplitLemmas.{split_up_to, split_up_to-more, ArePlaced-part}
-use Rattle.frame_pool.specs.Listed.{AreListed, WasSplit}
-use Rattle.frame_pool.proofs.AgeLists.{AreListed-without, AreListed-with, AreListed-full, is_listed-none}
+use Rattle.pager_laws.specs.Listed.{AreListed}
+use Rattle.frame_pool.specs.Listed.{WasSplit}
+use Rattle.pager_laws.proofs.AgeLists.{AreListed-without, AreListed-with, AreListed-full}
+use Rattle.frame_pool.proofs.UnlistedFrames.{is_listed-none}
 
 -- where something stands, it is a reservation
 pub found_record_and : (o : Option Reservation) (P : Reservation → Type 0) → IsSomeAnd o P → (r : Reservation) × (o ≡ Some r) × P r

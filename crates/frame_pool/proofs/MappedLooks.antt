@@ -9,14 +9,14 @@ use Rattle.pager_model.specs.Extents.{IsExtent}
 use Rattle.pager_model.specs.Layouts.{covers, covering, meets, meets_any}
 use Rattle.population_map.specs.Populations.{Populations, page_at, id_of, is_placed, space_count, IsInNone}
 use Rattle.population_map.proofs.Marks.{placed_size}
-use Rattle.reservations.specs.Kept.{ArePlaced}
+use Rattle.pager_model.specs.RecordPlaces.{ArePlaced}
 use Rattle.pager_model.proofs.ExtentLemmas.{eight_pos}
 use Rattle.pager_model.proofs.Lists.{get_or_within}
 use Rattle.pager_model.proofs.Options.{some_from_is_some}
 use Rattle.frame_pool.specs.Mapped.{IsMapped, OneCovers}
 use Rattle.frame_pool.proofs.ListsByFrame.{found_record_and}
 use Rattle.frame_pool.proofs.MappedPages.{end_in_space, in_page, page_in}
-use Rattle.frame_pool.proofs.PagePlaces.{CoversPageOf-covers, covers-CoversPageOf, covering-found, covering-none}
+use Rattle.pager_laws.proofs.PagePlaces.{CoversPageOf-covers, covers-CoversPageOf, covering-found, covering-none}
 
 -- of one page
 module _ (m : Populations) (records : List (Option Reservation)) (space page : ℕ) (mapped : IsMapped m records) (known : space < space_count m) (low : page < 1048576) where

@@ -6,7 +6,7 @@ use Rattle.pager_model.specs.Layouts.{covers}
 use Rattle.population_map.specs.Populations.{page_at}
 use Rattle.pager_model.proofs.ExtentLemmas.{extent_within, in_extent, of_extent}
 use Rattle.population_map.proofs.Placings.{aligned_at}
-use Rattle.frame_pool.proofs.PagePlaces.{CoversPageOf-covers, covers-CoversPageOf}
+use Rattle.pager_laws.proofs.PagePlaces.{CoversPageOf-covers, covers-CoversPageOf}
 
 -- an extent of a space's pages ends in the space
 pub end_in_space : (size first : ℕ) → IsExtent size first → first < 1048576 → first + 8 ^ size ≤ 1048576

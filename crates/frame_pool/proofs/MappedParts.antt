@@ -10,16 +10,16 @@ use Rattle.pager_model.specs.FrameStates.{places_in}
 use Rattle.pager_model.specs.Layouts.{covers}
 use Rattle.pager_model.specs.Records.{Records, is_used, part_of, kept_part}
 use Rattle.population_map.specs.Populations.{Populations}
-use Rattle.reservations.specs.Kept.{IsPlaced}
+use Rattle.pager_model.specs.RecordPlaces.{IsPlaced}
 use Rattle.pager_model.proofs.ExtentLemmas.{eight_pos, eight_parts, part_inside, part_of_eight}
-use Rattle.reservations.proofs.FrameIds.{has_frame_bounds, has_frame_from}
+use Rattle.pager_model.proofs.RecordFrames.{has_frame_bounds, has_frame_from}
 use Rattle.reservations.proofs.SplitLemmas.{split_up_to, split_up_to-more, kept_cases, part_placed}
 use Rattle.frame_pool.specs.Mapped.{IsMapped, MayEnter, WasSplitFrom}
 use Rattle.frame_pool.proofs.ListsByFrame.{set-none}
 use Rattle.frame_pool.proofs.MappedPages.{end_in_space}
 use Rattle.frame_pool.proofs.PartRecords.{split_suc, length-split, part_known, split_at, split_other}
-use Rattle.frame_pool.proofs.EightParts.{eight_count}
-use Rattle.frame_pool.proofs.SplitFrames.{covers_whole, one_part_covers}
+use Rattle.pager_laws.proofs.EightParts.{eight_count}
+use Rattle.pager_laws.proofs.SplitFrames.{covers_whole, one_part_covers}
 
 -- From this map on, the first n parts that the reservation was split into are in the map.
 pub record HasMapped (n : ℕ) (start m : Populations) (after : Records) (whole : Reservation) : Type 0 where

@@ -8,15 +8,15 @@ use Rattle.pager_model.specs.declared.reservation.Reservation.{Reservation}
 use Rattle.pager_model.specs.Extents.{IsExtent}
 use Rattle.pager_model.specs.FrameStates.{places_in}
 use Rattle.pager_model.specs.Layouts.{covers}
-use Rattle.pager_model.proofs.Lists.{get_or-alike, get_or_within}
+use Rattle.pager_model.proofs.Lists.{get_or-alike, get_or_within, get_or-set_default, unset_before}
 use Rattle.pager_model.proofs.Options.{none_from_never}
 use Rattle.population_map.specs.Populations.{Populations, page_at, id_of, placed_pages, space_count, frame_count, IsInNone, SameRoom, PlacesOnly}
 use Rattle.pager_model.proofs.ExtentLemmas.{eight_pos}
-use Rattle.reservations.proofs.FrameIds.{get_or-set_default, unset_before, has_frame_from}
+use Rattle.pager_model.proofs.RecordFrames.{has_frame_from}
 use Rattle.frame_pool.specs.Mapped.{IsMapped, MayEnter, places_below}
 use Rattle.frame_pool.proofs.ListsByFrame.{found_record_and}
 use Rattle.frame_pool.proofs.MappedPages.{covered_in, in_covered, page_in}
-use Rattle.frame_pool.proofs.PagePlaces.{CoversPageOf-covers, covers-CoversPageOf}
+use Rattle.pager_laws.proofs.PagePlaces.{CoversPageOf-covers, covers-CoversPageOf}
 
 -- the reservation is of the size and has the page
 abbrev HasAt : ℕ → ℕ → ℕ → Option Reservation → Type 0

@@ -7,9 +7,9 @@ use Rattle.std.proofs.lemmas.Nat.{div_below, div-add-mod', mod_below, same_from_
 use Rattle.pager_model.specs.Agreement.{has_frame}
 use Rattle.pager_model.specs.Records.{part_of, kept_part}
 use Rattle.pager_model.specs.declared.reservation.Reservation.{Reservation}
-use Rattle.reservations.specs.Kept.{IsPlaced}
+use Rattle.pager_model.specs.RecordPlaces.{IsPlaced}
 use Rattle.pager_model.proofs.ExtentLemmas.{eight_pos, eight_parts, eight_quotient, part_of_eight, extent_of_frame}
-use Rattle.reservations.proofs.FrameIds.{has_frame_bounds, has_frame_from, unused_in}
+use Rattle.pager_model.proofs.RecordFrames.{has_frame_bounds, has_frame_from, unused_in}
 use Rattle.reservations.proofs.SplitLemmas.{split_up_to, split_step, split_up_to-more, kept_cases}
 
 -- the number of pages of a part

@@ -11,14 +11,14 @@ use Rattle.pager_model.specs.Layouts.{Layout, parted, record_at, is_free}
 use Rattle.pager_model.specs.Records.{is_used, part_count, part_at, kept_at}
 use Rattle.pager_model.proofs.ExtentLemmas.{eight_pos, eight_split, part_inside, extent_of_frame}
 use Rattle.pager_model.specs.SizeSets.{SizeSet}
-use Rattle.reservations.proofs.FrameIds.{has_frame_bounds, has_frame_from}
-use Rattle.frame_pool.specs.Laid.{IsLaid}
+use Rattle.pager_model.proofs.RecordFrames.{has_frame_bounds, has_frame_from}
+use Rattle.pager_laws.specs.Laid.{IsLaid}
 use Rattle.frame_pool.specs.Placed.{is_larger}
-use Rattle.frame_pool.proofs.PartsAt.{part_ends, same_part, kept_at-cases}
-use Rattle.frame_pool.proofs.SplitFrames.{IsSplit-parted}
-use Rattle.frame_pool.proofs.LayoutReplaced.{holder}
-use Rattle.frame_pool.proofs.LayoutSplit.{Settles, Settles-parted, placed_own, who_stands}
-use Rattle.frame_pool.proofs.LayoutBreak.{Settles-same, Settles-then}
+use Rattle.pager_laws.proofs.PartsAt.{part_ends, same_part, kept_at-cases}
+use Rattle.pager_laws.proofs.SplitFrames.{IsSplit-parted}
+use Rattle.pager_laws.proofs.LayoutReplaced.{holder}
+use Rattle.pager_laws.proofs.LayoutSplit.{Settles, Settles-parted, placed_own, who_stands}
+use Rattle.pager_laws.proofs.LayoutBreak.{Settles-same, Settles-then}
 
 -- the reservation is an extent inside r, of size k or larger
 pub record IsPartOf (k : ℕ) (r q : Reservation) : Type 0 where

@@ -7,10 +7,10 @@ use Rattle.pager_model.specs.Extents.{extent_start}
 use Rattle.pager_model.specs.Layouts.{Layout, Placing, covering, frame_for, frame_in, largest_extent, preferred_in, populated, new_reservation, reserved, placing_in, placing, record_at}
 use Rattle.reservations.specs.Kept.{CoversPage}
 use Rattle.pager_model.proofs.ExtentLemmas.{eight_pos}
-use Rattle.frame_pool.specs.Laid.{IsLaid}
+use Rattle.pager_laws.specs.Laid.{IsLaid}
 use Rattle.frame_pool.specs.Placed.{FindsExtent, PlacesPage, with_reservation, without_extent}
-use Rattle.frame_pool.proofs.PagePlaces.{CoversPageOf-covers, covering-found}
-use Rattle.frame_pool.proofs.LayoutPlacing.{WasPlaced-placing}
+use Rattle.pager_laws.proofs.PagePlaces.{CoversPageOf-covers, covering-found}
+use Rattle.pager_laws.proofs.LayoutPlacing.{WasPlaced-placing}
 
 -- what the definition gives is a place of the page
 pub PlacesPage-from : (l new : Layout) (stamp space page : ℕ) (want : Want) (place : Placing) → IsLaid l → frame_in l space page ≡ None → placing stamp space page want l ≡ Some place → new ≡ place.layout → place.broken ≤ 1 → PlacesPage l new (placing stamp space page want l) place.frame place.broken

@@ -20,15 +20,15 @@ use Rattle.pager_model.specs.Records.{is_used}
 use Rattle.pager_model.proofs.Lists.{get_or-alike}
 use Rattle.pager_model.proofs.Options.{none_from_is_some}
 use Rattle.frame_pool.specs.declared.pool.Pool.TheInside.{Inside}
-use Rattle.frame_pool.specs.Laid.{IsLaid, IsSound}
+use Rattle.pager_laws.specs.Laid.{IsLaid, IsSound}
 use Rattle.frame_pool.specs.Placed.{IsPageAt, PlacesPage}
 use Rattle.frame_pool.specs.PoolState.{state_of}
 use Rattle.frame_pool.specs.Pooled.{IsPool, number_in}
-use Rattle.frame_pool.proofs.PagePlaces.{covers-CoversPageOf, has_frame_for, HasPlace, frame_in-from, frame_in-found, covering-is}
-use Rattle.frame_pool.proofs.LayoutRelease.{Gives-vacate, Gives-carve}
-use Rattle.frame_pool.proofs.LayoutPlacing.{WasPlaced-placing}
-use Rattle.frame_pool.proofs.StateSoundness.{is_used-layout_of, used_if_noted, IsSound-take, IsSound-counted, IsSound-give_page, IsSound-claimed, IsSound-unclaimed, IsSound-dropped}
-use Rattle.frame_pool.proofs.StartStates.{IsSound-start, nothing_used}
+use Rattle.pager_laws.proofs.PagePlaces.{covers-CoversPageOf, has_frame_for, HasPlace, frame_in-from, frame_in-found, covering-is}
+use Rattle.pager_laws.proofs.LayoutRelease.{Gives-vacate, Gives-carve}
+use Rattle.pager_laws.proofs.LayoutPlacing.{WasPlaced-placing}
+use Rattle.pager_laws.proofs.StateSoundness.{is_used-layout_of, used_if_noted, IsSound-take, IsSound-counted, IsSound-give_page, IsSound-claimed, IsSound-unclaimed, IsSound-dropped}
+use Rattle.pager_laws.proofs.StartStates.{IsSound-start, nothing_used}
 
 -- The frames that are there.
 

@@ -2,21 +2,21 @@
 use Rattle.std.proofs.Common.{◌≡◌, ℕ, zero, suc, ◌+◌, ◌-◌, ◌^◌, ◌<◌, ◌≤◌, true, false, cond, length, Option, Some, None, option_map, refl, sym, ap, subst, ◌∙◌, arith}
 use Rattle.std.specs.Option.{option_or, option_and_then, option_map_or, is_some, IsSome, IsSomeAnd}
 use Rattle.std.proofs.lemmas.Bool.{false≢true}
-use Rattle.buddy_extents.proofs.Runs.{IsExtent-choice, choice_within, run_free-choice, run_free_exactly}
-use Rattle.buddy_extents.proofs.Ranges.{length-with_range, with_range_inside, with_range_outside, range_cases}
+use Rattle.pager_model.proofs.FreeRuns.{IsExtent-choice, choice_within, run_free-choice, run_free_exactly}
+use Rattle.pager_model.proofs.FreeRanges.{length-with_range, with_range_inside, with_range_outside, range_cases}
 use Rattle.pager_model.specs.Agreement.{has_frame}
 use Rattle.pager_model.specs.FreeBlocks.{choice}
 use Rattle.pager_model.specs.Layouts.{Layout, Found, break_layout, broken_at, to_break, chosen, extent_of, largest_extent, record_at, is_free}
 use Rattle.pager_model.specs.Records.{is_used, yield_in}
 use Rattle.pager_model.specs.SizeSets.{has_size}
 use Rattle.reservation_lists.specs.Kept.{KeptLists}
-use Rattle.frame_pool.specs.Laid.{IsLaid}
+use Rattle.pager_laws.specs.Laid.{IsLaid}
 use Rattle.population_map.specs.Populations.{Populations}
 use Rattle.frame_pool.specs.Listed.{IsInOrder}
 use Rattle.frame_pool.specs.Placed.{CanBreak, FindsExtent, without_extent, extent_there}
-use Rattle.frame_pool.proofs.PartYields.{yield_less}
-use Rattle.frame_pool.proofs.BreakYield.{choice-break}
-use Rattle.frame_pool.proofs.AgeLists.{oldest_from-found}
+use Rattle.pager_laws.proofs.PartYields.{yield_less}
+use Rattle.pager_laws.proofs.BreakYield.{choice-break}
+use Rattle.pager_laws.proofs.AgeLists.{oldest_from-found}
 use Rattle.frame_pool.proofs.BreakSteps.{option_or-some, option_or-none}
 
 -- An extent that was chosen in a sound layout.

@@ -1,9 +1,6 @@
-pub mod Laid
 pub mod Listed
 pub mod Placed
 pub mod Pooled
 pub mod LayoutState
 pub mod PoolState
-pub mod Allowed
-pub mod Breaking
 pub mod Mapped

@@ -1,20 +1,16 @@
 -- The lists by age, as they are kept beside a layout.
-use Rattle.std.specs.Prelude.{ℕ, ◌≡◌, ◌<◌, ◌≤◌, Bool, true, false, List, Option, Some, None, length, slice_index_or}
+use Rattle.std.specs.Prelude.{ℕ, ◌≡◌, ◌≤◌, true, false, List, Option, Some, None, length, slice_index_or}
 use Rattle.pager_model.specs.declared.reservation.Reservation.{Reservation}
-use Rattle.pager_model.specs.Ages.{Lists, list_at}
-use Rattle.pager_model.specs.Layouts.{Layout, list_of}
+use Rattle.pager_model.specs.Layouts.{Layout}
 use Rattle.pager_model.specs.Agreement.{has_frame}
 use Rattle.pager_model.specs.Records.{Records, is_used, split_records}
 use Rattle.pager_model.specs.SizeSets.{SizeSet}
 use Rattle.population_map.specs.Populations.{Populations}
 use Rattle.reservation_lists.specs.Kept.{KeptLists}
-use Rattle.reservations.specs.Kept.{IsPlaced, ArePlaced}
-use Rattle.frame_pool.specs.Laid.{IsLaid}
+use Rattle.pager_model.specs.RecordPlaces.{IsPlaced, ArePlaced}
+use Rattle.pager_laws.specs.Laid.{IsLaid}
 use Rattle.frame_pool.specs.Mapped.{IsMapped}
-
--- the three lists are those of these reservations
-abbrev pub AreListed : SizeSet → Lists → List Bool → List (Option Reservation) → Type 0
-AreListed z lists used records = (k : ℕ) → k < 3 → list_at lists k ≡ list_of z used k records
+use Rattle.pager_laws.specs.Listed.{AreListed}
 
 -- the layout of so many frames is sound, and the lists and the map are its
 pub record IsInOrder (frames : ℕ) (l : Layout) (kept : KeptLists) (map : Populations) : Type 0 where

@@ -6,7 +6,7 @@ use Rattle.pager_model.specs.Agreement.{has_frame}
 use Rattle.pager_model.specs.FrameStates.{places_in}
 use Rattle.pager_model.specs.Layouts.{covers}
 use Rattle.pager_model.specs.Records.{Records, is_used, split_records}
-use Rattle.reservations.specs.Kept.{IsPlaced}
+use Rattle.pager_model.specs.RecordPlaces.{IsPlaced}
 
 -- how many places a reservation has, where its space is one of the first so many
 abbrev pub places_below : ℕ → Option Reservation → ℕ

@@ -3,7 +3,7 @@ use Rattle.std.specs.Prelude.{ℕ, ◌≡◌, ◌<◌, ◌≤◌, List, length, 
 use Rattle.pager_model.specs.Frame.{Framed}
 use Rattle.pager_model.specs.FrameStates.{FrameState, used_at}
 use Rattle.pager_model.specs.Layouts.{Layout}
-use Rattle.frame_pool.specs.Laid.{IsSound}
+use Rattle.pager_laws.specs.Laid.{IsSound}
 
 -- the number of the frame that is there, where one is
 abbrev pub number_in : Option Framed → Option ℕ

@@ -6,9 +6,10 @@ ghost use Rattle.pager_model.specs.Layouts.{carve_layout, narrow_layout, vacate_
 ghost use Rattle.pager_model.specs.Layouts.{extent_of, largest_extent, populated, placing};
 ghost use Rattle.pager_model.specs.PreferredSize.{IsWanted};
 ghost use Rattle.pager_model.specs.Records.{is_used, yield_in, part_size, same_size, goes_on_at};
-ghost use Rattle.reservations.specs.Kept.{CoversPage, IsPlaced};
+ghost use Rattle.reservations.specs.Kept.{CoversPage};
+ghost use Rattle.pager_model.specs.RecordPlaces.{IsPlaced};
 ghost use Rattle.reservations.specs.Parts.{told_parts};
-ghost use Rattle.frame_pool.specs.Laid.{IsIn, IsLaid};
+ghost use Rattle.pager_laws.specs.Laid.{IsIn, IsLaid};
 ghost use Rattle.frame_pool.specs.Placed.{CanBreak, extent_there, is_larger, FindsExtent, PlacesPage, with_reservation};
 
 use crate::free::{give, take};

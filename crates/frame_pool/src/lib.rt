@@ -2,12 +2,11 @@
 //!
 //! A page that needs a frame gets its place in the reservation that has the page, or in a new one: an aligned extent of frames
 //! of a preferred size. Where no extent is free, the reservation of a list whose latest page allocation is least recent is broken,
-//! which frees an extent of its yield ([`laws::breaking_frees_the_yield`]). A processor may claim the frame of a page to page it
+//! which frees an extent of its yield (`pager_laws::laws::breaking_frees_the_yield`). A processor may claim the frame of a page to page it
 //! out, and then holds the frame until it uses or drops it.
 #![tactic(auto)]
 
 mod free;
-pub mod laws;
 mod layout;
 mod lists;
 mod mapped;

@@ -1,8 +1,10 @@
 ghost use Rattle.std.specs.Prelude.{◌≡◌, ◌<◌, false, List, Option, length, slice_set, slice_index_or, None, IsSome, IsSomeAnd};
 ghost use Rattle.pager_model.specs.declared.reservation.Reservation.{Reservation};
 ghost use Rattle.reservation_lists.specs.Kept.{is_listed};
-ghost use Rattle.reservations.specs.Kept.{reservation_at, ArePlaced};
-ghost use Rattle.frame_pool.specs.Listed.{AreListed, WasSplit};
+ghost use Rattle.reservations.specs.Kept.{reservation_at};
+ghost use Rattle.pager_model.specs.RecordPlaces.{ArePlaced};
+ghost use Rattle.pager_laws.specs.Listed.{AreListed};
+ghost use Rattle.frame_pool.specs.Listed.{WasSplit};
 
 use crate::records::yields_in;
 use pager_model::{Reservation, Sizes};

@@ -4,7 +4,8 @@ ghost use Rattle.pager_model.specs.PreferredSize.{IsWanted, preferred_size};
 ghost use Rattle.pager_model.specs.Agreement.{has_frame};
 ghost use Rattle.pager_model.specs.Extents.{IsExtent};
 ghost use Rattle.pager_model.specs.Records.{is_used, part_at, part_count, yield_in, lowest_as_wide};
-ghost use Rattle.reservations.specs.Kept.{ArePlaced, IsPlaced, reservation_at};
+ghost use Rattle.pager_model.specs.RecordPlaces.{ArePlaced, IsPlaced};
+ghost use Rattle.reservations.specs.Kept.{reservation_at};
 ghost use Rattle.frame_pool.specs.Mapped.{IsMapped, OneCovers};
 ghost use Rattle.frame_pool.specs.Placed.{IsPageAt, first_of};
 

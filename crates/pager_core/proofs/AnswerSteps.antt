@@ -16,7 +16,8 @@ use Rattle.pager_model.specs.Order.{Progress, may_answer, is_access, is_access_a
 use Rattle.pager_model.specs.Regions.{in_range, has_page, region_at}
 use Rattle.pager_model.specs.SpaceStates.{SpaceState, space_after, MayGoOn, WhatAllowed, IsUnmapOf, AfterClear, access_page}
 use Rattle.space_core.specs.Beginning.{BeginsAnswered, ReadsIn, Finishes, SameRegions, Unmapped}
-use Rattle.space_core.specs.Standing.{Kept, StandsFor, IsResting, CanBegin, answer_entry, copied_page, is_allowed, rights_at}
+use Rattle.space_core.specs.Standing.{Kept, StandsFor, IsResting, CanBegin, copied_page, is_allowed, rights_at}
+use Rattle.pager_model.specs.CallEntries.{answer_entry}
 use Rattle.pager_core.specs.declared.flight.Flight.{Flight}
 use Rattle.pager_core.specs.declared.flight.Phase.{Phase}
 use Rattle.pager_core.specs.declared.flight.Phase.TheVariants.{Start, Gone, Fill, Late, Ended}

@@ -14,7 +14,7 @@ use Rattle.pager_model.specs.FrameStates.{FrameState, HasNothing, IsFull, IsVict
 use Rattle.pager_model.specs.Order.{Progress, ForAccess, Claiming, faulted_for, lacking_for, is_access, progress_after}
 use Rattle.pager_model.specs.Regions.{region_at}
 use Rattle.pager_model.specs.SpaceStates.{SpaceState, MayGoOn, IsNeeded, access_page, has_right, space_after}
-use Rattle.frame_pool.proofs.PagePlaces.{frame_in-found}
+use Rattle.pager_laws.proofs.PagePlaces.{frame_in-found}
 use Rattle.space_core.specs.Standing.{Kept, StandsFor, frame_at, is_allowed, is_in, rights_at}
 use Rattle.pager_core.specs.declared.flight.Flight.{Flight}
 use Rattle.pager_core.specs.declared.flight.Phase.{Phase}

@@ -9,7 +9,8 @@ use Rattle.pager_model.specs.FrameStates.{FrameState, counted, frame_of, give_pa
 use Rattle.pager_model.specs.Order.{Progress, Unfilling, Faulted, leads, is_access}
 use Rattle.pager_model.specs.SpaceStates.{SpaceState, access_page}
 use Rattle.space_core.specs.Beginning.{BeginsFailing, FailsToRead, Removes}
-use Rattle.space_core.specs.Standing.{Kept, MustWrite, copied_page, failed_entry, give_entry}
+use Rattle.space_core.specs.Standing.{Kept, MustWrite, copied_page}
+use Rattle.pager_model.specs.CallEntries.{failed_entry, give_entry}
 use Rattle.pager_core.specs.declared.flight.Flight.{Flight}
 use Rattle.pager_core.specs.declared.flight.Phase.TheVariants.{Start, Fill, Unfill, Fault}
 use Rattle.pager_core.specs.Flights.{IsReady}

@@ -4,9 +4,9 @@ use Rattle.std.specs.Option.{IsSomeAnd}
 use Rattle.std.proofs.lemmas.Bool.{and_from, eq-eqb, false≢true}
 use Rattle.std.proofs.lemmas.Option.{same_Some}
 use Rattle.pager_model.specs.declared.entry.Victim.{Victim}
-use Rattle.frame_pool.specs.Laid.{IsSound}
-use Rattle.frame_pool.proofs.PagePlaces.{frame_in-found}
-use Rattle.frame_pool.proofs.StateSoundness.{Takes, Takes-take_frame, IsSound-dropped, frame_of-dropped}
+use Rattle.pager_laws.specs.Laid.{IsSound}
+use Rattle.pager_laws.proofs.PagePlaces.{frame_in-found}
+use Rattle.pager_laws.proofs.StateSoundness.{Takes, Takes-take_frame, IsSound-dropped, frame_of-dropped}
 use Rattle.pager_model.specs.declared.entry.Entry.{Entry}
 use Rattle.pager_model.specs.declared.entry.Want.{Want}
 use Rattle.pager_model.specs.declared.entry.What.TheVariants.{UseHeld}
@@ -17,7 +17,8 @@ use Rattle.pager_model.specs.Order.{Filling, leads}
 use Rattle.pager_model.specs.Regions.{wanted}
 use Rattle.pager_model.specs.SpaceStates.{SpaceState, MayGoOn, space_after}
 use Rattle.space_core.specs.Beginning.{Places}
-use Rattle.space_core.specs.Standing.{Kept, StandsFor, frame_at, take_entry}
+use Rattle.space_core.specs.Standing.{Kept, StandsFor, frame_at}
+use Rattle.pager_model.specs.CallEntries.{take_entry}
 use Rattle.pager_core.specs.declared.flight.Flight.{Flight}
 use Rattle.pager_core.specs.declared.flight.Phase.TheVariants.{Use, Fill}
 use Rattle.pager_core.specs.Flights.{IsReady, WantsFrame}

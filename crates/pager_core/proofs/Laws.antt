@@ -6,11 +6,11 @@ use Rattle.pager_model.specs.FrameStates.{FrameState}
 use Rattle.pager_model.specs.Laws.{KeepsLaws, KeepsLawsAllAlong}
 use Rattle.pager_model.specs.Legal.{IsLegal, entries_in}
 use Rattle.pager_model.specs.Settings.{Given}
-use Rattle.frame_pool.proofs.KeptFrames.{KeepsFrames-legal}
-use Rattle.frame_pool.proofs.LegalHistories.{Agrees-legal, OwnsBy-legal, NothingHeld-legal}
-use Rattle.frame_pool.proofs.LegalPrefixes.{IsLegal-at}
+use Rattle.pager_laws.proofs.KeptFrames.{KeepsFrames-legal}
+use Rattle.pager_laws.proofs.LegalHistories.{Agrees-legal, OwnsBy-legal, NothingHeld-legal}
+use Rattle.pager_laws.proofs.LegalPrefixes.{IsLegal-at}
 use Rattle.space_core.specs.Standing.{Kept}
-use Rattle.space_core.proofs.CopyLaws.{KeepsCopies-legal}
+use Rattle.pager_laws.proofs.CopyLaws.{KeepsCopies-legal}
 use Rattle.pager_core.specs.Machines.{IsMachine}
 use Rattle.pager_core.specs.Running.{Running}
 

@@ -14,8 +14,8 @@ use Rattle.pager_model.specs.Legal.{space_at, frames_at, entries_in}
 use Rattle.pager_model.specs.Settings.{Given}
 use Rattle.pager_model.proofs.FrameEntries.{frames_after-entries}
 use Rattle.pager_model.proofs.Lists.{get_or_within}
-use Rattle.frame_pool.specs.Laid.{IsSound}
-use Rattle.frame_pool.proofs.LegalHistories.{IsKept-legal, OwnsBy-legal}
+use Rattle.pager_laws.specs.Laid.{IsSound}
+use Rattle.pager_laws.proofs.LegalHistories.{IsKept-legal, OwnsBy-legal}
 use Rattle.space_core.specs.Standing.{Kept}
 use Rattle.pager_core.specs.declared.flight.Flight.{Flight}
 use Rattle.pager_core.specs.Flights.{IsReady, IsAtRest}

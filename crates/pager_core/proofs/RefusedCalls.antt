@@ -18,7 +18,8 @@ use Rattle.pager_model.specs.Order.{is_access, may_answer}
 use Rattle.pager_model.specs.Regions.{is_wired, region_at}
 use Rattle.pager_model.specs.SpaceStates.{SpaceState, LacksItsPage, MayFail, MayGoOn, ReplyAllowed, answered_flat, tile_at, pages_of, pages_after}
 use Rattle.pager_model.proofs.SpaceEntries.{base-unnamed, frees-unlawful, said-unlawful, served-unlawful}
-use Rattle.space_core.specs.Standing.{Kept, IsResting, MustWrite, StandsFor, answer_entry, copied_page, is_allowed, is_in, is_unwired, rights_at}
+use Rattle.space_core.specs.Standing.{Kept, IsResting, MustWrite, StandsFor, copied_page, is_allowed, is_in, is_unwired, rights_at}
+use Rattle.pager_model.specs.CallEntries.{answer_entry}
 use Rattle.pager_core.specs.declared.flight.Flight.{Flight}
 use Rattle.pager_core.specs.declared.flight.Phase.{Phase}
 use Rattle.pager_core.specs.declared.flight.Phase.TheVariants.{Short, Fault, Lack, Ended}

@@ -1,6 +1,6 @@
 -- The steps of a flight before the one that makes its entry.
 use Rattle.std.proofs.Common.{◌≡◌, ℕ, ◌<◌, ◌≤◌, length, Some, None, IfSome, refl, ap, sym, subst, ◌∙◌, arith}
-use Rattle.frame_pool.specs.Laid.{IsSound}
+use Rattle.pager_laws.specs.Laid.{IsSound}
 use Rattle.pager_model.specs.declared.entry.Entry.{Entry}
 use Rattle.pager_model.specs.Agreement.{OwnsBy}
 use Rattle.pager_model.specs.FrameStates.{FrameState, frame_of}

@@ -19,7 +19,7 @@ use Rattle.pager_model.specs.Settings.{Given}
 use Rattle.pager_model.specs.Showing.{calls_of, daemon_marks}
 use Rattle.pager_model.specs.TraceText.{HasText, IsCall}
 use Rattle.pager_model.proofs.Lists.{get_or_within}
-use Rattle.frame_pool.proofs.LegalHistories.{Agrees-legal}
+use Rattle.pager_laws.proofs.LegalHistories.{Agrees-legal}
 use Rattle.space_core.specs.Standing.{Kept}
 use Rattle.pager_model.specs.SizeSets.{all_sizes}
 use Rattle.store_core.specs.Stored.{Stored}

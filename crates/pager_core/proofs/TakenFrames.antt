@@ -13,10 +13,11 @@ use Rattle.pager_model.specs.Agreement.{OwnsBy}
 use Rattle.pager_model.specs.Order.{Progress, Filling}
 use Rattle.pager_model.specs.Regions.{wanted}
 use Rattle.pager_model.specs.SpaceStates.{SpaceState, Only, space_after, MayGoOn}
-use Rattle.frame_pool.proofs.PagePlaces.{frame_in-found}
-use Rattle.frame_pool.proofs.StateSoundness.{is_used-layout_of}
+use Rattle.pager_laws.proofs.PagePlaces.{frame_in-found}
+use Rattle.pager_laws.proofs.StateSoundness.{is_used-layout_of}
 use Rattle.space_core.specs.Beginning.{Places}
-use Rattle.space_core.specs.Standing.{Kept, StandsFor, CanBegin, frame_at, take_entry}
+use Rattle.space_core.specs.Standing.{Kept, StandsFor, CanBegin, frame_at}
+use Rattle.pager_model.specs.CallEntries.{take_entry}
 use Rattle.pager_core.specs.declared.flight.Flight.{Flight}
 use Rattle.pager_core.specs.declared.flight.Phase.TheVariants.{Frame, Fill}
 use Rattle.pager_core.specs.Flights.{IsReady, WantsFrame}

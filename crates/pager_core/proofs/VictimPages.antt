@@ -9,7 +9,8 @@ use Rattle.pager_model.specs.FrameStates.{FrameState, counted, frame_of, give_pa
 use Rattle.pager_model.specs.Order.{ForAccess, Emptied, Holding, Unwritten, is_victim, leads}
 use Rattle.pager_model.specs.SpaceStates.{SpaceState, MayGoOn, space_after}
 use Rattle.space_core.specs.Beginning.{FailsToWrite, LeavesUnwritten, Removes, SameFrames, WritesOut}
-use Rattle.space_core.specs.Standing.{Kept, StandsFor, IsResting, failed_entry, give_entry, out_entry}
+use Rattle.space_core.specs.Standing.{Kept, StandsFor, IsResting}
+use Rattle.pager_model.specs.CallEntries.{failed_entry, give_entry, out_entry}
 use Rattle.pager_core.specs.declared.flight.Flight.{Flight}
 use Rattle.pager_core.specs.declared.flight.Phase.TheVariants.{Write, Hand, Unclaim, Back}
 use Rattle.pager_core.specs.Flights.{Fits, HasVictim, IsAtRest, IsReady, LeftBy}

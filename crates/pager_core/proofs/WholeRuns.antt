@@ -10,7 +10,7 @@ use Rattle.pager_model.specs.Legal.{IsLegal, entries_in, progress_at}
 use Rattle.pager_model.specs.Order.{at_rest, progress_of, IsWhole}
 use Rattle.pager_model.specs.Settings.{Given, mark_of}
 use Rattle.pager_model.specs.Showing.{answers_in}
-use Rattle.frame_pool.proofs.LegalHistories.{Agrees-legal, IsPartition-legal, NothingHeld-legal}
+use Rattle.pager_laws.proofs.LegalHistories.{Agrees-legal, IsPartition-legal, NothingHeld-legal}
 use Rattle.space_core.specs.Standing.{Kept}
 use Rattle.pager_core.specs.Machines.{IsMachine}
 use Rattle.pager_core.specs.RunParts.{AreAtRest, most_in_history}

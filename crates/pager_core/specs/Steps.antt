@@ -12,7 +12,7 @@ use Rattle.pager_model.specs.Order.{progress_after}
 use Rattle.pager_model.specs.Showing.{answer_in}
 use Rattle.pager_model.specs.SpaceStates.{SpaceState, space_after, SpaceAllows}
 use Rattle.space_core.specs.Standing.{Kept, frame_at}
-use Rattle.frame_pool.specs.Laid.{IsSound}
+use Rattle.pager_laws.specs.Laid.{IsSound}
 use Rattle.pager_core.specs.declared.flight.Flight.{Flight}
 use Rattle.pager_core.specs.declared.flight.Phase.TheVariants.{Short, Fault, Lack}
 use Rattle.pager_core.specs.Rows.{call_in, is_of_call, mark_in, row_of, is_between, Going, reply_in}

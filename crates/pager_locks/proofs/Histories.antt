@@ -5,8 +5,8 @@ use Rattle.std.proofs.lemmas.List.Filters.{length-filter_both}
 use Rattle.std.proofs.lemmas.Option.{none-some}
 use Rattle.std.proofs.Math.ListN.{length-map}
 use Rattle.pager_model.specs.declared.entry.Victim.{Victim}
-use Rattle.frame_pool.specs.Laid.{IsSound}
-use Rattle.frame_pool.proofs.LegalHistories.{IsKept-legal, OwnsBy-legal}
+use Rattle.pager_laws.specs.Laid.{IsSound}
+use Rattle.pager_laws.proofs.LegalHistories.{IsKept-legal, OwnsBy-legal}
 use Rattle.journal_core.specs.Clauses.{IsHistory, AreOfTwo}
 use Rattle.journal_core.specs.Journals.{JournalName, AuthorState, PassState}
 use Rattle.journal_core.proofs.HistoryLength.{length_bound}
@@ -26,7 +26,8 @@ use Rattle.pager_core.specs.Flights.{IsReady}
 use Rattle.pager_core.specs.Rows.{row_of}
 use Rattle.pager_core.specs.RunParts.{most_in_history}
 use Rattle.pager_core.specs.Steps.{AreAgreed, Makes}
-use Rattle.pager_core.proofs.LegalSteps.{base-unknown, victim_resident}
+use Rattle.pager_laws.proofs.UnknownSpaces.{base-unknown}
+use Rattle.pager_core.proofs.LegalSteps.{victim_resident}
 use Rattle.pager_locks.specs.Locked.{Departure, StandsAt, IsPoolAt, IsFlying, state_by}
 
 -- each entry on the frames is counted once

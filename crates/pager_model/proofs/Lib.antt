@@ -10,3 +10,7 @@ pub mod Ranges
 pub mod CountLemmas
 pub mod ExtentLemmas
 pub mod SizeFloors
+pub mod RecordFrames
+pub mod AgeOrder
+pub mod FreeRuns
+pub mod FreeRanges

@@ -1,8 +1,9 @@
--- Lists whose elements are all alike, and lists of places that may be empty.
-use Rattle.std.proofs.Common.{◌≡◌, ◌<◌, ℕ, zero, suc, Option, None, Some, List, length, get_or, replicate, inl, inr, refl, sym, ◌∙◌}
-use Rattle.std.proofs.lemmas.Bool.{cases_lt}
-use Rattle.std.proofs.lemmas.List.{get_or_past}
+-- Lists whose elements are all alike or all pass a test, and lists of places that may be empty.
+use Rattle.std.proofs.Common.{◌≡◌, ◌<◌, ℕ, zero, suc, Option, None, Some, List, length, get_or, replicate, inl, inr, refl, sym, ◌∙◌, ◌≢◌, set, ap, Bool, true, [], ◌∷◌, filter}
+use Rattle.std.proofs.lemmas.Bool.{cases_lt, cases_eq, and_parts, cond-true}
+use Rattle.std.proofs.lemmas.List.{get_or_past, get_or-set_same, get_or-set_other, set_past}
 use Rattle.std.proofs.lemmas.Option.{none-some}
+use Rattle.std.specs.List.{list_all}
 
 -- where all are alike, each is, and so is what is past them
 pub get_or-alike : {A : Type 0} (n i : ℕ) (a : A) → get_or (replicate n a) i a ≡ a
@@ -16,3 +17,24 @@ get_or_within places i a is = elim (cases_lt i (length places)) [
   | inl within ↦ within
   | inr past ↦ absurd (none-some a (sym (get_or_past places i None past) ∙ is))
 ]
+
+-- where the default was written it stands
+pub get_or-set_default : {A : Type 0} (xs : List A) (i j : ℕ) (d : A) → j ≡ i → get_or (set xs i d) j d ≡ d
+get_or-set_default xs i j d here = ap (λ k. get_or (set xs i d) k d) here ∙ elim (cases_lt i (length xs)) [
+  | inl known ↦ get_or-set_same xs i d d known
+  | inr past ↦ ap (λ ys. get_or ys i d) (set_past xs i d past) ∙ get_or_past xs i d past
+]
+
+-- another value that stands then stood before, and the default was written elsewhere
+pub unset_before : {A : Type 0} (xs : List A) (i j : ℕ) (d x : A) → d ≢ x → get_or (set xs i d) j d ≡ x → (j ≢ i) × (get_or xs j d ≡ x)
+unset_before xs i j d x apart is = elim (cases_eq j i) [
+  | inl here ↦ absurd (apart (sym (get_or-set_default xs i j d here) ∙ is))
+  | inr other ↦ (other, sym (get_or-set_other xs i j d d other) ∙ is)
+]
+
+-- where all pass the test, all are kept
+pub filter-all : {A : Type 0} (test : A → Bool) (xs : List A) → list_all test xs ≡ true → filter test xs ≡ xs
+filter-all test [] all = refl
+filter-all test (x ∷ xs) all =
+    let parts = and_parts (test x) (list_all test xs) all in
+    cond-true (test x) (x ∷ filter test xs) (filter test xs) parts.0 ∙ ap (λ rest. x ∷ rest) (filter-all test xs parts.1)

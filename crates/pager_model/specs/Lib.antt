@@ -11,6 +11,7 @@ pub mod Flat
 pub mod Tiles
 pub mod Images
 pub mod Entries
+pub mod CallEntries
 pub mod FrameStates
 pub mod SpaceStates
 pub mod Order
@@ -28,4 +29,5 @@ pub mod PreferredSize
 pub mod Records
 pub mod Ages
 pub mod Layouts
+pub mod RecordPlaces
 pub mod Examples

@@ -23,9 +23,9 @@ use Rattle.pager_model.specs.Order.{ForAccess, ForTurn, Doing, Idle, Looking, Cl
 use Rattle.pager_model.specs.Settings.{Given, mark_of, is_told, faults_at_entry}
 use Rattle.pager_model.specs.SpaceStates.{SpaceState, Rises, ReplyAllowed, AnswerAllowed, SpaceAllows, WhatAllowed, empty_state, highest_after, space_after}
 use Rattle.pager_model.proofs.Histories.{space_at-named, progress_at-own, progress_at-other, IsLegal-keeps}
-use Rattle.frame_pool.proofs.LegalHistories.{progress_before}
-use Rattle.frame_pool.proofs.LegalPrefixes.{IsLegal-at}
-use Rattle.space_core.proofs.SameView.{rises_told}
+use Rattle.pager_laws.proofs.LegalHistories.{progress_before}
+use Rattle.pager_laws.proofs.LegalPrefixes.{IsLegal-at}
+use Rattle.pager_laws.proofs.FaultReplies.{rises_told}
 
 -- Counts.
 

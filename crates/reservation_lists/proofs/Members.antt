@@ -1,8 +1,7 @@
 -- What stays true of a list of members as one goes in or out.
 use Rattle.std.proofs.Common.{◌==◌, ◌||◌, suc, zero, ◌≡◌, ◌≢◌, ◌<◌, ◌≤◌, ℕ, true, false, not, cond, eqb, List, [], ◌∷◌, length, get_or, map, refl, sym, ◌∙◌, arith}
-use Rattle.std.proofs.lemmas.List.{length-map}
+use Rattle.std.proofs.lemmas.List.{length-map, get_or-map}
 use Rattle.std.specs.List.{All, AllPairs}
-use Rattle.std.proofs.lemmas.List.{get_or-map}
 use Rattle.std.proofs.lemmas.List.Elements.{All-cons, All-head, All-tail, All-filter, All-map}
 use Rattle.std.proofs.lemmas.List.Folds.{Any-from_list_any, list_any_at}
 use Rattle.std.proofs.lemmas.List.Kept.{AllPairs-cons, AllPairs-filter}
@@ -12,14 +11,7 @@ use Rattle.std.proofs.lemmas.Map.Steps.{length-le_from_distinct_below}
 use Rattle.pager_model.specs.Ages.{Member, Lists, is_before, same_member, with_member, without_member}
 use Rattle.reservation_lists.specs.Kept.{HasRoom, IsInOrder, has_member_of, is_listed}
 use Rattle.reservation_lists.proofs.StampOrder.{is_before-apart, IsInOrder-tail, all_behind, all_later}
-
-pub All-with_member : (P : Member → Type 0) (new : Member) (ms : List Member) → P new → All P ms → All P (with_member new ms)
-All-with_member P new [] p ps = All-cons P new [] p ps
-All-with_member P new (m ∷ ms) p ps =
-    elim (is_before new m) as (λ b. All P (cond b (new ∷ (m ∷ ms)) (m ∷ with_member new ms))) [
-      | true ↦ All-cons P new (m ∷ ms) p ps
-      | false ↦ All-cons P m (with_member new ms) (All-head P m ms ps) (All-with_member P new ms p (All-tail P m ms ps))
-    ]
+use Rattle.pager_model.proofs.AgeOrder.{All-with_member}
 
 -- the frames of a list differ
 abbrev pub Differ : List Member → Type 0

@@ -9,7 +9,8 @@ use Rattle.std.proofs.lemmas.List.Sums.{prefix_len_is}
 use Rattle.std.proofs.lemmas.Option.{slice_get_within, get_or_from_slice_get}
 use Rattle.pager_model.specs.Ages.{Member, is_before, with_member, without_member}
 use Rattle.reservation_lists.specs.Kept.{IsInOrder}
-use Rattle.reservation_lists.proofs.StampOrder.{is_before-later, is_before-same, is_before-apart, Decides-same_member, same_member-before, same_member-after, IsInOrder-tail, all_behind, all_later}
+use Rattle.pager_model.proofs.AgeOrder.{is_before-later, is_before-same}
+use Rattle.reservation_lists.proofs.StampOrder.{is_before-apart, Decides-same_member, same_member-before, same_member-after, IsInOrder-tail, all_behind, all_later}
 
 -- how many members of the list come before the member, up to the first that doesn't
 abbrev pub place_in : Member → List Member → ℕ

@@ -1,27 +1,12 @@
 -- Members, and lists of them, are in order of stamp and then of frame.
-use Rattle.std.proofs.Common.{◌≡◌, ◌≢◌, ℕ, true, false, not, suc, List, ◌∷◌, ap, subst, ◌∙◌, arith}
+use Rattle.std.proofs.Common.{◌≡◌, ◌≢◌, true, false, not, suc, List, ◌∷◌, subst, arith}
 use Rattle.std.specs.Bool.{Decides}
 use Rattle.std.specs.List.{All}
 use Rattle.std.proofs.lemmas.Bool.Decides.{nat_tests}
 use Rattle.std.proofs.lemmas.List.Elements.{All-cons, All-weaker}
 use Rattle.pager_model.specs.Ages.{Member, is_before, same_member}
 use Rattle.reservation_lists.specs.Kept.{IsInOrder}
-
--- of two members at most one is before the other
-pub is_before-other : (a b : Member) → is_before a b ≡ true → is_before b a ≡ false
-is_before-other a b before = grind (arith, nat_tests)
-
--- what is before a member is before those that this one is before
-pub is_before-later : (a b c : Member) → is_before a b ≡ true → is_before b c ≡ true → is_before a c ≡ true
-is_before-later a b c before after = grind (arith, nat_tests)
-
--- members of which neither is before the other are one
-pub is_before-same : (a b : Member) → is_before a b ≡ false → is_before b a ≡ false → a ≡ b
-is_before-same a b not_before not_after =
-    let stamp : a.stamp ≡ b.stamp = grind (arith, nat_tests) in
-    let frame : a.frame ≡ b.frame = grind (arith, nat_tests) in
-    let member : ℕ → ℕ → Member = λ s f. record { stamp = s; frame = f } in
-    ap (λ s. member s a.frame) stamp ∙ ap (λ f. member b.stamp f) frame
+use Rattle.pager_model.proofs.AgeOrder.{is_before-same, is_before-later}
 
 -- of two members with frames that differ exactly one is before the other
 pub is_before-apart : (a b : Member) → b.frame ≢ a.frame → is_before a b ≡ not (is_before b a)

@@ -1,38 +1,17 @@
 -- Which reservation has a frame, as reservations come and go.
-use Rattle.std.proofs.Common.{◌≡◌, ◌≢◌, ◌<◌, ◌≤◌, ℕ, ◌+◌, ◌^◌, ◌⊎◌, ◌↔◌, Bool, true, false, ltb, leb, Option, Some, None, List, ◌++◌, length, get_or, set, take, drop, replicate, not, refl, ap, sym, subst, ◌∙◌, arith, inl, inr}
-use Rattle.std.proofs.lemmas.List.{get_or-set_same, get_or-set_other, length-set, set-set, set_past, take_at, get_or_past, length-replicate}
-use Rattle.std.proofs.lemmas.Bool.{cases_eq, cases_lt, and_parts, and_from, leb-true, ltb-true, le-leb, lt-ltb, not-true, false≢true, false_from_ne_true}
+use Rattle.std.proofs.Common.{◌≡◌, ◌≢◌, ◌<◌, ◌≤◌, ℕ, ◌+◌, ◌^◌, ◌⊎◌, ◌↔◌, Bool, true, false, Option, Some, None, List, ◌++◌, length, get_or, set, take, drop, replicate, refl, ap, sym, subst, ◌∙◌, arith, inl, inr}
+use Rattle.std.proofs.lemmas.List.{get_or-set_same, get_or-set_other, length-set, set-set, take_at, length-replicate}
+use Rattle.std.proofs.lemmas.Bool.{cases_eq, cases_lt, false≢true, false_from_ne_true}
 use Rattle.std.proofs.lemmas.Option.{none-some, same_Some}
 use Rattle.pager_model.specs.Agreement.{has_frame}
 use Rattle.pager_model.specs.Records.{is_used, none_used}
 use Rattle.pager_model.specs.declared.reservation.Reservation.{Reservation}
 use Rattle.pager_model.proofs.ExtentLemmas.{eight_pos}
-use Rattle.pager_model.proofs.Lists.{get_or-alike, get_or_within}
-use Rattle.pager_model.proofs.Ranges.{list_all-range}
-use Rattle.reservations.specs.Kept.{IsPlaced, ArePlaced, AreNoted, AreKept, IsFilled, first_frame}
+use Rattle.pager_model.proofs.Lists.{get_or-alike, get_or_within, get_or-set_default}
+use Rattle.pager_model.specs.RecordPlaces.{IsPlaced, ArePlaced}
+use Rattle.reservations.specs.Kept.{AreNoted, AreKept, IsFilled, first_frame}
 use Rattle.reservations.proofs.CountLemmas.{is_used-replicate}
-
-pub has_frame_bounds : (f : ℕ) (r : Reservation) → has_frame f (Some r) ≡ true → (r.frame ≤ f) × (f < r.frame + 8 ^ r.size)
-has_frame_bounds f r has =
-    let parts = and_parts (leb r.frame f) (ltb f (r.frame + 8 ^ r.size)) has in
-    (leb-true _ _ parts.0, ltb-true _ _ parts.1)
-
-pub has_frame_from : (f : ℕ) (r : Reservation) → r.frame ≤ f → f < r.frame + 8 ^ r.size → has_frame f (Some r) ≡ true
-has_frame_from f r low high = and_from _ _ (le-leb _ _ low) (lt-ltb _ _ high)
-
--- where the default was written it stands
-pub get_or-set_default : {A : Type 0} (xs : List A) (i j : ℕ) (d : A) → j ≡ i → get_or (set xs i d) j d ≡ d
-get_or-set_default xs i j d here = ap (λ k. get_or (set xs i d) k d) here ∙ elim (cases_lt i (length xs)) [
-  | inl known ↦ get_or-set_same xs i d d known
-  | inr past ↦ ap (λ ys. get_or ys i d) (set_past xs i d past) ∙ get_or_past xs i d past
-]
-
--- another value that stands then stood before, and the default was written elsewhere
-pub unset_before : {A : Type 0} (xs : List A) (i j : ℕ) (d x : A) → d ≢ x → get_or (set xs i d) j d ≡ x → (j ≢ i) × (get_or xs j d ≡ x)
-unset_before xs i j d x apart is = elim (cases_eq j i) [
-  | inl here ↦ absurd (apart (sym (get_or-set_default xs i j d here) ∙ is))
-  | inr other ↦ (other, sym (get_or-set_other xs i j d d other) ∙ is)
-]
+use Rattle.pager_model.proofs.RecordFrames.{no_frame, has_frame_from, has_frame_bounds, unused_in}
 
 pub ArePlaced-set : (records : List (Option Reservation)) (id : ℕ) (o : Option Reservation) → ArePlaced records → id < length records → ((r : Reservation) → o ≡ Some r → IsPlaced (length records) id r) → ArePlaced (set records id o)
 ArePlaced-set records id o are within new = λ j r is. rw length-set (elim (cases_eq j id) [
@@ -41,10 +20,6 @@ ArePlaced-set records id o are within new = λ j r is. rw length-set (elim (case
       subst (λ k. IsPlaced (length records) k r) (sym here) (new r (sym (get_or-set_same records id o None within) ∙ at))
   | inr other ↦ are j r (sym (get_or-set_other records id j o None other) ∙ is)
 ])
-
--- a frame in no reservation
-pub no_frame : (f : ℕ) (o : Option Reservation) → o ≡ None → has_frame f o ≡ true → ⊥
-no_frame f o none has = false≢true (sym (ap (has_frame f) none) ∙ has)
 
 -- no reservation begins at a frame that none has
 pub none_begins : (records : List (Option Reservation)) (frame : ℕ) → ArePlaced records → has_frame frame (get_or records frame None) ≡ false → get_or records frame None ≡ None
@@ -258,11 +233,6 @@ module _ (records : List (Option Reservation)) (ids : List (Option ℕ)) (used :
           gap = λ g j low high has'. absurd (omega arith);
         };
       }
-
--- where nothing from first on is used, no frame is
-pub unused_in : (p : ℕ → Bool) (first n : ℕ) → none_used p first n ≡ true → (f : ℕ) → first ≤ f → f < first + n → p f ≡ false
-unused_in p first n none f low high =
-    not-true (p f) ((list_all-range (λ x. not (p x)) first n).0 none f low high)
 
 -- a frame that no reservation has is no used place
 pub unused_if_free : (records : List (Option Reservation)) (ids : List (Option ℕ)) (used : List Bool) (f : ℕ) → AreKept records ids used → ((j : ℕ) → has_frame f (get_or records j None) ≡ false) → is_used used f ≡ false

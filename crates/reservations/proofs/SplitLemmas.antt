@@ -9,8 +9,10 @@ use Rattle.pager_model.specs.Records.{is_used, part_of, is_part_empty, kept_part
 use Rattle.pager_model.specs.declared.reservation.Reservation.{Reservation}
 use Rattle.pager_model.proofs.ExtentLemmas.{eight_pos, part_of_eight, aligned_part}
 use Rattle.pager_model.proofs.Ranges.{range_with_len-more}
-use Rattle.reservations.specs.Kept.{IsPlaced, ArePlaced, AreNoted, IsFilled, first_frame}
-use Rattle.reservations.proofs.FrameIds.{Belongs, AreNoted-place, ArePlaced-set, vacant_in_gap, unused_in}
+use Rattle.pager_model.specs.RecordPlaces.{IsPlaced, ArePlaced}
+use Rattle.reservations.specs.Kept.{AreNoted, IsFilled, first_frame}
+use Rattle.reservations.proofs.FrameIds.{Belongs, AreNoted-place, ArePlaced-set, vacant_in_gap}
+use Rattle.pager_model.proofs.RecordFrames.{unused_in}
 
 -- one part is noted
 abbrev pub split_step : (ℕ → Bool) → Reservation → List (Option Reservation) → ℕ → List (Option Reservation)

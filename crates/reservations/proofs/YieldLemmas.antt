@@ -2,7 +2,7 @@
 use Rattle.std.proofs.Common.{◌≡◌, ◌<◌, ◌≤◌, ℕ, zero, suc, ◌+◌, ◌-◌, ◌*◌, ◌/◌, ◌^◌, Bool, true, false, ltb, Option, Some, None, List, get_or, ap, sym, subst, ◌∙◌, arith}
 use Rattle.std.specs.List.{range_with_len, list_any}
 use Rattle.std.proofs.lemmas.List.FromFn.{length-range_with_len, get_or-range_with_len}
-use Rattle.std.proofs.lemmas.List.Folds.{list_any_at, list_any_none}
+use Rattle.std.proofs.lemmas.List.Folds.{list_any_none}
 use Rattle.std.proofs.lemmas.Bool.{cond-true, cond-false}
 use Rattle.pager_model.specs.Records.{is_used, none_used, has_empty, yield_up_to}
 use Rattle.pager_model.specs.declared.reservation.Reservation.{Reservation}
@@ -45,13 +45,6 @@ has_empty-base used r k n m base count all =
     ap (λ s. list_any (λ i. none_used (is_used used) (r.frame + i * 1) 1) (range_with_len 0 (8 ^ s))) size
     ∙ any ∙ ap (λ a. ltb (used_in used a (8 ^ r.size)) (8 ^ r.size)) start in
     subst (λ j. ltb n m ≡ has_empty (is_used used) r j) (sym base) (rw (count, all) (sym at_zero))
-
-pub has_empty-yes : (used : ℕ → Bool) (r : Reservation) (k i : ℕ) → i < 8 ^ (r.size - k) → none_used used (r.frame + i * 8 ^ k) (8 ^ k) ≡ true → has_empty used r k ≡ true
-has_empty-yes used r k i within is =
-    let all = range_with_len 0 (8 ^ (r.size - k)) in
-    let here : get_or all i 0 ≡ i = get_or-range_with_len 0 (8 ^ (r.size - k)) i 0 within ∙ omega arith in
-    list_any_at (λ j. none_used used (r.frame + j * 8 ^ k) (8 ^ k)) all i 0 (omega (arith, length-range_with_len 0 (8 ^ (r.size - k))))
-    (ap (λ j. none_used used (r.frame + j * 8 ^ k) (8 ^ k)) here ∙ is)
 
 pub has_empty-no : (used : ℕ → Bool) (r : Reservation) (k n : ℕ) → 8 ^ (r.size - k) ≤ n → ((i : ℕ) → i < n → none_used used (r.frame + i * 8 ^ k) (8 ^ k) ≡ false) → has_empty used r k ≡ false
 has_empty-no used r k n le none =

@@ -1,10 +1,10 @@
 -- What holds of the reservations that are kept.
 use Rattle.std.specs.Prelude.{ℕ, ◌≡◌, ◌≤◌, ◌<◌, ◌+◌, ◌^◌, ◌⊎◌, ◌↔◌, Bool, true, false, List, length, slice_index_or, slice_set, Option, Some, None, IsSomeAnd}
-use Rattle.pager_model.specs.Extents.{IsExtent}
 use Rattle.pager_model.specs.Layouts.{frame_for}
 use Rattle.pager_model.specs.Agreement.{has_frame}
 use Rattle.pager_model.specs.Records.{Records, is_used}
 use Rattle.pager_model.specs.declared.reservation.Reservation.{Reservation}
+use Rattle.pager_model.specs.RecordPlaces.{ArePlaced}
 
 -- the reservation that begins at the frame, where one does
 abbrev pub reservation_at : Records → ℕ → Option Reservation
@@ -16,13 +16,6 @@ with_record st frame r = record { records = slice_set st.records frame r; used =
 abbrev pub with_used : Records → ℕ → Bool → Records
 with_used st frame b = record { records = st.records; used = slice_set st.used frame b }
 
--- the reservation begins at the frame that names it, and is an extent of known frames with an extent of pages
-pub record IsPlaced (frames id : ℕ) (r : Reservation) : Type 0 where
-  pub named : r.frame ≡ id
-  pub aligned : IsExtent r.size r.frame
-  pub within : r.frame + 8 ^ r.size ≤ frames
-  pub pages_aligned : IsExtent r.size r.first
-
 -- the page is one of the reservation's
 abbrev pub CoversPage : Reservation → ℕ → Type 0
 CoversPage r page = (r.first ≤ page) × (page < r.first + 8 ^ r.size)
@@ -30,10 +23,6 @@ CoversPage r page = (r.first ≤ page) × (page < r.first + 8 ^ r.size)
 -- the reservation that begins at the frame has the page, at a place that is used or isn't
 abbrev pub HasPlace : Records → ℕ → ℕ → Bool → Type 0
 HasPlace st id page b = IsSomeAnd (reservation_at st id) (λ r. CoversPage r page × (is_used st.used (frame_for page r) ≡ b))
-
--- each record is in its place
-abbrev pub ArePlaced : List (Option Reservation) → Type 0
-ArePlaced records = (id : ℕ) (r : Reservation) → slice_index_or records id None ≡ Some r → IsPlaced (length records) id r
 
 -- Of each frame outside the gap from low up to high it is noted which reservation has it, and a frame without one is no used
 -- place; no reservation has a frame of the gap.

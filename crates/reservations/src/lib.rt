@@ -11,8 +11,8 @@ ghost use Rattle.pager_model.specs.Agreement.{has_frame};
 ghost use Rattle.pager_model.specs.Extents.{IsExtent};
 ghost use Rattle.pager_model.specs.Layouts.{frame_for, stamped};
 ghost use Rattle.pager_model.specs.Records.{is_used, none_used, yield_of, kept_part, split_records};
-ghost use Rattle.reservations.specs.Kept.{reservation_at, with_record, with_used, first_frame};
-ghost use Rattle.reservations.specs.Kept.{ArePlaced, AreNoted, CoversPage, HasPlace, IsFilled, IsPlaced};
+ghost use Rattle.reservations.specs.Kept.{reservation_at, with_record, with_used, first_frame, AreNoted, CoversPage, HasPlace, IsFilled};
+ghost use Rattle.pager_model.specs.RecordPlaces.{ArePlaced, IsPlaced};
 ghost use Rattle.reservations.specs.Parts.{told_parts};
 
 mod part;

@@ -2,7 +2,7 @@ ghost use Rattle.std.specs.Prelude.{◌≡◌, ◌<◌, ◌≤◌, ◌+◌, ◌-
 ghost use Rattle.pager_model.specs.Extents.{IsExtent};
 ghost use Rattle.pager_model.specs.Records.{is_used, none_used, has_empty, yield_of};
 ghost use Rattle.reservations.specs.Counts.{used_in};
-ghost use Rattle.reservations.specs.Kept.{IsPlaced};
+ghost use Rattle.pager_model.specs.RecordPlaces.{IsPlaced};
 ghost use Rattle.reservations.specs.Parts.{told_part, told_parts};
 
 use crate::part::Part;

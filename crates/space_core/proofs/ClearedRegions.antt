@@ -5,24 +5,22 @@ use Rattle.std.proofs.lemmas.Bool.Decides.{nat_tests}
 use Rattle.std.proofs.lemmas.Option.{none-some, same_Some}
 use Rattle.std.proofs.lemmas.List.{get_or-map, length-map}
 use Rattle.pager_model.specs.Options.{is_that}
-use Rattle.pager_model.specs.declared.call.Call.TheVariants.{Map, Unmap}
-use Rattle.pager_model.specs.declared.region.Kind.{Kind}
+use Rattle.pager_model.specs.declared.call.Call.TheVariants.{Unmap}
 use Rattle.pager_model.specs.declared.region.Region.{Region}
-use Rattle.pager_model.specs.declared.region.Rights.{Rights}
 use Rattle.pager_model.specs.declared.reply.Reply.TheVariants.{Done}
 use Rattle.pager_model.specs.declared.tile.Mapping.{Mapping}
 use Rattle.pager_model.specs.declared.tile.Tile.{Tile}
-use Rattle.pager_model.specs.Flat.{goes, is_lawful}
+use Rattle.pager_model.specs.Flat.{goes}
 use Rattle.pager_model.specs.Images.{still_tiles}
 use Rattle.pager_model.specs.SizeSets.{all_sizes}
 use Rattle.pager_model.specs.Regions.{has_page, in_range, region_at, without_region, unmap_reply_at}
-use Rattle.pager_model.specs.SpaceStates.{SpaceState, SpaceAllows, IsClearedAt, pages_of, space_after}
+use Rattle.pager_model.specs.SpaceStates.{SpaceState, IsClearedAt, pages_of, space_after}
 use Rattle.region_table.specs.Table.{IsTable}
 use Rattle.pager_model.proofs.Lists.{get_or-alike}
 use Rattle.space_core.specs.Beginning.{SameRegions, IsRange, ClearsOne, ClearsNone, Unmapped as IsUnmapped}
-use Rattle.space_core.specs.NewPages.{IsNew, done}
 use Rattle.space_core.specs.Pages.{Maps, Forgets, IsFirstResident, NoneFrom}
-use Rattle.space_core.specs.Standing.{Kept, StandsBut, IsCopy, IsCopied, answer_entry, clear_entry, frame_at, is_clearing, rights_by, is_settled, word_at}
+use Rattle.space_core.specs.Standing.{Kept, StandsBut, IsCopy, IsCopied, frame_at, is_clearing, rights_by, is_settled, word_at}
+use Rattle.pager_model.specs.CallEntries.{answer_entry, clear_entry}
 use Rattle.space_core.specs.Tables.{Table, mapping_in, frame_in, own_in, dirty_in}
 use Rattle.space_core.specs.Translating.{BeginsClear, counted_up}
 use Rattle.store_core.specs.Stored.{Stored, copy_at, zero_words, DropsCopies}
@@ -430,17 +428,3 @@ module _ (number : ℕ) (regions : List Region) (t u : Table) (page : ℕ) (r : 
                 translates = stays cleared left st after c (record { sizes = refl; images = refl; promotions = refl; demotions = refl }) s.translates s.pages pages (record { images = refl; promotions = refl; demotions = refl }) forgets.mapping;
               };
         }
-
--- A page of a region that was unmapped, and then of one that was mapped.
-module _ (st : SpaceState) (c d m n space page first len p : ℕ) (kind : Kind) (rights : Rights) (r : Region) (at : region_at st.flat.regions page ≡ Some r)
-    (unmaps : SpaceAllows st (answer_entry c m (Unmap space page) done))
-    (maps : SpaceAllows (space_after st (answer_entry c m (Unmap space page) done)) (answer_entry d n (Map space first len kind rights) done))
-    (was : in_range r.first r.length p ≡ true) (is : in_range first len p ≡ true) where
-  pub new_again : IsNew (space_after (space_after st (answer_entry c m (Unmap space page) done)) (answer_entry d n (Map space first len kind rights) done)) rights p
-  new_again =
-      let cleared = subst (λ (o : Option Region). IsClearedAt st c o) at (unmaps.1.reply.1 refl) in
-      record {
-        rights = ap (λ x. if is_lawful x && in_range first len p then rights else st.flat.rights p) maps.1.reply.0 ∙ cond-true _ _ _ is;
-        frame = cleared.none p was;
-        words = λ i. ap (λ o. if goes o p then 0 else st.flat.words p i) at ∙ cond-true _ _ _ was;
-      }

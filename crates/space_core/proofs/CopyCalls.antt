@@ -21,7 +21,8 @@ use Rattle.space_core.specs.declared.space.OutFault.{OutFault}
 use Rattle.space_core.specs.declared.space.OutFault.TheVariants.{Failed as OutFailed, NoMemory as OutNoMemory}
 use Rattle.space_core.specs.Beginning.{Begins, BeginsAnswered, BeginsEvicting, SameRegions, copied_reply}
 use Rattle.space_core.specs.Saving.{Saves, FailsToSave, LacksRoom, unwritten_by}
-use Rattle.space_core.specs.Standing.{Kept, answer_entry, StandsFor, IsResting, frame_at, dirty_at, copied_page, may_copy, is_unwired}
+use Rattle.space_core.specs.Standing.{Kept, StandsFor, IsResting, frame_at, dirty_at, copied_page, may_copy, is_unwired}
+use Rattle.pager_model.specs.CallEntries.{answer_entry}
 use Rattle.space_core.specs.Tables.{mapping_in, frame_in, word_in}
 use Rattle.space_core.specs.Translating.{CleansPage}
 use Rattle.store_core.specs.Stored.{Stored}

@@ -9,6 +9,4 @@ pub mod Refusals
 pub mod RegionSearch
 pub mod RegionChanges
 pub mod ClearedRegions
-pub mod CopyLaws
 pub mod Translations
-pub mod TranslationLaws

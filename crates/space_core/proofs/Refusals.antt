@@ -16,7 +16,8 @@ use Rattle.pager_model.specs.Regions.{has_page, region_at, range_in, without_reg
 use Rattle.pager_model.specs.SpaceStates.{SpaceState, answered_flat, ReplyAllowed, access_page, pages_of, pages_after, tile_at, space_after}
 use Rattle.pager_model.proofs.SpaceEntries.{base-unnamed, frees-unlawful, said-unlawful, served-unlawful}
 use Rattle.space_core.specs.Beginning.{BeginsAnswered}
-use Rattle.space_core.specs.Standing.{Kept, answer_entry, StandsFor, IsResting, IsCopy, CanBegin, rights_at, rights_by}
+use Rattle.space_core.specs.Standing.{Kept, StandsFor, IsResting, IsCopy, CanBegin, rights_at, rights_by}
+use Rattle.pager_model.specs.CallEntries.{answer_entry}
 use Rattle.space_core.specs.Pages.{permits}
 use Rattle.space_core.specs.Tables.{mapping_in, own_in}
 use Rattle.space_core.proofs.Translations.{stays, said_same}

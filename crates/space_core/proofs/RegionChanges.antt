@@ -19,7 +19,8 @@ use Rattle.region_table.specs.Table.{IsTable, region_of}
 use Rattle.space_core.specs.Beginning.{BeginsAnswered, BeginsClearing}
 use Rattle.space_core.specs.Keeping.{IsKept, IsMapped}
 use Rattle.space_core.specs.Pages.{Protects}
-use Rattle.space_core.specs.Standing.{Kept, answer_entry, rights_by, is_settled, word_at}
+use Rattle.space_core.specs.Standing.{Kept, rights_by, is_settled, word_at}
+use Rattle.pager_model.specs.CallEntries.{answer_entry}
 use Rattle.space_core.specs.Tables.{Table, mapping_in, frame_in, own_in}
 use Rattle.space_core.specs.Translating.{Retouches}
 use Rattle.store_core.specs.Stored.{Stored}

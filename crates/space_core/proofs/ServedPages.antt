@@ -20,7 +20,8 @@ use Rattle.pager_model.proofs.Lists.{get_or-alike}
 use Rattle.space_core.specs.Beginning.{Places, Finishes, SameRegions}
 use Rattle.space_core.specs.Keeping.{IsKept, IsMapped}
 use Rattle.space_core.specs.Pages.{SameOwn, IsFresh, Maps, Refills, Writes, Cleans}
-use Rattle.space_core.specs.Standing.{Kept, StandsFor, image_at, rights_by, word_at, is_settled, is_allowed, answer_entry, take_entry}
+use Rattle.space_core.specs.Standing.{Kept, StandsFor, image_at, rights_by, word_at, is_settled, is_allowed}
+use Rattle.pager_model.specs.CallEntries.{answer_entry, take_entry}
 use Rattle.space_core.specs.Tables.{Table, mapping_in, frame_in, word_in, own_in, dirty_in, flag_in}
 use Rattle.space_core.specs.Translating.{Retouches, Touches}
 use Rattle.space_core.proofs.TableLemmas.{dirty_in-is, dirty_in-absent, frame-absent, maps_frame, maps_dirty, cleans_frame, cleans_dirty, writes_frame, writes_dirty}

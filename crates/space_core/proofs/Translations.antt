@@ -1,7 +1,6 @@
 -- What becomes of what a space and a state have in common of translations, as pages change and tiles are used.
-use Rattle.std.proofs.Common.{◌≡◌, ℕ, zero, suc, ◌+◌, ◌<◌, ◌≤◌, Bool, true, false, ◌&&◌, ◌==◌, not, nat_lt, min, if◌then◌else◌, List, [], ◌∷◌, filter, take, map, length, slice_index_or, slice_set, Option, Some, None, is_some, option_map, refl, sym, ap, subst, inl, inr, ◌∙◌, arith}
-use Rattle.std.specs.List.{list_all}
-use Rattle.std.proofs.lemmas.Bool.{cases_Bool, cases_eq, cases_lt, and_parts, cond-true, cond-false, eq-eqb, ne_eqb}
+use Rattle.std.proofs.Common.{◌≡◌, ℕ, ◌+◌, ◌<◌, ◌≤◌, Bool, true, false, ◌==◌, nat_lt, min, if◌then◌else◌, List, [], map, length, slice_index_or, slice_set, Option, Some, None, is_some, option_map, refl, sym, ap, subst, inl, inr, ◌∙◌, arith}
+use Rattle.std.proofs.lemmas.Bool.{cases_eq, cases_lt, eq-eqb, ne_eqb}
 use Rattle.std.proofs.lemmas.Bool.Decides.{nat_tests}
 use Rattle.std.proofs.lemmas.List.{get_or-map, length-map, get_or-set_same, get_or-set_other, length-set}
 use Rattle.std.proofs.lemmas.Option.{none-some, same_Some}
@@ -10,11 +9,11 @@ use Rattle.pager_model.specs.declared.region.Region.{Region}
 use Rattle.pager_model.specs.declared.region.Rights.{Rights}
 use Rattle.pager_model.specs.declared.tile.Mapping.{Mapping}
 use Rattle.pager_model.specs.declared.tile.Tile.{Tile}
-use Rattle.pager_model.specs.Images.{image_room, still_tiles, touched, touched_by, images_with}
+use Rattle.pager_model.specs.Images.{still_tiles, touched, touched_by, images_with}
 use Rattle.pager_model.specs.Regions.{region_at}
 use Rattle.pager_model.specs.SpaceStates.{SpaceState, last_count, pages_of}
 use Rattle.pager_model.specs.SizeSets.{SizeSet, all_sizes}
-use Rattle.pager_model.specs.Tiles.{mapping_with, same_tile, tile_of, tile_in, is_tile_in, promotions_between, demotions_between, promotions_in, demotions_in}
+use Rattle.pager_model.specs.Tiles.{mapping_with, tile_of, tile_in, promotions_between, demotions_between, promotions_in, demotions_in}
 use Rattle.space_core.specs.Keeping.{IsMapped}
 use Rattle.space_core.specs.Standing.{Kept, Translates, image_at, frame_at, dirty_at, rights_at, rights_by}
 use Rattle.space_core.specs.Tables.{Table, mapping_in, own_in}
@@ -23,62 +22,13 @@ use Rattle.space_core.proofs.TableLemmas.{frame-absent, frame-mapped, dirty-mapp
 use Rattle.tiles.specs.declared.moves.Moves.{Moves}
 use Rattle.tiles.specs.Resident.{AreMoves, with_flag}
 use Rattle.tiles.proofs.Cleared.{no_promotions, no_demotions}
-use Rattle.tiles.proofs.CutTiles.{tile_in-is_tile}
-use Rattle.tlb_images.proofs.ImageLemmas.{filter-all}
+use Rattle.pager_laws.proofs.ImageTiles.{touched_if, still_again, used_at, IsUsed}
 
 -- Lists of tiles.
-
-all_filtered : (test : Tile → Bool) (ts : List Tile) → list_all test (filter test ts) ≡ true
-all_filtered test [] = refl
-all_filtered test (t ∷ ts) =
-    elim (cases_Bool (test t)) [
-      | inl is ↦ ap (list_all test) (cond-true _ _ _ is) ∙ ap (λ b. b && list_all test (filter test ts)) is ∙ all_filtered test ts
-      | inr isnt ↦ ap (list_all test) (cond-false _ _ _ isnt) ∙ all_filtered test ts
-    ]
-
-all_still : (test other : Tile → Bool) (ts : List Tile) → list_all test ts ≡ true → list_all test (filter other ts) ≡ true
-all_still test other [] h = refl
-all_still test other (t ∷ ts) h =
-    let parts = and_parts _ _ h in
-    elim (cases_Bool (other t)) [
-      | inl is ↦ ap (list_all test) (cond-true _ _ _ is) ∙ ap (λ b. b && list_all test (filter other ts)) parts.0 ∙ all_still test other ts parts.1
-      | inr isnt ↦ ap (list_all test) (cond-false _ _ _ isnt) ∙ all_still test other ts parts.1
-    ]
-
-all_taken : (test : Tile → Bool) (n : ℕ) (ts : List Tile) → list_all test ts ≡ true → list_all test (take n ts) ≡ true
-all_taken test zero ts h = refl
-all_taken test (suc n) [] h = refl
-all_taken test (suc n) (t ∷ ts) h =
-    let parts = and_parts _ _ h in ap (λ b. b && list_all test (take n ts)) parts.0 ∙ all_taken test n ts parts.1
-
--- what was a tile of these pages still is one
-pub still_again : (z : SizeSet) (pages : ℕ → Option Mapping) (ts : List Tile) → still_tiles z pages (still_tiles z pages ts) ≡ still_tiles z pages ts
-still_again z pages ts = filter-all (is_tile_in z pages) (still_tiles z pages ts) (all_filtered (is_tile_in z pages) ts)
-
--- a tile of these pages, where there is one
-abbrev pub IsUsed : SizeSet → (ℕ → Option Mapping) → Option Tile → Type 0
-IsUsed z pages None = Unit {0}
-IsUsed z pages (Some t) = is_tile_in z pages t ≡ true
-
-touched_kept : (z : SizeSet) (pages : ℕ → Option Mapping) (o : Option Tile) (ts : List Tile) → IsUsed z pages o → still_tiles z pages ts ≡ ts → still_tiles z pages (touched_by o ts) ≡ touched_by o ts
-touched_kept z pages None ts is kept = kept
-touched_kept z pages (Some t) ts is kept =
-    let others = all_still (is_tile_in z pages) (λ u. not (same_tile t u)) ts (ap (list_all (is_tile_in z pages)) (sym kept) ∙ all_filtered (is_tile_in z pages) ts) in
-    filter-all (is_tile_in z pages) (touched t ts) (all_taken (is_tile_in z pages) image_room (t ∷ filter (λ u. not (same_tile t u)) ts) (ap (λ b. b && list_all (is_tile_in z pages) (filter (λ u. not (same_tile t u)) ts)) is ∙ others))
-
--- one processor used a tile, or none
-pub touched_if : (z : SizeSet) (pages : ℕ → Option Mapping) (here : Bool) (o : Option Tile) (ts : List Tile) → IsUsed z pages o → still_tiles z pages ts ≡ ts → still_tiles z pages (touched_by (if here then o else None) ts) ≡ touched_by (if here then o else None) ts
-touched_if z pages true o ts is kept = touched_kept z pages o ts is kept
-touched_if z pages false o ts is kept = kept
 
 untouched : (here : Bool) (ts : List Tile) → touched_by (if here then None else None) ts ≡ ts
 untouched true ts = refl
 untouched false ts = refl
-
--- the tile of a page is a tile
-pub used_at : (z : SizeSet) (pages : ℕ → Option Mapping) (page : ℕ) (o : Option Tile) → tile_in z pages page ≡ o → IsUsed z pages o
-used_at z pages page None at = tt
-used_at z pages page (Some t) at = tile_in-is_tile z pages page t at
 
 -- a count that stands still at its type's end is the whole count, as long as that is in the type
 counted_to : (last kept count by : ℕ) → (count ≤ last → kept ≡ count) → count + by ≤ last → (if nat_lt (kept + by) last then kept + by else last) ≡ count + by

@@ -4,6 +4,4 @@ pub mod Standing
 pub mod Beginning
 pub mod Saving
 pub mod Keeping
-pub mod NewPages
-pub mod Copies
 pub mod Translating

@@ -3,15 +3,11 @@ use Rattle.std.specs.Prelude.{ℕ, ◌≡◌, ◌<◌, ◌≤◌, Bool, true, fa
 use Rattle.pager_model.specs.Options.{is_that}
 use Rattle.pager_model.specs.declared.call.Call.{Call}
 use Rattle.pager_model.specs.declared.call.Call.TheVariants.{Load, Store, Sync, Evict}
-use Rattle.pager_model.specs.declared.entry.Entry.{Entry}
-use Rattle.pager_model.specs.declared.entry.What.TheVariants.{Answer, Out, Failed, Take, Give, Clear}
-use Rattle.pager_model.specs.declared.entry.Want.{Want}
 use Rattle.pager_model.specs.declared.region.Region.{Region}
 use Rattle.pager_model.specs.declared.region.Rights.{Rights}
 use Rattle.pager_model.specs.declared.region.Rights.TheVariants.{NoAccess}
-use Rattle.pager_model.specs.declared.reply.Answered.{Answered}
 use Rattle.pager_model.specs.declared.tile.Tile.{Tile}
-use Rattle.pager_model.specs.Flat.{page_of, can_read, can_write, space_of_call}
+use Rattle.pager_model.specs.Flat.{page_of, can_read, can_write}
 use Rattle.pager_model.specs.Regions.{in_range, region_at, is_wired}
 use Rattle.pager_model.specs.Images.{still_tiles}
 use Rattle.pager_model.specs.SizeSets.{all_sizes}
@@ -159,32 +155,6 @@ pub record StandsBut (first len : ℕ) (kept : Kept) (state : SpaceState) : Type
   pub translates : Translates kept state
   pub not_begun : is_clearing kept.clearing first ≡ false → (page : ℕ) → pages_of state page ≡ mapping_in kept.table page
   pub counted : is_clearing kept.clearing first ≡ true → kept.broken ≡ large_tiles_in first len (pages_of state)
-
--- The entries of a space's calls.
-
-abbrev pub answer_entry : ℕ → ℕ → Call → Answered → Entry
-answer_entry c number call answered =
-    record { processor = c; space = Some (space_of_call call); frames = false; what = Answer number call answered }
-
--- the answer of an evict whose page gives its frame up
-abbrev pub evict_entry : ℕ → ℕ → ℕ → ℕ → Answered → Entry
-evict_entry c number space page answered =
-    record { processor = c; space = Some space; frames = true; what = Answer number (Evict space page) answered }
-
-abbrev pub take_entry : ℕ → ℕ → ℕ → ℕ → Want → Entry
-take_entry c space page frame want = record { processor = c; space = Some space; frames = true; what = Take page frame want }
-
-abbrev pub give_entry : ℕ → ℕ → ℕ → ℕ → Entry
-give_entry c space page frame = record { processor = c; space = Some space; frames = true; what = Give page frame }
-
-abbrev pub clear_entry : ℕ → ℕ → ℕ → ℕ → Entry
-clear_entry c space first len = record { processor = c; space = Some space; frames = true; what = Clear first len }
-
-abbrev pub out_entry : ℕ → ℕ → ℕ → Bool → Entry
-out_entry c space page written = record { processor = c; space = Some space; frames = false; what = Out page written }
-
-abbrev pub failed_entry : ℕ → ℕ → ℕ → Bool → ℕ → Entry
-failed_entry c space page writing count = record { processor = c; space = Some space; frames = false; what = Failed page writing count }
 
 -- Calls.
 

@@ -1,12 +1,12 @@
 -- What becomes of a space's translations as its pages change and are used.
-use Rattle.std.specs.Prelude.{ℕ, ◌≡◌, ◌+◌, ◌<◌, ◌==◌, true, false, nat_lt, if◌then◌else◌, length, List, Option, Some, None}
+use Rattle.std.specs.Prelude.{ℕ, ◌≡◌, ◌+◌, ◌<◌, ◌==◌, true, false, nat_lt, if◌then◌else◌, length, Option, Some, None}
 use Rattle.pager_model.specs.declared.region.Region.{Region}
 use Rattle.pager_model.specs.declared.tile.Tile.{Tile}
-use Rattle.pager_model.specs.Images.{is_in_image, still_tiles, touched_by}
+use Rattle.pager_model.specs.Images.{still_tiles, touched_by}
 use Rattle.pager_model.specs.Regions.{region_at}
-use Rattle.pager_model.specs.SpaceStates.{SpaceState, last_count, pages_of}
+use Rattle.pager_model.specs.SpaceStates.{last_count}
 use Rattle.pager_model.specs.SizeSets.{all_sizes}
-use Rattle.pager_model.specs.Tiles.{tile_in, promotions_between, demotions_between}
+use Rattle.pager_model.specs.Tiles.{promotions_between, demotions_between}
 use Rattle.space_core.specs.Pages.{Cleans}
 use Rattle.space_core.specs.Standing.{Kept, image_at, dirty_at, is_clearing}
 use Rattle.space_core.specs.Tables.{mapping_in}
@@ -46,17 +46,3 @@ pub record BeginsClear (old new : Kept) (first len : ℕ) : Type 0 where
   pub begun : (r : Region) → region_at old.regions first ≡ Some r → new.clearing ≡ Some r
   pub went_on : is_clearing old.clearing first ≡ true → new.broken ≡ old.broken
   pub counted : is_clearing old.clearing first ≡ false → new.broken ≡ large_tiles_in first len (mapping_in old.table)
-
--- the page's tile stands in the processor's image
-pub record HitAt (st : SpaceState) (processor page : ℕ) : Type 0 where
-  pub tile : Tile
-  pub at : tile_in st.sizes (pages_of st) page ≡ Some tile
-  pub in_image : is_in_image (st.images processor) (Some tile) ≡ true
-
-abbrev pub HasHit : SpaceState → ℕ → Option ℕ → Type 0
-HasHit st processor None = ⊥
-HasHit st processor (Some page) = HitAt st processor page
-
--- the state with other images and counts of moves
-abbrev pub retiled : SpaceState → (ℕ → List Tile) → ℕ → ℕ → SpaceState
-retiled st images promotions demotions = record st { images = images; promotions = promotions; demotions = demotions }

@@ -3,7 +3,6 @@
 
 mod access;
 mod frames;
-pub mod laws;
 mod space;
 mod table;
 

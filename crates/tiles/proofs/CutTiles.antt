@@ -107,7 +107,3 @@ that_tile t (Some u) is = ap Some (sym (same_tile-true t u is))
 
 pub tile_is_part : (z : SizeSet) (pages : ℕ → Option Mapping) (t : Tile) → is_tile_in z pages t ≡ true → IsPart z pages t
 tile_is_part z pages t is = part_from z pages t.extent.first t (that_tile t (tile_in z pages t.extent.first) is)
-
--- the tile of a page by these sizes is a tile by them
-pub tile_in-is_tile : (z : SizeSet) (pages : ℕ → Option Mapping) (page : ℕ) (t : Tile) → tile_in z pages page ≡ Some t → is_tile_in z pages t ≡ true
-tile_in-is_tile z pages page t is = part_is_tile z pages t (part_from z pages page t is)

@@ -1,9 +1,9 @@
 -- What stays true of an image as tiles go and come.
 use Rattle.std.proofs.Common.{◌≡◌, ◌≢◌, ℕ, zero, suc, ◌+◌, ◌-◌, ◌<◌, ◌≤◌, Bool, true, false, not, cond, ◌||◌, List, [], ◌∷◌, ◌++◌, length, inl, inr, get_or, take, drop, filter, nat_lt, is_some, Some, None, refl, sym, ap, ◌∙◌, subst, add-one, length-take, take_all, arith}
-use Rattle.std.specs.List.{All, AllPairs, list_any, list_all, position, position_or_len, remove}
+use Rattle.std.specs.List.{All, AllPairs, list_any, position, position_or_len, remove}
 use Rattle.std.specs.Bool.{⊤}
 use Rattle.std.specs.List.Retain.{RetainsInTurn}
-use Rattle.std.proofs.lemmas.Bool.{cases_lt, lt-ltb, le-ltb, and_parts, false_from_ne_true, false≢true, or_parts, cond-true, cond-false, cond_both, not_from_true, not_from_false, not-true}
+use Rattle.std.proofs.lemmas.Bool.{cases_lt, lt-ltb, le-ltb, false_from_ne_true, false≢true, or_parts, cond-true, cond-false, cond_both, not_from_true, not_from_false, not-true}
 use Rattle.std.proofs.lemmas.List.{length-take-le, take_more, take-take, get_or-take, drop_at}
 use Rattle.std.proofs.lemmas.List.Edits.{length-remove}
 use Rattle.std.proofs.lemmas.List.Elements.{All-cons, All-head, All-tail, filter_passes}
@@ -126,13 +126,6 @@ turned ts n d below =
     let last : drop n front ≡ get_or ts n d ∷ [] = rw split (drop_at (take n ts) (get_or ts n d ∷ []) n long) in
     let others : take n front ≡ take n ts = take-take n (n + 1) ts (omega arith) in
     ap (λ k. (drop k front ++ take k front) ++ drop (n + 1) ts) one ∙ (λ i. (last i ++ others i) ++ drop (add-one n i) ts)
-
--- where all pass the test, all are kept
-pub filter-all : (test : Tile → Bool) (ts : List Tile) → list_all test ts ≡ true → filter test ts ≡ ts
-filter-all test [] all = refl
-filter-all test (t ∷ ts) all =
-    let parts = and_parts (test t) (list_all test ts) all in
-    cond-true (test t) (t ∷ filter test ts) (filter test ts) parts.0 ∙ ap (λ rest. t ∷ rest) (filter-all test ts parts.1)
 
 module _ {F : Type 0} (R : F → Tile → Bool → F → Tile → Type 0) (f : F)
     (same : (t : Tile) (b : Bool) (f' : F) (u : Tile) → R f t b f' u → (f' ≡ f) × (u ≡ t)) where

@@ -1,6 +1,7 @@
 use Rattle.std.proofs.Common.{◌≡◌, ◌+◌, ◌-◌, ◌*◌, ◌^◌}
 use Rattle.pager_model.specs.Records.{is_used}
-use Rattle.reservations.specs.Kept.{ArePlaced, AreNoted}
+use Rattle.pager_model.specs.RecordPlaces.{ArePlaced}
+use Rattle.reservations.specs.Kept.{AreNoted}
 use Rattle.reservations.proofs.SplitLemmas.{split_up_to}
 use Rattle.reservations.proofs.write_parts.Given as goal
 

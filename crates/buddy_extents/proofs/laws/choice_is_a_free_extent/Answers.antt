@@ -1,4 +1,4 @@
-use Rattle.buddy_extents.proofs.Runs.{IsExtent-choice, run_free-choice, choice_within, no_choice_exactly}
+use Rattle.pager_model.proofs.FreeRuns.{IsExtent-choice, run_free-choice, choice_within, no_choice_exactly}
 use Rattle.buddy_extents.proofs.laws.choice_is_a_free_extent.Goals as goal
 
 pub returns : goal.returns

@@ -1,4 +1,5 @@
-use Rattle.buddy_extents.proofs.Ranges.{length-with_range, with_range_inside, with_range_outside, give_after_take, take_after_give, free_count-take, free_count-give}
+use Rattle.pager_model.proofs.FreeRanges.{length-with_range, with_range_inside, with_range_outside}
+use Rattle.buddy_extents.proofs.Ranges.{give_after_take, take_after_give, free_count-take, free_count-give}
 use Rattle.buddy_extents.proofs.laws.ranges_go_in_and_out.Goals as goal
 
 pub returns : goal.returns

@@ -5,10 +5,10 @@ use Rattle.pager_model.specs.Records.{part_of}
 use Rattle.reservations.specs.declared.part.Part.{Part}
 use Rattle.reservations.specs.Parts.{told_part, told_parts}
 use Rattle.pager_model.proofs.ExtentLemmas.{aligned_part, part_of_eight}
-use Rattle.reservations.proofs.FrameIds.{has_frame_from}
+use Rattle.pager_model.proofs.RecordFrames.{has_frame_from}
 use Rattle.frame_pool.proofs.LayoutInOrder.{free_up_to-later}
-use Rattle.frame_pool.proofs.SplitFrames.{free_up_to, length-free_up_to}
-use Rattle.frame_pool.proofs.EightParts.{eight_count, parted_free-eight}
+use Rattle.pager_laws.proofs.SplitFrames.{free_up_to, length-free_up_to}
+use Rattle.pager_laws.proofs.EightParts.{eight_count, parted_free-eight}
 use Rattle.frame_pool.proofs.layout.give_parts.Goals as goal
 
 -- what is told at a place is told of that part

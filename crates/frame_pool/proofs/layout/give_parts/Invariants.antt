@@ -1,6 +1,6 @@
 use Rattle.std.proofs.Common.{◌≡◌, ℕ, ◌-◌, Bool}
 use Rattle.reservations.specs.Parts.{told_parts}
-use Rattle.frame_pool.proofs.SplitFrames.{free_up_to}
+use Rattle.pager_laws.proofs.SplitFrames.{free_up_to}
 use Rattle.frame_pool.proofs.layout.give_parts.Given as goal
 
 abbrev pub invariant-loop-part : goal.invariant-loop-part

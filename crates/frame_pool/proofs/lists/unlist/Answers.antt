@@ -2,7 +2,7 @@ use Rattle.std.proofs.Common.{◌≡◌, Some, sym, ◌∙◌, arith}
 use Rattle.std.proofs.lemmas.Option.{none-some, same_Some}
 use Rattle.pager_model.proofs.Options.{some_from_is_some}
 use Rattle.reservations.specs.Kept.{reservation_at}
-use Rattle.frame_pool.proofs.AgeLists.{AreListed-full}
+use Rattle.pager_laws.proofs.AgeLists.{AreListed-full}
 use Rattle.frame_pool.proofs.ListsByFrame.{AreListed-unlisted}
 use Rattle.frame_pool.proofs.lists.unlist.Goals as goal
 

@@ -3,7 +3,7 @@ use Rattle.std.proofs.lemmas.Bool.{cases_eq}
 use Rattle.pager_model.specs.Records.{is_used, part_at, part_count, yield_in, same_size}
 use Rattle.pager_model.proofs.ExtentLemmas.{eight_pos, eight_quotient, aligned_end}
 use Rattle.frame_pool.specs.Placed.{first_of}
-use Rattle.frame_pool.proofs.PartsAt.{part_ends}
+use Rattle.pager_laws.proofs.PartsAt.{part_ends}
 use Rattle.frame_pool.proofs.RecordSearch.{same_size-is, find_none}
 use Rattle.pager_model.proofs.Ranges.{find_first}
 use Rattle.frame_pool.proofs.records.lowest_as_wide.Goals as goal

@@ -1,6 +1,6 @@
 use Rattle.std.proofs.Common.{arith}
 use Rattle.pager_model.proofs.ExtentLemmas.{aligned_end}
-use Rattle.reservations.proofs.FrameIds.{has_frame_bounds}
+use Rattle.pager_model.proofs.RecordFrames.{has_frame_bounds}
 use Rattle.frame_pool.proofs.records.page_at.Goals as goal
 
 pub overflow_add-result : goal.overflow_add-result

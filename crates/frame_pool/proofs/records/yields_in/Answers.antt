@@ -2,7 +2,7 @@ use Rattle.std.proofs.Common.{◌≡◌, Some, None, sym, ◌∙◌}
 use Rattle.pager_model.specs.Records.{is_used, yield_of}
 use Rattle.pager_model.proofs.Options.{some_from_is_some}
 use Rattle.reservations.specs.Kept.{reservation_at}
-use Rattle.frame_pool.proofs.PartYields.{yield_in-told, yield_in-not}
+use Rattle.pager_laws.proofs.PartYields.{yield_in-told, yield_in-not}
 use Rattle.frame_pool.proofs.records.yields_in.Goals as goal
 
 pub returns-in_err-widest : goal.returns-in_err-widest

@@ -1,8 +1,9 @@
 use Rattle.std.proofs.Common.{◌≡◌, Some, length, set, arith, refl, ap, ◌∙◌, true}
 use Rattle.pager_model.specs.Layouts.{frame_for}
 use Rattle.pager_model.specs.Agreement.{has_frame}
-use Rattle.reservations.specs.Kept.{IsPlaced}
-use Rattle.reservations.proofs.FrameIds.{AreKept-add, unused_if_free, has_frame_from, whole_slice}
+use Rattle.pager_model.specs.RecordPlaces.{IsPlaced}
+use Rattle.reservations.proofs.FrameIds.{AreKept-add, unused_if_free, whole_slice}
+use Rattle.pager_model.proofs.RecordFrames.{has_frame_from}
 use Rattle.reservations.proofs.Reservations.add.Goals as goal
 
 pub insert-requires-clause-unused : goal.insert-requires-clause-unused

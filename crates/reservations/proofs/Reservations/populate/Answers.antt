@@ -3,7 +3,8 @@ use Rattle.pager_model.specs.Layouts.{frame_for}
 use Rattle.pager_model.specs.Agreement.{has_frame}
 use Rattle.pager_model.specs.Layouts.{stamped}
 use Rattle.reservations.specs.Kept.{reservation_at}
-use Rattle.reservations.proofs.FrameIds.{AreKept-populate, has_frame_from}
+use Rattle.reservations.proofs.FrameIds.{AreKept-populate}
+use Rattle.pager_model.proofs.RecordFrames.{has_frame_from}
 use Rattle.reservations.proofs.Reservations.populate.Goals as goal
 
 pub invariant_of-self : goal.invariant_of-self

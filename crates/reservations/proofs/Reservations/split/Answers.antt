@@ -2,7 +2,8 @@ use Rattle.std.proofs.Common.{◌≡◌, Some, None, length, set, arith, sym, ap
 use Rattle.std.proofs.lemmas.Option.{none-some}
 use Rattle.pager_model.specs.Records.{is_used, split_records}
 use Rattle.pager_model.proofs.Lists.{get_or_within}
-use Rattle.reservations.specs.Kept.{reservation_at, ArePlaced}
+use Rattle.reservations.specs.Kept.{reservation_at}
+use Rattle.pager_model.specs.RecordPlaces.{ArePlaced}
 use Rattle.reservations.proofs.FrameIds.{ArePlaced-set, AreNoted-open, whole_slice}
 use Rattle.reservations.proofs.SplitLemmas.{split_records-open}
 use Rattle.reservations.proofs.Reservations.split.Goals as goal

@@ -1,5 +1,5 @@
 use Rattle.std.proofs.Common.{arith, rules}
-use Rattle.reservations.proofs.FrameIds.{has_frame_bounds}
+use Rattle.pager_model.proofs.RecordFrames.{has_frame_bounds}
 use Rattle.reservations.proofs.tests.add.Goals as goal
 
 pub add-requires-clause-apart : goal.add-requires-clause-apart

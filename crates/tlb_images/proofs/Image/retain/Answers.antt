@@ -3,7 +3,8 @@ use Rattle.std.specs.List.{list_all}
 use Rattle.std.proofs.lemmas.Iterator.{YieldsList-from_slice}
 use Rattle.std.proofs.lemmas.Iterator.Search.{all_from_yields_List}
 use Rattle.arrayvec.proofs.ArrayVecLemmas.{filter-from_retain}
-use Rattle.tlb_images.proofs.ImageLemmas.{filter-all, IsImage-retained}
+use Rattle.pager_model.proofs.Lists.{filter-all}
+use Rattle.tlb_images.proofs.ImageLemmas.{IsImage-retained}
 use Rattle.tlb_images.proofs.Image.retain.Goals as goal
 
 pub retain-requires : goal.retain-requires

@@ -1,5 +1,6 @@
 use Rattle.std.proofs.Common.{sym, ◌∙◌, arith}
-use Rattle.buddy_extents.proofs.Runs.{least_here, least_later, choice_within}
+use Rattle.buddy_extents.proofs.Runs.{least_here, least_later}
+use Rattle.pager_model.proofs.FreeRuns.{choice_within}
 use Rattle.buddy_extents.proofs.tests.plain.choice.Goals as goal
 
 pub returns-in-Some-clause-choice : goal.returns-in-Some-clause-choice

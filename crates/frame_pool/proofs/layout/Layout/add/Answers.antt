@@ -4,11 +4,12 @@ use Rattle.std.proofs.lemmas.List.{get_or-set_same}
 use Rattle.pager_model.specs.declared.reservation.Reservation.{Reservation}
 use Rattle.pager_model.specs.Layouts.{Layout, frame_for}
 use Rattle.pager_model.proofs.ExtentLemmas.{eight_pos}
-use Rattle.reservations.proofs.FrameIds.{has_frame_from, none_begins}
-use Rattle.frame_pool.specs.Listed.{AreListed}
+use Rattle.pager_model.proofs.RecordFrames.{has_frame_from}
+use Rattle.reservations.proofs.FrameIds.{none_begins}
+use Rattle.pager_laws.specs.Listed.{AreListed}
 use Rattle.frame_pool.proofs.LayoutInOrder.{AreListed-used, place_has}
 use Rattle.frame_pool.proofs.LayoutMapped.{MayEnter-added}
-use Rattle.frame_pool.proofs.AgeLists.{is_listed-none}
+use Rattle.frame_pool.proofs.UnlistedFrames.{is_listed-none}
 use Rattle.frame_pool.proofs.layout.Layout.add.Goals as goal
 
 pub enlist-requires-clause-unlisted : goal.enlist-requires-clause-unlisted

@@ -4,7 +4,7 @@ use Rattle.pager_model.specs.Layouts.{Layout, take_out, record_at}
 use Rattle.pager_model.specs.Records.{Records}
 use Rattle.reservations.specs.Kept.{with_record, with_used}
 use Rattle.frame_pool.specs.Mapped.{IsMapped}
-use Rattle.frame_pool.proofs.LayoutRelease.{Gives-take_out}
+use Rattle.pager_laws.proofs.LayoutRelease.{Gives-take_out}
 use Rattle.frame_pool.proofs.LayoutInOrder.{AreListed-take_out, some_of}
 use Rattle.frame_pool.proofs.layout.Layout.carve.Goals as goal
 

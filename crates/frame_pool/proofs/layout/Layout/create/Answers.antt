@@ -1,7 +1,8 @@
 use Rattle.std.proofs.Common.{true, refl}
 use Rattle.std.proofs.lemmas.List.{length-replicate}
 use Rattle.frame_pool.proofs.MappedRecords.{IsMapped-start}
-use Rattle.frame_pool.proofs.StartStates.{IsLaid-start, AreListed-start}
+use Rattle.pager_laws.proofs.StartStates.{IsLaid-start}
+use Rattle.frame_pool.proofs.UnlistedFrames.{AreListed-start}
 use Rattle.frame_pool.proofs.layout.Layout.create.Goals as goal
 
 pub invariant_of-result : goal.invariant_of-result

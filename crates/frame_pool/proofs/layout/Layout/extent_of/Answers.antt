@@ -2,7 +2,7 @@ use Rattle.std.proofs.Common.{◌≡◌, Some, None, sym, ap, ◌∙◌, arith}
 use Rattle.std.specs.Option.{is_some}
 use Rattle.pager_model.specs.FreeBlocks.{choice}
 use Rattle.pager_model.specs.Layouts.{Layout, Found, extent_of}
-use Rattle.frame_pool.specs.Laid.{IsLaid}
+use Rattle.pager_laws.specs.Laid.{IsLaid}
 use Rattle.frame_pool.proofs.TakenExtent.{IsInOrder-without, FindsExtent-chosen, extent_of-free, extent_of-broken, CanBreak-oldest, choice-oldest}
 use Rattle.frame_pool.proofs.layout.Layout.extent_of.Goals as goal
 

@@ -1,6 +1,6 @@
 use Rattle.std.proofs.Common.{sym, ap, subst, ◌∙◌}
 use Rattle.pager_model.specs.Layouts.{Layout, covering}
-use Rattle.frame_pool.specs.Laid.{IsLaid}
+use Rattle.pager_laws.specs.Laid.{IsLaid}
 use Rattle.frame_pool.proofs.PlacingResult.{record_at-covered, HasPage-covered}
 use Rattle.frame_pool.proofs.layout.Layout.frame_of.Goals as goal
 

@@ -2,7 +2,7 @@ use Rattle.std.proofs.Common.{◌≡◌, ◌∙◌, ◌<◌, refl, sym, ap, arit
 use Rattle.pager_model.specs.Layouts.{split_layout, narrows_to, narrow_layout, split_on, record_at}
 use Rattle.pager_model.proofs.Options.{IfSome-from}
 use Rattle.frame_pool.proofs.LayoutInOrder.{narrow_step, only_frame, reservation_is, same_reservation}
-use Rattle.frame_pool.proofs.LayoutBreak.{Settles-split}
+use Rattle.pager_laws.proofs.LayoutBreak.{Settles-split}
 use Rattle.frame_pool.proofs.layout.Layout.narrow.Goals as goal
 
 pub unwrap-part-requires : goal.unwrap-part-requires

@@ -2,7 +2,7 @@ use Rattle.std.proofs.Common.{◌≡◌, true, Some}
 use Rattle.pager_model.specs.Agreement.{has_frame}
 use Rattle.pager_model.specs.Layouts.{narrow_layout, record_at}
 use Rattle.pager_model.specs.Records.{is_used}
-use Rattle.frame_pool.specs.Laid.{IsLaid}
+use Rattle.pager_laws.specs.Laid.{IsLaid}
 use Rattle.frame_pool.proofs.layout.Layout.narrow.Given as goal
 
 abbrev pub invariant-loop-self : goal.invariant-loop-self

@@ -1,9 +1,9 @@
 use Rattle.std.proofs.Common.{option_map, sym, ap, subst, ◌∙◌, arith}
 use Rattle.pager_model.specs.Layouts.{Layout, covering, populated, preferred_in, placing_in, reserved, largest_extent}
-use Rattle.frame_pool.specs.Laid.{IsLaid}
+use Rattle.pager_laws.specs.Laid.{IsLaid}
 use Rattle.frame_pool.proofs.PlacingResult.{PlacesPage-from, placing-covered, record_at-covered, HasPage-covered, round_page, IsLaid-added, PlacesPage-added}
 use Rattle.pager_model.specs.SizeSets.{size_within}
-use Rattle.frame_pool.proofs.PreferredExtent.{preferred_among-within}
+use Rattle.pager_laws.proofs.PreferredExtent.{preferred_among-within}
 use Rattle.frame_pool.proofs.layout.Layout.place.Goals as goal
 
 pub populate-frame-requires-clause-there : goal.populate-frame-requires-clause-there

@@ -2,7 +2,7 @@ use Rattle.std.proofs.Common.{◌≡◌, Some, true, false, refl, sym, ap, subst
 use Rattle.pager_model.specs.Layouts.{Layout, frame_for, stamped, record_at}
 use Rattle.pager_model.specs.Records.{Records, is_used}
 use Rattle.reservations.specs.Kept.{with_record, with_used}
-use Rattle.frame_pool.specs.Laid.{IsLaid}
+use Rattle.pager_laws.specs.Laid.{IsLaid}
 use Rattle.frame_pool.specs.Mapped.{IsMapped}
 use Rattle.frame_pool.proofs.MappedRecords.{IsMapped-alike}
 use Rattle.frame_pool.proofs.LayoutInOrder.{IsLaid-populated, IsInOrder-again, place_has, rest_unlisted}

@@ -1,6 +1,6 @@
 use Rattle.std.proofs.Common.{◌∙◌}
 use Rattle.pager_model.specs.Layouts.{Layout}
-use Rattle.frame_pool.proofs.LayoutRelease.{PutsBack-put_back}
+use Rattle.pager_laws.proofs.LayoutRelease.{PutsBack-put_back}
 use Rattle.frame_pool.proofs.layout.Layout.put_back.Goals as goal
 
 pub invariant_of-self : goal.invariant_of-self

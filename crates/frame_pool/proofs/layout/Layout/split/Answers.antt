@@ -4,8 +4,8 @@ use Rattle.pager_model.specs.Records.{is_used, split_records}
 use Rattle.reservations.specs.Parts.{told_parts}
 use Rattle.frame_pool.proofs.LayoutInOrder.{WasSplit-from, not_free_there}
 use Rattle.frame_pool.proofs.LayoutMapped.{WasSplitFrom-left}
-use Rattle.frame_pool.proofs.LayoutSplit.{Settles-parted}
-use Rattle.frame_pool.proofs.EightParts.{parted_records-eight}
+use Rattle.pager_laws.proofs.LayoutSplit.{Settles-parted}
+use Rattle.pager_laws.proofs.EightParts.{parted_records-eight}
 use Rattle.frame_pool.proofs.layout.Layout.split.Goals as goal
 
 pub give_parts-requires-clause-taken : goal.give_parts-requires-clause-taken

@@ -1,7 +1,7 @@
 use Rattle.std.proofs.Common.{◌≡◌, ◌<◌, ◌≤◌, ◌+◌, Some, length, sym, ap, subst, ◌∙◌, arith}
 use Rattle.pager_model.specs.Layouts.{Layout, record_at}
 use Rattle.pager_model.proofs.ExtentLemmas.{eight_pos}
-use Rattle.frame_pool.specs.Laid.{IsLaid}
+use Rattle.pager_laws.specs.Laid.{IsLaid}
 use Rattle.frame_pool.proofs.PartedOnce.{IsGoing, IsGoing-start, IsGoing-split, IsGoing-skip, going_done, split_nearer, size_there-small}
 use Rattle.frame_pool.proofs.layout.Layout.split_to.Goals as goal
 

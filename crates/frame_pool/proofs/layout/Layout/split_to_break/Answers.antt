@@ -1,11 +1,11 @@
 use Rattle.std.proofs.Common.{◌≡◌, ◌<◌, Some, false, option_map, sym, ap, subst, ◌∙◌, arith}
 use Rattle.pager_model.specs.Layouts.{Layout, record_at}
 use Rattle.pager_model.specs.Records.{is_used, part_at, part_size, yield_in, same_size, lowest_as_wide}
-use Rattle.frame_pool.specs.Laid.{IsLaid}
+use Rattle.pager_laws.specs.Laid.{IsLaid}
 use Rattle.frame_pool.specs.Placed.{first_of}
 use Rattle.frame_pool.proofs.BreakSteps.{Fills-from, part_stands, goes_on-lowest, CanBreak-lowest, stops_there, stops_small}
-use Rattle.frame_pool.proofs.LayoutBreak.{part_size-less}
-use Rattle.frame_pool.proofs.PartYields.{same_size_from}
+use Rattle.pager_laws.proofs.LayoutBreak.{part_size-less}
+use Rattle.pager_laws.proofs.PartYields.{same_size_from}
 use Rattle.frame_pool.proofs.layout.Layout.split_to_break.Goals as goal
 
 pub returns-then-level-eq0-clause-next : goal.returns-then-level-eq0-clause-next

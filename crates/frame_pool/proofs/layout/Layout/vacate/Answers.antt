@@ -4,10 +4,10 @@ use Rattle.pager_model.specs.Layouts.{Layout, vacate_layout, record_at}
 use Rattle.pager_model.specs.Records.{Records}
 use Rattle.pager_model.proofs.Options.{IfSome-from}
 use Rattle.reservations.specs.Kept.{with_record, with_used}
-use Rattle.reservations.proofs.FrameIds.{has_frame_from}
-use Rattle.frame_pool.specs.Laid.{IsLaid}
+use Rattle.pager_model.proofs.RecordFrames.{has_frame_from}
+use Rattle.pager_laws.specs.Laid.{IsLaid}
 use Rattle.frame_pool.specs.Mapped.{IsMapped}
-use Rattle.frame_pool.proofs.LayoutRelease.{Gives-vacate}
+use Rattle.pager_laws.proofs.LayoutRelease.{Gives-vacate}
 use Rattle.frame_pool.proofs.LayoutInOrder.{IsInOrder-again, IsInOrder-gone, not_free_there, rest_unlisted, same_reservation, vacated}
 use Rattle.frame_pool.proofs.layout.Layout.vacate.Goals as goal
 

@@ -2,8 +2,8 @@ use Rattle.std.proofs.Common.{refl, sym, ◌∙◌, arith}
 use Rattle.pager_model.specs.FrameStates.{layout_of, IsVictim}
 use Rattle.frame_pool.specs.PoolState.{state_of}
 use Rattle.frame_pool.proofs.LayoutInOrder.{reservation_is}
-use Rattle.frame_pool.proofs.StateSoundness.{is_used-layout_of, used_if_noted}
-use Rattle.frame_pool.proofs.Owners.{unclaimed_place}
+use Rattle.pager_laws.proofs.StateSoundness.{is_used-layout_of, used_if_noted}
+use Rattle.pager_laws.proofs.Owners.{unclaimed_place}
 use Rattle.frame_pool.proofs.PoolFields.{noted_evictable, page_of, IsPool-claimed}
 use Rattle.frame_pool.proofs.pool.Pool.claim.Goals as goal
 

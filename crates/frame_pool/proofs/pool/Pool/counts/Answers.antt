@@ -1,7 +1,7 @@
 use Rattle.std.proofs.Common.{length, ap, arith}
 use Rattle.pager_model.specs.FrameStates.{reserved_count}
 use Rattle.frame_pool.specs.PoolState.{state_of}
-use Rattle.frame_pool.proofs.FrameCounts.{counts_sum}
+use Rattle.pager_laws.proofs.FrameCounts.{counts_sum}
 use Rattle.frame_pool.proofs.pool.Pool.counts.Goals as goal
 
 pub overflow_sub-result-2 : goal.overflow_sub-result-2

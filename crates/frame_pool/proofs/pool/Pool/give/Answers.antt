@@ -1,10 +1,10 @@
 use Rattle.std.proofs.Common.{◌≡◌, ℕ, cond, eqb, ◌&&◌, Some, None, sym, ap, subst, ◌∙◌, arith}
 use Rattle.pager_model.specs.FrameStates.{FrameState, frame_of, give_page, layout_of}
 use Rattle.frame_pool.specs.declared.pool.Pool.TheInside.{Inside}
-use Rattle.frame_pool.specs.Laid.{IsLaid}
+use Rattle.pager_laws.specs.Laid.{IsLaid}
 use Rattle.frame_pool.specs.PoolState.{state_of}
 use Rattle.frame_pool.specs.Pooled.{IsPool}
-use Rattle.frame_pool.proofs.PageMoves.{frame_of-give_page}
+use Rattle.pager_laws.proofs.PageMoves.{frame_of-give_page}
 use Rattle.frame_pool.proofs.PoolFields.{frame_noted, give_page-is, IsPool-given}
 use Rattle.frame_pool.proofs.pool.Pool.give.Goals as goal
 

@@ -4,7 +4,7 @@ use Rattle.pager_model.specs.FrameStates.{FrameState, layout_of, used_at, take_f
 use Rattle.pager_model.specs.Layouts.{placing}
 use Rattle.frame_pool.specs.PoolState.{state_of}
 use Rattle.frame_pool.specs.Pooled.{number_in}
-use Rattle.frame_pool.proofs.LayoutPlacing.{full-placing, placing-full}
+use Rattle.pager_laws.proofs.LayoutPlacing.{full-placing, placing-full}
 use Rattle.frame_pool.proofs.PoolFields.{layout_of-pool, used_long, taking_of, take_frame-placed, state_taken-is, frame_known, frame_out, frame_there, nothing_noted, IsPool-taken}
 use Rattle.frame_pool.proofs.pool.Pool.take.Goals as goal
 

@@ -1,6 +1,6 @@
 use Rattle.std.proofs.Common.{◌≡◌, length, map, Vec, Global, ap, sym, subst, ◌∙◌, arith}
 use Rattle.std.specs.List.{All}
-use Rattle.frame_pool.proofs.LegalHistories.{NothingHeld-legal}
+use Rattle.pager_laws.proofs.LegalHistories.{NothingHeld-legal}
 use Rattle.journal_core.specs.Clauses.{IsHistory, IsOwnOf}
 use Rattle.journal_core.specs.Journals.{JournalName, AuthorState, PassState}
 use Rattle.pager_model.specs.declared.entry.Numbered.{Numbered}
@@ -10,7 +10,7 @@ use Rattle.pager_model.specs.Laws.{KeepsLawsAllAlong}
 use Rattle.pager_model.specs.Legal.{entries_in, frames_at}
 use Rattle.pager_core.specs.RunParts.{AreAtRest}
 use Rattle.pager_core.specs.Running.{IsNumbered, StoresEnd}
-use Rattle.pager_core.proofs.Laws.{KeepsLawsAllAlong-legal}
+use Rattle.pager_laws.proofs.KeptLaws.{KeepsLawsAllAlong-legal}
 use Rattle.pager_locks.proofs.ClosedPagers.{journals_all, AreAtRest-closed, IsNumbered-closed, whole_at}
 use Rattle.pager_locks.proofs.Histories.{few_numbered}
 use Rattle.pager_locks.proofs.pager.Pager.close.Given.{Over}

@@ -1,7 +1,8 @@
 use Rattle.std.proofs.Common.{◌<◌, ◌≤◌, ◌-◌, ◌/◌, ◌^◌, arith, sym, ◌∙◌}
 use Rattle.pager_model.specs.Records.{is_used}
 use Rattle.pager_model.proofs.ExtentLemmas.{eight_pos, eight_quotient, aligned_part, aligned_end}
-use Rattle.reservations.proofs.YieldLemmas.{part_of_quotient, has_empty-base, has_empty-yes, has_empty-no}
+use Rattle.reservations.proofs.YieldLemmas.{part_of_quotient, has_empty-base, has_empty-no}
+use Rattle.pager_model.proofs.RecordFrames.{has_empty-yes}
 use Rattle.reservations.proofs.places.UsedPlaces.has_empty.Goals as goal
 
 pub count-requires-clause-known : goal.count-requires-clause-known

@@ -1,5 +1,0 @@
-use Rattle.frame_pool.proofs.PreferredExtent.{preferred_among-within}
-use Rattle.frame_pool.proofs.laws.a_preferred_size_is_cut_to_the_sizes.Goals as goal
-
-pub returns : goal.returns
-returns c = preferred_among-within

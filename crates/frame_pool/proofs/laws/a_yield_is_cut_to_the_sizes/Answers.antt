@@ -1,5 +1,0 @@
-use Rattle.frame_pool.proofs.PartYields.{yield_in-within}
-use Rattle.frame_pool.proofs.laws.a_yield_is_cut_to_the_sizes.Goals as goal
-
-pub returns : goal.returns
-returns c = yield_in-within

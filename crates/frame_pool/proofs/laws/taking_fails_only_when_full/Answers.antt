@@ -1,5 +1,0 @@
-use Rattle.frame_pool.proofs.AllowedEntries.{full-take_frame, take_frame-full}
-use Rattle.frame_pool.proofs.laws.taking_fails_only_when_full.Goals as goal
-
-pub returns : goal.returns
-returns c = record { full = full-take_frame; none = take_frame-full }

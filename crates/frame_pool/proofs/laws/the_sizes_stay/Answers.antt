@@ -1,5 +1,0 @@
-use Rattle.frame_pool.proofs.KeptSizes.{sizes-history, has_size-history}
-use Rattle.frame_pool.proofs.laws.the_sizes_stay.Goals as goal
-
-pub returns : goal.returns
-returns c = record { stay = sizes-history; kept = has_size-history }

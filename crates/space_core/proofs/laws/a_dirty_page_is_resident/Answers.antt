@@ -1,5 +1,0 @@
-use Rattle.space_core.proofs.CopyLaws.{KeepsCopies-legal}
-use Rattle.space_core.proofs.laws.a_dirty_page_is_resident.Goals as goal
-
-pub returns : goal.returns
-returns c g history s page legal = (KeepsCopies-legal g history s legal).dirty page

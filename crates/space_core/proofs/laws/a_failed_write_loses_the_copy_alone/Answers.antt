@@ -1,5 +1,0 @@
-use Rattle.space_core.proofs.CopyLaws.{LosesItsCopy-failed}
-use Rattle.space_core.proofs.laws.a_failed_write_loses_the_copy_alone.Goals as goal
-
-pub returns : goal.returns
-returns c st e page count allowed = LosesItsCopy-failed st e allowed page count

@@ -1,5 +1,0 @@
-use Rattle.space_core.proofs.TranslationLaws.{HaveTiles-legal}
-use Rattle.space_core.proofs.laws.an_image_has_tiles_alone.Goals as goal
-
-pub returns : goal.returns
-returns c g history s processor legal = HaveTiles-legal g history s legal processor
