@@ -15,7 +15,7 @@ use Rattle.pager_model.specs.Legal.{space_at, frames_at}
 use Rattle.pager_model.specs.Settings.{Given, is_told, faults_at_entry}
 use Rattle.pager_model.specs.SizeSets.{SizeSet}
 use Rattle.pager_model.specs.SpaceStates.{SpaceState, empty_state, space_after, pages_of, pages_after}
-use Rattle.pager_model.specs.Tiles.{tiles_of_size, tiles_of_size_in, begins_tile, count_pages, is_promoted_in}
+use Rattle.pager_model.specs.Tiles.{tiles_of_size, tile_count_in, begins_tile, count_pages, is_promoted_in}
 use Rattle.space_core.specs.Standing.{Kept}
 use Rattle.space_core.specs.Tables.{mapping_in}
 use Rattle.tiles.proofs.Counting.{count_pages_most}
@@ -110,9 +110,9 @@ module _ (given : Given) (h : List Entry) (spaces : List Kept) (pool : FrameStat
 
   tiles_summed : (size : ℕ) → tiles_in spaces size ≡ tiles_after given h size
   tiles_summed size =
-      summed (λ (k : Kept). tiles_of_size (mapping_in k.table) size) (λ st. tiles_of_size_in st.sizes (pages_of st) size)
+      summed (λ (k : Kept). tiles_of_size (mapping_in k.table) size) (λ st. tile_count_in st.sizes (pages_of st) size)
       (λ s kept at. ap (λ (ps : ℕ → Option Mapping). tiles_of_size ps size) (let same : mapping_in kept.table ≡ pages_of (space_at given h s) = λ i p. sym ((rest.spaces_rest s kept at).stands.pages p) i in same)
-      ∙ ap (λ (z : SizeSet). tiles_of_size_in z (pages_of (space_at given h s)) size) (sym (rest.spaces_rest s kept at).stands.translates.sizes))
+      ∙ ap (λ (z : SizeSet). tile_count_in z (pages_of (space_at given h s)) size) (sym (rest.spaces_rest s kept at).stands.translates.sizes))
 
   promotions_summed : promotions_in spaces ≡ over_spaces given h (λ st. st.promotions)
   promotions_summed =

@@ -9,7 +9,7 @@ use Rattle.pager_model.specs.FrameStates.{free_count, reserved_count, used_count
 use Rattle.pager_model.specs.Legal.{space_at, frames_at}
 use Rattle.pager_model.specs.Settings.{Given}
 use Rattle.pager_model.specs.SpaceStates.{SpaceState, pages_of}
-use Rattle.pager_model.specs.Tiles.{tiles_of_size_in}
+use Rattle.pager_model.specs.Tiles.{tile_count_in}
 
 -- an answer with a size that is a hit, and one that is a miss
 abbrev pub is_hit_in : What → Bool
@@ -31,7 +31,7 @@ abbrev pub over_spaces : Given → List Entry → (SpaceState → ℕ) → ℕ
 over_spaces g history count = sum_by (λ s. count (space_at g history s)) (range_with_len 0 (length g.told))
 
 abbrev pub tiles_after : Given → List Entry → ℕ → ℕ
-tiles_after g history size = over_spaces g history (λ st. tiles_of_size_in st.sizes (pages_of st) size)
+tiles_after g history size = over_spaces g history (λ st. tile_count_in st.sizes (pages_of st) size)
 
 -- Of tiles by size, and of frames, those at the end; of promotions, demotions, preemptions, hits and misses, those of all entries.
 abbrev pub counts : Given → List Entry → Summary

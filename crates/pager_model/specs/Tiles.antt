@@ -162,8 +162,8 @@ abbrev pub demotions_in : SizeSet → (ℕ → Option Mapping) → (ℕ → Opti
 demotions_in z before after = promotions_in z after before
 
 -- how many tiles of this size there are, by these sizes
-abbrev pub tiles_of_size_in : SizeSet → (ℕ → Option Mapping) → ℕ → ℕ
-tiles_of_size_in z pages size = count_pages (λ page. begins_at page (tile_in z pages page) && (tile_size_in z pages page == size))
+abbrev pub tile_count_in : SizeSet → (ℕ → Option Mapping) → ℕ → ℕ
+tile_count_in z pages size = count_pages (λ page. begins_at page (tile_in z pages page) && (tile_size_in z pages page == size))
 
 -- the part of size k round a page of a tile
 abbrev pub part_round : ℕ → ℕ → Tile → Tile
