@@ -1,5 +1,5 @@
 -- Steps that answer a flight's call.
-use Rattle.std.proofs.Common.{◌≡◌, ℕ, ◌+◌, ◌<◌, Bool, true, false, eqb, ◌&&◌, is_some, List, [], ◌∷◌, length, Some, None, refl, ap, sym, subst, ◌∙◌, inl, inr, arith}
+use Rattle.std.proofs.Common.{◌≡◌, ℕ, ◌+◌, ◌<◌, Bool, true, false, ◌&&◌, is_some, List, [], ◌∷◌, Some, None, refl, ap, sym, subst, ◌∙◌, inl, inr, arith}
 use Rattle.std.specs.List.{find}
 use Rattle.std.proofs.lemmas.Bool.{cases_Bool, cond-true, cond-false, and_from, eq-eqb, false≢true}
 use Rattle.std.proofs.lemmas.Option.{same_Some}
@@ -21,85 +21,82 @@ use Rattle.pager_model.specs.CallEntries.{answer_entry}
 use Rattle.pager_core.specs.declared.flight.Flight.{Flight}
 use Rattle.pager_core.specs.declared.flight.Phase.{Phase}
 use Rattle.pager_core.specs.declared.flight.Phase.TheVariants.{Start, Gone, Fill, Late, Ended}
-use Rattle.pager_core.specs.Flights.{IsReady, IsAtRest}
-use Rattle.pager_core.specs.Rows.{row_of, access_of}
-use Rattle.pager_core.specs.Steps.{Makes, after_frames}
-
--- the flight in another phase
-abbrev pub in_phase : Flight → Phase → Flight
-in_phase f phase = record { processor = f.processor; number = f.number; call = f.call; phase = phase; claimed = f.claimed }
-
--- what holds of the flight in the phase that it is in holds of it
-pub by_phase : (f : Flight) (phase : Phase) → f.phase ≡ phase → (P : Flight → Type 0) → P (in_phase f phase) → P f
-by_phase f phase is P holds = subst (λ p. P (in_phase f p)) (sym is) holds
+use Rattle.pager_core.specs.Flights.{IsReady}
+use Rattle.pager_core.specs.Rows.{call_in, claimed_in, row_of, access_of}
+use Rattle.pager_core.specs.Steps.{Makes, SameSpace, after_frames}
+use Rattle.pager_core.proofs.EntrySteps.{Leaves-on, same_space, same_space-on}
+use Rattle.pager_core.proofs.Purposes.{in_phase, with_phase, same_work, by_ready}
 
 -- a flight's answer, which names the frames or not
 abbrev pub ending : Flight → Answered → Bool → Entry
-ending f a named = record { processor = f.processor; space = Some (space_of_call f.call); frames = named; what = Answer f.number f.call a }
+ending f a named = record { processor = f.processor; space = Some (space_of_call (call_in f.purpose)); frames = named; what = Answer f.number (call_in f.purpose) a }
 
--- An answer ends its flight: one that the space allows and then stands for, and that may come where the flight is.
-module _ (f : Flight) (a : Answered) (was now : Kept) (st : SpaceState) where
+-- An answer that ends its flight: one that the space allows and then stands for, and that may come where the flight is.
+pub record MayEnd (f : Flight) (from : Phase) (a : Answered) (named : Bool) (was now : Kept) (st : SpaceState) : Type 0 where
+  pub can : CanBegin (call_in f.purpose)
+  pub on : space_of_call (call_in f.purpose) ≡ was.number
+  pub same_space : SameSpace was now
+  pub resting : IsResting now
+  pub goes_on : MayGoOn st.next f.processor (Answer f.number (call_in f.purpose) a)
+  pub allowed : WhatAllowed st named f.processor (Answer f.number (call_in f.purpose) a)
+  pub stands : StandsFor now (space_after st (ending f a named))
+  pub made : (row_of (in_phase f from)).progress.made ≡ f.number
+  pub may : may_answer (row_of (in_phase f from)).progress.doing (call_in f.purpose) a.reply ≡ true
+  pub some : 0 < (row_of (in_phase f from)).entries
+
+module _ (f : Flight) (from : Phase) (a : Answered) (was now : Kept) (st : SpaceState) where
   pub Makes-ending :
-      (named : Bool) → CanBegin f.call → space_of_call f.call ≡ was.number → now.number ≡ was.number → now.frames ≡ was.frames → length now.images ≡ length was.images → IsResting now
-      → MayGoOn st.next f.processor (Answer f.number f.call a)
-      → WhatAllowed st named f.processor (Answer f.number f.call a)
-      → StandsFor now (space_after st (ending f a named))
-      → (row_of f).progress.made ≡ f.number
-      → may_answer (row_of f).progress.doing f.call a.reply ≡ true
-      → 0 < (row_of f).entries
-      → (before after : FrameState) → (named ≡ true → FramesAllow before 0 f.processor (Some (space_of_call f.call)) (Answer f.number f.call a))
+      (named : Bool) → MayEnd f from a named was now st
+      → (before after : FrameState) → (named ≡ true → FramesAllow before 0 f.processor (Some (space_of_call (call_in f.purpose))) (Answer f.number (call_in f.purpose) a))
       → after ≡ after_frames before (ending f a named)
-      → Makes f (in_phase f (Ended a.reply)) was now st before after (ending f a named)
-  Makes-ending named can on same_number same_frames same_processors resting goes_on allowed stands made may some before after frames_allow frames_after = record {
-    same_call = record { processor = refl; number = refl; call = refl };
-    same_space = same_number;
-    same_count = same_frames;
-    same_processors = same_processors;
-    processor = refl;
-    parts = refl;
-    own_space = on;
-    space_allows = (goes_on, allowed);
-    frames_allow = frames_allow;
-    frames_after = frames_after;
-    in_order =
-        ap (λ b. leads b ((row_of f).progress.made + 1) Idle) (and_from _ _ (eq-eqb f.number (row_of f).progress.made (sym made)) may)
-        ∙ ap (λ n. Some (let p : Progress = record { made = n + 1; doing = Idle } in p)) made;
-    reply = refl;
-    answer = refl;
-    left = (
-      record { can = can; phase = tt },
-      subst (IsAtRest now) (sym (cond-true (eqb (space_of_call f.call) was.number) (space_after st (ending f a named)) st (eq-eqb _ _ on)))
-          (record { resting = resting; stands = stands; next = refl }),
-    );
-    between = refl;
-    fewer = some;
+      → Makes (in_phase f from) (in_phase f (Ended a.reply)) was now st before after (ending f a named)
+  Makes-ending named ends before after frames_allow frames_after = record {
+    entry = record {
+      same_work = same_work f from (Ended a.reply);
+      processor = refl;
+      parts = refl;
+      frames_allow = frames_allow;
+      frames_after = frames_after;
+      in_order =
+          ap (λ b. leads b ((row_of (in_phase f from)).progress.made + 1) Idle) (and_from _ _ (eq-eqb f.number (row_of (in_phase f from)).progress.made (sym ends.made)) ends.may)
+          ∙ ap (λ n. Some (let p : Progress = record { made = n + 1; doing = Idle } in p)) ends.made;
+      reply = refl;
+      answer = refl;
+      between = refl;
+      fewer = ends.some;
+    };
+    space = Leaves-on (in_phase f (Ended a.reply)) was now st f.processor (space_of_call (call_in f.purpose)) named (Answer f.number (call_in f.purpose) a) ends.on ends.same_space (ends.goes_on, ends.allowed) (record {
+      fits = record { of_call = refl; can = ends.can; phase = tt };
+      stands = ends.stands;
+      next = refl;
+      found = ends.resting;
+      keeps = inr (refl, refl, ends.resting);
+    });
   }
 
   -- one that leaves the frames alone
-  pub Makes-answer :
-      CanBegin f.call → space_of_call f.call ≡ was.number → now.number ≡ was.number → now.frames ≡ was.frames → length now.images ≡ length was.images → IsResting now
-      → MayGoOn st.next f.processor (Answer f.number f.call a)
-      → WhatAllowed st false f.processor (Answer f.number f.call a)
-      → StandsFor now (space_after st (answer_entry f.processor f.number f.call a))
-      → (row_of f).progress.made ≡ f.number
-      → may_answer (row_of f).progress.doing f.call a.reply ≡ true
-      → 0 < (row_of f).entries
-      → (frames : FrameState) → Makes f (in_phase f (Ended a.reply)) was now st frames frames (answer_entry f.processor f.number f.call a)
-  Makes-answer can on same_number same_frames same_processors resting goes_on allowed stands made may some frames =
-      Makes-ending false can on same_number same_frames same_processors resting goes_on allowed stands made may some frames frames (λ is. absurd (false≢true is)) refl
+  pub Makes-answer : MayEnd f from a false was now st → (frames : FrameState) → Makes (in_phase f from) (in_phase f (Ended a.reply)) was now st frames frames (answer_entry f.processor f.number (call_in f.purpose) a)
+  Makes-answer ends frames = Makes-ending false ends frames frames (λ named. absurd (false≢true named)) refl
 
 -- Start: the call is answered at once
-Makes-begin : (f : Flight) (a : Answered) (was now : Kept) (st : SpaceState) → IsReady (in_phase f Start) was st → BeginsAnswered was now f.processor f.call a → (frames : FrameState) → Makes (in_phase f Start) (in_phase f (Ended a.reply)) was now st frames frames (answer_entry f.processor f.number f.call a)
-Makes-begin f a was now st ready begins =
-    Makes-answer (in_phase f Start) a was now st ready.fits.can (same_Some _ _ ready.under) begins.same_number begins.same_frames begins.same_processors begins.resting
-    (subst (λ next. MayGoOn next f.processor (Answer f.number f.call a)) (sym ready.next) tt)
-    (begins.answers.allowed st ready.stands f.number) (begins.answers.stands st ready.stands f.number)
-    refl begins.alone (omega arith)
+MayEnd-begin : (f : Flight) (a : Answered) (was now : Kept) (st : SpaceState) → IsReady (in_phase f Start) was st → BeginsAnswered was now f.processor (call_in f.purpose) a → MayEnd f Start a false was now st
+MayEnd-begin f a was now st ready begins = record {
+  can = ready.fits.can;
+  on = same_Some _ _ ready.under;
+  same_space = record { number = begins.same_number; frames = begins.same_frames; processors = begins.same_processors };
+  resting = begins.resting;
+  goes_on = subst (λ next. MayGoOn next f.processor (Answer f.number (call_in f.purpose) a)) (sym ready.next) tt;
+  allowed = begins.answers.allowed st ready.stands f.number;
+  stands = begins.answers.stands st ready.stands f.number;
+  made = refl;
+  may = begins.alone;
+  some = omega arith;
+}
 
-pub start_answered : (f : Flight) (a : Answered) (was now : Kept) → f.phase ≡ Start → BeginsAnswered was now f.processor f.call a → (st : SpaceState) (frames : FrameState) → IsReady f was st → Makes f (in_phase f (Ended a.reply)) was now st frames frames (answer_entry f.processor f.number f.call a)
+pub start_answered : (f : Flight) (a : Answered) (was now : Kept) → f.phase ≡ Start → BeginsAnswered was now f.processor (call_in f.purpose) a → (st : SpaceState) (frames : FrameState) → IsReady f was st → Makes f (with_phase f (Ended a.reply)) was now st frames frames (answer_entry f.processor f.number (call_in f.purpose) a)
 start_answered f a was now phase begins st frames =
-    by_phase f Start phase (λ g. IsReady g was st → Makes g (in_phase f (Ended a.reply)) was now st frames frames (answer_entry f.processor f.number f.call a))
-    (λ ready. Makes-begin f a was now st ready begins frames)
+    by_ready f Start was st phase (λ g to. Makes g (to (Ended a.reply)) was now st frames frames (answer_entry f.processor f.number (call_in f.purpose) a))
+    (λ ready. Makes-answer f Start a was now st (MayEnd-begin f a was now st ready begins) frames)
 
 -- the first element that does does
 find_does : {X : Type 0} (p : X → Bool) (xs : List X) (x : X) → find p xs ≡ Some x → p x ≡ true
@@ -114,29 +111,34 @@ pub region_at-has : (regions : List Region) (page : ℕ) (r : Region) → region
 region_at-has regions page r is = find_does (has_page page) regions r is
 
 -- Gone: the region is taken away
-Makes-unmap : (f : Flight) (s page first len : ℕ) (a : Answered) (was now : Kept) (st : SpaceState) → f.call ≡ Unmap s page → IsReady (in_phase f (Gone first len)) was st → Unmapped was now page a → (frames : FrameState) → Makes (in_phase f (Gone first len)) (in_phase f (Ended a.reply)) was now st frames frames (answer_entry f.processor f.number f.call a)
-Makes-unmap f s page first len a was now st call ready unmapped =
+MayEnd-unmap : (f : Flight) (s page first len : ℕ) (a : Answered) (was now : Kept) (st : SpaceState) → call_in f.purpose ≡ Unmap s page → IsReady (in_phase f (Gone first len)) was st → Unmapped was now page a → MayEnd f (Gone first len) a false was now st
+MayEnd-unmap f s page first len a was now st call ready unmapped =
     let is = ready.found.unmapping in
     let r = is.region in
     let same : page ≡ is.page = (let both : Unmap s page ≡ Unmap is.space is.page = sym call ∙ is.is_unmap in cc) in
     let at : region_at was.regions page ≡ Some r = ap (region_at was.regions) same ∙ is.at in
-    let own : f.call ≡ Unmap was.number page = call ∙ ap (λ n. Unmap n page) (sym (ap space_of_call call) ∙ same_Some _ _ ready.under) in
+    let own : call_in f.purpose ≡ Unmap was.number page = call ∙ ap (λ n. Unmap n page) (sym (ap space_of_call call) ∙ same_Some _ _ ready.under) in
     let within : in_range first len page ≡ true = sym (ap (λ n. in_range n r.length page) is.first_is ∙ ap (λ n. in_range first n page) is.length_is) ∙ region_at-has was.regions page r at in
     let next : st.next ≡ AfterClear f.processor r.first r.length = ready.next ∙ sym (ap (λ n. AfterClear f.processor n r.length) is.first_is ∙ ap (AfterClear f.processor first) is.length_is) in
-    Makes-answer (in_phase f (Gone first len)) a was now st ready.fits.can (same_Some _ _ ready.under) unmapped.same_number unmapped.same_frames unmapped.same_processors unmapped.resting
-    (subst (λ next. MayGoOn next f.processor (Answer f.number f.call a)) (sym ready.next)
-    (refl, subst (λ k. IsUnmapOf first len k a.reply) (sym own) (subst (IsUnmapOf first len (Unmap was.number page)) (sym unmapped.done) within)))
-    (subst (λ k. WhatAllowed st false f.processor (Answer f.number k a)) (sym own) (unmapped.allowed st ready.stands f.processor f.number r at next))
-    (subst (λ k. StandsFor now (space_after st (answer_entry f.processor f.number k a))) (sym own) (unmapped.stands st ready.stands f.processor f.number))
-    refl
-    (subst (λ k. may_answer (Cleared (space_of_call k) first len) k a.reply ≡ true) (sym own)
-    (and_from _ _ (and_from _ _ (eq-eqb was.number was.number refl) within) (ap is_done unmapped.done)))
-    (omega arith)
+    record {
+      can = ready.fits.can;
+      on = same_Some _ _ ready.under;
+      same_space = record { number = unmapped.same_number; frames = unmapped.same_frames; processors = unmapped.same_processors };
+      resting = unmapped.resting;
+      goes_on = subst (λ next. MayGoOn next f.processor (Answer f.number (call_in f.purpose) a)) (sym ready.next)
+          (refl, subst (λ k. IsUnmapOf first len k a.reply) (sym own) (subst (IsUnmapOf first len (Unmap was.number page)) (sym unmapped.done) within));
+      allowed = subst (λ k. WhatAllowed st false f.processor (Answer f.number k a)) (sym own) (unmapped.allowed st ready.stands f.processor f.number r at next);
+      stands = subst (λ k. StandsFor now (space_after st (answer_entry f.processor f.number k a))) (sym own) (unmapped.stands st ready.stands f.processor f.number);
+      made = refl;
+      may = subst (λ k. may_answer (Cleared (space_of_call k) first len) k a.reply ≡ true) (sym own)
+          (and_from _ _ (and_from _ _ (eq-eqb was.number was.number refl) within) (ap is_done unmapped.done));
+      some = omega arith;
+    }
 
-pub unmap_answered : (f : Flight) (s page first len : ℕ) (a : Answered) (was now : Kept) → f.phase ≡ Gone first len → f.call ≡ Unmap s page → Unmapped was now page a → (st : SpaceState) (frames : FrameState) → IsReady f was st → Makes f (in_phase f (Ended a.reply)) was now st frames frames (answer_entry f.processor f.number f.call a)
+pub unmap_answered : (f : Flight) (s page first len : ℕ) (a : Answered) (was now : Kept) → f.phase ≡ Gone first len → call_in f.purpose ≡ Unmap s page → Unmapped was now page a → (st : SpaceState) (frames : FrameState) → IsReady f was st → Makes f (with_phase f (Ended a.reply)) was now st frames frames (answer_entry f.processor f.number (call_in f.purpose) a)
 unmap_answered f s page first len a was now phase call unmapped st frames =
-    by_phase f (Gone first len) phase (λ g. IsReady g was st → Makes g (in_phase f (Ended a.reply)) was now st frames frames (answer_entry f.processor f.number f.call a))
-    (λ ready. Makes-unmap f s page first len a was now st call ready unmapped frames)
+    by_ready f (Gone first len) was st phase (λ g to. Makes g (to (Ended a.reply)) was now st frames frames (answer_entry f.processor f.number (call_in f.purpose) a))
+    (λ ready. Makes-answer f (Gone first len) a was now st (MayEnd-unmap f s page first len a was now st call ready unmapped) frames)
 
 -- a load or a store is the access that it makes
 pub is_access_of : (call : Call) (claimed : Bool) → is_access call ≡ true → is_access_at (access_of call claimed) call ≡ true
@@ -175,27 +177,41 @@ alone_plain (Store space address word) reply is alone = alone
 alone_plain call reply is alone = absurd (false≢true is)
 
 -- Late: the access is answered, as it would be if it began now
-Makes-late : (f : Flight) (a : Answered) (was now : Kept) (st : SpaceState) → IsReady (in_phase f Late) was st → BeginsAnswered was now f.processor f.call a → (frames : FrameState) → Makes (in_phase f Late) (in_phase f (Ended a.reply)) was now st frames frames (answer_entry f.processor f.number f.call a)
-Makes-late f a was now st ready begins =
-    Makes-answer (in_phase f Late) a was now st ready.fits.can (same_Some _ _ ready.under) begins.same_number begins.same_frames begins.same_processors begins.resting
-    (subst (λ next. MayGoOn next f.processor (Answer f.number f.call a)) (sym ready.next) tt)
-    (begins.answers.allowed st ready.stands f.number) (begins.answers.stands st ready.stands f.number)
-    refl (and_from _ _ (is_access_of f.call f.claimed ready.fits.phase) (alone_plain f.call a.reply ready.fits.phase begins.alone)) (omega arith)
+MayEnd-late : (f : Flight) (a : Answered) (was now : Kept) (st : SpaceState) → IsReady (in_phase f Late) was st → BeginsAnswered was now f.processor (call_in f.purpose) a → MayEnd f Late a false was now st
+MayEnd-late f a was now st ready begins = record {
+  can = ready.fits.can;
+  on = same_Some _ _ ready.under;
+  same_space = record { number = begins.same_number; frames = begins.same_frames; processors = begins.same_processors };
+  resting = begins.resting;
+  goes_on = subst (λ next. MayGoOn next f.processor (Answer f.number (call_in f.purpose) a)) (sym ready.next) tt;
+  allowed = begins.answers.allowed st ready.stands f.number;
+  stands = begins.answers.stands st ready.stands f.number;
+  made = refl;
+  may = and_from _ _ (is_access_of (call_in f.purpose) (claimed_in f.purpose) ready.fits.phase) (alone_plain (call_in f.purpose) a.reply ready.fits.phase begins.alone);
+  some = omega arith;
+}
 
-pub late_answered : (f : Flight) (a : Answered) (was now : Kept) → f.phase ≡ Late → BeginsAnswered was now f.processor f.call a → (st : SpaceState) (frames : FrameState) → IsReady f was st → Makes f (in_phase f (Ended a.reply)) was now st frames frames (answer_entry f.processor f.number f.call a)
+pub late_answered : (f : Flight) (a : Answered) (was now : Kept) → f.phase ≡ Late → BeginsAnswered was now f.processor (call_in f.purpose) a → (st : SpaceState) (frames : FrameState) → IsReady f was st → Makes f (with_phase f (Ended a.reply)) was now st frames frames (answer_entry f.processor f.number (call_in f.purpose) a)
 late_answered f a was now phase begins st frames =
-    by_phase f Late phase (λ g. IsReady g was st → Makes g (in_phase f (Ended a.reply)) was now st frames frames (answer_entry f.processor f.number f.call a))
-    (λ ready. Makes-late f a was now st ready begins frames)
+    by_ready f Late was st phase (λ g to. Makes g (to (Ended a.reply)) was now st frames frames (answer_entry f.processor f.number (call_in f.purpose) a))
+    (λ ready. Makes-answer f Late a was now st (MayEnd-late f a was now st ready begins) frames)
 
 -- Fill: the access is served
-Makes-fill : (f : Flight) (page frame : ℕ) (a : Answered) (was mid now : Kept) (st : SpaceState) → IsReady (in_phase f (Fill page frame)) was st → ReadsIn was mid → Finishes mid now f.processor f.call a → (frames : FrameState) → Makes (in_phase f (Fill page frame)) (in_phase f (Ended a.reply)) was now st frames frames (answer_entry f.processor f.number f.call a)
-Makes-fill f page frame a was mid now st ready reads finishes =
-    Makes-answer (in_phase f (Fill page frame)) a was now st ready.fits.can (same_Some _ _ ready.under) (finishes.same.same.number ∙ reads.same.same.number) (finishes.same.same.frames ∙ reads.same.same.frames) (finishes.same.same.processors ∙ reads.same.same.processors) finishes.resting
-    (subst (λ next. MayGoOn next f.processor (Answer f.number f.call a)) (sym ready.next) refl)
-    (finishes.answers.allowed st (reads.stands st ready.stands) f.number) (finishes.answers.stands st (reads.stands st ready.stands) f.number)
-    refl (and_from _ _ (is_access_of f.call f.claimed (is_access_by_page f.call page ready.found.lawful.page_is)) finishes.served) (omega arith)
+MayEnd-fill : (f : Flight) (page frame : ℕ) (a : Answered) (was mid now : Kept) (st : SpaceState) → IsReady (in_phase f (Fill page frame)) was st → ReadsIn was mid → Finishes mid now f.processor (call_in f.purpose) a → MayEnd f (Fill page frame) a false was now st
+MayEnd-fill f page frame a was mid now st ready reads finishes = record {
+  can = ready.fits.can;
+  on = same_Some _ _ ready.under;
+  same_space = same_space-on (same_space reads.same.same) (same_space finishes.same.same);
+  resting = finishes.resting;
+  goes_on = subst (λ next. MayGoOn next f.processor (Answer f.number (call_in f.purpose) a)) (sym ready.next) refl;
+  allowed = finishes.answers.allowed st (reads.stands st ready.stands) f.number;
+  stands = finishes.answers.stands st (reads.stands st ready.stands) f.number;
+  made = refl;
+  may = and_from _ _ (is_access_of (call_in f.purpose) (claimed_in f.purpose) (is_access_by_page (call_in f.purpose) page ready.found.lawful.page_is)) finishes.served;
+  some = omega arith;
+}
 
-pub fill_answered : (f : Flight) (page frame : ℕ) (a : Answered) (was mid now : Kept) → f.phase ≡ Fill page frame → ReadsIn was mid → Finishes mid now f.processor f.call a → (st : SpaceState) (frames : FrameState) → IsReady f was st → Makes f (in_phase f (Ended a.reply)) was now st frames frames (answer_entry f.processor f.number f.call a)
+pub fill_answered : (f : Flight) (page frame : ℕ) (a : Answered) (was mid now : Kept) → f.phase ≡ Fill page frame → ReadsIn was mid → Finishes mid now f.processor (call_in f.purpose) a → (st : SpaceState) (frames : FrameState) → IsReady f was st → Makes f (with_phase f (Ended a.reply)) was now st frames frames (answer_entry f.processor f.number (call_in f.purpose) a)
 fill_answered f page frame a was mid now phase reads finishes st frames =
-    by_phase f (Fill page frame) phase (λ g. IsReady g was st → Makes g (in_phase f (Ended a.reply)) was now st frames frames (answer_entry f.processor f.number f.call a))
-    (λ ready. Makes-fill f page frame a was mid now st ready reads finishes frames)
+    by_ready f (Fill page frame) was st phase (λ g to. Makes g (to (Ended a.reply)) was now st frames frames (answer_entry f.processor f.number (call_in f.purpose) a))
+    (λ ready. Makes-answer f (Fill page frame) a was now st (MayEnd-fill f page frame a was mid now st ready reads finishes) frames)

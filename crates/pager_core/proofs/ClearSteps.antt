@@ -1,5 +1,5 @@
 -- A region's pages give their frames up, the lowest first, until none is resident.
-use Rattle.std.proofs.Common.{◌≡◌, ℕ, ◌+◌, ◌<◌, ◌≤◌, true, false, cond, eqb, leb, ltb, ◌&&◌, length, is_some, None, refl, ap, sym, subst, ◌∙◌, inl, inr, arith}
+use Rattle.std.proofs.Common.{◌≡◌, ℕ, ◌+◌, ◌<◌, ◌≤◌, true, false, cond, eqb, leb, ltb, ◌&&◌, is_some, Some, None, refl, ap, sym, subst, ◌∙◌, inl, inr, arith}
 use Rattle.std.specs.List.{range_with_len, count_by}
 use Rattle.std.proofs.lemmas.Bool.{cases_eq, cond-true, cond-false, and_parts, and_from, and_right, eq-eqb, ne_eqb, le-leb, leb-true, lt-ltb, ltb-true, false≢true}
 use Rattle.std.proofs.lemmas.Option.{same_Some}
@@ -8,7 +8,7 @@ use Rattle.pager_model.specs.Flat.{space_of_call}
 use Rattle.pager_model.specs.FrameStates.{FrameState, frame_of, counted, give_page, give_range}
 use Rattle.pager_model.specs.Layouts.{covering}
 use Rattle.pager_model.specs.Regions.{region_at}
-use Rattle.pager_model.specs.SpaceStates.{SpaceState, IsRegionOf}
+use Rattle.pager_model.specs.SpaceStates.{SpaceState, IsRegionOf, MayGoOn}
 use Rattle.pager_model.proofs.CountLemmas.{count-one_more}
 use Rattle.pager_model.proofs.FrameEntries.{given_in-entries}
 use Rattle.space_core.specs.Beginning.{IsUnmapping, ClearsOne, ClearsNone}
@@ -17,19 +17,18 @@ use Rattle.pager_model.specs.CallEntries.{clear_entry}
 use Rattle.pager_core.specs.declared.flight.Flight.{Flight}
 use Rattle.pager_core.specs.declared.flight.Phase.TheVariants.{Clear, Gone}
 use Rattle.pager_core.specs.Flights.{IsReady}
-use Rattle.pager_core.specs.Steps.{Makes}
-use Rattle.pager_core.proofs.AnswerSteps.{in_phase, by_phase}
-use Rattle.pager_core.proofs.EntrySteps.{Leads, Makes-going}
+use Rattle.pager_core.specs.Rows.{call_in}
+use Rattle.pager_core.specs.Steps.{Makes, SameSpace}
+use Rattle.pager_core.proofs.EntrySteps.{Leaves-on, same_space, same_space-on}
 use Rattle.pager_core.proofs.GivenRanges.{give_range-none, give_range-lowest}
+use Rattle.pager_core.proofs.Purposes.{in_phase, with_phase, same_work, by_ready}
 
 -- One page after another.
 
 -- Some pages of a range gave their frames up, the lowest first: the space stands for the same entries but for the range, it and the
 -- frames agree, and the pages that are left lead to the same state of the frames.
 pub record IsClearing (was : Kept) (before : FrameState) (now : Kept) (pool : FrameState) (first len : ℕ) : Type 0 where
-  pub same_number : now.number ≡ was.number
-  pub same_frames : now.frames ≡ was.frames
-  pub same_processors : length now.images ≡ length was.images
+  pub same_space : SameSpace was now
   pub same_regions : now.regions ≡ was.regions
   pub same_pending : now.pending ≡ was.pending
   pub same_paged : now.paged ≡ was.paged
@@ -45,9 +44,7 @@ module _ (was kept now : Kept) (before pool after : FrameState) (first len page 
       → ((s p : ℕ) → frame_of after s p ≡ cond (eqb own s && eqb p page) None (frame_of pool s p))
       → IsClearing was before now after first len
   IsClearing-next so_far clears same given places = record {
-    same_number = clears.gave.same.number ∙ so_far.same_number;
-    same_frames = clears.gave.same.frames ∙ so_far.same_frames;
-    same_processors = clears.gave.same.processors ∙ so_far.same_processors;
+    same_space = same_space-on so_far.same_space (same_space clears.gave.same);
     same_regions = clears.gave.same.regions ∙ so_far.same_regions;
     same_pending = clears.same_pending ∙ so_far.same_pending;
     same_paged = clears.same_paged ∙ so_far.same_paged;
@@ -127,59 +124,60 @@ StandsBut-rest kept st first len resting stands = record {
     closed page = ap (λ o. is_in o page) resting.none_clearing
 
 -- the flight's space is the call's
-pub on_clear : (f : Flight) (first len : ℕ) (was : Kept) (st : SpaceState) → f.phase ≡ Clear first len → IsReady f was st → space_of_call f.call ≡ was.number
-on_clear f first len was st phase =
-    by_phase f (Clear first len) phase (λ g. IsReady g was st → space_of_call f.call ≡ was.number) (λ ready. same_Some _ _ ready.under)
+pub on_clear : (f : Flight) (first len : ℕ) (was : Kept) (st : SpaceState) → f.phase ≡ Clear first len → IsReady f was st → space_of_call (call_in f.purpose) ≡ was.number
+on_clear f first len was st phase = by_ready f (Clear first len) was st phase (λ g to. space_of_call (call_in f.purpose) ≡ was.number) (λ ready. same_Some _ _ ready.under)
 
--- Clear: the pages of the region gave their frames up
-Leads-clear : (f : Flight) (first len : ℕ) → Leads f (Clear first len) (Gone first len) (space_of_call f.call) true (ClearEntry first len)
-Leads-clear f first len = record {
-  goes_on = tt;
-  parts = ((space_of_call f.call, refl), refl);
-  in_order = refl;
-  next = refl;
-  needs = refl;
-  keeps = refl;
-  reply = refl;
-  answer = refl;
-  between = refl;
-  fewer = omega arith;
-}
-
--- No page of the range is left.
+-- Clear: the pages of the region gave their frames up, and none is left
 module _ (f : Flight) (first len : ℕ) (was kept now : Kept) (before pool : FrameState) where
   Makes-clear :
       (st : SpaceState) → IsReady (in_phase f (Clear first len)) was st → IsClearing was before kept pool first len → ClearsNone kept now first len
-      → Makes (in_phase f (Clear first len)) (in_phase f (Gone first len)) was now st before (counted pool) (clear_entry f.processor (space_of_call f.call) first len)
-  Makes-clear st ready so_far clears =
-      Makes-going f (Clear first len) (Gone first len) (space_of_call f.call) true (ClearEntry first len) was now st ready (Leads-clear f first len)
-      on (clears.same.same.number ∙ so_far.same_number) (clears.same.same.frames ∙ so_far.same_frames) (clears.same.same.processors ∙ so_far.same_processors)
-      (subst (λ o. IsRegionOf o first len) (sym (ap (λ rs. region_at rs first) ready.stands.beside.regions ∙ is.at_first)) (is.first_is, is.length_is))
-      (clears.stands st f.processor (so_far.stands st (StandsBut-rest was st first len ready.found.resting ready.stands)))
-      tt
-      (record {
-        unmapping = unmapping;
-        none_pending = clears.same_pending ∙ so_far.same_pending ∙ ready.found.resting.none_pending;
-        none_paged = clears.same_paged ∙ so_far.same_paged ∙ ready.found.resting.none_paged;
-        clearing = clears.clearing is.region (ap (λ rs. region_at rs first) so_far.same_regions ∙ is.at_first);
-        none = clears.none;
-      })
-      before (counted pool) (λ named. tt)
-      (ap counted
-      (sym (give_range-none was.number pool first len (λ p over under. sym (so_far.agrees p) ∙ sym (clears.same.frame p) ∙ clears.none p (and_from _ _ (le-leb first p over) (lt-ltb p (first + len) under))))
-      ∙ so_far.leads
-      ∙ ap (λ s. give_range before s first len) (sym on)))
+      → Makes (in_phase f (Clear first len)) (in_phase f (Gone first len)) was now st before (counted pool) (clear_entry f.processor (space_of_call (call_in f.purpose)) first len)
+  Makes-clear st ready so_far clears = record {
+    entry = record {
+      same_work = same_work f (Clear first len) (Gone first len);
+      processor = refl;
+      parts = ((space_of_call (call_in f.purpose), refl), refl);
+      frames_allow = λ named. tt;
+      frames_after = ap counted
+          (sym (give_range-none was.number pool first len (λ p over under. sym (so_far.agrees p) ∙ sym (clears.same.frame p) ∙ clears.none p (and_from _ _ (le-leb first p over) (lt-ltb p (first + len) under))))
+          ∙ so_far.leads
+          ∙ ap (λ s. give_range before s first len) (sym on));
+      in_order = refl;
+      reply = refl;
+      answer = refl;
+      between = refl;
+      fewer = omega arith;
+    };
+    space = Leaves-on (in_phase f (Gone first len)) was now st f.processor (space_of_call (call_in f.purpose)) true (ClearEntry first len) on
+        (same_space-on so_far.same_space (same_space clears.same.same)) (
+          subst (λ next. MayGoOn next f.processor (ClearEntry first len)) (sym ready.next) tt,
+          subst (λ o. IsRegionOf o first len) (sym (ap (λ rs. region_at rs first) ready.stands.beside.regions ∙ is.at_first)) (is.first_is, is.length_is),
+        )
+        (record {
+          fits = record { of_call = refl; can = ready.fits.can; phase = tt };
+          stands = clears.stands st f.processor (so_far.stands st (StandsBut-rest was st first len ready.found.resting ready.stands));
+          next = refl;
+          found = record {
+            unmapping = unmapping;
+            none_pending = clears.same_pending ∙ so_far.same_pending ∙ ready.found.resting.none_pending;
+            none_paged = clears.same_paged ∙ so_far.same_paged ∙ ready.found.resting.none_paged;
+            clearing = clears.clearing is.region (ap (λ rs. region_at rs first) so_far.same_regions ∙ is.at_first);
+            none = clears.none;
+          };
+          keeps = inl (ap Some (on ∙ sym (clears.same.same.number ∙ so_far.same_space.number)));
+        });
+  }
     where
-      on : space_of_call f.call ≡ was.number
+      on : space_of_call (call_in f.purpose) ≡ was.number
       on = same_Some _ _ ready.under
 
       same_regions : now.regions ≡ was.regions
       same_regions = clears.same.same.regions ∙ so_far.same_regions
 
-      is : IsUnmapping was f.call first len
+      is : IsUnmapping was (call_in f.purpose) first len
       is = ready.found.unmapping
 
-      unmapping : IsUnmapping now f.call first len
+      unmapping : IsUnmapping now (call_in f.purpose) first len
       unmapping = record {
         space = is.space;
         page = is.page;
@@ -192,7 +190,7 @@ module _ (f : Flight) (first len : ℕ) (was kept now : Kept) (before pool : Fra
         in_space = is.in_space;
       }
 
-pub range_cleared : (f : Flight) (first len : ℕ) (was kept now : Kept) (before pool : FrameState) → f.phase ≡ Clear first len → IsClearing was before kept pool first len → ClearsNone kept now first len → (st : SpaceState) → IsReady f was st → Makes f (in_phase f (Gone first len)) was now st before (counted pool) (clear_entry f.processor (space_of_call f.call) first len)
+pub range_cleared : (f : Flight) (first len : ℕ) (was kept now : Kept) (before pool : FrameState) → f.phase ≡ Clear first len → IsClearing was before kept pool first len → ClearsNone kept now first len → (st : SpaceState) → IsReady f was st → Makes f (with_phase f (Gone first len)) was now st before (counted pool) (clear_entry f.processor (space_of_call (call_in f.purpose)) first len)
 range_cleared f first len was kept now before pool phase so_far clears st =
-    by_phase f (Clear first len) phase (λ g. IsReady g was st → Makes g (in_phase f (Gone first len)) was now st before (counted pool) (clear_entry f.processor (space_of_call f.call) first len))
+    by_ready f (Clear first len) was st phase (λ g to. Makes g (to (Gone first len)) was now st before (counted pool) (clear_entry f.processor (space_of_call (call_in f.purpose)) first len))
     (λ ready. Makes-clear f first len was kept now before pool st ready so_far clears)

@@ -14,21 +14,22 @@ use Rattle.space_core.specs.Standing.{Kept, StandsFor, dirty_at}
 use Rattle.pager_core.specs.declared.flight.Flight.{Flight}
 use Rattle.pager_core.specs.declared.flight.Phase.TheVariants.{Start, Evict, Ended}
 use Rattle.pager_core.specs.Flights.{IsReady}
+use Rattle.pager_core.specs.Rows.{call_in}
 use Rattle.pager_core.specs.Steps.{AreAgreed, Makes, Passes}
-use Rattle.pager_core.proofs.AnswerSteps.{in_phase, by_phase, ending, Makes-ending}
+use Rattle.pager_core.proofs.AnswerSteps.{MayEnd, ending, Makes-ending}
+use Rattle.pager_core.proofs.EntrySteps.{same_space}
+use Rattle.pager_core.proofs.Purposes.{in_phase, with_phase, same_work, by_ready}
 
 -- Start: the page is equal to its copy, and gives its frame up next
-Passes-evicting : (f : Flight) (page : ℕ) (written : Bool) (was now : Kept) (st : SpaceState) → IsReady (in_phase f Start) was st → BeginsEvicting was now f.call page written → Passes (in_phase f Start) (in_phase f (Evict page)) was now st
+Passes-evicting : (f : Flight) (page : ℕ) (written : Bool) (was now : Kept) (st : SpaceState) → IsReady (in_phase f Start) was st → BeginsEvicting was now (call_in f.purpose) page written → Passes (in_phase f Start) (in_phase f (Evict page)) was now st
 Passes-evicting f page written was now st ready begins = record {
-  same_call = record { processor = refl; number = refl; call = refl };
-  same_space = begins.same.same.number;
-  same_count = begins.same.same.frames;
-  same_processors = begins.same.same.processors;
+  same_work = same_work f Start (Evict page);
+  same_space = same_space begins.same.same;
   same_frames = begins.same.frame;
   keeps = ready.under;
   ready = record {
     under = on_now;
-    fits = record { can = ready.fits.can; phase = tt };
+    fits = record { of_call = refl; can = ready.fits.can; phase = tt };
     stands = begins.stands st ready.stands;
     next = ready.next;
     found = record {
@@ -37,17 +38,16 @@ Passes-evicting f page written was now st ready begins = record {
     };
   };
   same_progress = refl;
-  no_reply = refl;
+  going = refl;
   no_more = omega arith;
 }
   where
-    on_now : Some (space_of_call f.call) ≡ Some now.number
+    on_now : Some (space_of_call (call_in f.purpose)) ≡ Some now.number
     on_now = ready.under ∙ ap Some (sym begins.same.same.number)
 
-pub begin_evicting : (f : Flight) (page : ℕ) (written : Bool) (was now : Kept) → f.phase ≡ Start → BeginsEvicting was now f.call page written → (st : SpaceState) → IsReady f was st → Passes f (in_phase f (Evict page)) was now st
+pub begin_evicting : (f : Flight) (page : ℕ) (written : Bool) (was now : Kept) → f.phase ≡ Start → BeginsEvicting was now (call_in f.purpose) page written → (st : SpaceState) → IsReady f was st → Passes f (with_phase f (Evict page)) was now st
 begin_evicting f page written was now phase begins st =
-    by_phase f Start phase (λ g. IsReady g was st → Passes g (in_phase f (Evict page)) was now st)
-    (λ ready. Passes-evicting f page written was now st ready begins)
+    by_ready f Start was st phase (λ g to. Passes g (to (Evict page)) was now st) (λ ready. Passes-evicting f page written was now st ready begins)
 
 -- a page that was written, or was clean, is the answer alone
 copied_alone : (space page : ℕ) (written : Bool) → may_answer Idle (EvictCall space page) (copied_reply written) ≡ true
@@ -58,23 +58,28 @@ copied_alone space page false = refl
 module _ (f : Flight) (page frame : ℕ) (a : Answered) (was now : Kept) (st : SpaceState) (before : FrameState) where
   Makes-evict :
       IsReady (in_phase f (Evict page)) was st → AreAgreed was before → Evicts was now page frame a
-      → Makes (in_phase f (Evict page)) (in_phase f (Ended a.reply)) was now st before (counted (give_page before (space_of_call f.call) page)) (ending f a true)
+      → Makes (in_phase f (Evict page)) (in_phase f (Ended a.reply)) was now st before (counted (give_page before (space_of_call (call_in f.purpose)) page)) (ending f a true)
   Makes-evict ready agree evicts =
-      let own : f.call ≡ EvictCall was.number page = ready.found.is_evict in
-      let on : space_of_call f.call ≡ was.number = same_Some _ _ ready.under in
-      Makes-ending (in_phase f (Evict page)) a was now st true ready.fits.can on evicts.gave.same.number evicts.gave.same.frames evicts.gave.same.processors evicts.resting
-      (subst (λ next. MayGoOn next f.processor (Answer f.number f.call a)) (sym ready.next) tt)
-      (subst (λ k. WhatAllowed st true f.processor (Answer f.number k a)) (sym own) (evicts.allowed st ready.stands f.processor f.number))
-      (subst (λ k. StandsFor now (space_after st (let e : Entry = record { processor = f.processor; space = Some was.number; frames = true; what = Answer f.number k a } in e))) (sym own)
-      (evicts.stands st ready.stands f.processor f.number))
-      refl
-      (subst (λ k. may_answer Idle k a.reply ≡ true) (sym own) (subst (λ r. may_answer Idle (EvictCall was.number page) r ≡ true) (sym evicts.replied) (copied_alone was.number page (dirty_at was page))))
-      (omega arith)
-      before (counted (give_page before (space_of_call f.call) page))
-      (λ named. subst (AllowsAnswer before (space_of_call f.call)) (sym own) (frame, ap (λ s. frame_of before s page) on ∙ sym (agree.pages page) ∙ evicts.gave.had))
-      (ap (λ k. counted (moved_by_answer before (space_of_call f.call) k)) (sym own))
+      let own : call_in f.purpose ≡ EvictCall was.number page = ready.found.is_evict in
+      let on : space_of_call (call_in f.purpose) ≡ was.number = same_Some _ _ ready.under in
+      let ends : MayEnd f (Evict page) a true was now st = record {
+        can = ready.fits.can;
+        on = on;
+        same_space = same_space evicts.gave.same;
+        resting = evicts.resting;
+        goes_on = subst (λ next. MayGoOn next f.processor (Answer f.number (call_in f.purpose) a)) (sym ready.next) tt;
+        allowed = subst (λ k. WhatAllowed st true f.processor (Answer f.number k a)) (sym own) (evicts.allowed st ready.stands f.processor f.number);
+        stands = subst (λ k. StandsFor now (space_after st (let e : Entry = record { processor = f.processor; space = Some was.number; frames = true; what = Answer f.number k a } in e))) (sym own)
+            (evicts.stands st ready.stands f.processor f.number);
+        made = refl;
+        may = subst (λ k. may_answer Idle k a.reply ≡ true) (sym own) (subst (λ r. may_answer Idle (EvictCall was.number page) r ≡ true) (sym evicts.replied) (copied_alone was.number page (dirty_at was page)));
+        some = omega arith;
+      } in
+      Makes-ending f (Evict page) a was now st true ends before (counted (give_page before (space_of_call (call_in f.purpose)) page))
+      (λ named. subst (AllowsAnswer before (space_of_call (call_in f.purpose))) (sym own) (frame, ap (λ s. frame_of before s page) on ∙ sym (agree.pages page) ∙ evicts.gave.had))
+      (ap (λ k. counted (moved_by_answer before (space_of_call (call_in f.purpose)) k)) (sym own))
 
-pub page_evicted : (f : Flight) (page frame : ℕ) (a : Answered) (was now : Kept) (before : FrameState) → f.phase ≡ Evict page → AreAgreed was before → Evicts was now page frame a → (st : SpaceState) → IsReady f was st → Makes f (in_phase f (Ended a.reply)) was now st before (counted (give_page before (space_of_call f.call) page)) (ending f a true)
+pub page_evicted : (f : Flight) (page frame : ℕ) (a : Answered) (was now : Kept) (before : FrameState) → f.phase ≡ Evict page → AreAgreed was before → Evicts was now page frame a → (st : SpaceState) → IsReady f was st → Makes f (with_phase f (Ended a.reply)) was now st before (counted (give_page before (space_of_call (call_in f.purpose)) page)) (ending f a true)
 page_evicted f page frame a was now before phase agree evicts st =
-    by_phase f (Evict page) phase (λ g. IsReady g was st → Makes g (in_phase f (Ended a.reply)) was now st before (counted (give_page before (space_of_call f.call) page)) (ending f a true))
+    by_ready f (Evict page) was st phase (λ g to. Makes g (to (Ended a.reply)) was now st before (counted (give_page before (space_of_call (call_in f.purpose)) page)) (ending f a true))
     (λ ready. Makes-evict f page frame a was now st before ready agree evicts)

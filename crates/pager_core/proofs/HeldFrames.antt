@@ -22,15 +22,16 @@ use Rattle.pager_model.specs.CallEntries.{take_entry}
 use Rattle.pager_core.specs.declared.flight.Flight.{Flight}
 use Rattle.pager_core.specs.declared.flight.Phase.TheVariants.{Use, Fill}
 use Rattle.pager_core.specs.Flights.{IsReady, WantsFrame}
-use Rattle.pager_core.specs.Rows.{row_of, access_of, page_or_zero}
+use Rattle.pager_core.specs.Rows.{access_in, call_in, page_or_zero, row_of}
 use Rattle.pager_core.specs.Steps.{AreAgreed, Makes}
-use Rattle.pager_core.proofs.AnswerSteps.{in_phase, by_phase}
-use Rattle.pager_core.proofs.TakenFrames.{IsReady-placed, after_own}
+use Rattle.pager_core.proofs.EntrySteps.{Leaves-on, same_space}
+use Rattle.pager_core.proofs.Purposes.{in_phase, with_phase, same_work, by_ready}
+use Rattle.pager_core.proofs.TakenFrames.{IsLeft-placed}
 
 -- what stands where a held frame is used: the page of the call's own space lacks a frame
-pub wants_still : (f : Flight) (page : ℕ) (want : Want) (v : Victim) (kept : Kept) (st : SpaceState) → f.phase ≡ Use page want v → IsReady f kept st → (space_of_call f.call ≡ kept.number) × WantsFrame f.call kept page want
+pub wants_still : (f : Flight) (page : ℕ) (want : Want) (v : Victim) (kept : Kept) (st : SpaceState) → f.phase ≡ Use page want v → IsReady f kept st → (space_of_call (call_in f.purpose) ≡ kept.number) × WantsFrame (call_in f.purpose) kept page want
 wants_still f page want v kept st phase =
-    by_phase f (Use page want v) phase (λ g. IsReady g kept st → (space_of_call g.call ≡ kept.number) × WantsFrame g.call kept page want) (λ ready. (same_Some _ _ ready.under, ready.found))
+    by_ready f (Use page want v) kept st phase (λ g to. (space_of_call (call_in g.purpose) ≡ kept.number) × WantsFrame (call_in g.purpose) kept page want) (λ ready. (same_Some _ _ ready.under, ready.found))
 
 -- A frame that is taken for a page without one, once a held frame is free, is a known one that no page has.
 module _ (kept : Kept) (st : FrameState) (c space page : ℕ) (want : Want) (t : Taking) (agree : AreAgreed kept st) (on : space ≡ kept.number) (absent : frame_at kept page ≡ None) (takes : take_frame (dropped st c) space page want ≡ Some t) where
@@ -57,47 +58,43 @@ use_entry c space page frame want = record { processor = c; space = Some space; 
 module _ (f : Flight) (page : ℕ) (want : Want) (v : Victim) (was now : Kept) (before : FrameState) (t : Taking) where
   Makes-use :
       (st : SpaceState) → IsReady (in_phase f (Use page want v)) was st → AreAgreed was before → held_by before f.processor ≡ Some v.frame
-      → take_frame (dropped before f.processor) (space_of_call f.call) page want ≡ Some t → Places was now page t.frame
-      → Makes (in_phase f (Use page want v)) (in_phase f (Fill page t.frame)) was now st before (counted t.state) (use_entry f.processor (space_of_call f.call) page t.frame want)
-  Makes-use st ready agree holds takes places = record {
-    same_call = record { processor = refl; number = refl; call = refl };
-    same_space = places.same.number;
-    same_count = places.same.frames;
-    same_processors = places.same.processors;
-    processor = refl;
-    parts = ((space_of_call f.call, refl), refl);
-    own_space = on;
-    space_allows = (
-      subst (λ next. MayGoOn next f.processor (UseHeld page t.frame want)) (sym ready.next) tt,
-      (ap (λ rs. wanted rs page) ready.stands.beside.regions ∙ ready.found.wanted, ready.stands.base page ∙ ready.found.lacks.absent),
-    );
-    frames_allow = λ named. (
-      ap (λ s. frame_of before s page) on ∙ sym (agree.pages page) ∙ ready.found.lacks.absent,
-      (v.frame, holds),
-      subst (λ o. IsSomeAnd o (λ (u : Taking). u.frame ≡ t.frame)) (sym takes) refl,
-    );
-    frames_after = ap (λ o. counted (state_taken (dropped before f.processor) o)) (sym takes);
-    in_order = ap (λ b. leads b f.number (Filling (access_of f.call f.claimed) t.frame))
-        (and_from _ _ (eq-eqb (space_of_call f.call) (space_of_call f.call) refl) (eq-eqb page _ (ap page_or_zero (sym ready.found.lacks.lawful.page_is))));
-    reply = refl;
-    answer = refl;
-    left = (on ∙ sym places.same.number, subst (IsReady (in_phase f (Fill page t.frame)) now) (sym (after_own (space_of_call f.call) was.number st (use_entry f.processor (space_of_call f.call) page t.frame want) refl on)) next);
-    between = refl;
-    fewer = omega arith;
-  }
-    where
-      on : space_of_call f.call ≡ was.number
-      on = same_Some _ _ ready.under
+      → take_frame (dropped before f.processor) (space_of_call (call_in f.purpose)) page want ≡ Some t → Places was now page t.frame
+      → Makes (in_phase f (Use page want v)) (in_phase f (Fill page t.frame)) was now st before (counted t.state) (use_entry f.processor (space_of_call (call_in f.purpose)) page t.frame want)
+  Makes-use st ready agree holds takes places =
+      let own = space_of_call (call_in f.purpose) in
+      let on : own ≡ was.number = same_Some _ _ ready.under in
+      let absent : frame_at was page ≡ None = ready.found.lacks.absent in
+      record {
+        entry = record {
+          same_work = same_work f (Use page want v) (Fill page t.frame);
+          processor = refl;
+          parts = ((own, refl), refl);
+          frames_allow = λ named. (
+            ap (λ s. frame_of before s page) on ∙ sym (agree.pages page) ∙ absent,
+            (v.frame, holds),
+            subst (λ o. IsSomeAnd o (λ (u : Taking). u.frame ≡ t.frame)) (sym takes) refl,
+          );
+          frames_after = ap (λ o. counted (state_taken (dropped before f.processor) o)) (sym takes);
+          in_order = ap (λ b. leads b f.number (Filling (access_in f.purpose) t.frame))
+              (and_from _ _ (eq-eqb own own refl) (eq-eqb page _ (ap page_or_zero (sym ready.found.lacks.lawful.page_is))));
+          reply = refl;
+          answer = refl;
+          between = refl;
+          fewer = omega arith;
+        };
+        -- the space is left as a taking leaves it
+        space = Leaves-on (in_phase f (Fill page t.frame)) was now st f.processor own true (UseHeld page t.frame want) on (same_space places.same) (
+          subst (λ next. MayGoOn next f.processor (UseHeld page t.frame want)) (sym ready.next) tt,
+          (ap (λ rs. wanted rs page) ready.stands.beside.regions ∙ ready.found.wanted, ready.stands.base page ∙ absent),
+        )
+            (IsLeft-placed f page t.frame want was now (space_after st (use_entry f.processor own page t.frame want)) ready.fits.can on ready.found places
+            (subst (λ n. StandsFor now (space_after st (take_entry f.processor n page t.frame want))) (sym on) (places.stands st f.processor want ready.stands)) refl);
+      }
 
-      -- the space is left as a taking leaves it
-      next : IsReady (in_phase f (Fill page t.frame)) now (space_after st (use_entry f.processor (space_of_call f.call) page t.frame want))
-      next = IsReady-placed f page t.frame want was now (space_after st (use_entry f.processor (space_of_call f.call) page t.frame want)) ready.fits.can on ready.found places
-          (subst (λ n. StandsFor now (space_after st (take_entry f.processor n page t.frame want))) (sym on) (places.stands st f.processor want ready.stands)) refl
-
-pub held_used : (f : Flight) (page own frame : ℕ) (want : Want) (v : Victim) (was now : Kept) (before after : FrameState) (t : Taking) → f.phase ≡ Use page want v → own ≡ space_of_call f.call → frame ≡ t.frame → AreAgreed was before → OwnsBy before f.processor (row_of f).progress.doing → take_frame (dropped before f.processor) own page want ≡ Some t → after ≡ counted t.state → Places was now page t.frame → (st : SpaceState) → IsReady f was st → Makes f (in_phase f (Fill page frame)) was now st before after (use_entry f.processor own page frame want)
+pub held_used : (f : Flight) (page own frame : ℕ) (want : Want) (v : Victim) (was now : Kept) (before after : FrameState) (t : Taking) → f.phase ≡ Use page want v → own ≡ space_of_call (call_in f.purpose) → frame ≡ t.frame → AreAgreed was before → OwnsBy before f.processor (row_of f).progress.doing → take_frame (dropped before f.processor) own page want ≡ Some t → after ≡ counted t.state → Places was now page t.frame → (st : SpaceState) → IsReady f was st → Makes f (with_phase f (Fill page frame)) was now st before after (use_entry f.processor own page frame want)
 held_used f page own frame want v was now before after t phase same numbered agree owns takes counts places st =
-    subst (λ n. IsReady f was st → Makes f (in_phase f (Fill page n)) was now st before after (use_entry f.processor own page n want)) (sym numbered)
-    (subst (λ u. IsReady f was st → Makes f (in_phase f (Fill page t.frame)) was now st before u (use_entry f.processor own page t.frame want)) (sym counts)
-    (subst (λ s. IsReady f was st → Makes f (in_phase f (Fill page t.frame)) was now st before (counted t.state) (use_entry f.processor s page t.frame want)) (sym same)
-    (by_phase f (Use page want v) phase (λ g. OwnsBy before f.processor (row_of g).progress.doing → IsReady g was st → Makes g (in_phase f (Fill page t.frame)) was now st before (counted t.state) (use_entry f.processor (space_of_call f.call) page t.frame want))
-    (λ holds ready. Makes-use f page want v was now before t st ready agree holds (ap (λ s. take_frame (dropped before f.processor) s page want) (sym same) ∙ takes) places) owns)))
+    subst (λ n. IsReady f was st → Makes f (with_phase f (Fill page n)) was now st before after (use_entry f.processor own page n want)) (sym numbered)
+    (subst (λ u. IsReady f was st → Makes f (with_phase f (Fill page t.frame)) was now st before u (use_entry f.processor own page t.frame want)) (sym counts)
+    (subst (λ s. IsReady f was st → Makes f (with_phase f (Fill page t.frame)) was now st before (counted t.state) (use_entry f.processor s page t.frame want)) (sym same)
+    (λ ready. by_ready f (Use page want v) was st phase (λ g to. OwnsBy before f.processor (row_of g).progress.doing → Makes g (to (Fill page t.frame)) was now st before (counted t.state) (use_entry f.processor (space_of_call (call_in f.purpose)) page t.frame want))
+    (λ is holds. Makes-use f page want v was now before t st is agree holds (ap (λ s. take_frame (dropped before f.processor) s page want) (sym same) ∙ takes) places) ready owns)))

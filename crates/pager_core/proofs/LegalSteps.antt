@@ -9,17 +9,16 @@ use Rattle.pager_model.specs.declared.entry.Need.{Need}
 use Rattle.pager_model.specs.declared.entry.What.{What}
 use Rattle.pager_model.specs.declared.entry.What.TheVariants.{Answer, Out, Failed, Take, Give, Clear, Claim, UseHeld, DropHeld, Got, Unclaim, Refused, Rest}
 use Rattle.pager_model.specs.Entries.{names_space, entries_of, IsOn}
-use Rattle.pager_model.specs.Flat.{space_of_call}
 use Rattle.pager_model.specs.FrameStates.{FrameState, frames_after, frame_of, FramesAllow}
 use Rattle.pager_model.specs.Legal.{IsLegal, space_at, frames_at, progress_at, progress_in, MayFollow}
-use Rattle.pager_model.specs.Order.{Progress, Doing, Purpose, ForAccess, Idle, Uncopied, Claiming, may_answer, leads, victim_in, progress_after, progress_by}
+use Rattle.pager_model.specs.Order.{Progress, Doing, Purpose, Idle, Uncopied, Claiming, may_answer, leads, victim_in, progress_after, progress_by}
 use Rattle.pager_model.specs.Settings.{Given, mark_of}
 use Rattle.pager_model.specs.SpaceStates.{SpaceState, space_after, SpaceAllows}
 use Rattle.pager_model.proofs.Histories.{space_at-named, space_at-other, frames_at-named, frames_at-other, IsLegal-keeps}
 use Rattle.space_core.specs.Standing.{Kept}
 use Rattle.pager_core.specs.declared.flight.Flight.{Flight}
 use Rattle.pager_core.specs.declared.flight.Phase.TheVariants.{Out as OutPhase}
-use Rattle.pager_core.specs.Rows.{at, row_of, row_in, access_of, victim_of}
+use Rattle.pager_core.specs.Rows.{at, claims_for, mark_in, own_space, row_of, row_in}
 use Rattle.pager_core.specs.Steps.{Makes, after_named, after_frames}
 use Rattle.pager_core.proofs.NextFlights.{idle_by}
 
@@ -105,38 +104,39 @@ from_idle n space (Rest short) m purpose v goes = absurd (none-some _ goes)
 -- so the victim of a flight whose frame was just claimed has it
 pub victim_resident : (f f' : Flight) (was now : Kept) (st : SpaceState) (before after : FrameState) (e : Entry) (v : Victim) → Makes f f' was now st before after e → f'.phase ≡ OutPhase v → frame_of before v.space v.page ≡ Some v.frame
 victim_resident f f' was now st before after e v makes is =
-    let left : (row_of f').entries ≡ 7 = ap (λ p. (row_in f'.processor f'.number (space_of_call f'.call) f'.call f'.claimed p).entries) is in
-    let to : (row_of f').progress ≡ at f'.number (Claiming (ForAccess (access_of f'.call f'.claimed)) v) = ap (λ p. (row_in f'.processor f'.number (space_of_call f'.call) f'.call f'.claimed p).progress) is in
-    let fewer = makes.fewer in
-    let from : (row_of f).progress ≡ at f.number Idle = idle_by f.processor f.number (space_of_call f.call) f.call f.claimed f.phase (omega (arith, left, fewer)) in
-    let claim = from_idle f.number e.space e.what f'.number (ForAccess (access_of f'.call f'.claimed)) v (sym (ap (λ p. progress_after p e.space e.what) from) ∙ makes.in_order ∙ ap Some to) in
-    let named = subst (IsOn e.space e.frames) claim.1 makes.parts in
-    let allowed = subst (FramesAllow before 0 e.processor e.space) claim.1 (makes.frames_allow named.1) in
+    let entry = makes.entry in
+    let left : (row_of f').entries ≡ 7 = ap (λ p. (row_in f'.processor f'.number (own_space f'.purpose) f'.purpose p).entries) is in
+    let to : (row_of f').progress ≡ at f'.number (Claiming (claims_for f'.purpose) v) = ap (λ p. (row_in f'.processor f'.number (own_space f'.purpose) f'.purpose p).progress) is in
+    let fewer = entry.fewer in
+    let from : (row_of f).progress ≡ at f.number Idle = idle_by f (omega (arith, left, fewer)) in
+    let claim = from_idle f.number e.space e.what f'.number (claims_for f'.purpose) v (sym (ap (λ p. progress_after p e.space e.what) from) ∙ entry.in_order ∙ ap Some to) in
+    let named = subst (IsOn e.space e.frames) claim.1 entry.parts in
+    let allowed = subst (FramesAllow before (mark_in f.purpose) e.processor e.space) claim.1 (entry.frames_allow named.1) in
     allowed.1.place
 
 module _ (g : Given) (h : List Entry) (f f' : Flight) (was now : Kept) (before after : FrameState) (e : Entry) (s : ℕ) where
   -- the entry of a step may follow
-  pub MayFollow-step : Makes f f' was now (space_at g h s) before after e → was.number ≡ s → mark_of g f.processor ≡ 0 → f.processor < length g.marks → s < length g.told → before ≡ frames_at g h → progress_at g h f.processor ≡ Some (row_of f).progress → MayFollow g h e
+  pub MayFollow-step : Makes f f' was now (space_at g h s) before after e → was.number ≡ s → mark_of g f.processor ≡ mark_in f.purpose → f.processor < length g.marks → s < length g.told → before ≡ frames_at g h → progress_at g h f.processor ≡ Some (row_of f).progress → MayFollow g h e
   MayFollow-step makes at mark processor space frames progress =
       record {
-        parts = makes.parts;
-        processor = subst (λ c. c < length g.marks) (sym makes.processor) processor;
-        space = both_some e.space (λ t named again. subst (λ n. n < length g.told) (sym (named ∙ at)) space) makes.own_space makes.own_space;
-        by_space = at_named (λ t. SpaceAllows (space_at g h t) e) e.space was.number s at makes.own_space makes.space_allows;
+        parts = makes.entry.parts;
+        processor = subst (λ c. c < length g.marks) (sym makes.entry.processor) processor;
+        space = both_some e.space (λ t named again. subst (λ n. n < length g.told) (sym (named ∙ at)) space) makes.space.own_space makes.space.own_space;
+        by_space = at_named (λ t. SpaceAllows (space_at g h t) e) e.space was.number s at makes.space.own_space makes.space.space_allows;
         by_frames = λ is.
             subst (λ st. FramesAllow st (mark_of g e.processor) e.processor e.space e.what) frames
-            (subst (λ m. FramesAllow before m e.processor e.space e.what) (sym (ap (mark_of g) makes.processor ∙ mark))
-            (makes.frames_allow is));
-        ordered = ((row_of f').progress, subst (λ c. progress_by (progress_in g c (entries_of c h)) e ≡ Some (row_of f').progress) (sym makes.processor) (ap (λ p. progress_by p e) progress ∙ makes.in_order));
+            (subst (λ m. FramesAllow before m e.processor e.space e.what) (sym (ap (mark_of g) makes.entry.processor ∙ mark))
+            (makes.entry.frames_allow is));
+        ordered = ((row_of f').progress, subst (λ c. progress_by (progress_in g c (entries_of c h)) e ≡ Some (row_of f').progress) (sym makes.entry.processor) (ap (λ p. progress_by p e) progress ∙ makes.entry.in_order));
       }
 
   -- a space that the step isn't made under stays as it is
   pub space_at-elsewhere : Makes f f' was now (space_at g h s) before after e → was.number ≡ s → (t : ℕ) → t ≢ s → space_at g (h ++ e ∷ []) t ≡ space_at g h t
-  space_at-elsewhere makes at t other = space_at-other g h e t (unnamed e.space was.number t makes.own_space (λ is. other (is ∙ at)))
+  space_at-elsewhere makes at t other = space_at-other g h e t (unnamed e.space was.number t makes.space.own_space (λ is. other (is ∙ at)))
 
   -- and that which it is made under goes on by its entry
   pub space_at-here : was.number ≡ s → after_named was.number (space_at g h s) e ≡ space_at g (h ++ e ∷ []) s
   space_at-here at = ap (λ n. after_named n (space_at g h s) e) at ∙ sym (space_at-after g h e s)
 
   pub frames_at-step : Makes f f' was now (space_at g h s) before after e → before ≡ frames_at g h → after ≡ frames_at g (h ++ e ∷ [])
-  frames_at-step makes frames = makes.frames_after ∙ ap (λ st. after_frames st e) frames ∙ sym (frames_at-after g h e)
+  frames_at-step makes frames = makes.entry.frames_after ∙ ap (λ st. after_frames st e) frames ∙ sym (frames_at-after g h e)

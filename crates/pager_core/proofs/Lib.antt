@@ -1,3 +1,4 @@
+pub mod Purposes
 pub mod UnchangedSpaces
 pub mod AnswerSteps
 pub mod EntrySteps

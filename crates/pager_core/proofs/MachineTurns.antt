@@ -10,7 +10,6 @@ use Rattle.pager_model.specs.declared.entry.Victim.{Victim}
 use Rattle.pager_model.specs.declared.call.Call.{Call}
 use Rattle.pager_model.specs.declared.entry.Entry.{Entry}
 use Rattle.pager_model.specs.declared.entry.Numbered.{Numbered}
-use Rattle.pager_model.specs.declared.reply.Reply.{Reply}
 use Rattle.pager_model.specs.Agreement.{Agrees}
 use Rattle.pager_model.specs.Entries.{entries_of, is_of}
 use Rattle.pager_model.specs.Flat.{space_of_call}
@@ -23,18 +22,19 @@ use Rattle.pager_model.proofs.Histories.{IsLegal-push, progress_at-own, progress
 use Rattle.pager_model.proofs.Lists.{get_or_within}
 use Rattle.pager_model.proofs.Ranges.{range_with_len-more}
 use Rattle.pager_laws.proofs.LegalHistories.{IsKept-legal, Agrees-legal}
-use Rattle.space_core.specs.Standing.{Kept}
+use Rattle.space_core.specs.Standing.{Kept, CanBegin}
 use Rattle.pager_core.specs.declared.flight.Flight.{Flight}
 use Rattle.pager_core.specs.declared.flight.Phase.TheVariants.{Out}
-use Rattle.pager_core.specs.Flights.{Fits, PhaseFits, IsReady, IsAtRest, LeftBy}
+use Rattle.pager_core.specs.Flights.{Fits, IsReady, IsAtRest, LeftBy}
 use Rattle.pager_core.specs.Machines.{CanFly, all_left, IsFlying, IsSpaceOf, IsMachine}
-use Rattle.pager_core.specs.Rows.{row_of, row_in, is_between, space_under}
+use Rattle.pager_core.specs.Rows.{Outcome, Going, TurnEnded, Answered, call_in, mark_in, own_space, reply_in, row_of, row_in, is_between, space_under}
 use Rattle.pager_core.specs.Running.{Running, calls_at, flight_at, progress_by_flight, progress_of_actor, kept_by, IsKeptByOther, entries_left, left_at, IsNumbered, IsLawful}
 use Rattle.pager_core.specs.Steps.{Makes, after_named, answer_made}
 use Rattle.pager_core.proofs.Lists.{slice_get-set_same, slice_get-set_other, enumerate-push, sum_by-lower}
 use Rattle.pager_core.proofs.LegalSteps.{MayFollow-step, space_at-elsewhere, space_at-here, frames_at-step, victim_resident}
 use Rattle.pager_laws.proofs.UnknownSpaces.{base-unknown}
-use Rattle.pager_core.proofs.NextFlights.{Lands, made_going, under_cases, keeps_under, ended_by}
+use Rattle.pager_core.proofs.NextFlights.{Lands, made_going, under_cases, keeps_under, ended_by, turn_goes_on}
+use Rattle.pager_core.proofs.Purposes.{mark_in-zero}
 
 -- one entry more of the actor, after which this is its flight
 abbrev pub run_after : Running → ℕ → ℕ → Entry → Option Flight → Running
@@ -82,26 +82,28 @@ calls-more calls n call at =
     ap (enumerate_from 0) more ∙ enumerate-push 0 (take n calls) call ∙ ap (λ (k : ℕ). enumerate_from 0 (take n calls) ++ (k, call) ∷ []) count
 
 -- a flight's answer is one more, and its other entries are none
-answers-step : (calls : List Call) (f f' : Flight) (r : Option Reply) (entries : List Entry) (e : Entry) → (row_of f).reply ≡ None → f'.number ≡ f.number → f'.call ≡ f.call → slice_get calls f.number ≡ Some f.call → (row_of f').reply ≡ r → answer_in e.what ≡ answer_made f' r
+answers-step : (calls : List Call) (f f' : Flight) (o : Outcome) (entries : List Entry) (e : Entry) → (row_of f).outcome ≡ Going → f'.number ≡ f.number → call_in f'.purpose ≡ call_in f.purpose → slice_get calls f.number ≡ Some (call_in f.purpose) → (row_of f').outcome ≡ o → answer_in e.what ≡ answer_made f' (reply_in o)
     → answers_in entries ≡ enumerate_from 0 (take (row_of f).progress.made calls) → answers_in (entries ++ e ∷ []) ≡ enumerate_from 0 (take (row_of f').progress.made calls)
-answers-step calls f f' None entries e going number call of_call reply answer so_far =
-    let was = made_going f.processor f.number (space_of_call f.call) f.call f.claimed f.phase going in
-    let now = made_going f'.processor f'.number (space_of_call f'.call) f'.call f'.claimed f'.phase reply in
+answers-step calls f f' Going entries e going number call of_call outcome answer so_far =
+    let was = made_going f going in
+    let now = made_going f' outcome in
     answers-push entries e
     ∙ ap (λ o. answers_in entries ++ option_to_list o) answer
     ∙ append-nil (answers_in entries)
     ∙ so_far
     ∙ ap (λ n. enumerate_from 0 (take n calls)) (was ∙ sym number ∙ sym now)
-answers-step calls f f' (Some r) entries e going number call of_call reply answer so_far =
-    let was = made_going f.processor f.number (space_of_call f.call) f.call f.claimed f.phase going in
-    let phase = ended_by f'.processor f'.number (space_of_call f'.call) f'.call f'.claimed f'.phase r reply in
-    let now : (row_of f').progress.made ≡ f.number + 1 = ap (λ p. (row_in f'.processor f'.number (space_of_call f'.call) f'.call f'.claimed p).progress.made) phase ∙ ap (λ n. n + 1) number in
+answers-step calls f f' TurnEnded entries e going number call of_call outcome answer so_far =
+    absurd (turn_goes_on f' outcome)
+answers-step calls f f' (Answered r) entries e going number call of_call outcome answer so_far =
+    let was = made_going f going in
+    let phase = ended_by f' r outcome in
+    let now : (row_of f').progress.made ≡ f.number + 1 = ap (λ p. (row_in f'.processor f'.number (own_space f'.purpose) f'.purpose p).progress.made) phase ∙ ap (λ n. n + 1) number in
     answers-push entries e
     ∙ ap (λ o. answers_in entries ++ option_to_list o) answer
-    ∙ ap (λ l. l ++ (f'.number, f'.call) ∷ []) (so_far ∙ ap (λ n. enumerate_from 0 (take n calls)) was)
-    ∙ ap (λ n. enumerate_from 0 (take f.number calls) ++ (n, f'.call) ∷ []) number
+    ∙ ap (λ l. l ++ (f'.number, call_in f'.purpose) ∷ []) (so_far ∙ ap (λ n. enumerate_from 0 (take n calls)) was)
+    ∙ ap (λ n. enumerate_from 0 (take f.number calls) ++ (n, call_in f'.purpose) ∷ []) number
     ∙ ap (λ k. enumerate_from 0 (take f.number calls) ++ (f.number, k) ∷ []) call
-    ∙ sym (calls-more calls f.number f.call of_call)
+    ∙ sym (calls-more calls f.number (call_in f.purpose) of_call)
     ∙ ap (λ n. enumerate_from 0 (take n calls)) (sym now)
 
 -- Settings.
@@ -140,18 +142,18 @@ module _ (run : Running) (spaces : List Kept) (pool after : FrameState) (capacit
   was_number machine turns = (machine.space_is s was turns.at).number
 
   now_number : M → T → now.number ≡ s
-  now_number machine turns = turns.makes.same_space ∙ was_number machine turns
+  now_number machine turns = turns.makes.space.same_space.number ∙ was_number machine turns
 
-  -- the setting gives each processor the mark 0
-  marks : M → T → mark_of run.given f.processor ≡ 0
-  marks machine turns = mark-zero run.given (length run.calls) f.processor machine.marks
+  -- the setting gives each processor the mark of its calls
+  marks : M → T → mark_of run.given f.processor ≡ mark_in f.purpose
+  marks machine turns = mark-zero run.given (length run.calls) f.processor machine.marks ∙ sym (mark_in-zero f.purpose (flying machine turns).fits.of_call)
 
   -- where the actor was
   progress_was : M → T → progress_at run.given h c ≡ Some (row_of f).progress
   progress_was machine turns = machine.lawful.progress c (processor_in machine turns) ∙ ap (λ x. Some (progress_by_flight (calls_at run.calls c) x)) turns.flies
 
   own_entry : M → T → e.processor ≡ c
-  own_entry machine turns = turns.makes.processor ∙ (flying machine turns).processor
+  own_entry machine turns = turns.makes.entry.processor ∙ (flying machine turns).processor
 
   may_follow : M → T → MayFollow run.given h e
   may_follow machine turns =
@@ -183,7 +185,7 @@ module _ (run : Running) (spaces : List Kept) (pool after : FrameState) (capacit
   progress_own machine turns =
       progress_at-own run.given h e c (eq-eqb e.processor c (own_entry machine turns))
       ∙ ap (λ p. progress_by p e) (progress_was machine turns)
-      ∙ turns.makes.in_order
+      ∙ turns.makes.entry.in_order
       ∙ ap Some (sym turns.lands.progress)
       ∙ ap (λ x. Some (progress_by_flight (calls_at run.calls c) x)) (sym (flight_own machine turns))
 
@@ -196,9 +198,9 @@ module _ (run : Running) (spaces : List Kept) (pool after : FrameState) (capacit
   answers_own : M → T → answers_in (entries_of c (h ++ e ∷ [])) ≡ enumerate_from 0 (take (progress_of_actor new c).made (calls_at run.calls c))
   answers_own machine turns =
       let flies = flying machine turns in
-      let same = turns.makes.same_call in
+      let same = turns.makes.entry.same_work in
       ap answers_in (filter-push_in (is_of c) h e (eq-eqb e.processor c (own_entry machine turns)))
-      ∙ answers-step (calls_at run.calls c) f f' (row_of f').reply (entries_of c h) e flies.going same.number same.call flies.of_call refl turns.makes.answer
+      ∙ answers-step (calls_at run.calls c) f f' (row_of f').outcome (entries_of c h) e flies.going same.number same.call flies.of_call refl turns.makes.entry.answer
       (machine.lawful.answers c (processor_in machine turns) ∙ ap (λ x. enumerate_from 0 (take (progress_by_flight (calls_at run.calls c) x).made (calls_at run.calls c))) turns.flies)
       ∙ ap (λ (p : Progress). enumerate_from 0 (take p.made (calls_at run.calls c))) (sym turns.lands.progress)
       ∙ ap (λ x. enumerate_from 0 (take (progress_by_flight (calls_at run.calls c) x).made (calls_at run.calls c))) (sym (flight_own machine turns))
@@ -230,17 +232,25 @@ module _ (run : Running) (spaces : List Kept) (pool after : FrameState) (capacit
 
   -- what the flight keeps is the space that it stepped under
   keeps_here : M → T → (t : ℕ) → (row_of f').keeps ≡ Some t → t ≡ s
-  keeps_here machine turns t keeps = (subst (λ x. LeftBy x f' now (after_named was.number (space_at run.given h s) e)) keeps turns.makes.left).0 ∙ now_number machine turns
+  keeps_here machine turns t keeps = (subst (λ x. LeftBy x f' now (after_named was.number (space_at run.given h s) e)) keeps turns.makes.space.left).0 ∙ now_number machine turns
 
   is_ready : M → T → (t : ℕ) → (row_of f').keeps ≡ Some t → IsReady f' now (space_at run.given (entries_in new.history) s)
   is_ready machine turns t keeps =
-      subst (IsReady f' now) (state_here machine turns) (subst (λ x. LeftBy x f' now (after_named was.number (space_at run.given h s) e)) keeps turns.makes.left).1
+      subst (IsReady f' now) (state_here machine turns) (subst (λ x. LeftBy x f' now (after_named was.number (space_at run.given h s) e)) keeps turns.makes.space.left).1
 
   is_at_rest : M → T → (row_of f').keeps ≡ None → IsAtRest now (space_at run.given (entries_in new.history) s)
   is_at_rest machine turns keeps =
-      subst (IsAtRest now) (state_here machine turns) (subst (λ x. LeftBy x f' now (after_named was.number (space_at run.given h s) e)) keeps turns.makes.left).1
+      subst (IsAtRest now) (state_here machine turns) (subst (λ x. LeftBy x f' now (after_named was.number (space_at run.given h s) e)) keeps turns.makes.space.left).1
 
-  -- its next step is made under a space that is there
+  -- its phase fits its call
+  fits : M → T → Fits f'
+  fits machine turns =
+      elim (row_of f').keeps as (λ x. LeftBy x f' now (after_named was.number (space_at run.given h s) e) → Fits f') [
+        | None ↦ λ left. left.0
+        | Some t ↦ λ left. left.1.fits
+      ] turns.makes.space.left
+
+  -- and its next step is made under a space that is there
   victim_within : M → T → (v : Victim) → f'.phase ≡ Out v → v.space < length spaces
   victim_within machine turns v is =
       let resident = (IsKept-legal run.given h machine.lawful.legal).agrees v.space v.page ∙ ap (λ p. frame_of p v.space v.page) (sym machine.frames) ∙ victim_resident f f' was now (space_at run.given h s) pool after e v turns.makes is in
@@ -252,21 +262,13 @@ module _ (run : Running) (spaces : List Kept) (pool after : FrameState) (capacit
 
   under_within : M → T → (t : ℕ) → space_under (row_of f').needs ≡ Some t → t < length spaces
   under_within machine turns t under =
-      elim (under_cases f'.processor f'.number (space_of_call f'.call) t f'.call f'.claimed f'.phase under) [
-        | inl own ↦ subst (λ n. n < length spaces) (sym (own ∙ ap space_of_call turns.makes.same_call.call)) (flying machine turns).on
+      elim (under_cases f' t (fits machine turns) under) [
+        | inl own ↦ subst (λ n. n < length spaces) (sym (ap space_of_call turns.makes.entry.same_work.call) ∙ own) (flying machine turns).on
         | inr other ↦ elim other [
           | inl keeps ↦ subst (λ n. n < length spaces) (sym (keeps_here machine turns t keeps)) (space_in turns)
           | inr out ↦ subst (λ n. n < length spaces) (sym out.2) (victim_within machine turns out.0 out.1)
         ]
       ]
-
-  -- and its phase fits its call
-  fits : M → T → Fits f'
-  fits machine turns =
-      elim (row_of f').keeps as (λ x. LeftBy x f' now (after_named was.number (space_at run.given h s) e) → Fits f') [
-        | None ↦ λ left. left.0
-        | Some t ↦ λ left. left.1.fits
-      ] turns.makes.left
 
   -- and so does what came of it
   keeper_here : M → T → (g : Flight) (t : ℕ) → o ≡ Some g → (row_of g).keeps ≡ Some t → t ≡ s
@@ -283,18 +285,19 @@ module _ (run : Running) (spaces : List Kept) (pool after : FrameState) (capacit
   flying_own : M → T → (g : Flight) → o ≡ Some g → IsFlying new (set spaces s now) c g
   flying_own machine turns g is =
       record {
-        processor = turns.lands.processor g is ∙ turns.makes.same_call.processor ∙ (flying machine turns).processor;
+        processor = turns.lands.processor g is ∙ turns.makes.entry.same_work.processor ∙ (flying machine turns).processor;
         of_call = turns.lands.of_call g is;
-        on = (can_fly machine turns c g.number g.call (turns.lands.of_call g is)).on;
+        on = (can_fly machine turns c g.number (call_in g.purpose) (turns.lands.of_call g is)).on;
         fits = elim (turns.lands.same g is) [
           | inl same ↦ subst Fits (sym same) (fits machine turns)
-          | inr start ↦ record { can = (can_fly machine turns c g.number g.call (turns.lands.of_call g is)).can; phase = subst (PhaseFits g.call) (sym start) tt }
+          | inr start ↦ subst Fits (sym start.2) (record { of_call = refl; can = subst (λ (x : Flight). CanBegin (call_in x.purpose)) start.2 (can_fly machine turns c g.number (call_in g.purpose) (turns.lands.of_call g is)).can; phase = refl })
         ];
         under = λ t under. subst (λ n. t < n) (sym (length-set spaces s now)) (elim (turns.lands.same g is) [
           | inl same ↦ under_within machine turns t (subst (λ (x : Flight). space_under (row_of x).needs ≡ Some t) same under)
           | inr start ↦
-              let own : Some (space_of_call g.call) ≡ Some t = sym (ap (λ p. space_under (row_in g.processor g.number (space_of_call g.call) g.call g.claimed p).needs) start) ∙ under in
-              subst (λ n. n < length spaces) (same_Some (space_of_call g.call) t own) (machine.calls c g.number g.call (turns.lands.of_call g is)).on
+              let own : Some (space_of_call start.1) ≡ Some t = sym (ap (λ (x : Flight). space_under (row_of x).needs) start.2) ∙ under in
+              let call : call_in g.purpose ≡ start.1 = ap (λ (x : Flight). call_in x.purpose) start.2 in
+              subst (λ n. n < length spaces) (ap space_of_call call ∙ same_Some _ _ own) (machine.calls c g.number (call_in g.purpose) (turns.lands.of_call g is)).on
         ]);
         going = turns.lands.going g is;
         keeps = λ t kept keeps at.
@@ -312,7 +315,7 @@ module _ (run : Running) (spaces : List Kept) (pool after : FrameState) (capacit
       record {
         processor = before.processor;
         of_call = before.of_call;
-        on = subst (λ n. space_of_call g.call < n) (sym (length-set spaces s now)) before.on;
+        on = subst (λ n. space_of_call (call_in g.purpose) < n) (sym (length-set spaces s now)) before.on;
         fits = before.fits;
         under = λ t under. subst (λ n. t < n) (sym (length-set spaces s now)) (before.under t under);
         going = before.going;
@@ -335,7 +338,7 @@ module _ (run : Running) (spaces : List Kept) (pool after : FrameState) (capacit
             let same = space_here turns kept (subst (λ k. slice_get (set spaces s now) k ≡ Some kept) here at) in
             let before = machine.space_is s was turns.at in
             subst (IsSpaceOf new t) same
-            (record { number = now_number machine turns ∙ sym here; frames = turns.makes.same_count ∙ before.frames; processors = turns.makes.same_processors ∙ before.processors })
+            (record { number = now_number machine turns ∙ sym here; frames = turns.makes.space.same_space.frames ∙ before.frames; processors = turns.makes.space.same_space.processors ∙ before.processors })
         | inr elsewhere ↦
             let before = machine.space_is t kept (space_elsewhere t kept elsewhere at) in
             record { number = before.number; frames = before.frames; processors = before.processors }
@@ -362,7 +365,7 @@ module _ (run : Running) (spaces : List Kept) (pool after : FrameState) (capacit
               | inl is ↦
                   let same : f ≡ g = (let x : Some f ≡ Some g = sym turns.flies ∙ subst (λ n. flight_at run.flights n ≡ Some g) is flies in cc) in
                   let own : (row_of f).keeps ≡ Some t = subst (λ (x : Flight). (row_of x).keeps ≡ Some t) (sym same) keeps in
-                  elsewhere (same_Some t s (sym (keeps_under f.processor f.number (space_of_call f.call) t f.call f.claimed f.phase own) ∙ turns.under))
+                  elsewhere (same_Some t s (sym (keeps_under f t own) ∙ turns.under))
               | inr other ↦ none d g (flight_other d other ∙ flies) keeps
             ]))
       ]
@@ -399,12 +402,12 @@ module _ (run : Running) (spaces : List Kept) (pool after : FrameState) (capacit
             ]);
         between = λ d g flies. elim (flight_after machine turns d g flies) [
           | inl own ↦ elim (turns.lands.same g own.1) [
-            | inl same ↦ subst (λ (x : Flight). is_between x.phase ≡ true) (sym same) turns.makes.between
-            | inr start ↦ ap is_between start
+            | inl same ↦ subst (λ (x : Flight). is_between x.phase ≡ true) (sym same) turns.makes.entry.between
+            | inr start ↦ ap (λ (x : Flight). is_between x.phase) start.2
           ]
           | inr other ↦ machine.lawful.between d g other.1
         ];
-        flying = λ d g flies. (let is = flights_after machine turns d g flies in record { call = is.of_call; going = is.going });
+        flying = λ d g flies. (let is = flights_after machine turns d g flies in record { is_call = is.fits.of_call; call = is.of_call; going = is.going });
         one_keeper = one_keeper_after machine turns;
       }
 
@@ -414,8 +417,8 @@ module _ (run : Running) (spaces : List Kept) (pool after : FrameState) (capacit
       let was_left : left_at run c ≡ (row_of f).entries + 8 * (length (calls_at run.calls c) - (f.number + 1)) = ap (entries_left (calls_at run.calls c)) turns.flies in
       let now_left : left_at new c ≡ entries_left (calls_at run.calls c) o = ap (entries_left (calls_at run.calls c)) (flight_own machine turns) in
       let left = turns.lands.left in
-      let fewer = turns.makes.fewer in
-      let number = turns.makes.same_call.number in
+      let fewer = turns.makes.entry.fewer in
+      let number = turns.makes.entry.same_work.number in
       omega (arith, was_left, now_left, left, fewer, number)
 
   pub all_left-turn : M → T → all_left new < all_left run

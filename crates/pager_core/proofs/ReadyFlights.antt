@@ -8,7 +8,6 @@ use Rattle.pager_model.specs.declared.entry.Entry.{Entry}
 use Rattle.pager_model.specs.declared.entry.Numbered.{Numbered}
 use Rattle.pager_model.specs.Agreement.{OwnsBy}
 use Rattle.pager_model.specs.Entries.{names_frames, frames_part}
-use Rattle.pager_model.specs.Flat.{space_of_call}
 use Rattle.pager_model.specs.FrameStates.{FrameState, start_frames, frames_after, frame_of}
 use Rattle.pager_model.specs.Legal.{space_at, frames_at, entries_in}
 use Rattle.pager_model.specs.Settings.{Given}
@@ -20,7 +19,7 @@ use Rattle.space_core.specs.Standing.{Kept}
 use Rattle.pager_core.specs.declared.flight.Flight.{Flight}
 use Rattle.pager_core.specs.Flights.{IsReady, IsAtRest}
 use Rattle.pager_core.specs.Machines.{IsMachine}
-use Rattle.pager_core.specs.Rows.{row_of, space_under}
+use Rattle.pager_core.specs.Rows.{call_in, row_of, space_under}
 use Rattle.pager_core.specs.Running.{Running, calls_at, flight_at, progress_by_flight, IsKeptByOther}
 use Rattle.pager_core.specs.Steps.{AreAgreed, Makes}
 use Rattle.pager_core.proofs.NextFlights.{under_some, keeps_under, anywhere, lands}
@@ -42,12 +41,12 @@ module _ (run : Running) (spaces : List Kept) (pool : FrameState) (capacity c s 
   processor_within = (let at = get_or_within run.flights c f flies in let known = machine.known in omega (arith, at, known))
 
   pub is_under : (t : ℕ) × (space_under (row_of f).needs ≡ Some t)
-  is_under = under_some f.processor f.number (space_of_call f.call) f.call f.claimed f.phase (machine.flights c f flies).going
+  is_under = (let flying = machine.flights c f flies in under_some f flying.fits flying.going)
 
   -- the number of a call is small
   pub number-few : f.number + 1 ≤ 262144
   number-few =
-      let below = slice_get_within (calls_at run.calls c) f.number f.call (machine.flights c f flies).of_call in
+      let below = slice_get_within (calls_at run.calls c) f.number (call_in f.purpose) (machine.flights c f flies).of_call in
       let few = machine.few_calls c in
       omega (arith, below, few)
 
@@ -99,12 +98,12 @@ module _ (run : Running) (spaces : List Kept) (pool : FrameState) (capacity c s 
 
       ready_by : (o : Option ℕ) → (row_of f).keeps ≡ o → IsReady f was (space_at run.given (entries_in run.history) s)
       ready_by (Some t) keeps =
-          let here : t ≡ s = same_Some t s (sym (keeps_under f.processor f.number (space_of_call f.call) t f.call f.claimed f.phase keeps) ∙ under) in
+          let here : t ≡ s = same_Some t s (sym (keeps_under f t keeps) ∙ under) in
           (machine.flights c f flies).keeps s was (keeps ∙ ap Some here) at
       ready_by None keeps =
           let flying = machine.flights c f flies in
           let rest = rests keeps in
-          let found = anywhere f.processor f.number (space_of_call f.call) f.call f.claimed f.phase was refl flying.going keeps flying.fits.phase rest.resting in
+          let found = anywhere f was flying.fits flying.going keeps rest.resting in
           record {
             under = under ∙ ap Some (sym (machine.space_is s was at).number);
             fits = flying.fits;
@@ -142,7 +141,7 @@ module _ (run : Running) (spaces : List Kept) (pool : FrameState) (capacity c s 
       pub room_left : (f' : Flight) (now : Kept) (after : FrameState) (e : Entry) → Makes f f' was now (space_at run.given (entries_in run.history) s) pool after e → length run.history < capacity
       room_left f' now after e makes =
           let flying = machine.flights c f flies in
-          let of_call : slice_get (calls_at run.calls c) f'.number ≡ Some f'.call = ap (slice_get (calls_at run.calls c)) makes.same_call.number ∙ flying.of_call ∙ ap Some (sym makes.same_call.call) in
+          let of_call : slice_get (calls_at run.calls c) f'.number ≡ Some (call_in f'.purpose) = ap (slice_get (calls_at run.calls c)) makes.entry.same_work.number ∙ flying.of_call ∙ ap Some (sym makes.entry.same_work.call) in
           let on = lands (calls_at run.calls c) f' of_call in
           let turns : Turns run spaces pool after c s (length run.history) f f' was now e on.0 = record { flies = flies; under = under; at = at; unkept = unkept; makes = makes; lands = on.1; counted = refl } in
           let less = all_left-turn run spaces pool after capacity c s (length run.history) f f' was now e on.0 machine turns in

@@ -24,9 +24,11 @@ use Rattle.pager_core.specs.declared.flight.Flight.{Flight}
 use Rattle.pager_core.specs.declared.flight.Phase.{Phase}
 use Rattle.pager_core.specs.declared.flight.Phase.TheVariants.{Short, Fault, Lack, Ended}
 use Rattle.pager_core.specs.Flights.{IsReady}
-use Rattle.pager_core.specs.Rows.{row_of, faulted}
+use Rattle.pager_core.specs.Rows.{access_in, access_of, call_in, claimed_in, faulted, row_of}
 use Rattle.pager_core.specs.Steps.{Makes, Refuses}
-use Rattle.pager_core.proofs.AnswerSteps.{in_phase, by_phase, Makes-answer, is_access_by_page, is_access_of}
+use Rattle.pager_core.proofs.AnswerSteps.{Makes-answer, is_access_by_page, is_access_of}
+use Rattle.pager_core.proofs.NextFlights.{under_fault}
+use Rattle.pager_core.proofs.Purposes.{in_phase, with_phase, by_ready}
 use Rattle.pager_core.proofs.UnchangedSpaces.{unchanged_stands}
 
 -- What such an answer does: nothing.
@@ -37,25 +39,32 @@ refusal reply = record { reply = reply; hit = false; size = None }
 
 module _ (f : Flight) (phase : Phase) (reply : Reply) (kept : Kept) (st : SpaceState) where
   Makes-refusal :
-      IsReady (in_phase f phase) kept st → space_of_call f.call ≡ kept.number → IsResting kept
-      → MayGoOn (row_of (in_phase f phase)).next f.processor (Answer f.number f.call (refusal reply))
-      → is_lawful reply ≡ false → answered_flat st.flat f.call reply ≡ st.flat → ReplyAllowed st f.processor f.call reply
+      IsReady (in_phase f phase) kept st → space_of_call (call_in f.purpose) ≡ kept.number → IsResting kept
+      → MayGoOn (row_of (in_phase f phase)).next f.processor (Answer f.number (call_in f.purpose) (refusal reply))
+      → is_lawful reply ≡ false → answered_flat st.flat (call_in f.purpose) reply ≡ st.flat → ReplyAllowed st f.processor (call_in f.purpose) reply
       → (row_of (in_phase f phase)).progress.made ≡ f.number
-      → may_answer (row_of (in_phase f phase)).progress.doing f.call reply ≡ true
+      → may_answer (row_of (in_phase f phase)).progress.doing (call_in f.purpose) reply ≡ true
       → 0 < (row_of (in_phase f phase)).entries
-      → (frames : FrameState) → Makes (in_phase f phase) (in_phase f (Ended reply)) kept kept st frames frames (answer_entry f.processor f.number f.call (refusal reply))
+      → (frames : FrameState) → Makes (in_phase f phase) (in_phase f (Ended reply)) kept kept st frames frames (answer_entry f.processor f.number (call_in f.purpose) (refusal reply))
   Makes-refusal ready on resting goes_on unlawful same allowed made may some =
-      Makes-answer (in_phase f phase) (refusal reply) kept kept st ready.fits.can on refl refl refl resting
-      (subst (λ next. MayGoOn next f.processor (Answer f.number f.call (refusal reply))) (sym ready.next) goes_on)
-      (record {
-        reply = allowed;
-        parts = frees-unlawful st f.call reply unlawful;
-        hit = ap (λ (o : Option ℕ). is_in_image (st.images f.processor) (tile_at st.sizes (pages_of st) o)) (sym (served-unlawful f.call reply unlawful));
-        size = ap (λ (o : Option ℕ). option_map (λ (t : Tile). t.extent.size) (tile_at st.sizes (pages_after st false (Answer f.number f.call (refusal reply))) o)) (sym (served-unlawful f.call reply unlawful));
+      Makes-answer f phase (refusal reply) kept kept st (record {
+        can = ready.fits.can;
+        on = on;
+        same_space = record { number = refl; frames = refl; processors = refl };
+        resting = resting;
+        goes_on = subst (λ next. MayGoOn next f.processor (Answer f.number (call_in f.purpose) (refusal reply))) (sym ready.next) goes_on;
+        allowed = record {
+          reply = allowed;
+          parts = frees-unlawful st (call_in f.purpose) reply unlawful;
+          hit = ap (λ (o : Option ℕ). is_in_image (st.images f.processor) (tile_at st.sizes (pages_of st) o)) (sym (served-unlawful (call_in f.purpose) reply unlawful));
+          size = ap (λ (o : Option ℕ). option_map (λ (t : Tile). t.extent.size) (tile_at st.sizes (pages_after st false (Answer f.number (call_in f.purpose) (refusal reply))) o)) (sym (served-unlawful (call_in f.purpose) reply unlawful));
+        };
+        stands = unchanged_stands kept st (answer_entry f.processor f.number (call_in f.purpose) (refusal reply)) ready.stands same (base-unnamed st.base (call_in f.purpose)) (λ p i. said-unlawful p i (call_in f.purpose) reply (st.tied p i) unlawful) refl
+            (ap (tile_at st.sizes (pages_after st false (Answer f.number (call_in f.purpose) (refusal reply)))) (served-unlawful (call_in f.purpose) reply unlawful));
+        made = made;
+        may = may;
+        some = some;
       })
-      (unchanged_stands kept st (answer_entry f.processor f.number f.call (refusal reply)) ready.stands same (base-unnamed st.base f.call) (λ p i. said-unlawful p i f.call reply (st.tied p i) unlawful) refl
-      (ap (tile_at st.sizes (pages_after st false (Answer f.number f.call (refusal reply)))) (served-unlawful f.call reply unlawful)))
-      made may some
 
 -- No frame could be had.
 
@@ -79,14 +88,14 @@ lawful-allowed kept st (Store space address word) stands is =
     (ap can_write (stands.beside.rights (page_of address) parts.0) ∙ parts.1) refl
 lawful-allowed kept st call stands is = absurd (false≢true is)
 
-Makes-no_frames : (f : Flight) (wired claimed held : ℕ) (kept : Kept) (st : SpaceState) → IsReady (in_phase f (Short wired claimed held)) kept st → (frames : FrameState) → Makes (in_phase f (Short wired claimed held)) (in_phase f (Ended (NoFrames wired claimed held))) kept kept st frames frames (answer_entry f.processor f.number f.call (refusal (NoFrames wired claimed held)))
+Makes-no_frames : (f : Flight) (wired claimed held : ℕ) (kept : Kept) (st : SpaceState) → IsReady (in_phase f (Short wired claimed held)) kept st → (frames : FrameState) → Makes (in_phase f (Short wired claimed held)) (in_phase f (Ended (NoFrames wired claimed held))) kept kept st frames frames (answer_entry f.processor f.number (call_in f.purpose) (refusal (NoFrames wired claimed held)))
 Makes-no_frames f wired claimed held kept st ready =
     let page = ready.found.0 in
     let lacks = ready.found.1 in
     Makes-refusal f (Short wired claimed held) (NoFrames wired claimed held) kept st ready (same_Some _ _ ready.under) lacks.resting tt refl refl
-    (lawful-allowed kept st f.call ready.stands lacks.lawful.allowed, subst (LacksItsPage st.base) (sym lacks.lawful.page_is) (ready.stands.base page ∙ lacks.absent))
+    (lawful-allowed kept st (call_in f.purpose) ready.stands lacks.lawful.allowed, subst (LacksItsPage st.base) (sym lacks.lawful.page_is) (ready.stands.base page ∙ lacks.absent))
     refl
-    (and_from _ _ (is_access_by_page f.call page lacks.lawful.page_is) (and_from _ _ (eq-eqb wired wired refl) (and_from _ _ (eq-eqb claimed claimed refl) (eq-eqb held held refl))))
+    (and_from _ _ (is_access_by_page (call_in f.purpose) page lacks.lawful.page_is) (and_from _ _ (eq-eqb wired wired refl) (and_from _ _ (eq-eqb claimed claimed refl) (eq-eqb held held refl))))
     (omega arith)
 
 -- A store failed.
@@ -122,41 +131,41 @@ MayFail-copying kept st (Evict space page) stands resting is must =
 MayFail-copying kept st call stands resting is must = absurd (false≢true is)
 
 -- and it is their answer: to an access, wherever it failed
-may_fault-access : (call : Call) (claimed : Bool) (space count : ℕ) → is_access call ≡ true → may_answer (faulted call claimed space count (copied_page call)) call (StoreFault space count) ≡ true
+may_fault-access : (call : Call) (claimed : Bool) (space count : ℕ) → is_access call ≡ true → may_answer (faulted (access_of call claimed) space count (copied_page call)) call (StoreFault space count) ≡ true
 may_fault-access (Load s address) claimed space count is = and_from _ _ (is_access_of (Load s address) claimed is) (and_from _ _ (eq-eqb space space refl) (eq-eqb count count refl))
 may_fault-access (Store s address word) claimed space count is = and_from _ _ (is_access_of (Store s address word) claimed is) (and_from _ _ (eq-eqb space space refl) (eq-eqb count count refl))
 may_fault-access call claimed space count is = absurd (false≢true is)
 
 -- and to the others in their own space
-may_fault-copying : (call : Call) (claimed : Bool) (space count : ℕ) → space ≡ space_of_call call → IsSome (copied_page call) → may_answer (faulted call claimed space count (copied_page call)) call (StoreFault space count) ≡ true
+may_fault-copying : (call : Call) (claimed : Bool) (space count : ℕ) → space ≡ space_of_call call → IsSome (copied_page call) → may_answer (faulted (access_of call claimed) space count (copied_page call)) call (StoreFault space count) ≡ true
 may_fault-copying (Sync s page) claimed space count same is = and_from _ _ (and_from _ _ (eq-eqb s space (sym same)) (eq-eqb page page refl)) (and_from _ _ (eq-eqb space space refl) (eq-eqb count count refl))
 may_fault-copying (Evict s page) claimed space count same is = and_from _ _ (and_from _ _ (eq-eqb s space (sym same)) (eq-eqb page page refl)) (and_from _ _ (eq-eqb space space refl) (eq-eqb count count refl))
 may_fault-copying call claimed space count same is = absurd (false≢true is)
 
-Makes-fault : (f : Flight) (space count : ℕ) (kept : Kept) (st : SpaceState) → IsReady (in_phase f (Fault space count)) kept st → (frames : FrameState) → Makes (in_phase f (Fault space count)) (in_phase f (Ended (StoreFault space count))) kept kept st frames frames (answer_entry f.processor f.number f.call (refusal (StoreFault space count)))
+Makes-fault : (f : Flight) (space count : ℕ) (kept : Kept) (st : SpaceState) → IsReady (in_phase f (Fault space count)) kept st → (frames : FrameState) → Makes (in_phase f (Fault space count)) (in_phase f (Ended (StoreFault space count))) kept kept st frames frames (answer_entry f.processor f.number (call_in f.purpose) (refusal (StoreFault space count)))
 Makes-fault f space count kept st ready =
     let found = ready.found in
-    let meets : MayFail st f.call × (may_answer (faulted f.call f.claimed space count (copied_page f.call)) f.call (StoreFault space count) ≡ true) = elim ready.fits.phase [
-      | inl own ↦ (MayFail-copying kept st f.call ready.stands found.resting own.1 found.must, may_fault-copying f.call f.claimed space count own.0 own.1)
-      | inr access ↦ (MayFail-access st f.call access, may_fault-access f.call f.claimed space count access)
+    let meets : MayFail st (call_in f.purpose) × (may_answer (faulted (access_in f.purpose) space count (copied_page (call_in f.purpose))) (call_in f.purpose) (StoreFault space count) ≡ true) = elim ready.fits.phase [
+      | inl own ↦ (MayFail-copying kept st (call_in f.purpose) ready.stands found.resting own.1 found.must, may_fault-copying (call_in f.purpose) (claimed_in f.purpose) space count own.0 own.1)
+      | inr access ↦ (MayFail-access st (call_in f.purpose) access, may_fault-access (call_in f.purpose) (claimed_in f.purpose) space count access)
     ] in
-    Makes-refusal f (Fault space count) (StoreFault space count) kept st ready (same_Some _ _ ready.under) found.resting tt refl refl meets.0 refl meets.1 (omega arith)
+    Makes-refusal f (Fault space count) (StoreFault space count) kept st ready (same_Some _ _ (sym (under_fault (Some (space_of_call (call_in f.purpose))) (access_in f.purpose) space count (copied_page (call_in f.purpose))) ∙ ready.under)) found.resting tt refl refl meets.0 refl meets.1 (omega arith)
 
 -- There was no memory.
-Makes-no_memory : (f : Flight) (space : ℕ) (kept : Kept) (st : SpaceState) → IsReady (in_phase f (Lack space)) kept st → (frames : FrameState) → Makes (in_phase f (Lack space)) (in_phase f (Ended NoMemory)) kept kept st frames frames (answer_entry f.processor f.number f.call (refusal NoMemory))
+Makes-no_memory : (f : Flight) (space : ℕ) (kept : Kept) (st : SpaceState) → IsReady (in_phase f (Lack space)) kept st → (frames : FrameState) → Makes (in_phase f (Lack space)) (in_phase f (Ended NoMemory)) kept kept st frames frames (answer_entry f.processor f.number (call_in f.purpose) (refusal NoMemory))
 Makes-no_memory f space kept st ready =
     Makes-refusal f (Lack space) NoMemory kept st ready (same_Some _ _ ready.under) ready.found tt refl refl
-    (MayFail-access st f.call ready.fits.phase) refl (and_from _ _ (is_access_of f.call f.claimed ready.fits.phase) refl) (omega arith)
+    (MayFail-access st (call_in f.purpose) ready.fits.phase) refl (and_from _ _ (is_access_of (call_in f.purpose) (claimed_in f.purpose) ready.fits.phase) refl) (omega arith)
 
 -- A flight that can't be served answers so.
-pub refused : (f : Flight) (reply : Reply) → Refuses f reply → (kept : Kept) (st : SpaceState) (frames : FrameState) → IsReady f kept st → Makes f (in_phase f (Ended reply)) kept kept st frames frames (answer_entry f.processor f.number f.call (refusal reply))
+pub refused : (f : Flight) (reply : Reply) → Refuses f reply → (kept : Kept) (st : SpaceState) (frames : FrameState) → IsReady f kept st → Makes f (with_phase f (Ended reply)) kept kept st frames frames (answer_entry f.processor f.number (call_in f.purpose) (refusal reply))
 refused f (NoFrames wired claimed held) phase = λ kept st frames.
-    by_phase f (Short wired claimed held) phase (λ g. IsReady g kept st → Makes g (in_phase f (Ended (NoFrames wired claimed held))) kept kept st frames frames (answer_entry f.processor f.number f.call (refusal (NoFrames wired claimed held))))
+    by_ready f (Short wired claimed held) kept st phase (λ g to. Makes g (to (Ended (NoFrames wired claimed held))) kept kept st frames frames (answer_entry f.processor f.number (call_in f.purpose) (refusal (NoFrames wired claimed held))))
     (λ ready. Makes-no_frames f wired claimed held kept st ready frames)
 refused f (StoreFault space count) phase = λ kept st frames.
-    by_phase f (Fault space count) phase (λ g. IsReady g kept st → Makes g (in_phase f (Ended (StoreFault space count))) kept kept st frames frames (answer_entry f.processor f.number f.call (refusal (StoreFault space count))))
+    by_ready f (Fault space count) kept st phase (λ g to. Makes g (to (Ended (StoreFault space count))) kept kept st frames frames (answer_entry f.processor f.number (call_in f.purpose) (refusal (StoreFault space count))))
     (λ ready. Makes-fault f space count kept st ready frames)
 refused f NoMemory phase = λ kept st frames.
-    by_phase f (Lack phase.0) phase.1 (λ g. IsReady g kept st → Makes g (in_phase f (Ended NoMemory)) kept kept st frames frames (answer_entry f.processor f.number f.call (refusal NoMemory)))
+    by_ready f (Lack phase.0) kept st phase.1 (λ g to. Makes g (to (Ended NoMemory)) kept kept st frames frames (answer_entry f.processor f.number (call_in f.purpose) (refusal NoMemory)))
     (λ ready. Makes-no_memory f phase.0 kept st ready frames)
 refused f reply phase = absurd phase

@@ -6,7 +6,7 @@ use Rattle.std.proofs.lemmas.List.{append-nil, map_push, get_or_past, length-tak
 use Rattle.std.proofs.lemmas.List.FromFn.{length-map-range_with_len, get_or-map-range_with_len}
 use Rattle.std.proofs.lemmas.List.Filters.{length-filter_both}
 use Rattle.std.proofs.lemmas.List.Sums.{sum_by-cons}
-use Rattle.std.proofs.lemmas.Option.{same_Some}
+use Rattle.std.proofs.lemmas.Option.{none-some, same_Some}
 use Rattle.std.proofs.Math.ListN.{length-map, length-replicate}
 use Rattle.pager_model.specs.declared.call.Call.{Call}
 use Rattle.pager_model.specs.declared.call.Call.TheVariants.{Map, Grow, Unmap, Protect, Load, Store, Sync, Evict}
@@ -24,9 +24,8 @@ use Rattle.space_core.specs.Standing.{Kept}
 use Rattle.pager_model.specs.SizeSets.{all_sizes}
 use Rattle.store_core.specs.Stored.{Stored}
 use Rattle.pager_core.specs.declared.flight.Flight.{Flight}
-use Rattle.pager_core.specs.declared.flight.Phase.TheVariants.{Start}
 use Rattle.pager_core.specs.Machines.{CanFly, all_left, IsFlying, IsMachine}
-use Rattle.pager_core.specs.Rows.{row_of, is_between}
+use Rattle.pager_core.specs.Rows.{row_of, is_between, new_flight}
 use Rattle.pager_core.specs.RunParts.{AreNewSpaces}
 use Rattle.pager_core.specs.Running.{Running, calls_at, flight_at, flight_of, first_flights, progress_by_flight, setting_over, entries_left, left_at, IsLawful}
 use Rattle.pager_core.proofs.Lists.{sum_by-same, map_range-push}
@@ -116,9 +115,9 @@ sum_by-eight f g a (suc n) at_most =
 
 -- A processor's first flight.
 
-first_in : (c : ℕ) (o : Option Call) (f : Flight) → option_map (λ call. record { processor = c; number = 0; call = call; phase = Start; claimed = false }) o ≡ Some f → (call : Call) × (o ≡ Some call) × (record { processor = c; number = 0; call = call; phase = Start; claimed = false } ≡ f)
-first_in c None f is = absurd (let e : None ≡ Some f = is in cc)
-first_in c (Some call) f is = (call, refl, (let e : Some (let x : Flight = record { processor = c; number = 0; call = call; phase = Start; claimed = false } in x) ≡ Some f = is in cc))
+first_in : (c : ℕ) (o : Option Call) (f : Flight) → option_map (new_flight c 0) o ≡ Some f → (call : Call) × (o ≡ Some call) × (new_flight c 0 call ≡ f)
+first_in c None f is = absurd (none-some f is)
+first_in c (Some call) f is = (call, refl, same_Some (new_flight c 0 call) f is)
 
 first_progress : (c : ℕ) (calls : List Call) → progress_by_flight calls (flight_of c 0 calls) ≡ at_rest 0 0
 first_progress c [] = refl
@@ -183,7 +182,7 @@ module _ (plan : Plan) (trace : HasText plan) (stores : List Stored) (enough : p
   known = length-map-range_with_len (λ c. flight_of c 0 (calls_at calls c)) 0 (length calls)
 
   -- a flight is of its processor's first call
-  first : (c : ℕ) (f : Flight) → flight_at (first_flights calls) c ≡ Some f → (call : Call) × (slice_get (calls_at calls c) 0 ≡ Some call) × (record { processor = c; number = 0; call = call; phase = Start; claimed = false } ≡ f)
+  first : (c : ℕ) (f : Flight) → flight_at (first_flights calls) c ≡ Some f → (call : Call) × (slice_get (calls_at calls c) 0 ≡ Some call) × (new_flight c 0 call ≡ f)
   first c f flies =
       let below = get_or_within (first_flights calls) c f flies in
       let all = known in
@@ -193,12 +192,12 @@ module _ (plan : Plan) (trace : HasText plan) (stores : List Stored) (enough : p
   flights c f flies =
       let is = first c f flies in
       let can = can_fly c 0 is.0 is.1 in
-      let flying : IsFlying start spaces c (record { processor = c; number = 0; call = is.0; phase = Start; claimed = false }) =
+      let flying : IsFlying start spaces c (new_flight c 0 is.0) =
       record {
         processor = refl;
         of_call = is.1;
         on = can.on;
-        fits = record { can = can.can; phase = tt };
+        fits = record { of_call = refl; can = can.can; phase = refl };
         under = λ s under. subst (λ n. n < length spaces) (same_Some (space_of_call is.0) s under) can.on;
         going = refl;
         keeps = λ s kept keeps at. (let e : None ≡ Some s = keeps in cc);
@@ -238,7 +237,7 @@ module _ (plan : Plan) (trace : HasText plan) (stores : List Stored) (enough : p
         progress = λ c below. ap (λ m. Some (at_rest m 0)) (mark-zero start.given (length calls) c marks) ∙ ap Some (sym (first_progress c (calls_at calls c)) ∙ ap (progress_by_flight (calls_at calls c)) (sym (first_flight c below)));
         answers = λ c below. ap (λ (p : Progress). enumerate_from 0 (take p.made (calls_at calls c))) (sym (first_progress c (calls_at calls c)) ∙ ap (progress_by_flight (calls_at calls c)) (sym (first_flight c below)));
         between = λ c f flies. ap (λ (x : Flight). is_between x.phase) (sym (first c f flies).2);
-        flying = λ c f flies. (let is = flights c f flies in record { call = is.of_call; going = is.going });
+        flying = λ c f flies. (let is = flights c f flies in record { is_call = is.fits.of_call; call = is.of_call; going = is.going });
         one_keeper = λ s c d f g flies flies' keeps keeps'. absurd (keeps_none c f s flies keeps);
       }
 

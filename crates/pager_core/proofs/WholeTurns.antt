@@ -13,7 +13,7 @@ use Rattle.space_core.specs.Standing.{Kept}
 use Rattle.pager_core.specs.declared.flight.Flight.{Flight}
 use Rattle.pager_core.specs.Flights.{IsReady}
 use Rattle.pager_core.specs.Machines.{IsMachine}
-use Rattle.pager_core.specs.Rows.{row_of, space_under}
+use Rattle.pager_core.specs.Rows.{Going, call_in, reply_in, row_of, space_under}
 use Rattle.pager_core.specs.Running.{Running, calls_at, flight_at, flight_of, IsKeptByOther, entries_left, left_at, WentOn, OneMore, IsLawful}
 use Rattle.pager_core.specs.Steps.{AreAgreed, Makes}
 use Rattle.pager_core.proofs.NextFlights.{Lands-on}
@@ -63,11 +63,11 @@ finds run self spaces pool capacity c s x f was u flights machine same below rea
 
 module _ (run : Running) (spaces : List Kept) (pool after : FrameState) (capacity c s number : ℕ) (f f' : Flight) (was now : Kept) (e : Entry) (o : Option Flight) where
   pub Turns-of : IsMachine run spaces pool capacity → Finds run spaces pool capacity c s f was → number ≡ length run.history
-      → Makes f f' was now (space_at run.given (entries_in run.history) s) pool after e → (calls : List Call) → calls ≡ calls_at run.calls c → ((row_of f').reply ≡ None → o ≡ Some f') → ((row_of f').reply ≢ None → o ≡ flight_of f'.processor (f'.number + 1) calls)
+      → Makes f f' was now (space_at run.given (entries_in run.history) s) pool after e → (calls : List Call) → calls ≡ calls_at run.calls c → ((row_of f').outcome ≡ Going → o ≡ Some f') → (reply_in (row_of f').outcome ≢ None → o ≡ flight_of f'.processor (f'.number + 1) calls)
       → Turns run spaces pool after c s number f f' was now e o
   Turns-of machine found counted makes calls own going next =
       let flying = machine.flights c f found.flies in
-      let of_call : slice_get (calls_at run.calls c) f'.number ≡ Some f'.call = ap (slice_get (calls_at run.calls c)) makes.same_call.number ∙ flying.of_call ∙ ap Some (sym makes.same_call.call) in
+      let of_call : slice_get (calls_at run.calls c) f'.number ≡ Some (call_in f'.purpose) = ap (slice_get (calls_at run.calls c)) makes.entry.same_work.number ∙ flying.of_call ∙ ap Some (sym makes.entry.same_work.call) in
       record {
         flies = found.flies;
         under = found.under;
@@ -94,9 +94,9 @@ module _ (run : Running) (spaces : List Kept) (pool after : FrameState) (capacit
   went_on machine turns self new same calls flights g flies =
       let is : f ≡ g = (let x : Some f ≡ Some g = sym turns.flies ∙ ap (λ (r : Running). flight_at r.flights c) same ∙ flies in cc) in
       let at : flight_at new.flights c ≡ o = ap (λ l. flight_at l c) flights ∙ get_or-set_same run.flights c o None (get_or_within run.flights c f turns.flies) in
-      let call = turns.makes.same_call in
-      let number_is : f'.number ≡ g.number = call.number ∙ ap (λ (x : Flight). x.number) is in
-      let processor_is : f'.processor ≡ c = call.processor ∙ (machine.flights c f turns.flies).processor in
+      let work = turns.makes.entry.same_work in
+      let number_is : f'.number ≡ g.number = work.number ∙ ap (λ (x : Flight). x.number) is in
+      let processor_is : f'.processor ≡ c = work.processor ∙ (machine.flights c f turns.flies).processor in
       elim turns.lands.goes [
         | inl still ↦ inl (record { flight = f'; flies = at ∙ still.0; same_call = number_is; going = still.1 })
         | inr next ↦ inr (at ∙ next
@@ -113,7 +113,7 @@ module _ (run : Running) (spaces : List Kept) (pool after : FrameState) (capacit
         history = history
             ∙ ap (λ n. run.history ++ (let x : Numbered = record { number = n; entry = e } in x) ∷ []) turns.counted
             ∙ ap (λ (l : List Numbered). l ++ (let x : Numbered = record { number = length l; entry = e } in x) ∷ []) was_history;
-        of_actor = turns.makes.processor ∙ (machine.flights c f turns.flies).processor;
+        of_actor = turns.makes.entry.processor ∙ (machine.flights c f turns.flies).processor;
         others = λ d other. ap (λ l. flight_at l d) flights ∙ get_or-set_other run.flights c d o None other ∙ ap (λ (r : Running). flight_at r.flights d) same;
         went_on = λ g flies. went_on machine turns self new same calls flights g flies;
         fewer =

@@ -124,15 +124,9 @@ pub enum Needs {
 #[derive(Clone, Copy, Debug, PartialEq, Eq)]
 pub enum Purpose {
     /// A call of a processor, and whether a frame was claimed for it.
-    Call {
-        call: Call,
-        claimed: bool,
-    },
+    Call { call: Call, claimed: bool },
     /// A turn of a paging daemon with this low mark, in which so many pages were evicted. (No flight is of one yet.)
-    Turn {
-        mark: u32,
-        evictions: u32,
-    },
+    Turn { mark: u32, evictions: u32 },
 }
 
 /// One call of a processor, or one turn of a paging daemon, in progress.
@@ -462,6 +456,7 @@ impl Flight {
 
     /// Answers that the call can't be served: no frame could be had, a store failed, or there was no memory.
     fn refuse(&mut self, reply: Reply) -> Entry
+        requires of_call { is_of_call self.old.purpose ≡ true }
         requires phase { Refuses self.old reply }
         ensures entry { (kept : Kept) (st : SpaceState) (frames : FrameState) → IsReady self.old kept st → Makes self.old self.new kept kept st frames frames result }
         ensures nearer { (row_of self.new).steps < (row_of self.old).steps }
@@ -590,6 +585,7 @@ impl Flight {
 
     /// Claims the victim's frame for the page, or finds that none can be had, and how many are wired, claimed and held.
     fn claim(&mut self, pool: &mut Pool, page: u32) -> Entry
+        requires of_call { is_of_call self.old.purpose ≡ true }
         requires phase { (want : Item) × (self.old.phase ≡ Phase.Frame page want) }
         requires full { IsFull pool.old }
         requires owns { OwnsBy pool.old self.old.processor (row_of self.old).progress.doing }

@@ -11,8 +11,8 @@ pub returns-in-Ok-clause-entry : goal.returns-in-Ok-clause-entry
 returns-in-Ok-clause-entry g c =
     let taken = c.in-Ok.ensures.taken in
     λ st. rw c.entry.ensures
-    (frame_taken c.args.self.now c.args.page c.space-own.result c.number-frame.result c.args.want c.args.space.now c.place.new.self c.args.pool.now c.take.new.self taken.0
-    c.requires.phase c.space-own.ensures (c.number-frame.ensures ∙ taken.3) c.requires.agree c.requires.owns taken.1 taken.2
+    (frame_taken c.args.self.now c.args.page c.own-own.result c.number-frame.result c.args.want c.args.space.now c.place.new.self c.args.pool.now c.take.new.self taken.0
+    c.requires.phase c.own-own.ensures (c.number-frame.ensures ∙ taken.3) c.requires.agree c.requires.owns taken.1 taken.2
     (subst (Places c.args.space.now c.place.new.self c.args.page) taken.3 c.place.ensures) st)
 
 pub returns-in-Err-clause-entry : goal.returns-in-Err-clause-entry

@@ -7,5 +7,5 @@ returns-clause-entry g c = λ st.
     let gave = c.give_up-entry.ensures.gave in
     rw gave.1
     (rw c.give_up-entry.ensures.pool
-    (rw c.space-own.ensures
+    (rw c.own-own.ensures
     (frame_unfilled c.args.self.now c.args.page phase.0 c.args.count gave.0 c.args.space.now c.give_up-entry.new.space c.args.pool.now phase.1 c.requires.agree gave.2 st)))

@@ -77,7 +77,7 @@ going_on-requires g c =
     let found = finds _ c.args.self.now i.spaces.items i.pool _ c.args.actor c.in-Some-under.space c.index.result.now c.in-Some.flight c.index_mut.result.now c.under.result c.as_slice.result.now
     c.self.invariant.0 c.self.view_is c.requires c.index.ensures c.in-Some.is c.under.ensures c.in-Some-under.is c.index_mut.ensures.value c.as_slice.ensures.value c.if-is_kept_by_other.ensures.1 in
     let few = number-few _ i.spaces.items i.pool _ c.args.actor 0 c.in-Some.flight c.self.invariant.0 found.flies in
-    let same = (c.next_entry-entry.ensures.made (space_at i.setting (entries_in i.history.items) c.in-Some-under.space) found.ready).same_call.number in
+    let same = (c.next_entry-entry.ensures.made (space_at i.setting (entries_in i.history.items) c.in-Some-under.space) found.ready).entry.same_work.number in
     omega (arith, few, same)
 
 -- the machine before the turn
