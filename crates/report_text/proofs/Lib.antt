@@ -1,3 +1,3 @@
 pub mod SentBytes
-pub mod NotedAnswers
 pub mod Lines
+pub mod EntryAnswers

@@ -1,19 +1,21 @@
--- The text of a line, word by word, and of the lines of the counts.
-use Rattle.std.proofs.Common.{◌≡◌, ℕ, List, [], ◌∷◌, ◌++◌, map, flat_map, ap, sym}
+-- The text of a line, word by word.
+use Rattle.std.proofs.Common.{◌≡◌, ℕ, List, [], ◌∷◌, ◌++◌, ap, sym, ◌∙◌, append_assoc}
 use Rattle.std.specs.List.{join_with_byte}
 use Rattle.std.proofs.lemmas.List.{append-nil}
-use Rattle.report_text.specs.declared.line.Line.{Line}
-use Rattle.report_text.specs.declared.line.Word.{Word}
-use Rattle.report_text.specs.Lines.{line_text, word_text}
+use Rattle.std.proofs.lemmas.Grind.{flat_map-append}
+use Rattle.pager_model.specs.TraceText.{line_of_words}
+use Rattle.report_text.specs.Lines.{spaced}
 
--- a word after a space
-abbrev pub after_space : Word → List ℕ
-after_space w = 32 ∷ word_text w
+-- words behind a text, and then more
+pub words-more : (x : List ℕ) {a b : List ℕ} (words more : List (List ℕ)) → a ≡ x ++ spaced words → b ≡ a ++ spaced more → b ≡ x ++ spaced (words ++ more)
+words-more x words more first then =
+    then ∙ ap (λ l. l ++ spaced more) first ∙ append_assoc x (spaced words) (spaced more)
+    ∙ ap (λ l. x ++ l) (sym (flat_map-append (λ (word : List ℕ). 32 ∷ word) words more))
 
-words-joined : (word : List ℕ) (rest : List Word) → join_with_byte 32 (word ∷ map word_text rest) ≡ word ++ flat_map after_space rest
+words-joined : (word : List ℕ) (rest : List (List ℕ)) → join_with_byte 32 (word ∷ rest) ≡ word ++ spaced rest
 words-joined word [] = sym (append-nil word)
-words-joined word (w ∷ ws) = ap (λ l. word ++ (32 ∷ l)) (words-joined (word_text w) ws)
+words-joined word (w ∷ ws) = ap (λ l. word ++ (32 ∷ l)) (words-joined w ws)
 
--- the first word, the others each after a space, and the line's end
-pub line-joined : (line : Line) → (word_text line.first ++ flat_map after_space line.rest.items) ++ 10 ∷ [] ≡ line_text line
-line-joined line = ap (λ l. l ++ 10 ∷ []) (sym (words-joined (word_text line.first) line.rest.items))
+-- the first word, the others, and the line's end
+pub line-ended : {a b : List ℕ} (word : List ℕ) (rest : List (List ℕ)) → a ≡ word ++ spaced rest → b ≡ a ++ 10 ∷ [] → b ≡ line_of_words (word ∷ rest)
+line-ended word rest words end = end ∙ ap (λ l. l ++ 10 ∷ []) (words ∙ sym (words-joined word rest))

@@ -1,12 +1,11 @@
 -- Bytes that go out one after another.
-use Rattle.std.proofs.Common.{◌≡◌, ℕ, ◌+◌, ◌<◌, ◌≤◌, inl, inr, List, [], ◌∷◌, ◌++◌, length, take, drop, get_or, flat_map, Option, Some, None, IfSome, Result, Ok, Err, OnOk, OnErr, IsErr, ap, sym, subst, ◌∙◌, append_assoc, arith}
+use Rattle.std.proofs.Common.{◌≡◌, ℕ, ◌+◌, ◌<◌, ◌≤◌, inl, inr, List, [], ◌∷◌, ◌++◌, length, take, drop, get_or, flat_map, Option, Some, None, IfSome, Result, Ok, Err, IsErr, ap, sym, subst, ◌∙◌, append_assoc, arith}
 use Rattle.std.proofs.Math.Seq.{take-append-add}
 use Rattle.std.proofs.lemmas.List.{append-nil, flat_map_more, length-append, take-append-le, take-append-drop, take_more}
 use Rattle.std.proofs.lemmas.Bool.{false≢true}
 use Rattle.std.proofs.lemmas.Grind.{flat_map-append}
 use Rattle.io_core.specs.Faults.{Rose}
-use Rattle.report_text.specs.Written.{WroteAll}
-use Rattle.report_text.specs.Writing.{Outgoing, outgoing, Sent, SentPart, Puts}
+use Rattle.report_text.specs.Writing.{Outgoing, Sent, SentPart, Puts}
 
 abbrev Gone : Option (List ℕ) → List ℕ → List ℕ → List ℕ → List ℕ → Type 0
 Gone taken had waited waiting bytes = (gone : List ℕ) × (taken ≡ Some (had ++ gone)) × (gone ++ waiting ≡ waited ++ bytes)
@@ -85,15 +84,6 @@ puts_failed (Err e) {a = a} {b = b} x rest is part = longer x rest part
     longer x [] part = part
     longer x (y ∷ rest) part = longer (x ++ y) rest (record { told = told_more a.taken b.taken a.waiting x y part.told; rose = part.rose })
 
--- a text that went out by itself, where nothing waited
-pub put_whole : {E : Type 0} (r : Result (Unit {0}) E) (taken taken2 : Option (List ℕ)) (faults faults2 : ℕ) (bytes : List ℕ) → OnOk r (IfSome taken (λ had. taken2 ≡ Some (had ++ bytes))) → OnErr r (IfSome taken (λ had. GonePart taken2 had bytes)) → OnErr r (Rose faults faults2) → faults ≤ faults2 → Puts r (outgoing taken faults []) (outgoing taken2 faults2 []) bytes
-put_whole (Ok done) taken taken2 faults faults2 bytes all part rose below = record { told = by_taken taken all; never_falls = below }
-  where
-    by_taken : (taken : Option (List ℕ)) → IfSome taken (λ had. taken2 ≡ Some (had ++ bytes)) → IfSome taken (λ had. Gone taken2 had [] [] bytes)
-    by_taken None all = tt
-    by_taken (Some had) all = (bytes, all, append-nil bytes)
-put_whole (Err e) taken taken2 faults faults2 bytes all part rose below = record { told = part; rose = rose }
-
 -- texts that are joined from the last on
 pub joined : (x : List ℕ) (rest : List (List ℕ)) → x ++ flat_map (λ (text : List ℕ). text) rest ≡ and_then x rest
 joined x [] = append-nil x
@@ -120,14 +110,3 @@ module _ {X : Type 0} (f : X → List ℕ) (xs : List X) (i : ℕ) (x d : X) (wi
   next_failed r {a = a} {c = c} rest fails first part =
       subst (λ l. Puts r a c (and_then l rest)) (ap (λ l. l ++ flat_map f (drop (i + 1) xs)) so_far ∙ all)
       (puts_failed r _ (flat_map f (drop (i + 1) xs) ∷ rest) fails (sent_part _ text first part))
-
--- Where nothing waited before and nothing waits after, the sink has taken all.
-told_out : (first last : Option (List ℕ)) (w0 w1 text : List ℕ) → w0 ≡ [] → w1 ≡ [] → IfSome first (λ had. Gone last had w0 w1 text) → WroteAll text first last
-told_out None last w0 w1 text before after told = tt
-told_out (Some had) last w0 w1 text before after told =
-    let gone : told.0 ≡ text = sym (append-nil told.0) ∙ ap (λ l. told.0 ++ l) (sym after) ∙ told.2 ∙ ap (λ l. l ++ text) before in
-    told.1 ∙ ap (λ l. Some (had ++ l)) gone
-
-pub all_out : {E : Type 0} (r : Result (Unit {0}) E) (a b : Outgoing) (text : List ℕ) → a.waiting ≡ [] → OnOk r (b.waiting ≡ []) → Puts r a b text → OnOk r (WroteAll text a.taken b.taken)
-all_out (Ok done) a b text before after puts = told_out a.taken b.taken a.waiting b.waiting text before after puts.told
-all_out (Err e) a b text before after puts = tt

@@ -1,5 +1,4 @@
 pub mod Writing
 pub mod Written
 pub mod Lines
-pub mod Reports
 pub mod Parts

@@ -1,20 +1,23 @@
--- The text of a line's words.
-use Rattle.std.specs.Prelude.{ℕ, true, false, List, ◌∷◌, decimal, map, Some}
-use Rattle.pager_model.specs.PrintedText.{part_word}
-use Rattle.pager_model.specs.TraceText.{line_of_words}
+-- The text of a line, and the words that are added to it.
+use Rattle.std.specs.Prelude.{ℕ, ◌≡◌, ◌+◌, ◌≤◌, List, ◌∷◌, ◌++◌, flat_map, length}
 use Rattle.report_text.specs.declared.line.Line.{Line}
-use Rattle.report_text.specs.declared.line.Word.{Word}
-use Rattle.report_text.specs.declared.line.Word.TheVariants.{Name, Number, Space, SpaceAndFrames}
-
-abbrev pub word_text : Word → List ℕ
-word_text (Name name) = name.now
-word_text (Number number) = decimal number
-word_text (Space space) = part_word (Some space) false
-word_text (SpaceAndFrames space) = part_word (Some space) true
-
--- the words of a line: the first and the others
-abbrev pub words_in : Line → List (List ℕ)
-words_in line = word_text line.first ∷ map word_text line.rest.items
+use Rattle.report_text.specs.declared.line.TheConstants.{LONGEST}
 
 abbrev pub line_text : Line → List ℕ
-line_text line = line_of_words (words_in line)
+line_text line = line.bytes.items
+
+-- there is room for so many bytes more
+abbrev pub HasRoom : ℕ → Line → Type 0
+HasRoom more line = length (line_text line) + more ≤ LONGEST
+
+-- words, a space before each
+abbrev pub spaced : List (List ℕ) → List ℕ
+spaced words = flat_map (λ (word : List ℕ). 32 ∷ word) words
+
+-- these words were added
+abbrev pub Adds : List (List ℕ) → Line → Line → Type 0
+Adds words old new = line_text new ≡ line_text old ++ spaced words
+
+-- the line grew by so many bytes at most
+abbrev pub GrowsBy : ℕ → Line → Line → Type 0
+GrowsBy most old new = length (line_text new) ≤ length (line_text old) + most

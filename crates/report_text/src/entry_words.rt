@@ -1,228 +1,247 @@
 //! The words of answers and of entries.
 
-ghost use Rattle.std.specs.Prelude.{◌≡◌, ◌≤◌, ◌∷◌, ◌++◌, [], codes, decimal, length, map};
-ghost use Rattle.pager_model.specs.PrintedText.{answered_words, flag_word, history_line, hit_word, need_words, part_word, reply_words, size_words, want_words, what_words, writing_word, written_word};
+ghost use Rattle.std.specs.Prelude.{◌≡◌, ◌≤◌, [], ◌∷◌, codes, decimal, length};
+ghost use Rattle.pager_model.specs.PrintedText.{answered_words, flag_word, history_line, hit_word, need_words, reply_words, size_words, want_words, what_words, writing_word, written_word};
 ghost use Rattle.pager_model.specs.TraceText.{line_of_words};
-ghost use Rattle.report_text.specs.Lines.{line_text, word_text};
+ghost use Rattle.report_text.specs.Lines.{Adds, GrowsBy, HasRoom, line_text};
 
-use crate::line::{Line, Word, Words, count, joined, words};
-use pager_model::{Answered, Entry, Need, Numbered, Reply, Want, What};
+use crate::line::Line;
+use pager_model::{Answered, Need, Numbered, Reply, Want, What};
 
 /// The line of an entry of the history: its number, its processor, the parts that it names, and what happened.
 pub fn line_of_entry(numbered: &Numbered) -> Line
     ensures { line_text result ≡ history_line numbered.now }
 {
     let entry = &numbered.entry;
-    let by = [count(entry.processor), part_of(entry)];
-    Line {
-        first: Word::Number(numbered.number),
-        rest: joined(&by, words_of(&entry.what).as_slice()),
-    }
+    let mut line = Line::numbered(numbered.number);
+    line.add_counts(&[entry.processor]);
+    line.add_parts(entry.space, entry.frames);
+    add_what(&mut line, &entry.what);
+    line.end();
+    line
 }
 
 /// The line of a processor's answer: the processor, the call's number, and the answer.
-pub fn line_of_answer(processor: u64, number: u32, answered: &Answered) -> Line
+pub fn line_of_answer(processor: u32, number: u32, answered: &Answered) -> Line
     ensures { line_text result ≡ line_of_words (decimal processor ∷ decimal number ∷ answered_words answered.now) }
 {
-    Line {
-        first: Word::Number(processor),
-        rest: joined(&[count(number)], words_of_answered(answered).as_slice()),
-    }
+    let mut line = Line::numbered(u64::from(processor));
+    line.add_counts(&[number]);
+    add_answered(&mut line, answered);
+    line.end();
+    line
 }
 
-/// The parts that an entry names.
-fn part_of(entry: &Entry) -> Word
-    ensures { word_text result ≡ part_word entry.now.space entry.now.frames }
-{
-    match entry.space {
-        None => Word::Name("f"),
-        Some(space) if entry.frames => Word::SpaceAndFrames(space),
-        Some(space) => Word::Space(space),
-    }
-}
-
-/// The words of what happened: its name, and its fields.
-fn words_of(what: &What) -> Words
-    ensures words { map word_text result.items ≡ what_words what.now }
-    ensures few { length result.items ≤ 8 }
+/// Adds what happened: its name, and its fields.
+fn add_what(line: &mut Line, what: &What)
+    requires { HasRoom 126 line.old }
+    ensures text { Adds (what_words what.now) line.old line.new }
+    ensures short { GrowsBy 126 line.old line.new }
 {
     match *what {
         What::Answer {
             number,
             answered,
             ..
-        } => answer_words(number, &answered),
-        What::Out { page, written } => words(&[Word::Name("out"), count(page), found(written)]),
+        } => add_answer(line, number, &answered),
+        What::Out { page, written } => add_out(line, page, written),
         What::Failed {
             page,
             writing,
             count,
-        } => failed_words(page, writing, count),
-        What::Take { page, frame, want } => placed_words("take", page, frame, &want),
-        What::Give { page, frame } => words(&[Word::Name("give"), count(page), count(frame)]),
-        What::Clear { first, length } => words(&[Word::Name("clear"), count(first), count(length)]),
+        } => add_failed(line, page, writing, count),
+        What::Take { page, frame, want } => add_placed(line, "take", page, frame, &want),
+        What::Give { page, frame } => line.add("give", &[page, frame]),
+        What::Clear { first, length } => line.add("clear", &[first, length]),
         What::Claim {
             space,
             page,
             frame,
             need,
-        } => claim_words(space, page, frame, &need),
-        What::UseHeld { page, frame, want } => placed_words("use", page, frame, &want),
-        What::DropHeld { frame } => words(&[Word::Name("drop"), count(frame)]),
-        What::Got { frame } => words(&[Word::Name("got"), count(frame)]),
-        What::Unclaim { frame } => words(&[Word::Name("unclaim"), count(frame)]),
+        } => add_claim(line, space, page, frame, &need),
+        What::UseHeld { page, frame, want } => add_placed(line, "use", page, frame, &want),
+        What::DropHeld { frame } => line.add("drop", &[frame]),
+        What::Got { frame } => line.add("got", &[frame]),
+        What::Unclaim { frame } => line.add("unclaim", &[frame]),
         What::Refused {
             wired,
             claimed,
             held,
-        } => lack_words("refused", wired, claimed, held),
-        What::Rest { short } => words(&[Word::Name("rest"), flag(short)]),
+        } => line.add("refused", &[wired, claimed, held]),
+        What::Rest { short } => add_rest(line, short),
     }
 }
 
-/// The words of an answer in the history.
-fn answer_words(number: u32, answered: &Answered) -> Words
-    ensures words { map word_text result.items ≡ codes "answer" ∷ decimal number ∷ answered_words answered.now }
-    ensures few { length result.items ≤ 8 }
+/// Adds the words of an answer in the history.
+fn add_answer(line: &mut Line, number: u32, answered: &Answered)
+    requires { HasRoom 126 line.old }
+    ensures text { Adds (codes "answer" ∷ decimal number ∷ answered_words answered.now) line.old line.new }
+    ensures short { GrowsBy 126 line.old line.new }
 {
-    let call = [Word::Name("answer"), count(number)];
-    joined(&call, words_of_answered(answered).as_slice())
+    line.add("answer", &[number]);
+    add_answered(line, answered);
 }
 
-/// The words of a failure of the store.
-fn failed_words(page: u32, writing: bool, times: u64) -> Words
-    ensures words { map word_text result.items ≡ codes "failed" ∷ decimal page ∷ writing_word writing ∷ decimal times ∷ [] }
-    ensures few { length result.items ≤ 8 }
+/// Adds the words of a page that went out.
+fn add_out(line: &mut Line, page: u32, written: bool)
+    requires { HasRoom 126 line.old }
+    ensures text { Adds (codes "out" ∷ decimal page ∷ written_word written ∷ []) line.old line.new }
+    ensures short { GrowsBy 126 line.old line.new }
 {
-    let failed = Word::Name("failed");
-    words(&[failed, count(page), side(writing), Word::Number(times)])
+    line.add("out", &[page]);
+    line.add_name(found(written));
 }
 
-/// The words of a page that got a frame.
-fn placed_words(name: &'static str, page: u32, frame: u32, want: &Want) -> Words
-    ensures words { map word_text result.items ≡ name.now ∷ decimal page ∷ decimal frame ∷ want_words want.now }
-    ensures few { length result.items ≤ 8 }
+/// Adds the words of a failure of the store.
+fn add_failed(line: &mut Line, page: u32, writing: bool, times: u64)
+    requires { HasRoom 126 line.old }
+    ensures text { Adds (codes "failed" ∷ decimal page ∷ writing_word writing ∷ decimal times ∷ []) line.old line.new }
+    ensures short { GrowsBy 126 line.old line.new }
 {
-    words(&[
-        Word::Name(name),
-        count(page),
-        count(frame),
-        count(want.low),
-        count(want.high),
-        count(want.cap),
-        flag(want.wired),
-    ])
+    line.add("failed", &[page]);
+    line.add_name(side(writing));
+    line.add_number(times);
 }
 
-/// The words of a claim.
-fn claim_words(space: u32, page: u32, frame: u32, need: &Option<Need>) -> Words
-    ensures words { map word_text result.items ≡ codes "claim" ∷ decimal space ∷ decimal page ∷ decimal frame ∷ need_words need.now }
-    ensures few { length result.items ≤ 8 }
+/// Adds the words of a page that got a frame.
+fn add_placed(line: &mut Line, name: &str, page: u32, frame: u32, want: &Want)
+    requires room { HasRoom 126 line.old }
+    requires short { length name.now ≤ 4 }
+    ensures text { Adds (name.now ∷ decimal page ∷ decimal frame ∷ want_words want.now) line.old line.new }
+    ensures short { GrowsBy 126 line.old line.new }
 {
-    let claim = [Word::Name("claim"), count(space), count(page), count(frame)];
-    joined(&claim, words_of_need(need).as_slice())
+    line.add(name, &[page, frame, want.low, want.high, want.cap]);
+    line.add_name(flag(want.wired));
 }
 
-/// The words of what a claim is for.
-fn words_of_need(need: &Option<Need>) -> Words
-    ensures words { map word_text result.items ≡ need_words need.now }
-    ensures few { length result.items ≤ 3 }
+/// Adds the words of a claim.
+fn add_claim(line: &mut Line, space: u32, page: u32, frame: u32, need: &Option<Need>)
+    requires { HasRoom 126 line.old }
+    ensures text { Adds (codes "claim" ∷ decimal space ∷ decimal page ∷ decimal frame ∷ need_words need.now) line.old line.new }
+    ensures short { GrowsBy 126 line.old line.new }
 {
-    match need {
-        None => words(&[]),
-        Some(need) => words(&[Word::Name("for"), count(need.page), side(need.writing)]),
+    line.add("claim", &[space, page, frame]);
+    add_need(line, need);
+}
+
+/// Adds what a claim is for.
+fn add_need(line: &mut Line, need: &Option<Need>)
+    requires { HasRoom 31 line.old }
+    ensures text { Adds (need_words need.now) line.old line.new }
+    ensures short { GrowsBy 31 line.old line.new }
+{
+    if let Some(need) = need {
+        line.add("for", &[need.page]);
+        line.add_name(side(need.writing));
     }
 }
 
-/// The words of a want of frames: how many are wired, claimed and held.
-fn lack_words(name: &'static str, wired: u32, claimed: u32, held: u32) -> Words
-    ensures words { map word_text result.items ≡ name.now ∷ decimal wired ∷ decimal claimed ∷ decimal held ∷ [] }
-    ensures few { length result.items ≤ 4 }
+/// Adds the words of a daemon that rests.
+fn add_rest(line: &mut Line, short: bool)
+    requires { HasRoom 126 line.old }
+    ensures text { Adds (codes "rest" ∷ flag_word short ∷ []) line.old line.new }
+    ensures short { GrowsBy 126 line.old line.new }
 {
-    words(&[Word::Name(name), count(wired), count(claimed), count(held)])
+    line.add_name("rest");
+    line.add_name(flag(short));
 }
 
-/// The words of an answer: its reply, and where it has a size whether it was a hit, and the size.
-fn words_of_answered(answered: &Answered) -> Words
-    ensures words { map word_text result.items ≡ answered_words answered.now }
-    ensures few { length result.items ≤ 6 }
+/// Adds the words of an answer: its reply, and where it has a size whether it was a hit, and the size.
+fn add_answered(line: &mut Line, answered: &Answered)
+    requires { HasRoom 98 line.old }
+    ensures text { Adds (answered_words answered.now) line.old line.new }
+    ensures short { GrowsBy 98 line.old line.new }
 {
-    let size = size_words_of(answered);
-    joined(words_of_reply(&answered.reply).as_slice(), size.as_slice())
+    add_reply(line, &answered.reply);
+    add_size(line, answered);
 }
 
-/// Hit or miss, and the size, where there is one.
-fn size_words_of(answered: &Answered) -> Words
-    ensures words { map word_text result.items ≡ size_words answered.now.hit answered.now.size }
-    ensures few { length result.items ≤ 2 }
+/// Adds hit or miss, and the size, where there is one.
+fn add_size(line: &mut Line, answered: &Answered)
+    requires { HasRoom 26 line.old }
+    ensures text { Adds (size_words answered.now.hit answered.now.size) line.old line.new }
+    ensures short { GrowsBy 26 line.old line.new }
 {
-    match answered.size {
-        None => words(&[]),
-        Some(size) => words(&[hit_of(answered.hit), count(u32::from(size.level()))]),
+    if let Some(size) = answered.size {
+        line.add(hit_or_miss(answered.hit), &[u32::from(size.level())]);
     }
 }
 
-/// The words of a reply: its name, and its numbers.
-fn words_of_reply(reply: &Reply) -> Words
-    ensures words { map word_text result.items ≡ reply_words reply.now }
-    ensures few { length result.items ≤ 4 }
+/// Adds the words of a reply: its name, and its numbers.
+fn add_reply(line: &mut Line, reply: &Reply)
+    requires { HasRoom 72 line.old }
+    ensures text { Adds (reply_words reply.now) line.old line.new }
+    ensures short { GrowsBy 72 line.old line.new }
 {
     match *reply {
-        Reply::Done => name("done"),
-        Reply::Value(word) => words(&[Word::Name("value"), Word::Number(word)]),
-        Reply::Clean => name("clean"),
-        Reply::Written => name("written"),
-        Reply::Unmapped => name("unmapped"),
-        Reply::Denied => name("denied"),
-        Reply::Overlap => name("overlap"),
-        Reply::OutOfSpace => name("outofspace"),
-        Reply::NotGrowing => name("notgrowing"),
-        Reply::RegionsFull => name("regionsfull"),
+        Reply::Done => line.add_name("done"),
+        Reply::Value(word) => add_value(line, word),
+        Reply::Clean => line.add_name("clean"),
+        Reply::Written => line.add_name("written"),
+        Reply::Unmapped => line.add_name("unmapped"),
+        Reply::Denied => line.add_name("denied"),
+        Reply::Overlap => line.add_name("overlap"),
+        Reply::OutOfSpace => line.add_name("outofspace"),
+        Reply::NotGrowing => line.add_name("notgrowing"),
+        Reply::RegionsFull => line.add_name("regionsfull"),
         Reply::NoFrames {
             wired,
             claimed,
             held,
-        } => lack_words("noframes", wired, claimed, held),
-        Reply::StoreFault {
-            space,
-            count: times,
-        } => { words(&[Word::Name("storefault"), count(space), Word::Number(times)]) }
-        Reply::NoMemory => name("nomemory"),
+        } => line.add("noframes", &[wired, claimed, held]),
+        Reply::StoreFault { space, count } => add_store_fault(line, space, count),
+        Reply::NoMemory => line.add_name("nomemory"),
     }
 }
 
-/// A name alone.
-fn name(of: &'static str) -> Words
-    ensures words { map word_text result.items ≡ of.now ∷ [] }
-    ensures few { length result.items ≤ 4 }
+/// Adds the words of a word that was read.
+fn add_value(line: &mut Line, word: u64)
+    requires { HasRoom 72 line.old }
+    ensures text { Adds (codes "value" ∷ decimal word ∷ []) line.old line.new }
+    ensures short { GrowsBy 72 line.old line.new }
 {
-    words(&[Word::Name(of)])
+    line.add_name("value");
+    line.add_number(word);
+}
+
+/// Adds the words of a fault of a space's store.
+fn add_store_fault(line: &mut Line, space: u32, times: u64)
+    requires { HasRoom 72 line.old }
+    ensures text { Adds (codes "storefault" ∷ decimal space ∷ decimal times ∷ []) line.old line.new }
+    ensures short { GrowsBy 72 line.old line.new }
+{
+    line.add("storefault", &[space]);
+    line.add_number(times);
 }
 
 /// Whether a translation was there.
-fn hit_of(hit: bool) -> Word
-    ensures { word_text result ≡ hit_word hit }
+fn hit_or_miss(hit: bool) -> &'static str
+    ensures text { result.now ≡ hit_word hit }
+    ensures short { length result.now ≤ 4 }
 {
-    Word::Name(if hit { "hit" } else { "miss" })
+    if hit { "hit" } else { "miss" }
 }
 
 /// Whether the store was written or read.
-fn side(writing: bool) -> Word
-    ensures { word_text result ≡ writing_word writing }
+fn side(writing: bool) -> &'static str
+    ensures text { result.now ≡ writing_word writing }
+    ensures short { length result.now ≤ 5 }
 {
-    Word::Name(if writing { "write" } else { "read" })
+    if writing { "write" } else { "read" }
 }
 
 /// What a page was found to be.
-fn found(written: bool) -> Word
-    ensures { word_text result ≡ written_word written }
+fn found(written: bool) -> &'static str
+    ensures text { result.now ≡ written_word written }
+    ensures short { length result.now ≤ 7 }
 {
-    Word::Name(if written { "written" } else { "clean" })
+    if written { "written" } else { "clean" }
 }
 
 /// Whether something holds, as 1 or 0.
-fn flag(holds: bool) -> Word
-    ensures { word_text result ≡ flag_word holds }
+fn flag(holds: bool) -> &'static str
+    ensures text { result.now ≡ flag_word holds }
+    ensures short { length result.now ≤ 1 }
 {
-    Word::Name(if holds { "1" } else { "0" })
+    if holds { "1" } else { "0" }
 }

@@ -7,7 +7,7 @@ mod report;
 mod summary_lines;
 mod writing;
 
-pub use report::{Parts, Report};
+pub use report::{Parts, write_report};
 
 #[cfg(test)]
 mod tests;

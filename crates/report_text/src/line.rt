@@ -1,72 +1,131 @@
-//! A line as its words.
+//! A line as it is written.
 
-ghost use Rattle.std.specs.Prelude.{◌≡◌, ◌+◌, ◌≤◌, ◌∷◌, ◌++◌, length, map};
-ghost use Rattle.pager_model.specs.TraceText.{line_of_words};
-ghost use Rattle.report_text.specs.Lines.{line_text, word_text};
-ghost use Rattle.report_text.specs.declared.line.Word.TheVariants.{Number as number_word};
+ghost use Rattle.std.specs.Prelude.{◌≡◌, ◌+◌, ◌*◌, ◌≤◌, [], ◌∷◌, ◌++◌, decimal, length, map, Some};
+ghost use Rattle.pager_model.specs.PrintedText.{part_word};
+ghost use Rattle.report_text.specs.Lines.{Adds, GrowsBy, HasRoom, line_text};
 
 use arrayvec::ArrayVec;
+use itoa::Buffer;
 
-/// A word of a line.
-#[derive(Clone, Copy)]
-pub enum Word {
-    Name(&'static str),
-    Number(u64),
-    /// The part that is a space: its number behind an `s`.
-    Space(u32),
-    /// That part and the frames.
-    SpaceAndFrames(u32),
-}
+/// No line is longer.
+const LONGEST: usize = 192;
 
-// What a fixed room for words holds where no word is.
-impl Default for Word {
-    fn default() -> Word {
-        Word::Number(0)
-    }
-}
-
-/// A count, or another number of 32 bits, as a word.
-pub fn count(number: u32) -> Word
-    ensures { result ≡ number_word number }
-{
-    Word::Number(u64::from(number))
-}
-
-/// At most ten words.
-pub type Words = ArrayVec<Word, 10>;
-
-/// These words, and then those.
-pub fn joined(first: &[Word], then: &[Word]) -> Words
-    requires { length first.now + length then.now ≤ 10 }
-    ensures { result.items ≡ first.now ++ then.now }
-{
-    let mut words = words(first);
-    words.try_extend_from_slice(then).unwrap();
-    words
-}
-
-/// These words.
-pub fn words(of: &[Word]) -> Words
-    requires { length of.now ≤ 10 }
-    ensures { result.items ≡ of.now }
-{
-    ArrayVec::try_from(of).unwrap()
-}
-
-/// A line: a word at least, and what comes after it, a space before each.
+/// A line: its first word, and others with a space before each.
 #[derive(Drop)]
 pub struct Line {
-    pub first: Word,
-    pub rest: Words,
+    bytes: ArrayVec<u8, LONGEST>,
 }
 
-/// A line that begins with a name.
-pub fn named(name: &'static str, rest: &[Word]) -> Line
-    requires { length rest.now ≤ 10 }
-    ensures { line_text result ≡ line_of_words (name.now ∷ map word_text rest.now) }
-{
-    Line {
-        first: Word::Name(name),
-        rest: words(rest),
+impl Line {
+    /// A line that begins with a name.
+    pub fn named(name: &str) -> Line
+        requires { length name.now ≤ 20 }
+        ensures text { line_text result ≡ name.now }
+    {
+        let mut line = Line {
+            bytes: ArrayVec::new(),
+        };
+        line.put(name.as_bytes());
+        line
+    }
+
+    /// A line that begins with a number.
+    pub fn numbered(number: u64) -> Line
+        ensures text { line_text result ≡ decimal number }
+        ensures short { length (line_text result) ≤ 20 }
+    {
+        let mut buffer = Buffer::new();
+        Line::named(buffer.format(number))
+    }
+
+    /// The bytes.
+    pub fn as_bytes(&self) -> &[u8]
+        ensures text { result.now ≡ line_text self.now }
+        ensures short { length result.now ≤ LONGEST }
+    {
+        self.bytes.as_slice()
+    }
+
+    /// Adds bytes.
+    fn put(&mut self, bytes: &[u8])
+        requires { HasRoom (length bytes.now) self.old }
+        ensures { line_text self.new ≡ line_text self.old ++ bytes.now }
+    {
+        self.bytes.try_extend_from_slice(bytes).unwrap();
+    }
+
+    /// Adds a name.
+    pub fn add_name(&mut self, name: &str)
+        requires { HasRoom (1 + length name.now) self.old }
+        ensures text { Adds (name.now ∷ []) self.old self.new }
+        ensures short { GrowsBy (1 + length name.now) self.old self.new }
+    {
+        self.bytes.push(b' ');
+        self.put(name.as_bytes());
+    }
+
+    /// Adds a number.
+    pub fn add_number(&mut self, number: u64)
+        requires { HasRoom 21 self.old }
+        ensures text { Adds (decimal number ∷ []) self.old self.new }
+        ensures short { GrowsBy 21 self.old self.new }
+    {
+        let mut buffer = Buffer::new();
+        self.add_name(buffer.format(number));
+    }
+
+    /// Adds counts, or other numbers of 32 bits.
+    pub fn add_counts(&mut self, counts: &[u32])
+        requires { HasRoom (21 * length counts.now) self.old }
+        ensures text { Adds (map decimal counts.now) self.old self.new }
+        ensures short { GrowsBy (21 * length counts.now) self.old self.new }
+    {
+        for count in counts {
+            self.add_number(u64::from(*count));
+        }
+    }
+
+    /// Adds a name and counts.
+    pub fn add(&mut self, name: &str, counts: &[u32])
+        requires { HasRoom (1 + length name.now + 21 * length counts.now) self.old }
+        ensures text { Adds (name.now ∷ map decimal counts.now) self.old self.new }
+        ensures short { GrowsBy (1 + length name.now + 21 * length counts.now) self.old self.new }
+    {
+        self.add_name(name);
+        self.add_counts(counts);
+    }
+
+    /// Adds the parts that an entry names: a space, the frames, or both.
+    pub fn add_parts(&mut self, space: Option<u32>, frames: bool)
+        requires { HasRoom 24 self.old }
+        ensures text { Adds (part_word space frames ∷ []) self.old self.new }
+        ensures short { GrowsBy 24 self.old self.new }
+    {
+        match space {
+            None => self.add_name("f"),
+            Some(space) => self.add_space(space, frames),
+        }
+    }
+
+    /// Adds a space, and the frames where they are named too.
+    fn add_space(&mut self, space: u32, frames: bool)
+        requires { HasRoom 24 self.old }
+        ensures text { Adds (part_word (Some space) frames ∷ []) self.old self.new }
+        ensures short { GrowsBy 24 self.old self.new }
+    {
+        let mut buffer = Buffer::new();
+        self.add_name("s");
+        self.put(buffer.format(space).as_bytes());
+        if frames {
+            self.put(b"+f");
+        }
+    }
+
+    /// Ends the line.
+    pub fn end(&mut self)
+        requires { HasRoom 1 self.old }
+        ensures { line_text self.new ≡ line_text self.old ++ 10 ∷ [] }
+    {
+        self.bytes.push(b'\n');
     }
 }

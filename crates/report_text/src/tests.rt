@@ -1,18 +1,13 @@
 //! Texts of small runs, and a line of each kind.
-ghost use Rattle.std.specs.Prelude.{◌≡◌, ◌≤◌, IfOk, Some, length, slice_index_or};
-ghost use Rattle.pager_model.specs.declared.entry.What.TheVariants.{Answer as answer_what};
-ghost use Rattle.pager_model.specs.Entries.{entries_of};
-ghost use Rattle.pager_model.specs.Legal.{entries_in};
-ghost use Rattle.pager_model.specs.Showing.{answers_in, calls_of};
+ghost use Rattle.std.specs.Prelude.{Some};
 
 use crate::entry_words::{line_of_answer, line_of_entry};
-use crate::line::{Line as TextLine, named};
+use crate::line::Line;
 use crate::writing::Room;
-use crate::{Parts, Report};
+use crate::{Parts, write_report};
 use io_core::{MemorySink, Sink, WriteFailed};
 use pager_model::{
-    Answered, Call, Entry, Kind, Line, Need, NoMemory, Numbered, Reply, Rights, Size, Summary,
-    Trace, Want, What,
+    Answered, Call, Entry, Kind, Need, Numbered, Reply, Rights, Size, Summary, Want, What,
 };
 use std::alloc::{AllocError, Global};
 use std::test::Fail;
@@ -57,18 +52,8 @@ const HISTORY: &[u8] =
 const COUNTS: &[u8] =
     b"tiles 1 0 0 0\npromotions 0\ndemotions 0\npreemptions 0\nimages 0 1\nframes 504 7 1\nend\n";
 
-/// A map and a load of one processor.
-fn small_trace(alloc: Global) -> Result<Trace, NoMemory>
-    ensures { IfOk result (λ t. (t.processors ≡ 1) × (length (calls_of 0 t.calls) ≡ 2)) }
-{
-    let lines = [MAP, LOAD].map(|call| Line { processor: 0, call });
-    Ok(Trace::of(512, 1, 1, None, lines.to_vec(alloc)?))
-}
-
-/// The history of its run.
-fn small_history() -> [Numbered; 3]
-    ensures { length (answers_in (entries_of 0 (entries_in result))) ≡ 2 }
-{
+/// The history of a run of a map and a load of one processor.
+fn small_history() -> [Numbered; 3] {
     [
         entry_at(0, false, answer(0, MAP, Reply::Done, false, None)),
         entry_at(
@@ -89,10 +74,7 @@ fn small_history() -> [Numbered; 3]
 }
 
 /// An entry of processor 0 that names space 0, and the frames where it says so.
-fn entry_at(number: u64, frames: bool, what: What) -> Numbered
-    ensures what { result.entry.what ≡ what }
-    ensures processor { result.entry.processor ≡ 0 }
-{
+fn entry_at(number: u64, frames: bool, what: What) -> Numbered {
     Numbered {
         number,
         entry: Entry {
@@ -105,9 +87,7 @@ fn entry_at(number: u64, frames: bool, what: What) -> Numbered
 }
 
 /// A call's answer.
-fn answer(number: u32, call: Call, reply: Reply, hit: bool, size: Option<Size>) -> What
-    ensures { result ≡ answer_what number call (record { reply = reply; hit = hit; size = size }) }
-{
+fn answer(number: u32, call: Call, reply: Reply, hit: bool, size: Option<Size>) -> What {
     let answered = Answered { reply, hit, size };
     What::Answer {
         number,
@@ -116,19 +96,9 @@ fn answer(number: u32, call: Call, reply: Reply, hit: bool, size: Option<Size>) 
     }
 }
 
-/// A report with room for the small run.
-fn small_report(alloc: Global) -> Result<Report, NoMemory>
-    ensures { IfOk result (λ room. (length room ≡ 1) × (2 ≤ slice_index_or room 0 0)) }
-{
-    let trace = small_trace(alloc)?;
-    Report::create(alloc, &trace)
-}
-
 /// Writes the small run.
-fn write_small<K: Sink>(report: Report, sink: &mut K, parts: Parts) -> Result<(), WriteFailed>
-    requires room { (length report ≡ 1) × (2 ≤ slice_index_or report 0 0) }
-{
-    report.write(sink, parts, &small_history(), &SUMMARY)
+fn write_small<K: Sink>(sink: &mut K, parts: Parts) -> Result<(), WriteFailed> {
+    write_report(sink, 1, &small_history(), &SUMMARY, parts)
 }
 
 /// The text of the small run.
@@ -153,9 +123,8 @@ fn a_run_has_its_answers_the_history_where_it_is_asked_for_and_the_counts(
 ) -> Result<(), Fail> {
     let alloc = rt.alloc();
     for parts in [Parts::Answers, Parts::AnswersAndHistory] {
-        let report = small_report(alloc).map_err(|_| "memory")?;
         let mut sink = sink_of(alloc, 300, 0)?;
-        assert_eq!(rt; write_small(report, &mut sink, parts), Ok(()));
+        assert_eq!(rt; write_small(&mut sink, parts), Ok(()));
         assert_eq!(rt; sink.bytes(), small_text(alloc, parts)?.as_slice());
     }
     Ok(())
@@ -181,9 +150,8 @@ fn each_write_that_fails_leaves_what_went_before(rt: HostRuntime) -> Result<(), 
     let text = small_text(alloc, Parts::AnswersAndHistory)?;
     let writes = text.len().div_ceil(16) as u64;
     for failing in 1..=writes + 1 {
-        let report = small_report(alloc).map_err(|_| "memory")?;
         let mut sink = Slow(sink_of(alloc, 300, failing)?);
-        let wrote = write_small(report, &mut sink, Parts::AnswersAndHistory);
+        let wrote = write_small(&mut sink, Parts::AnswersAndHistory);
         assert_eq!(rt; wrote.is_ok(), failing > writes, "at write {failing}");
         let gone = text.len().min(16 * (failing as usize - 1));
         assert_eq!(rt; sink.0.bytes(), &text[..gone]);
@@ -196,9 +164,8 @@ fn a_full_sink_has_the_first_bytes_of_the_text(rt: HostRuntime) -> Result<(), Fa
     let alloc = rt.alloc();
     let text = small_text(alloc, Parts::Answers)?;
     for limit in [0, 1, ANSWERS.len(), ANSWERS.len() + COUNTS.len() - 1] {
-        let report = small_report(alloc).map_err(|_| "memory")?;
         let mut sink = sink_of(alloc, limit, 0)?;
-        let wrote = write_small(report, &mut sink, Parts::Answers);
+        let wrote = write_small(&mut sink, Parts::Answers);
         assert_eq!(rt; wrote, Err(WriteFailed), "after {limit} bytes");
         assert_eq!(rt; Some(sink.bytes()), text.get(..limit));
     }
@@ -208,7 +175,9 @@ fn a_full_sink_has_the_first_bytes_of_the_text(rt: HostRuntime) -> Result<(), Fa
 /// Puts 400 lines of eleven bytes.
 fn put_many(room: &mut Room, sink: &mut MemorySink) -> Result<(), WriteFailed> {
     for _ in 0..400 {
-        room.put_line(sink, &named("promotions", &[]))?;
+        let mut line = Line::named("promotions");
+        line.end();
+        room.put_line(sink, &line)?;
     }
     room.send(sink)
 }
@@ -216,10 +185,10 @@ fn put_many(room: &mut Room, sink: &mut MemorySink) -> Result<(), WriteFailed> {
 #[test]
 fn a_long_text_goes_out_in_pieces(rt: HostRuntime) -> Result<(), Fail> {
     let alloc = rt.alloc();
-    // The write that fails, and how many bytes went out: the first piece ends at a word.
+    // The write that fails, and how many bytes went out: the first piece ends at a line's end.
     for (failing, gone) in [(1, 0), (2, 4092), (3, 4400)] {
         let mut sink = sink_of(alloc, 5000, failing)?;
-        let mut room = Room::create(alloc).map_err(|_| "memory")?;
+        let mut room = Room::new();
         let put = put_many(&mut room, &mut sink);
         assert_eq!(rt; put.is_ok(), failing == 3, "at write {failing}");
         assert_eq!(rt; sink.bytes().len(), gone);
@@ -228,8 +197,8 @@ fn a_long_text_goes_out_in_pieces(rt: HostRuntime) -> Result<(), Fail> {
 }
 
 /// The text of a line.
-fn text_of(alloc: Global, line: &TextLine) -> Result<Vec<u8>, Fail> {
-    let mut room = Room::create(alloc).map_err(|_| "memory")?;
+fn text_of(alloc: Global, line: &Line) -> Result<Vec<u8>, Fail> {
+    let mut room = Room::new();
     let mut sink = sink_of(alloc, 200, 0)?;
     room.put_line(&mut sink, line).map_err(|_| "write")?;
     room.send(&mut sink).map_err(|_| "write")?;
@@ -276,7 +245,7 @@ fn each_reply_has_its_line(rt: HostRuntime) -> Result<(), Fail> {
 }
 
 /// The line of an entry of processor 3, number 12 of its history.
-fn line_of(space: Option<u32>, frames: bool, what: What) -> TextLine {
+fn line_of(space: Option<u32>, frames: bool, what: What) -> Line {
     let entry = Entry {
         processor: 3,
         space,

@@ -4,10 +4,8 @@ ghost use Rattle.std.specs.Prelude.{◌≡◌, ◌≢◌, ◌<◌, ◌≤◌, �
 ghost use Rattle.io_core.specs.Faults.{Rose};
 ghost use Rattle.pager_model.specs.Legal.{entries_in};
 ghost use Rattle.pager_model.specs.PrintedText.{out_text};
-ghost use Rattle.pager_model.specs.Showing.{Shows};
 ghost use Rattle.replay_core.specs.Replays.{IsReplay, AreItsCounts};
 ghost use Rattle.report_text.specs.Parts.{has_history};
-ghost use Rattle.report_text.specs.Reports.{IsReadyFor};
 ghost use Rattle.report_text.specs.Written.{WroteAll, WrotePart};
 ghost use Rattle.superpager.specs.declared.form.Form.{Form as Asked};
 ghost use Rattle.superpager.specs.Forms.{AreWords, IsForm, IsInTurns, ComesBy};
@@ -15,9 +13,9 @@ ghost use Rattle.superpager.specs.Runs.{IsRunnable, IsRefused, IsStatus, IsStopp
 
 use crate::form::{Form, form_of};
 use io_core::{Sink, Source, WriteFailed};
-use pager_model::{NoMemory, Numbered, Trace};
+use pager_model::{Numbered, Trace};
 use replay_core::{Gathered, replay, replay_file_order, replay_turns};
-use report_text::{Parts, Report};
+use report_text::{Parts, write_report};
 use std::alloc::Global;
 use std::sync::Wait;
 use std::thread::Threads;
@@ -122,12 +120,12 @@ fn run_in_turns<T: Source, K: Sink, S: Store + Send + Drop>(
     requires in_turns { IsInTurns form }
     ensures { RunsBy T.left T.faults K.taken K.faults S.seen form source.old source.new sink.old sink.new stores.items result }
 {
-    let Ready { trace, report } = match ready_to_run(alloc, source, stores.len()) {
-        Ok(ready) => ready,
+    let trace = match trace_to_run(alloc, source, stores.len()) {
+        Ok(trace) => trace,
         Err(stop) => return stopped(alloc, stop.status, stop.refusal, stores),
     };
     match replay_in_turns(alloc, form, &trace, stores) {
-        Ok(gathered) => write_run(report, form.parts(), trace, gathered, sink),
+        Ok(gathered) => write_run(sink, trace, gathered, form.parts()),
         Err(stores) => stopped(alloc, MEMORY, None, stores),
     }
 }
@@ -143,12 +141,12 @@ fn run_in_threads<T: Source, K: Sink, S: Store + Send + Drop, R: Threads + Wait 
 ) -> Outcome<S>
     ensures { RunsBy T.left T.faults K.taken K.faults S.seen (Asked.Replay parts) source.old source.new sink.old sink.new stores.items result }
 {
-    let Ready { trace, report } = match ready_to_run(alloc, source, stores.len()) {
-        Ok(ready) => ready,
+    let trace = match trace_to_run(alloc, source, stores.len()) {
+        Ok(trace) => trace,
         Err(stop) => return stopped(alloc, stop.status, stop.refusal, stores),
     };
     match replay(rt, alloc, &trace, stores) {
-        Ok(gathered) => write_run(report, parts, trace, gathered, sink),
+        Ok(gathered) => write_run(sink, trace, gathered, parts),
         Err(stores) => stopped(alloc, MEMORY, None, stores),
     }
 }
@@ -175,13 +173,6 @@ fn stopped<S: Store + Send + Drop>(
     }
 }
 
-/// A trace that can be run, and the report of its run.
-#[derive(Drop)]
-struct Ready {
-    trace: Trace,
-    report: Report,
-}
-
 /// Why no run is made of what a source has.
 #[derive(Drop)]
 struct Stop {
@@ -189,11 +180,10 @@ struct Stop {
     refusal: Option<TraceFault>,
 }
 
-/// Reads a trace, and takes the memory for the report of its run over so many stores; where there are fewer than spaces it is refused.
-fn ready_to_run<T: Source>(alloc: Global, source: &mut T, stores: usize) -> Result<Ready, Stop>
-    ensures read { IfOk result (λ ready. WasRead ready.trace (T.left source.old) (T.left source.new)) }
-    ensures report { IfOk result (λ ready. IsReadyFor ready.trace ready.report) }
-    ensures enough { IfOk result (λ ready. ready.trace.spaces ≤ stores) }
+/// Reads a trace, to be run over so many stores; where there are fewer than spaces it is refused.
+fn trace_to_run<T: Source>(alloc: Global, source: &mut T, stores: usize) -> Result<Trace, Stop>
+    ensures read { IfOk result (λ trace. WasRead trace (T.left source.old) (T.left source.new)) }
+    ensures enough { IfOk result (λ trace. trace.spaces ≤ stores) }
     ensures stopped { IfErr result (λ stop. IsStopped (T.left source.old) (T.left source.new) (T.faults source.old) (T.faults source.new) stores stop.status stop.refusal) }
 {
     let trace = match read_trace(alloc, source) {
@@ -204,13 +194,7 @@ fn ready_to_run<T: Source>(alloc: Global, source: &mut T, stores: usize) -> Resu
     if stores < u64::from(spaces) {
         return Err(refused(TraceFault::TooFewStores { stores, spaces }));
     }
-    match Report::create(alloc, &trace) {
-        Ok(report) => Ok(Ready { trace, report }),
-        Err(NoMemory) => Err(Stop {
-            status: MEMORY,
-            refusal: None,
-        }),
-    }
+    Ok(trace)
 }
 
 /// The refusal of a text that was not read, or whose trace wants more stores.
@@ -250,16 +234,13 @@ fn replay_in_turns<S: Store + Send + Drop>(
     }
 }
 
-/// Writes the report of a run, which no memory is taken for.
+/// Writes the report of a run.
 fn write_run<K: Sink, S: Store + Send + Drop>(
-    report: Report,
-    parts: Parts,
+    sink: &mut K,
     trace: Trace,
     gathered: Gathered<S>,
-    sink: &mut K,
+    parts: Parts,
 ) -> Outcome<S>
-    requires ready { IsReadyFor trace report }
-    requires shows { Shows trace (entries_in gathered.history.items) }
     ensures statuses { (result.status ≡ DONE) ⊎ (result.status ≡ WRITE_FAULT) }
     ensures refusal { result.refusal ≡ None }
     ensures trace { result.trace ≡ Some trace }
@@ -276,7 +257,14 @@ fn write_run<K: Sink, S: Store + Send + Drop>(
         stores,
         summary,
     } = gathered;
-    let status = match report.write(sink, parts, history.as_slice(), &summary) {
+    let wrote = write_report(
+        sink,
+        trace.processors(),
+        history.as_slice(),
+        &summary,
+        parts,
+    );
+    let status = match wrote {
         Ok(()) => DONE,
         Err(WriteFailed) => WRITE_FAULT,
     };

@@ -1,12 +1,8 @@
 //! What a run in threads prints.
-ghost use Rattle.std.specs.Prelude.{IfOk};
-ghost use Rattle.pager_model.specs.Legal.{entries_in};
-ghost use Rattle.pager_model.specs.Showing.{Shows};
-
 use io_core::{MemorySink, MemorySource};
-use pager_model::{NoMemory, Trace};
+use pager_model::Trace;
 use replay_core::{Gathered, replay};
-use report_text::{Parts, Report};
+use report_text::{Parts, write_report};
 use std::alloc::{AllocError, Global};
 use std::sync::Wait;
 use std::test::Fail;
@@ -39,9 +35,7 @@ pub(super) fn run_threads<S: Store + Send + Drop, R: Threads + Wait + Sync>(
     alloc: Global,
     trace: &Trace,
     stores: Vec<S>,
-) -> Result<Gathered<S>, Fail>
-    ensures { IfOk result (λ g. Shows trace.now (entries_in g.history.items)) }
-{
+) -> Result<Gathered<S>, Fail> {
     if stores.len() < trace.spaces() as usize {
         return Err(Fail::from("too few stores"));
     }
@@ -59,11 +53,16 @@ pub(super) fn printed<S: Store + Send + Drop, R: Threads + Wait + Sync>(
     stores: Vec<S>,
 ) -> Result<String, Fail> {
     let trace = read_text(alloc, text)?;
-    let report = Report::create(alloc, &trace)?;
     let gathered = run_threads(rt, alloc, &trace, stores)?;
     let room = Vec::with_capacity(alloc, MOST_BYTES)?;
     let mut sink = MemorySink::of(room, MOST_BYTES, Vec::new(alloc));
     let history = gathered.history.as_slice();
-    report.write(&mut sink, Parts::Answers, history, &gathered.summary)?;
+    write_report(
+        &mut sink,
+        trace.processors(),
+        history,
+        &gathered.summary,
+        Parts::Answers,
+    )?;
     Ok(String::from_utf8(sink.bytes().to_vec(alloc)?)?)
 }

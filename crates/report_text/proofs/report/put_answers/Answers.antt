@@ -1,14 +1,37 @@
-use Rattle.std.proofs.Common.{[]}
-use Rattle.report_text.specs.Reports.{answer_text}
+use Rattle.std.proofs.Common.{ℕ, ◌≡◌, ◌<◌, ◌≤◌, [], List, length, flat_map, get_or, refl, subst, arith}
+use Rattle.std.specs.List.{range_with_len}
+use Rattle.std.proofs.lemmas.List.{take_all}
+use Rattle.std.proofs.lemmas.List.FromFn.{get_or-range_with_len, length-range_with_len}
+use Rattle.pager_model.specs.Legal.{entries_in}
+use Rattle.pager_model.specs.PrintedText.{answers_of}
+use Rattle.report_text.specs.Writing.{Sent, outgoing}
 use Rattle.report_text.proofs.SentBytes.{sent_next, next_failed}
 use Rattle.report_text.proofs.report.put_answers.Goals as goal
 
-pub returns-in_err-put_line : goal.returns-in_err-put_line
-returns-in_err-put_line g c =
-    next_failed (answer_text c.args.processor) c.args.answers.now c.loop-answer.answer-index c.answer-item.result c.answer-item.result c.loop-answer-test.true c.answer-item.is _ c.line_of_answer-line.ensures []
-    c.from_residual.result [] c.from_residual.ensures.0 c.loop-answer.invariant c.in_err-put_line.ensures
+-- the processor of this place
+at_place : (n i : ℕ) → i < n → (i < length (range_with_len 0 n)) × (i ≡ get_or (range_with_len 0 n) i 0)
+at_place n i below = (omega (arith, below, length-range_with_len 0 n), omega (arith, get_or-range_with_len 0 n i 0 below))
 
-pub loop-answer-preserved : goal.loop-answer-preserved
-loop-answer-preserved g c =
-    sent_next (answer_text c.args.processor) c.args.answers.now c.loop-answer.answer-index c.answer-item.result c.answer-item.result c.loop-answer-test.true c.answer-item.is _ c.line_of_answer-line.ensures []
-    c.loop-answer.invariant c.in_ok-put_line.ensures
+pub returns-in_err-put_answers_of : goal.returns-in_err-put_answers_of
+returns-in_err-put_answers_of g c =
+    let n = c.args.processors in
+    let i = c.loop-processor.processor in
+    let at = at_place n i c.loop-processor-test.true in
+    next_failed (answers_of (entries_in c.args.history.now)) (range_with_len 0 n) i i 0 at.0 at.1 _ refl []
+    c.from_residual.result [] c.from_residual.ensures.0 c.loop-processor.invariant c.in_err-put_answers_of.ensures
+
+pub loop-processor-preserved : goal.loop-processor-preserved
+loop-processor-preserved g c =
+    let n = c.args.processors in
+    let i = c.loop-processor.processor in
+    let at = at_place n i c.loop-processor-test.true in
+    sent_next (answers_of (entries_in c.args.history.now)) (range_with_len 0 n) i i 0 at.0 at.1 _ refl [] c.loop-processor.invariant c.in_ok-put_answers_of.ensures
+
+pub returns : goal.returns
+returns g c =
+    let n = c.args.processors in
+    let i = c.loop-processor.processor in
+    let all : length (range_with_len 0 n) ≤ i = omega (arith, length-range_with_len 0 n, c.loop-processor-test.false) in
+    let first = outgoing (g.K.Sink.taken c.args.sink.now) (g.K.Sink.faults c.args.sink.now) c.args.room.now.bytes.items in
+    let last = outgoing (g.K.Sink.taken c.loop-processor.sink) (g.K.Sink.faults c.loop-processor.sink) c.loop-processor.room.bytes.items in
+    subst (λ (l : List ℕ). Sent first last (flat_map (answers_of (entries_in c.args.history.now)) l)) (take_all i (range_with_len 0 n) all) c.loop-processor.invariant

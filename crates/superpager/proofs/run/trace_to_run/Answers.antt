@@ -2,7 +2,7 @@ use Rattle.std.proofs.Common.{◌≡◌, ◌<◌, ◌⊎◌, Err, Some, inl, ap,
 use Rattle.trace_reader.specs.declared.fault.TraceFault.TheVariants.{TooFewStores}
 use Rattle.superpager.specs.declared.run.TheConstants.{REFUSED, READ_FAULT, MEMORY}
 use Rattle.superpager.proofs.Completeness.{refused_stores, enough_stores, not_refused_text, refused_text, status_told}
-use Rattle.superpager.proofs.run.ready_to_run.Goals as goal
+use Rattle.superpager.proofs.run.trace_to_run.Goals as goal
 
 pub returns-in-Err-clause-stopped : goal.returns-in-Err-clause-stopped
 returns-in-Err-clause-stopped g c =

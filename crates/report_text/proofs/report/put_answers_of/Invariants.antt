@@ -1,0 +1,10 @@
+use Rattle.std.proofs.Common.{take, flat_map}
+use Rattle.report_text.specs.Writing.{Sent, outgoing}
+use Rattle.report_text.proofs.EntryAnswers.{answer_of}
+use Rattle.report_text.proofs.report.put_answers_of.Given as goal
+
+abbrev pub invariant-loop-numbered : goal.invariant-loop-numbered
+invariant-loop-numbered g l =
+    Sent (outgoing (g.K.Sink.taken l.fn.sink) (g.K.Sink.faults l.fn.sink) l.fn.room.bytes.items)
+    (outgoing (g.K.Sink.taken l.sink) (g.K.Sink.faults l.sink) l.room.bytes.items)
+    (flat_map (answer_of l.processor) (take l.numbered-index l.history))
