@@ -16,7 +16,7 @@ use Rattle.pager_model.specs.Order.{Progress, may_answer, is_access, is_access_a
 use Rattle.pager_model.specs.Regions.{in_range, has_page, region_at}
 use Rattle.pager_model.specs.SpaceStates.{SpaceState, space_after, MayGoOn, WhatAllowed, IsUnmapOf, AfterClear, access_page}
 use Rattle.space_core.specs.Beginning.{BeginsAnswered, ReadsIn, Finishes, SameRegions, Unmapped}
-use Rattle.space_core.specs.Standing.{Kept, StandsFor, IsResting, CanBegin, copied_page, is_allowed, rights_at}
+use Rattle.space_core.specs.Standing.{Kept, StandsFor, IsResting, copied_page, is_allowed, rights_at}
 use Rattle.pager_model.specs.CallEntries.{answer_entry}
 use Rattle.pager_core.specs.declared.flight.Flight.{Flight}
 use Rattle.pager_core.specs.declared.flight.Phase.{Phase}
@@ -33,11 +33,10 @@ ending f a named = record { processor = f.processor; space = Some (space_of_call
 
 -- An answer that ends its flight: one that the space allows and then stands for, and that may come where the flight is.
 pub record MayEnd (f : Flight) (from : Phase) (a : Answered) (named : Bool) (was now : Kept) (st : SpaceState) : Type 0 where
-  pub can : CanBegin (call_in f.purpose)
   pub on : space_of_call (call_in f.purpose) ≡ was.number
   pub same_space : SameSpace was now
   pub resting : IsResting now
-  pub goes_on : MayGoOn st.next f.processor (Answer f.number (call_in f.purpose) a)
+  pub goes_on : MayGoOn (row_of (in_phase f from)).next f.processor (Answer f.number (call_in f.purpose) a)
   pub allowed : WhatAllowed st named f.processor (Answer f.number (call_in f.purpose) a)
   pub stands : StandsFor now (space_after st (ending f a named))
   pub made : (row_of (in_phase f from)).progress.made ≡ f.number
@@ -46,11 +45,11 @@ pub record MayEnd (f : Flight) (from : Phase) (a : Answered) (named : Bool) (was
 
 module _ (f : Flight) (from : Phase) (a : Answered) (was now : Kept) (st : SpaceState) where
   pub Makes-ending :
-      (named : Bool) → MayEnd f from a named was now st
+      (named : Bool) → IsReady (in_phase f from) was st → MayEnd f from a named was now st
       → (before after : FrameState) → (named ≡ true → FramesAllow before 0 f.processor (Some (space_of_call (call_in f.purpose))) (Answer f.number (call_in f.purpose) a))
       → after ≡ after_frames before (ending f a named)
       → Makes (in_phase f from) (in_phase f (Ended a.reply)) was now st before after (ending f a named)
-  Makes-ending named ends before after frames_allow frames_after = record {
+  Makes-ending named ready ends before after frames_allow frames_after = record {
     entry = record {
       same_work = same_work f from (Ended a.reply);
       processor = refl;
@@ -65,8 +64,8 @@ module _ (f : Flight) (from : Phase) (a : Answered) (was now : Kept) (st : Space
       between = refl;
       fewer = ends.some;
     };
-    space = Leaves-on (in_phase f (Ended a.reply)) was now st f.processor (space_of_call (call_in f.purpose)) named (Answer f.number (call_in f.purpose) a) ends.on ends.same_space (ends.goes_on, ends.allowed) (record {
-      fits = record { of_call = refl; can = ends.can; phase = tt };
+    space = Leaves-on (in_phase f (Ended a.reply)) was now st f.processor (space_of_call (call_in f.purpose)) named (Answer f.number (call_in f.purpose) a) ends.on ends.same_space ready.next ends.goes_on ends.allowed (record {
+      fits = record { of_call = refl; can = ready.fits.can; phase = tt };
       stands = ends.stands;
       next = refl;
       found = ends.resting;
@@ -75,17 +74,16 @@ module _ (f : Flight) (from : Phase) (a : Answered) (was now : Kept) (st : Space
   }
 
   -- one that leaves the frames alone
-  pub Makes-answer : MayEnd f from a false was now st → (frames : FrameState) → Makes (in_phase f from) (in_phase f (Ended a.reply)) was now st frames frames (answer_entry f.processor f.number (call_in f.purpose) a)
-  Makes-answer ends frames = Makes-ending false ends frames frames (λ named. absurd (false≢true named)) refl
+  pub Makes-answer : IsReady (in_phase f from) was st → MayEnd f from a false was now st → (frames : FrameState) → Makes (in_phase f from) (in_phase f (Ended a.reply)) was now st frames frames (answer_entry f.processor f.number (call_in f.purpose) a)
+  Makes-answer ready ends frames = Makes-ending false ready ends frames frames (λ named. absurd (false≢true named)) refl
 
 -- Start: the call is answered at once
 MayEnd-begin : (f : Flight) (a : Answered) (was now : Kept) (st : SpaceState) → IsReady (in_phase f Start) was st → BeginsAnswered was now f.processor (call_in f.purpose) a → MayEnd f Start a false was now st
 MayEnd-begin f a was now st ready begins = record {
-  can = ready.fits.can;
   on = same_Some _ _ ready.under;
   same_space = record { number = begins.same_number; frames = begins.same_frames; processors = begins.same_processors };
   resting = begins.resting;
-  goes_on = subst (λ next. MayGoOn next f.processor (Answer f.number (call_in f.purpose) a)) (sym ready.next) tt;
+  goes_on = tt;
   allowed = begins.answers.allowed st ready.stands f.number;
   stands = begins.answers.stands st ready.stands f.number;
   made = refl;
@@ -96,7 +94,7 @@ MayEnd-begin f a was now st ready begins = record {
 pub start_answered : (f : Flight) (a : Answered) (was now : Kept) → f.phase ≡ Start → BeginsAnswered was now f.processor (call_in f.purpose) a → (st : SpaceState) (frames : FrameState) → IsReady f was st → Makes f (with_phase f (Ended a.reply)) was now st frames frames (answer_entry f.processor f.number (call_in f.purpose) a)
 start_answered f a was now phase begins st frames =
     by_ready f Start was st phase (λ g to. Makes g (to (Ended a.reply)) was now st frames frames (answer_entry f.processor f.number (call_in f.purpose) a))
-    (λ ready. Makes-answer f Start a was now st (MayEnd-begin f a was now st ready begins) frames)
+    (λ ready. Makes-answer f Start a was now st ready (MayEnd-begin f a was now st ready begins) frames)
 
 -- the first element that does does
 find_does : {X : Type 0} (p : X → Bool) (xs : List X) (x : X) → find p xs ≡ Some x → p x ≡ true
@@ -121,12 +119,10 @@ MayEnd-unmap f s page first len a was now st call ready unmapped =
     let within : in_range first len page ≡ true = sym (ap (λ n. in_range n r.length page) is.first_is ∙ ap (λ n. in_range first n page) is.length_is) ∙ region_at-has was.regions page r at in
     let next : st.next ≡ AfterClear f.processor r.first r.length = ready.next ∙ sym (ap (λ n. AfterClear f.processor n r.length) is.first_is ∙ ap (AfterClear f.processor first) is.length_is) in
     record {
-      can = ready.fits.can;
       on = same_Some _ _ ready.under;
       same_space = record { number = unmapped.same_number; frames = unmapped.same_frames; processors = unmapped.same_processors };
       resting = unmapped.resting;
-      goes_on = subst (λ next. MayGoOn next f.processor (Answer f.number (call_in f.purpose) a)) (sym ready.next)
-          (refl, subst (λ k. IsUnmapOf first len k a.reply) (sym own) (subst (IsUnmapOf first len (Unmap was.number page)) (sym unmapped.done) within));
+      goes_on = (refl, subst (λ k. IsUnmapOf first len k a.reply) (sym own) (subst (IsUnmapOf first len (Unmap was.number page)) (sym unmapped.done) within));
       allowed = subst (λ k. WhatAllowed st false f.processor (Answer f.number k a)) (sym own) (unmapped.allowed st ready.stands f.processor f.number r at next);
       stands = subst (λ k. StandsFor now (space_after st (answer_entry f.processor f.number k a))) (sym own) (unmapped.stands st ready.stands f.processor f.number);
       made = refl;
@@ -138,7 +134,7 @@ MayEnd-unmap f s page first len a was now st call ready unmapped =
 pub unmap_answered : (f : Flight) (s page first len : ℕ) (a : Answered) (was now : Kept) → f.phase ≡ Gone first len → call_in f.purpose ≡ Unmap s page → Unmapped was now page a → (st : SpaceState) (frames : FrameState) → IsReady f was st → Makes f (with_phase f (Ended a.reply)) was now st frames frames (answer_entry f.processor f.number (call_in f.purpose) a)
 unmap_answered f s page first len a was now phase call unmapped st frames =
     by_ready f (Gone first len) was st phase (λ g to. Makes g (to (Ended a.reply)) was now st frames frames (answer_entry f.processor f.number (call_in f.purpose) a))
-    (λ ready. Makes-answer f (Gone first len) a was now st (MayEnd-unmap f s page first len a was now st call ready unmapped) frames)
+    (λ ready. Makes-answer f (Gone first len) a was now st ready (MayEnd-unmap f s page first len a was now st call ready unmapped) frames)
 
 -- a load or a store is the access that it makes
 pub is_access_of : (call : Call) (claimed : Bool) → is_access call ≡ true → is_access_at (access_of call claimed) call ≡ true
@@ -179,11 +175,10 @@ alone_plain call reply is alone = absurd (false≢true is)
 -- Late: the access is answered, as it would be if it began now
 MayEnd-late : (f : Flight) (a : Answered) (was now : Kept) (st : SpaceState) → IsReady (in_phase f Late) was st → BeginsAnswered was now f.processor (call_in f.purpose) a → MayEnd f Late a false was now st
 MayEnd-late f a was now st ready begins = record {
-  can = ready.fits.can;
   on = same_Some _ _ ready.under;
   same_space = record { number = begins.same_number; frames = begins.same_frames; processors = begins.same_processors };
   resting = begins.resting;
-  goes_on = subst (λ next. MayGoOn next f.processor (Answer f.number (call_in f.purpose) a)) (sym ready.next) tt;
+  goes_on = tt;
   allowed = begins.answers.allowed st ready.stands f.number;
   stands = begins.answers.stands st ready.stands f.number;
   made = refl;
@@ -194,16 +189,15 @@ MayEnd-late f a was now st ready begins = record {
 pub late_answered : (f : Flight) (a : Answered) (was now : Kept) → f.phase ≡ Late → BeginsAnswered was now f.processor (call_in f.purpose) a → (st : SpaceState) (frames : FrameState) → IsReady f was st → Makes f (with_phase f (Ended a.reply)) was now st frames frames (answer_entry f.processor f.number (call_in f.purpose) a)
 late_answered f a was now phase begins st frames =
     by_ready f Late was st phase (λ g to. Makes g (to (Ended a.reply)) was now st frames frames (answer_entry f.processor f.number (call_in f.purpose) a))
-    (λ ready. Makes-answer f Late a was now st (MayEnd-late f a was now st ready begins) frames)
+    (λ ready. Makes-answer f Late a was now st ready (MayEnd-late f a was now st ready begins) frames)
 
 -- Fill: the access is served
 MayEnd-fill : (f : Flight) (page frame : ℕ) (a : Answered) (was mid now : Kept) (st : SpaceState) → IsReady (in_phase f (Fill page frame)) was st → ReadsIn was mid → Finishes mid now f.processor (call_in f.purpose) a → MayEnd f (Fill page frame) a false was now st
 MayEnd-fill f page frame a was mid now st ready reads finishes = record {
-  can = ready.fits.can;
   on = same_Some _ _ ready.under;
   same_space = same_space-on (same_space reads.same.same) (same_space finishes.same.same);
   resting = finishes.resting;
-  goes_on = subst (λ next. MayGoOn next f.processor (Answer f.number (call_in f.purpose) a)) (sym ready.next) refl;
+  goes_on = refl;
   allowed = finishes.answers.allowed st (reads.stands st ready.stands) f.number;
   stands = finishes.answers.stands st (reads.stands st ready.stands) f.number;
   made = refl;
@@ -214,4 +208,4 @@ MayEnd-fill f page frame a was mid now st ready reads finishes = record {
 pub fill_answered : (f : Flight) (page frame : ℕ) (a : Answered) (was mid now : Kept) → f.phase ≡ Fill page frame → ReadsIn was mid → Finishes mid now f.processor (call_in f.purpose) a → (st : SpaceState) (frames : FrameState) → IsReady f was st → Makes f (with_phase f (Ended a.reply)) was now st frames frames (answer_entry f.processor f.number (call_in f.purpose) a)
 fill_answered f page frame a was mid now phase reads finishes st frames =
     by_ready f (Fill page frame) was st phase (λ g to. Makes g (to (Ended a.reply)) was now st frames frames (answer_entry f.processor f.number (call_in f.purpose) a))
-    (λ ready. Makes-answer f (Fill page frame) a was now st (MayEnd-fill f page frame a was mid now st ready reads finishes) frames)
+    (λ ready. Makes-answer f (Fill page frame) a was now st ready (MayEnd-fill f page frame a was mid now st ready reads finishes) frames)

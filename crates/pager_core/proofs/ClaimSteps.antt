@@ -1,5 +1,5 @@
 -- A frame is claimed for an access whose page lacks one, and the claim is given up.
-use Rattle.std.proofs.Common.{◌≡◌, ℕ, Bool, true, false, cond, is_some, Option, Some, None, refl, ap, sym, subst, ◌∙◌, inl, inr, ◌⊎◌, arith}
+use Rattle.std.proofs.Common.{◌≡◌, ℕ, Bool, true, false, cond, is_some, Option, Some, None, refl, ap, sym, subst, ◌∙◌, inl, inr, arith}
 use Rattle.std.proofs.lemmas.Bool.{and_from, and_parts, eq-eqb, false≢true}
 use Rattle.std.proofs.lemmas.Option.{none-some, same_Some}
 use Rattle.pager_model.specs.declared.entry.Victim.{Victim}
@@ -11,10 +11,9 @@ use Rattle.pager_model.specs.declared.entry.Want.{Want}
 use Rattle.pager_model.specs.declared.entry.What.TheVariants.{Claim, Unclaim as UnclaimEntry}
 use Rattle.pager_model.specs.Flat.{space_of_call}
 use Rattle.pager_model.specs.FrameStates.{FrameState, HasNothing, IsFull, IsVictim, claim_in, claimed, counted, frame_of, layout_of, used_at}
-use Rattle.pager_model.specs.Locks.{own_if}
 use Rattle.pager_model.specs.Order.{Progress, ForAccess, Claiming, faulted_for, lacking_for, is_access}
 use Rattle.pager_model.specs.Regions.{region_at}
-use Rattle.pager_model.specs.SpaceStates.{SpaceState, Anyone, MayGoOn, IsNeeded, access_page, has_right, space_after}
+use Rattle.pager_model.specs.SpaceStates.{SpaceState, Anyone, IsNeeded, access_page, has_right, space_after}
 use Rattle.pager_laws.proofs.PagePlaces.{frame_in-found}
 use Rattle.space_core.specs.Standing.{Kept, IsResting, StandsFor, copied_page, frame_at, is_allowed, is_in, rights_at}
 use Rattle.pager_core.specs.declared.flight.Flight.{Flight}
@@ -23,25 +22,13 @@ use Rattle.pager_core.specs.declared.flight.Phase.TheVariants.{Frame, Out, Uncla
 use Rattle.pager_core.specs.declared.flight.Purpose.TheVariants.{Call as OfCall}
 use Rattle.pager_core.specs.Flights.{HasVictim, IsLawfulAt, IsReady}
 use Rattle.pager_core.specs.Rows.{access_in, call_in, faulted, is_store, page_or_zero, row_of}
-use Rattle.pager_core.specs.Steps.{AreAgreed, Makes, MakesEntry, SameSpace}
+use Rattle.pager_core.specs.Steps.{AreAgreed, Makes, MakesEntry}
 use Rattle.pager_core.proofs.AnswerSteps.{is_access_by_page, copies_none}
-use Rattle.pager_core.proofs.EntrySteps.{IsLeft, Leaves-on}
-use Rattle.pager_core.proofs.NextFlights.{keeps_faulted, own_if-cases, own_if-some}
+use Rattle.pager_core.proofs.EntrySteps.{IsLeft, Leaves-on, keeps_own_if, unchanged}
+use Rattle.pager_core.proofs.NextFlights.{keeps_faulted, own_if-some}
 use Rattle.pager_core.proofs.Purposes.{in_phase, with_phase, same_work, by_ready}
 use Rattle.pager_core.proofs.TakenFrames.{HasNothing-wanting}
 use Rattle.pager_core.proofs.UnchangedSpaces.{unchanged_stands}
-
--- a space that nothing changes is the same
-same : (kept : Kept) → SameSpace kept kept
-same kept = record { number = refl; frames = refl; processors = refl }
-
--- A flight that goes on in this space, or in another and keeps no lock then, leaves a space that any may enter.
-pub keeps_own_if : (new : Flight) (kept : Kept) (own : Option ℕ) (space : ℕ) → (row_of new).keeps ≡ own_if own space → (own_if own space ≡ Some space → space ≡ kept.number) → (row_of new).next ≡ Anyone → IsResting kept
-    → ((row_of new).keeps ≡ Some kept.number) ⊎ (((row_of new).keeps ≡ None) × ((row_of new).next ≡ Anyone) × IsResting kept)
-keeps_own_if new kept own space keeps at next resting = elim (own_if-cases own space) [
-  | inl here ↦ inl (keeps ∙ here ∙ ap Some (at here))
-  | inr other ↦ inr (keeps ∙ other, next, resting)
-]
 
 -- an access whose page has no frame is needed
 needed : (kept : Kept) (st : SpaceState) (call : Call) (page : ℕ) → StandsFor kept st → access_page call ≡ Some page → is_allowed kept call ≡ true → frame_at kept page ≡ None → IsNeeded st (Some (record { page = page; writing = is_store call }))
@@ -104,10 +91,8 @@ module _ (f : Flight) (page : ℕ) (want : Want) (v : Victim) (kept : Kept) (st 
           between = refl;
           fewer = omega arith;
         };
-        space = Leaves-on (in_phase (claiming f) (Out v)) kept kept st f.processor own true e.what on (same kept) (
-          subst (λ next. MayGoOn next f.processor e.what) (sym ready.next) tt,
-          needed kept st (call_in f.purpose) page ready.stands lawful.page_is lawful.allowed ready.found.lacks.absent,
-        )
+        space = Leaves-on (in_phase (claiming f) (Out v)) kept kept st f.processor own true e.what on (unchanged kept) ready.next tt
+            (needed kept st (call_in f.purpose) page ready.stands lawful.page_is lawful.allowed ready.found.lacks.absent)
             (record {
               fits = record { of_call = refl; can = ready.fits.can; phase = is_access_by_page (call_in f.purpose) page lawful.page_is };
               stands = unchanged_stands kept st e ready.stands refl (λ p. refl) (λ p i. refl) refl refl;
@@ -203,10 +188,8 @@ module _ (f : Flight) (v : Victim) (frame : ℕ) (kept : Kept) (st : SpaceState)
       let e : Entry = unclaim_entry f.processor v.space frame in
       record {
         entry = unclaim-entry fault ready.fits.phase is claims (v.page, ap (λ s. frame_of before s v.page) on ∙ sym (agree.pages v.page) ∙ at);
-        space = Leaves-on (in_phase f (unclaimed v fault)) kept kept st f.processor v.space true (UnclaimEntry frame) on (same kept) (
-          subst (λ next. MayGoOn next f.processor (UnclaimEntry frame)) (sym next) tt,
-          (v.page, ready.stands.base v.page ∙ at, ready.stands.beside.dirty v.page (ap (λ r. is_in r v.page) has.resting.none_clearing) ∙ ready.found.dirty),
-        )
+        space = Leaves-on (in_phase f (unclaimed v fault)) kept kept st f.processor v.space true (UnclaimEntry frame) on (unchanged kept) next tt
+            (v.page, ready.stands.base v.page ∙ at, ready.stands.beside.dirty v.page (ap (λ r. is_in r v.page) has.resting.none_clearing) ∙ ready.found.dirty)
             (unclaim-left fault ready has.resting on (space_after st e) (unchanged_stands kept st e ready.stands refl (λ p. refl) (λ p i. refl) refl refl) refl);
       }
 

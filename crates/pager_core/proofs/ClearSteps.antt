@@ -8,7 +8,7 @@ use Rattle.pager_model.specs.Flat.{space_of_call}
 use Rattle.pager_model.specs.FrameStates.{FrameState, frame_of, counted, give_page, give_range}
 use Rattle.pager_model.specs.Layouts.{covering}
 use Rattle.pager_model.specs.Regions.{region_at}
-use Rattle.pager_model.specs.SpaceStates.{SpaceState, IsRegionOf, MayGoOn}
+use Rattle.pager_model.specs.SpaceStates.{SpaceState, IsRegionOf}
 use Rattle.pager_model.proofs.CountLemmas.{count-one_more}
 use Rattle.pager_model.proofs.FrameEntries.{given_in-entries}
 use Rattle.space_core.specs.Beginning.{IsUnmapping, ClearsOne, ClearsNone}
@@ -149,10 +149,8 @@ module _ (f : Flight) (first len : ℕ) (was kept now : Kept) (before pool : Fra
       fewer = omega arith;
     };
     space = Leaves-on (in_phase f (Gone first len)) was now st f.processor (space_of_call (call_in f.purpose)) true (ClearEntry first len) on
-        (same_space-on so_far.same_space (same_space clears.same.same)) (
-          subst (λ next. MayGoOn next f.processor (ClearEntry first len)) (sym ready.next) tt,
-          subst (λ o. IsRegionOf o first len) (sym (ap (λ rs. region_at rs first) ready.stands.beside.regions ∙ is.at_first)) (is.first_is, is.length_is),
-        )
+        (same_space-on so_far.same_space (same_space clears.same.same)) ready.next tt
+        (subst (λ o. IsRegionOf o first len) (sym (ap (λ rs. region_at rs first) ready.stands.beside.regions ∙ is.at_first)) (is.first_is, is.length_is))
         (record {
           fits = record { of_call = refl; can = ready.fits.can; phase = tt };
           stands = clears.stands st f.processor (so_far.stands st (StandsBut-rest was st first len ready.found.resting ready.stands));

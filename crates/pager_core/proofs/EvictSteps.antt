@@ -8,7 +8,7 @@ use Rattle.pager_model.specs.declared.reply.Answered.{Answered}
 use Rattle.pager_model.specs.Flat.{space_of_call}
 use Rattle.pager_model.specs.FrameStates.{FrameState, AllowsAnswer, counted, frame_of, give_page, moved_by_answer}
 use Rattle.pager_model.specs.Order.{Idle, may_answer}
-use Rattle.pager_model.specs.SpaceStates.{SpaceState, MayGoOn, WhatAllowed, space_after}
+use Rattle.pager_model.specs.SpaceStates.{SpaceState, WhatAllowed, space_after}
 use Rattle.space_core.specs.Beginning.{BeginsEvicting, Evicts, copied_reply}
 use Rattle.space_core.specs.Standing.{Kept, StandsFor, dirty_at}
 use Rattle.pager_core.specs.declared.flight.Flight.{Flight}
@@ -63,11 +63,10 @@ module _ (f : Flight) (page frame : ℕ) (a : Answered) (was now : Kept) (st : S
       let own : call_in f.purpose ≡ EvictCall was.number page = ready.found.is_evict in
       let on : space_of_call (call_in f.purpose) ≡ was.number = same_Some _ _ ready.under in
       let ends : MayEnd f (Evict page) a true was now st = record {
-        can = ready.fits.can;
         on = on;
         same_space = same_space evicts.gave.same;
         resting = evicts.resting;
-        goes_on = subst (λ next. MayGoOn next f.processor (Answer f.number (call_in f.purpose) a)) (sym ready.next) tt;
+        goes_on = tt;
         allowed = subst (λ k. WhatAllowed st true f.processor (Answer f.number k a)) (sym own) (evicts.allowed st ready.stands f.processor f.number);
         stands = subst (λ k. StandsFor now (space_after st (let e : Entry = record { processor = f.processor; space = Some was.number; frames = true; what = Answer f.number k a } in e))) (sym own)
             (evicts.stands st ready.stands f.processor f.number);
@@ -75,7 +74,7 @@ module _ (f : Flight) (page frame : ℕ) (a : Answered) (was now : Kept) (st : S
         may = subst (λ k. may_answer Idle k a.reply ≡ true) (sym own) (subst (λ r. may_answer Idle (EvictCall was.number page) r ≡ true) (sym evicts.replied) (copied_alone was.number page (dirty_at was page)));
         some = omega arith;
       } in
-      Makes-ending f (Evict page) a was now st true ends before (counted (give_page before (space_of_call (call_in f.purpose)) page))
+      Makes-ending f (Evict page) a was now st true ready ends before (counted (give_page before (space_of_call (call_in f.purpose)) page))
       (λ named. subst (AllowsAnswer before (space_of_call (call_in f.purpose))) (sym own) (frame, ap (λ s. frame_of before s page) on ∙ sym (agree.pages page) ∙ evicts.gave.had))
       (ap (λ k. counted (moved_by_answer before (space_of_call (call_in f.purpose)) k)) (sym own))
 

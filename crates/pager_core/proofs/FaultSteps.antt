@@ -7,9 +7,9 @@ use Rattle.pager_model.specs.declared.entry.What.TheVariants.{Failed, Give}
 use Rattle.pager_model.specs.Flat.{space_of_call}
 use Rattle.pager_model.specs.FrameStates.{FrameState, counted, frame_of, give_page}
 use Rattle.pager_model.specs.Order.{Progress, Unfilling, Faulted, leads, is_access}
-use Rattle.pager_model.specs.SpaceStates.{SpaceState, MayGoOn, access_page, space_after}
+use Rattle.pager_model.specs.SpaceStates.{SpaceState, access_page}
 use Rattle.space_core.specs.Beginning.{BeginsFailing, FailsToRead, Removes}
-use Rattle.space_core.specs.Standing.{Kept, MustWrite, StandsFor, copied_page}
+use Rattle.space_core.specs.Standing.{Kept, MustWrite, copied_page}
 use Rattle.pager_model.specs.CallEntries.{failed_entry, give_entry}
 use Rattle.pager_core.specs.declared.flight.Flight.{Flight}
 use Rattle.pager_core.specs.declared.flight.Phase.TheVariants.{Start, Fill, Unfill, Fault}
@@ -47,10 +47,10 @@ Makes-failing f page count was now st ready begins frames =
         fewer = omega arith;
       };
       space = Leaves-on (in_phase f (Fault own count)) was now st f.processor own false (Failed page true count) on (same_space fails.same.same)
-          (subst (λ next. MayGoOn next f.processor (Failed page true count)) (sym ready.next) tt, fails.allowed st ready.stands f.processor)
+          ready.next tt (fails.allowed st ready.stands f.processor)
           (record {
             fits = record { of_call = refl; can = ready.fits.can; phase = inl (refl, ap is_some begins.must.is) };
-            stands = subst (λ s. StandsFor now (space_after st (failed_entry f.processor s page true count))) (sym on) (fails.stands st ready.stands f.processor);
+            stands = fails.stands st ready.stands f.processor;
             next = refl;
             found = record { resting = fails.resting; must = λ p copies. subst (MustWrite now (call_in f.purpose)) (same_Some _ _ (sym begins.must.is ∙ copies)) begins.must };
             keeps = inl (keeps_fault f count ∙ ap Some (on ∙ sym fails.same.same.number));
@@ -83,10 +83,10 @@ Makes-unfilled f page frame count was now st ready fails frames =
         fewer = omega arith;
       };
       space = Leaves-on (in_phase f (Unfill page frame count)) was now st f.processor own false (Failed page false count) on (same_space fails.same.same)
-          (subst (λ next. MayGoOn next f.processor (Failed page false count)) (sym ready.next) refl, fails.allowed st ready.stands f.processor)
+          ready.next refl (fails.allowed st ready.stands f.processor)
           (record {
             fits = record { of_call = refl; can = ready.fits.can; phase = tt };
-            stands = subst (λ s. StandsFor now (space_after st (failed_entry f.processor s page false count))) (sym on) (fails.stands st ready.stands f.processor);
+            stands = fails.stands st ready.stands f.processor;
             next = refl;
             found = record {
               has = record {
@@ -134,10 +134,10 @@ module _ (f : Flight) (page frame count : ℕ) (was now : Kept) (st : SpaceState
           fewer = omega arith;
         };
         space = Leaves-on (in_phase f (Fault own count)) was now st f.processor own true (Give page given) on (same_space removes.gave.same)
-            (subst (λ next. MayGoOn next f.processor (Give page given)) (sym ready.next) refl, removes.allowed st ready.stands f.processor)
+            ready.next refl (removes.allowed st ready.stands f.processor)
             (record {
               fits = record { of_call = refl; can = ready.fits.can; phase = inr access };
-              stands = subst (λ s. StandsFor now (space_after st (give_entry f.processor s page given))) (sym on) (removes.stands st ready.stands f.processor);
+              stands = removes.stands st ready.stands f.processor;
               next = refl;
               found = record { resting = removes.resting; must = λ p copies. absurd (none-some p (sym (copies_none (call_in f.purpose) access) ∙ copies)) };
               keeps = inl (keeps_fault f count ∙ ap Some (on ∙ sym removes.gave.same.number));

@@ -15,10 +15,9 @@ use Rattle.pager_model.specs.Flat.{space_of_call}
 use Rattle.pager_model.specs.FrameStates.{FrameState, Taking, layout_of, held_by, frame_of, take_frame, state_taken, dropped, counted}
 use Rattle.pager_model.specs.Order.{Filling, leads}
 use Rattle.pager_model.specs.Regions.{wanted}
-use Rattle.pager_model.specs.SpaceStates.{SpaceState, MayGoOn, space_after}
+use Rattle.pager_model.specs.SpaceStates.{SpaceState, space_after}
 use Rattle.space_core.specs.Beginning.{Places}
-use Rattle.space_core.specs.Standing.{Kept, StandsFor, frame_at}
-use Rattle.pager_model.specs.CallEntries.{take_entry}
+use Rattle.space_core.specs.Standing.{Kept, frame_at}
 use Rattle.pager_core.specs.declared.flight.Flight.{Flight}
 use Rattle.pager_core.specs.declared.flight.Phase.TheVariants.{Use, Fill}
 use Rattle.pager_core.specs.Flights.{IsReady, WantsFrame}
@@ -83,12 +82,10 @@ module _ (f : Flight) (page : ℕ) (want : Want) (v : Victim) (was now : Kept) (
           fewer = omega arith;
         };
         -- the space is left as a taking leaves it
-        space = Leaves-on (in_phase f (Fill page t.frame)) was now st f.processor own true (UseHeld page t.frame want) on (same_space places.same) (
-          subst (λ next. MayGoOn next f.processor (UseHeld page t.frame want)) (sym ready.next) tt,
-          (ap (λ rs. wanted rs page) ready.stands.beside.regions ∙ ready.found.wanted, ready.stands.base page ∙ absent),
-        )
+        space = Leaves-on (in_phase f (Fill page t.frame)) was now st f.processor own true (UseHeld page t.frame want) on (same_space places.same) ready.next tt
+            (ap (λ rs. wanted rs page) ready.stands.beside.regions ∙ ready.found.wanted, ready.stands.base page ∙ absent)
             (IsLeft-placed f page t.frame want was now (space_after st (use_entry f.processor own page t.frame want)) ready.fits.can on ready.found places
-            (subst (λ n. StandsFor now (space_after st (take_entry f.processor n page t.frame want))) (sym on) (places.stands st f.processor want ready.stands)) refl);
+            (places.stands st f.processor want ready.stands) refl);
       }
 
 pub held_used : (f : Flight) (page own frame : ℕ) (want : Want) (v : Victim) (was now : Kept) (before after : FrameState) (t : Taking) → f.phase ≡ Use page want v → own ≡ space_of_call (call_in f.purpose) → frame ≡ t.frame → AreAgreed was before → OwnsBy before f.processor (row_of f).progress.doing → take_frame (dropped before f.processor) own page want ≡ Some t → after ≡ counted t.state → Places was now page t.frame → (st : SpaceState) → IsReady f was st → Makes f (with_phase f (Fill page frame)) was now st before after (use_entry f.processor own page frame want)

@@ -36,7 +36,7 @@ pub same_work : (f : Flight) (from to : Phase) → SameWork (in_phase f from) (i
 same_work f from to = record { processor = refl; number = refl; same_kind = refl; call = refl; mark = refl }
 
 -- what holds of the call in the phase that it is in, and where it leads to, holds of the flight
-pub by_phase : (f : Flight) (from : Phase) → is_of_call f.purpose ≡ true → f.phase ≡ from → (P : Flight → (Phase → Flight) → Type 0) → P (in_phase f from) (in_phase f) → P f (with_phase f)
+by_phase : (f : Flight) (from : Phase) → is_of_call f.purpose ≡ true → f.phase ≡ from → (P : Flight → (Phase → Flight) → Type 0) → P (in_phase f from) (in_phase f) → P f (with_phase f)
 by_phase f from of_call is P holds =
     subst (λ p. P (with_phase f p) (with_phase f)) (sym is)
     (subst (λ (u : Purpose). P (record { processor = f.processor; number = f.number; purpose = u; phase = from }) (λ phase. record { processor = f.processor; number = f.number; purpose = u; phase = phase }))

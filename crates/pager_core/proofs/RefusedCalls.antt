@@ -27,6 +27,7 @@ use Rattle.pager_core.specs.Flights.{IsReady}
 use Rattle.pager_core.specs.Rows.{access_in, access_of, call_in, claimed_in, faulted, row_of}
 use Rattle.pager_core.specs.Steps.{Makes, Refuses}
 use Rattle.pager_core.proofs.AnswerSteps.{Makes-answer, is_access_by_page, is_access_of}
+use Rattle.pager_core.proofs.EntrySteps.{unchanged}
 use Rattle.pager_core.proofs.NextFlights.{under_fault}
 use Rattle.pager_core.proofs.Purposes.{in_phase, with_phase, by_ready}
 use Rattle.pager_core.proofs.UnchangedSpaces.{unchanged_stands}
@@ -47,12 +48,11 @@ module _ (f : Flight) (phase : Phase) (reply : Reply) (kept : Kept) (st : SpaceS
       → 0 < (row_of (in_phase f phase)).entries
       → (frames : FrameState) → Makes (in_phase f phase) (in_phase f (Ended reply)) kept kept st frames frames (answer_entry f.processor f.number (call_in f.purpose) (refusal reply))
   Makes-refusal ready on resting goes_on unlawful same allowed made may some =
-      Makes-answer f phase (refusal reply) kept kept st (record {
-        can = ready.fits.can;
+      Makes-answer f phase (refusal reply) kept kept st ready (record {
         on = on;
-        same_space = record { number = refl; frames = refl; processors = refl };
+        same_space = unchanged kept;
         resting = resting;
-        goes_on = subst (λ next. MayGoOn next f.processor (Answer f.number (call_in f.purpose) (refusal reply))) (sym ready.next) goes_on;
+        goes_on = goes_on;
         allowed = record {
           reply = allowed;
           parts = frees-unlawful st (call_in f.purpose) reply unlawful;

@@ -13,7 +13,7 @@ use Rattle.pager_core.specs.declared.flight.Needs.{Needs}
 use Rattle.pager_core.specs.declared.flight.Needs.TheVariants.{Space, Both}
 use Rattle.pager_core.specs.Rows.{row_of, space_under, Going}
 use Rattle.pager_core.specs.Steps.{AreAgreed, SameWork, SameSpace, Makes, Passes, after_named}
-use Rattle.pager_core.proofs.EntrySteps.{same_space-on}
+use Rattle.pager_core.proofs.EntrySteps.{same_space-on, unchanged}
 
 -- after any number of steps that make no entry
 pub record HasPassed (old new : Flight) (was now : Kept) : Type 0 where
@@ -29,7 +29,7 @@ pub HasPassed-none : (f : Flight) (kept : Kept) → (row_of f).outcome ≡ Going
 HasPassed-none f kept going =
     record {
       same_work = record { processor = refl; number = refl; same_kind = refl; call = refl; mark = refl };
-      same_space = record { number = refl; frames = refl; processors = refl };
+      same_space = unchanged kept;
       same_frames = λ page. refl;
       ready = λ st is. is;
       same_progress = refl;

@@ -10,7 +10,7 @@ use Rattle.pager_model.specs.FrameStates.{FrameState, Taking, layout_of, used_at
 use Rattle.pager_model.specs.Agreement.{OwnsBy}
 use Rattle.pager_model.specs.Order.{Progress, Filling}
 use Rattle.pager_model.specs.Regions.{wanted}
-use Rattle.pager_model.specs.SpaceStates.{SpaceState, Only, space_after, MayGoOn}
+use Rattle.pager_model.specs.SpaceStates.{SpaceState, Only, space_after}
 use Rattle.pager_laws.proofs.PagePlaces.{frame_in-found}
 use Rattle.pager_laws.proofs.StateSoundness.{is_used-layout_of}
 use Rattle.space_core.specs.Beginning.{Places}
@@ -78,12 +78,10 @@ module _ (f : Flight) (page : ℕ) (want : Want) (was now : Kept) (before : Fram
           between = refl;
           fewer = omega arith;
         };
-        space = Leaves-on (in_phase f (Fill page t.frame)) was now st f.processor own true (Take page t.frame want) on (same_space places.same) (
-          subst (λ next. MayGoOn next f.processor (Take page t.frame want)) (sym ready.next) tt,
-          (ap (λ rs. wanted rs page) ready.stands.beside.regions ∙ ready.found.wanted, ready.stands.base page ∙ absent),
-        )
+        space = Leaves-on (in_phase f (Fill page t.frame)) was now st f.processor own true (Take page t.frame want) on (same_space places.same) ready.next tt
+            (ap (λ rs. wanted rs page) ready.stands.beside.regions ∙ ready.found.wanted, ready.stands.base page ∙ absent)
             (IsLeft-placed f page t.frame want was now (space_after st (take_entry f.processor own page t.frame want)) ready.fits.can on ready.found places
-            (subst (λ n. StandsFor now (space_after st (take_entry f.processor n page t.frame want))) (sym on) (places.stands st f.processor want ready.stands)) refl);
+            (places.stands st f.processor want ready.stands) refl);
       }
 
 -- what a flight that wants a frame has: nothing

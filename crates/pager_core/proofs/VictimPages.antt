@@ -1,5 +1,5 @@
 -- A victim's page is paged out, and gives its frame up.
-use Rattle.std.proofs.Common.{◌≡◌, ℕ, Bool, true, false, Some, None, refl, ap, sym, subst, ◌∙◌, inl, arith}
+use Rattle.std.proofs.Common.{◌≡◌, ℕ, Bool, true, false, Some, None, refl, ap, sym, ◌∙◌, inl, arith}
 use Rattle.std.proofs.lemmas.Bool.{and_from, eq-eqb, false≢true}
 use Rattle.std.proofs.lemmas.Option.{same_Some}
 use Rattle.pager_model.specs.declared.entry.Victim.{Victim}
@@ -7,17 +7,16 @@ use Rattle.pager_model.specs.declared.entry.What.TheVariants.{Out as OutEntry, F
 use Rattle.pager_model.specs.Flat.{space_of_call}
 use Rattle.pager_model.specs.FrameStates.{FrameState, counted, frame_of, give_page}
 use Rattle.pager_model.specs.Order.{ForAccess, Emptied, Holding, Unwritten, is_victim, leads}
-use Rattle.pager_model.specs.SpaceStates.{SpaceState, MayGoOn, space_after}
+use Rattle.pager_model.specs.SpaceStates.{SpaceState}
 use Rattle.space_core.specs.Beginning.{FailsToWrite, LeavesUnwritten, Removes, SameFrames, WritesOut}
-use Rattle.space_core.specs.Standing.{Kept, StandsFor, IsResting}
+use Rattle.space_core.specs.Standing.{Kept, IsResting}
 use Rattle.pager_model.specs.CallEntries.{failed_entry, give_entry, out_entry}
 use Rattle.pager_core.specs.declared.flight.Flight.{Flight}
 use Rattle.pager_core.specs.declared.flight.Phase.TheVariants.{Write, Hand, Unclaim, Back}
 use Rattle.pager_core.specs.Flights.{HasVictim, IsReady}
 use Rattle.pager_core.specs.Rows.{access_in, call_in}
 use Rattle.pager_core.specs.Steps.{AreAgreed, Makes, Passes}
-use Rattle.pager_core.proofs.ClaimSteps.{keeps_own_if}
-use Rattle.pager_core.proofs.EntrySteps.{Leaves-on, same_space}
+use Rattle.pager_core.proofs.EntrySteps.{Leaves-on, keeps_own_if, same_space}
 use Rattle.pager_core.proofs.Purposes.{in_phase, with_phase, same_work, by_ready}
 
 -- a victim is its own page
@@ -48,10 +47,10 @@ module _ (f : Flight) (v : Victim) (was now : Kept) (st : SpaceState) where
           fewer = omega arith;
         };
         space = Leaves-on (in_phase f (Hand v)) was now st f.processor v.space false (OutEntry v.page written) on (same_space out.same.same)
-            (subst (λ next. MayGoOn next f.processor (OutEntry v.page written)) (sym ready.next) tt, out.allowed st ready.stands f.processor)
+            ready.next tt (out.allowed st ready.stands f.processor)
             (record {
               fits = record { of_call = refl; can = ready.fits.can; phase = ready.fits.phase };
-              stands = subst (λ s. StandsFor now (space_after st (out_entry f.processor s v.page written))) (sym on) (out.stands st ready.stands f.processor);
+              stands = out.stands st ready.stands f.processor;
               next = refl;
               found = record { has = still_victim ready.found out.same out.resting; clean = out.clean };
               keeps = inl (ap Some (on ∙ sym out.same.same.number));
@@ -76,10 +75,10 @@ module _ (f : Flight) (v : Victim) (was now : Kept) (st : SpaceState) where
           fewer = omega arith;
         };
         space = Leaves-on (in_phase f (Unclaim v (Some count))) was now st f.processor v.space false (Failed v.page true count) on (same_space fails.same.same)
-            (subst (λ next. MayGoOn next f.processor (Failed v.page true count)) (sym ready.next) tt, fails.allowed st ready.stands f.processor)
+            ready.next tt (fails.allowed st ready.stands f.processor)
             (record {
               fits = record { of_call = refl; can = ready.fits.can; phase = ready.fits.phase };
-              stands = subst (λ s. StandsFor now (space_after st (failed_entry f.processor s v.page true count))) (sym on) (fails.stands st ready.stands f.processor);
+              stands = fails.stands st ready.stands f.processor;
               next = refl;
               found = record { has = still_victim ready.found fails.same fails.resting; dirty = fails.dirty };
               keeps = inl (ap Some (on ∙ sym fails.same.same.number));
@@ -145,10 +144,10 @@ module _ (f : Flight) (v : Victim) (frame : ℕ) (was now : Kept) (st : SpaceSta
           fewer = omega arith;
         };
         space = Leaves-on (in_phase f (Back v)) was now st f.processor v.space true (Give v.page frame) on (same_space removes.gave.same)
-            (subst (λ next. MayGoOn next f.processor (Give v.page frame)) (sym ready.next) refl, removes.allowed st ready.stands f.processor)
+            ready.next refl (removes.allowed st ready.stands f.processor)
             (record {
               fits = record { of_call = refl; can = ready.fits.can; phase = ready.fits.phase };
-              stands = subst (λ s. StandsFor now (space_after st (give_entry f.processor s v.page frame))) (sym on) (removes.stands st ready.stands f.processor);
+              stands = removes.stands st ready.stands f.processor;
               next = refl;
               found = removes.resting;
               keeps = keeps_own_if (in_phase f (Back v)) now (Some (space_of_call (call_in f.purpose))) v.space refl (λ here. on_now) refl removes.resting;
