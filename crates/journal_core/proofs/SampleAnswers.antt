@@ -7,7 +7,7 @@ use Rattle.pager_model.specs.declared.entry.Entry.{Entry}
 use Rattle.pager_model.specs.declared.entry.Numbered.{Numbered}
 use Rattle.pager_model.specs.declared.call.Call.TheVariants.{Load}
 use Rattle.pager_model.specs.Flat.{after_call, reply_of}
-use Rattle.pager_model.specs.Legal.{state_of_space, progress_in, SpaceJudges, KeepsOrder, entries_in}
+use Rattle.pager_model.specs.Legal.{state_of_space, progress_in, KeepsOrder, entries_in}
 use Rattle.pager_model.specs.Order.{at_rest, progress_by}
 use Rattle.pager_model.specs.Settings.{Given}
 use Rattle.pager_model.specs.SpaceStates.{SpaceState, MayGoOn, SpaceAllows, space_after}

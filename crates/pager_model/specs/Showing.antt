@@ -1,5 +1,5 @@
 -- Which histories are of a trace: each processor's answers are its calls, and the entries come in the order of the lines.
-use Rattle.std.specs.Prelude.{ℕ, ◌≡◌, ◌+◌, ◌<◌, true, ◌==◌, List, [], ◌∷◌, ◌++◌, filter, map, filter_map, replicate, Option, Some, None}
+use Rattle.std.specs.Prelude.{ℕ, ◌≡◌, ◌+◌, ◌<◌, ◌==◌, List, [], ◌∷◌, ◌++◌, filter, map, filter_map, Option, Some, None}
 use Rattle.std.specs.List.{enumerate_from, AllByRecursion}
 use Rattle.pager_model.specs.declared.call.Call.{Call}
 use Rattle.pager_model.specs.declared.call.Line.{Line}
@@ -10,8 +10,6 @@ use Rattle.pager_model.specs.declared.trace.Daemon.{Daemon}
 use Rattle.pager_model.specs.Entries.{entries_of}
 use Rattle.pager_model.specs.Order.{progress_from, at_rest, IsWhole}
 use Rattle.pager_model.specs.Plans.{Plan}
-use Rattle.pager_model.specs.SizeSets.{all_sizes}
-use Rattle.pager_model.specs.Settings.{Given}
 
 -- a daemon is one processor more, with its low mark
 abbrev pub daemon_marks : Option Daemon → List ℕ

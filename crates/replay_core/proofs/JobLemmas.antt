@@ -24,7 +24,7 @@ use Rattle.pager_core.proofs.Lists.{enumerate-push}
 use Rattle.pager_core.proofs.WholeRuns.{IsWholeRun-legal}
 use Rattle.pager_locks.specs.Calls.{MakesCall}
 use Rattle.replay_core.specs.declared.jobs.Job.{Job}
-use Rattle.replay_core.specs.Jobs.{calls_in, room_for, MayMake, HasMade, IsReadyJob, IsDoneFrom, HasPass, MayMakeAll, HaveMade}
+use Rattle.replay_core.specs.Jobs.{calls_in, room_for, HasMade, IsReadyJob, IsDoneFrom, HasPass, MayMakeAll, HaveMade}
 
 -- One after another.
 

@@ -1,10 +1,9 @@
 -- A run that was made and written, or of whose text a part was written.
-use Rattle.std.proofs.Common.{◌≡◌, ℕ, ◌⊎◌, inl, inr, List, Vec, map, Option, Some, None, ap, sym, subst, ◌∙◌, rules, arith}
+use Rattle.std.proofs.Common.{◌≡◌, ℕ, ◌⊎◌, inl, inr, List, Vec, map, Option, Some, None, ap, subst, ◌∙◌, rules, arith}
 use Rattle.std.specs.Borrow.{Bor}
 use Rattle.std.specs.declared.alloc.Global.{Global}
 use Rattle.io_core.specs.Faults.{Rose}
 use Rattle.pager_core.specs.declared.run_parts.Gathered.{Gathered}
-use Rattle.pager_core.specs.Running.{setting_over}
 use Rattle.pager_model.specs.declared.entry.Numbered.{Numbered}
 use Rattle.pager_model.specs.Legal.{entries_in}
 use Rattle.pager_model.specs.Plans.{Plan}

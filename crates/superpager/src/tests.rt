@@ -84,6 +84,7 @@ const AMPLE: Setup = Setup {
 };
 
 /// How a run ended, as plain data, so that no test carries the contract of `run`.
+#[derive(Drop)]
 struct Ran {
     status: u8,
     refusal: Option<TraceFault>,
@@ -106,7 +107,12 @@ fn ran<R: Threads + Wait + Sync>(
 ) -> Result<Ran, AllocError> {
     let mut source = source_of(alloc, text, setup.failing_read)?;
     let mut sink = sink_of(alloc, setup.limit, setup.failing_write)?;
-    let stores = stores_of(alloc, setup.stores, &[setup.failing_fill], &[setup.failing_copy])?;
+    let stores = stores_of(
+        alloc,
+        setup.stores,
+        &[setup.failing_fill],
+        &[setup.failing_copy],
+    )?;
     let outcome = run(rt, alloc, words, &mut source, &mut sink, stores);
     let mut next = [0];
     let count = source.read(&mut next);

@@ -45,7 +45,12 @@ pub(crate) fn put<L: Ledger>(numbers: &mut ExtentTree<u16>, page: u32, number: u
     ensures splits { SplitsAreRowsBelow numbers.new }
 {
     let (book, share) = blank.open::<L>();
-    numbers.put(Size::at_level(0), page, number, &mut Steps::begin(book, share));
+    numbers.put(
+        Size::at_level(0),
+        page,
+        number,
+        &mut Steps::begin(book, share),
+    );
 }
 
 /// A page that has a number has none any more.

@@ -5,7 +5,7 @@ use Rattle.std.proofs.lemmas.Bool.{cases_Bool, and_parts}
 use Rattle.trace_reader.specs.declared.fault.LineCause.TheVariants as causes
 use Rattle.trace_reader.specs.declared.line.Name.{Name}
 use Rattle.trace_reader.specs.declared.line.Name.TheVariants.{Map, Grow, Unmap, Protect, Load, Store, Sync, Evict}
-use Rattle.trace_reader.specs.Forms.{Place, may_stand, fits, line_fault, first_form, call_forms}
+use Rattle.trace_reader.specs.Forms.{Place, may_stand, fits, line_fault, call_forms}
 use Rattle.trace_reader.specs.Heads.{word_of_name}
 
 -- a word that names no call
