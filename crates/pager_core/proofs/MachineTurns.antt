@@ -32,7 +32,8 @@ use Rattle.pager_core.specs.Rows.{row_of, row_in, is_between, space_under}
 use Rattle.pager_core.specs.Running.{Running, calls_at, flight_at, progress_by_flight, progress_of_actor, kept_by, IsKeptByOther, entries_left, left_at, IsNumbered, IsLawful}
 use Rattle.pager_core.specs.Steps.{Makes, after_named, answer_made}
 use Rattle.pager_core.proofs.Lists.{slice_get-set_same, slice_get-set_other, enumerate-push, sum_by-lower}
-use Rattle.pager_core.proofs.LegalSteps.{MayFollow-step, space_at-elsewhere, space_at-here, frames_at-step, base-unknown, victim_resident}
+use Rattle.pager_core.proofs.LegalSteps.{MayFollow-step, space_at-elsewhere, space_at-here, frames_at-step, victim_resident}
+use Rattle.pager_laws.proofs.UnknownSpaces.{base-unknown}
 use Rattle.pager_core.proofs.NextFlights.{Lands, made_going, under_cases, keeps_under, ended_by}
 
 -- one entry more of the actor, after which this is its flight

@@ -26,7 +26,8 @@ use Rattle.pager_core.specs.Flights.{IsReady}
 use Rattle.pager_core.specs.Rows.{row_of}
 use Rattle.pager_core.specs.RunParts.{most_in_history}
 use Rattle.pager_core.specs.Steps.{AreAgreed, Makes}
-use Rattle.pager_core.proofs.LegalSteps.{base-unknown, victim_resident}
+use Rattle.pager_laws.proofs.UnknownSpaces.{base-unknown}
+use Rattle.pager_core.proofs.LegalSteps.{victim_resident}
 use Rattle.pager_locks.specs.Locked.{Departure, StandsAt, IsPoolAt, IsFlying, state_by}
 
 -- each entry on the frames is counted once

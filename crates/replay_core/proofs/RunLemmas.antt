@@ -19,10 +19,11 @@ use Rattle.pager_model.specs.SpaceStates.{Rises, last_count}
 use Rattle.pager_laws.proofs.OldestBroken.{PreemptsOldest-legal}
 use Rattle.pager_laws.proofs.OrderedRefusals.{RefusesRightly-legal}
 use Rattle.pager_core.specs.Running.{Running, calls_at, setting_over, IsLawful, IsWholeRun, EndsWith, StoresEnd, AreCapped}
-use Rattle.pager_core.proofs.Laws.{KeepsLawsAllAlong-legal}
+use Rattle.pager_laws.proofs.KeptLaws.{KeepsLawsAllAlong-legal}
 use Rattle.store_core.specs.Stored.{Stored}
 use Rattle.replay_core.specs.Replays.{NoneFailed, IsReplay, AreItsCounts}
-use Rattle.replay_core.proofs.ReplyLemmas.{HasFailed, AllServed-legal}
+use Rattle.pager_laws.specs.Faults.{HasFailed}
+use Rattle.pager_laws.proofs.FaultReplies.{AllServed-legal}
 
 -- The machine runs this trace over these stores.
 pub record IsRunOf (plan : Plan) (stores : List Stored) (run : Running) : Type 0 where

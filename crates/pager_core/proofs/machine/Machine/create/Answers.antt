@@ -3,7 +3,7 @@ use Rattle.std.proofs.lemmas.List.{length-reverse}
 use Rattle.std.proofs.Math.ListN.{length-map}
 use Rattle.pager_core.specs.Machines.{IsMachine}
 use Rattle.pager_core.specs.Running.{setting_over, AreCapped}
-use Rattle.pager_core.proofs.Laws.{KeepsLaws-legal}
+use Rattle.pager_laws.proofs.KeptLaws.{KeepsLaws-legal}
 use Rattle.pager_core.proofs.StartMachines.{IsMachine-started, length-spaces}
 use Rattle.pager_core.proofs.Stores.{as_long, same_reversed, turned_back}
 use Rattle.pager_core.proofs.machine.Machine.create.Given.{Over}

@@ -2,7 +2,8 @@ use Rattle.std.proofs.Common.{◌≡◌, length, map, reverse, refl, sym, ap, �
 use Rattle.std.proofs.Math.ListN.{set, length-set, length-map}
 use Rattle.pager_model.specs.Legal.{space_at, entries_in}
 use Rattle.pager_core.specs.Running.{Running}
-use Rattle.pager_core.proofs.Laws.{KeepsLaws-legal, KeepsLaws-machine}
+use Rattle.pager_laws.proofs.KeptLaws.{KeepsLaws-legal}
+use Rattle.pager_core.proofs.Laws.{KeepsLaws-machine}
 use Rattle.pager_core.proofs.ReadyFlights.{is_under, number-few, OwnsBy-machine, entries-below, known-machine, space_within}
 use Rattle.pager_core.proofs.WholeTurns.{flight_read, finds, calls_read, Turns-of, IsMachine-turned, IsLawful-turned, OneMore-turned}
 use Rattle.pager_core.proofs.MachineTurns.{Turns}

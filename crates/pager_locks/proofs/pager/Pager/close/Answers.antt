@@ -10,7 +10,7 @@ use Rattle.pager_model.specs.Laws.{KeepsLawsAllAlong}
 use Rattle.pager_model.specs.Legal.{entries_in, frames_at}
 use Rattle.pager_core.specs.RunParts.{AreAtRest}
 use Rattle.pager_core.specs.Running.{IsNumbered, StoresEnd}
-use Rattle.pager_core.proofs.Laws.{KeepsLawsAllAlong-legal}
+use Rattle.pager_laws.proofs.KeptLaws.{KeepsLawsAllAlong-legal}
 use Rattle.pager_locks.proofs.ClosedPagers.{journals_all, AreAtRest-closed, IsNumbered-closed, whole_at}
 use Rattle.pager_locks.proofs.Histories.{few_numbered}
 use Rattle.pager_locks.proofs.pager.Pager.close.Given.{Over}
