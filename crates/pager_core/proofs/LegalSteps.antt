@@ -1,5 +1,5 @@
 -- The entry of a step may follow the history, and what it leads to.
-use Rattle.std.proofs.Common.{◌≡◌, ◌≢◌, ℕ, ◌+◌, ◌<◌, ◌≤◌, Bool, true, false, ◌&&◌, cond, eqb, List, [], ◌∷◌, ◌++◌, length, Option, Some, None, IfSome, refl, ap, sym, subst, ◌∙◌, arith}
+use Rattle.std.proofs.Common.{◌≡◌, ◌≢◌, ℕ, ◌+◌, ◌<◌, Bool, true, false, ◌&&◌, cond, eqb, List, [], ◌∷◌, ◌++◌, length, Option, Some, None, IfSome, refl, ap, sym, subst, ◌∙◌, arith}
 use Rattle.std.proofs.lemmas.Bool.{false≢true, ne_eqb}
 use Rattle.std.proofs.lemmas.Option.{none-some, same_Some}
 use Rattle.pager_model.specs.Options.{is_that}
@@ -10,11 +10,11 @@ use Rattle.pager_model.specs.declared.entry.What.{What}
 use Rattle.pager_model.specs.declared.entry.What.TheVariants.{Answer, Out, Failed, Take, Give, Clear, Claim, UseHeld, DropHeld, Got, Unclaim, Refused, Rest}
 use Rattle.pager_model.specs.Entries.{names_space, entries_of, IsOn}
 use Rattle.pager_model.specs.FrameStates.{FrameState, frames_after, frame_of, FramesAllow}
-use Rattle.pager_model.specs.Legal.{IsLegal, space_at, frames_at, progress_at, progress_in, MayFollow}
+use Rattle.pager_model.specs.Legal.{space_at, frames_at, progress_at, progress_in, MayFollow}
 use Rattle.pager_model.specs.Order.{Progress, Doing, Purpose, Idle, Uncopied, Claiming, may_answer, leads, victim_in, progress_after, progress_by}
 use Rattle.pager_model.specs.Settings.{Given, mark_of}
 use Rattle.pager_model.specs.SpaceStates.{SpaceState, space_after, SpaceAllows}
-use Rattle.pager_model.proofs.Histories.{space_at-named, space_at-other, frames_at-named, frames_at-other, IsLegal-keeps}
+use Rattle.pager_model.proofs.Histories.{space_at-named, space_at-other, frames_at-named, frames_at-other}
 use Rattle.space_core.specs.Standing.{Kept}
 use Rattle.pager_core.specs.declared.flight.Flight.{Flight}
 use Rattle.pager_core.specs.declared.flight.Phase.TheVariants.{Out as OutPhase}
@@ -46,16 +46,6 @@ pub frames_at-after : (g : Given) (h : List Entry) (e : Entry) → frames_at g (
 frames_at-after g h e =
     elim e.frames as (λ b. e.frames ≡ b → frames_at g (h ++ e ∷ []) ≡ cond b (frames_after (frames_at g h) e) (frames_at g h))
     [ true ↦ λ is. frames_at-named g h e is | false ↦ λ is. frames_at-other g h e is ] refl
-
--- A space that isn't known has no entries, and so no resident page.
-unnamed_past : (o : Option ℕ) (n s : ℕ) → IfSome o (λ t. t < n) → n ≤ s → is_that s o ≡ false
-unnamed_past None n s below past = refl
-unnamed_past (Some t) n s below past = ne_eqb t s (λ is. absurd (omega (arith, below, past, is)))
-
-pub base-unknown : (g : Given) (h : List Entry) → IsLegal g h → (s page : ℕ) → length g.told ≤ s → (space_at g h s).base page ≡ None
-base-unknown g h legal = IsLegal-keeps g (λ h. (s page : ℕ) → length g.told ≤ s → (space_at g h s).base page ≡ None)
-    (λ h e before may s page past. ap (λ (st : SpaceState). st.base page) (space_at-other g h e s (unnamed_past e.space (length g.told) s may.space past)) ∙ before s page past)
-    (λ s page past. refl) h legal
 
 -- Between two calls only a claim leads to a place at which a frame is to be claimed.
 

@@ -35,3 +35,6 @@ pub mod NewPages
 pub mod CopyLaws
 pub mod ImageTiles
 pub mod TranslationLaws
+pub mod KeptLaws
+pub mod UnknownSpaces
+pub mod FaultReplies

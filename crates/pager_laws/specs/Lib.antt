@@ -5,3 +5,4 @@ pub mod Breaking
 pub mod Copies
 pub mod NewPages
 pub mod Hits
+pub mod Faults

@@ -1,6 +1,6 @@
 //! What holds of every state of frames and spaces, and of every legal history: each is a clause of a function that does nothing.
 
-ghost use Rattle.std.specs.Prelude.{◌≡◌, ℕ, ◌<◌, Bool, List, Option, option_map, Some, None, true, length, ◌≢◌, ◌⊎◌, ◌↔◌, ◌∷◌, ◌++◌, [], false};
+ghost use Rattle.std.specs.Prelude.{◌≡◌, ℕ, ◌<◌, Bool, List, Option, option_map, Some, None, true, length, ◌≢◌, ◌⊎◌, ◌↔◌, ◌∷◌, ◌++◌, [], false, ◌+◌, ◌≤◌};
 ghost use Rattle.pager_model.specs.declared.call.Call.TheVariants.{Map, Unmap, Protect};
 ghost use Rattle.pager_model.specs.declared.call.Call.{Call as MemoryCall};
 ghost use Rattle.pager_model.specs.declared.entry.Entry.{Entry};
@@ -16,10 +16,10 @@ ghost use Rattle.pager_model.specs.declared.tile.Tile.{Tile};
 ghost use Rattle.pager_model.specs.Agreement.{Agrees, IsPartition, NothingHeld, OwnsBy};
 ghost use Rattle.pager_model.specs.CallEntries.{answer_entry};
 ghost use Rattle.pager_model.specs.Flat.{Flat, after_call, space_of_call};
-ghost use Rattle.pager_model.specs.FrameStates.{layout_of, frame_of, take_frame, IsFull};
-ghost use Rattle.pager_model.specs.Headline.{PreemptsOldest, RefusesRightly};
+ghost use Rattle.pager_model.specs.FrameStates.{layout_of, frame_of, take_frame, IsFull, free_count, reserved_count, used_count, held_count};
+ghost use Rattle.pager_model.specs.Headline.{PreemptsOldest, RefusesRightly, AllServed};
 ghost use Rattle.pager_model.specs.Images.{still_tiles};
-ghost use Rattle.pager_model.specs.Laws.{KeepsFrames, EqualsItsCopy, WasCleared};
+ghost use Rattle.pager_model.specs.Laws.{KeepsFrames, EqualsItsCopy, WasCleared, KeepsLawsAllAlong};
 ghost use Rattle.pager_model.specs.Layouts.{Layout, break_layout, meets_any, record_at};
 ghost use Rattle.pager_model.specs.Legal.{AllWhole, IsLegal, frames_at, frames_state, progress_at, space_at};
 ghost use Rattle.pager_model.specs.Order.{Progress};
@@ -32,6 +32,7 @@ ghost use Rattle.pager_model.specs.SpaceStates.{SpaceState, SpaceAllows, IsResid
 ghost use Rattle.pager_laws.specs.Allowed.{AreFrameEntries};
 ghost use Rattle.pager_laws.specs.Breaking.{Breaks};
 ghost use Rattle.pager_laws.specs.Copies.{LosesItsCopy, IsWithoutService};
+ghost use Rattle.pager_laws.specs.Faults.{HasFailed};
 ghost use Rattle.pager_laws.specs.Hits.{HasHit, retiled};
 ghost use Rattle.pager_laws.specs.Laid.{IsLaid};
 ghost use Rattle.pager_laws.specs.NewPages.{IsNew, done};
@@ -106,6 +107,12 @@ pub fn the_oldest_is_preempted()
 /// claimed.
 pub fn a_refusal_finds_no_frame()
     ensures { (g : Given) (history : List Entry) → IsLegal g history → RefusesRightly g history }
+{}
+
+/// After every legal history the free frames, the unused and the used places of reservations, and the frames that are held are all frames.
+pub fn the_roles_are_all_frames()
+    ensures { (g : Given) (history : List Entry) → IsLegal g history
+        → free_count (frames_at g history) + reserved_count (frames_at g history) + used_count (frames_at g history) + held_count (frames_at g history) ≡ g.frames }
 {}
 
 // The spaces.
@@ -197,4 +204,21 @@ pub fn a_promotion_changes_no_answer()
         → (space_after (retiled st images promotions demotions) e).flat ≡ (space_after st e).flat }
     ensures replies { (st : SpaceState) (images : ℕ → List Tile) (promotions demotions c : ℕ) (call : MemoryCall) (reply : Reply)
         → ReplyAllowed st c call reply ↔ ReplyAllowed (retiled st images promotions demotions) c call reply }
+{}
+
+/// A space that isn't known has no resident page, after every legal history.
+pub fn an_unknown_space_has_no_page()
+    ensures { (g : Given) (history : List Entry) (s page : ℕ) → IsLegal g history → length g.told ≤ s → (space_at g history s).base page ≡ None }
+{}
+
+// Both.
+
+/// Every legal history keeps the laws of copies, of frames, and of spaces and frames together, at its end and at each place of it.
+pub fn a_legal_history_keeps_its_laws()
+    ensures { (g : Given) (history : List Entry) → IsLegal g history → KeepsLawsAllAlong g history }
+{}
+
+/// Where no store failed, each answer of a legal history is the flat memory's, or says that no frame or no memory could be had.
+pub fn an_answer_is_served_where_no_store_failed()
+    ensures { (g : Given) (history : List Entry) → IsLegal g history → ((s count : ℕ) → HasFailed g history s count → ⊥) → AllServed g history }
 {}

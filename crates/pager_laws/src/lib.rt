@@ -1,5 +1,5 @@
-//! Laws: what holds of the definitions in `pager_model` alone, and of every legal history. No law names a pool, a space or a flight, so that
-//! whoever keeps a history, checks one or plans one may cite them.
+//! Laws of the definitions in `pager_model`, and of every legal history. None names a type of the crates above, so that whoever keeps a
+//! history, checks one or plans one may cite them.
 #![tactic(auto)]
 
 pub mod laws;

@@ -1,5 +1,5 @@
 -- Which answers of a legal history aren't the flat memory's: one that tells a store's fault comes after that fault.
-use Rattle.std.proofs.Common.{◌≡◌, ℕ, zero, suc, ◌+◌, ◌<◌, ◌≤◌, Bool, true, false, ◌==◌, nat_lt, ◌&&◌, ◌||◌, not, if◌then◌else◌, List, [], ◌∷◌, ◌++◌, length, fold, Option, Some, None, refl, sym, ap, subst, ◌∙◌, arith}
+use Rattle.std.proofs.Common.{◌≡◌, ℕ, zero, suc, ◌+◌, ◌≤◌, Bool, true, false, ◌==◌, nat_lt, ◌&&◌, ◌||◌, not, if◌then◌else◌, List, [], ◌∷◌, ◌++◌, fold, Option, Some, None, refl, sym, ap, subst, ◌∙◌, inl, inr, arith}
 use Rattle.std.proofs.lemmas.Bool.{and_parts, eq-eqb, eqb-true, false≢true, cond_both, ltb-true, ltb-false}
 use Rattle.std.proofs.lemmas.List.Elements.{filter-append}
 use Rattle.std.proofs.lemmas.List.Sums.{fold-append}
@@ -21,11 +21,11 @@ use Rattle.pager_model.specs.Headline.{IsServed, AllServed}
 use Rattle.pager_model.specs.Legal.{IsLegal, MayFollow, SpaceJudges, state_of_space, space_at, progress_at}
 use Rattle.pager_model.specs.Order.{ForAccess, ForTurn, Doing, Idle, Looking, Cleared, Uncopied, Filling, Unfilling, Claiming, Emptied, Unwritten, Holding, Late, Faulted, Lacking, Refusing, Progress, leads, may_answer, is_answered_alone, is_unmap_in, is_copying, is_access, is_access_at, is_victim, between, after_answer, after_take, after_use, after_clear, after_out, after_failure, after_give, after_claim, after_got, after_unclaim, lacking_for, faulted_for, after_drop, dropped_for, after_refusal, after_rest, progress_after, progress_by}
 use Rattle.pager_model.specs.Settings.{Given, mark_of, is_told, faults_at_entry}
-use Rattle.pager_model.specs.SpaceStates.{SpaceState, Rises, ReplyAllowed, AnswerAllowed, SpaceAllows, WhatAllowed, empty_state, highest_after, space_after}
+use Rattle.pager_model.specs.SpaceStates.{SpaceState, ReplyAllowed, AnswerAllowed, SpaceAllows, WhatAllowed, empty_state, highest_after, space_after}
 use Rattle.pager_model.proofs.Histories.{space_at-named, progress_at-own, progress_at-other, IsLegal-keeps}
 use Rattle.pager_laws.proofs.LegalHistories.{progress_before}
 use Rattle.pager_laws.proofs.LegalPrefixes.{IsLegal-at}
-use Rattle.pager_laws.proofs.FaultReplies.{rises_told}
+use Rattle.pager_laws.specs.Faults.{HasFailed}
 
 -- Counts.
 
@@ -49,12 +49,6 @@ highest-along g before after s =
 highest-failed : (highest page count : ℕ) (writing : Bool) → count ≤ highest_after highest (Failed page writing count)
 highest-failed highest page count writing =
     cond_both (nat_lt highest count) count highest (λ n. count ≤ n) (λ _. omega arith) (λ not_above. (let most = ltb-false highest count not_above in omega (arith, most)))
-
--- The space's store failed, and then had so many faults: they rose above those at entry, and the highest count isn't below them.
-pub record HasFailed (g : Given) (history : List Entry) (s count : ℕ) : Type 0 where
-  pub known : s < length g.told
-  pub rose : Rises (faults_at_entry g s) count
-  pub within : count ≤ (space_at g history s).highest
 
 HasFailed-along : (g : Given) (before after : List Entry) (s count : ℕ) → HasFailed g before s count → HasFailed g (before ++ after) s count
 HasFailed-along g before after s count has =
@@ -188,7 +182,7 @@ HasFailed-now g history c (Some s) frames (Failed page writing count) may =
     let since = highest-from (empty_state g.sizes (is_told g s) (faults_at_entry g s)) (space_part s history) in
     record {
       known = may.space;
-      rose = rises_told (faults_at_entry g s) st.highest count since may.by_space.1.2;
+      rose = elim may.by_space.1.2 [ inl above ↦ inl (omega (arith, since, above)) | inr last ↦ inr last ];
       within = subst (λ (after : SpaceState). count ≤ after.highest) (sym (space_at-named g history e s (eq-eqb s s refl))) (highest-failed st.highest page count writing);
     }
 HasFailed-now g history c space frames what may = tt
