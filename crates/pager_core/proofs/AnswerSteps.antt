@@ -1,5 +1,5 @@
 -- Steps that answer a flight's call.
-use Rattle.std.proofs.Common.{◌≡◌, ℕ, ◌+◌, ◌<◌, Bool, true, false, ◌&&◌, is_some, List, [], ◌∷◌, Some, None, refl, ap, sym, subst, ◌∙◌, inl, inr, arith}
+use Rattle.std.proofs.Common.{◌≡◌, ℕ, ◌+◌, ◌<◌, Bool, true, false, ◌&&◌, is_some, List, [], ◌∷◌, Some, refl, ap, sym, subst, ◌∙◌, inl, inr, arith}
 use Rattle.std.specs.List.{find}
 use Rattle.std.proofs.lemmas.Bool.{cases_Bool, cond-true, cond-false, and_from, eq-eqb, false≢true}
 use Rattle.std.proofs.lemmas.Option.{same_Some}
@@ -16,7 +16,7 @@ use Rattle.pager_model.specs.Order.{Progress, may_answer, is_access, is_access_a
 use Rattle.pager_model.specs.Regions.{in_range, has_page, region_at}
 use Rattle.pager_model.specs.SpaceStates.{SpaceState, space_after, MayGoOn, WhatAllowed, IsUnmapOf, AfterClear, access_page}
 use Rattle.space_core.specs.Beginning.{BeginsAnswered, ReadsIn, Finishes, SameRegions, Unmapped}
-use Rattle.space_core.specs.Standing.{Kept, StandsFor, IsResting, copied_page, is_allowed, rights_at}
+use Rattle.space_core.specs.Standing.{Kept, StandsFor, IsResting, is_allowed, rights_at}
 use Rattle.pager_model.specs.CallEntries.{answer_entry}
 use Rattle.pager_core.specs.declared.flight.Flight.{Flight}
 use Rattle.pager_core.specs.declared.flight.Phase.{Phase}
@@ -149,12 +149,6 @@ pub is_access_by_page : (call : Call) (page : ℕ) → access_page call ≡ Some
 is_access_by_page (Load space address) page is = refl
 is_access_by_page (Store space address word) page is = refl
 is_access_by_page call page is = cc
-
--- a load or a store has no copy written
-pub copies_none : (call : Call) → is_access call ≡ true → copied_page call ≡ None
-copies_none (Load space address) is = refl
-copies_none (Store space address word) is = refl
-copies_none call is = absurd (false≢true is)
 
 -- what rights allow depends on the regions and the rights alone
 pub allowed-same : (was now : Kept) (call : Call) → SameRegions was now → is_allowed now call ≡ is_allowed was call

@@ -23,9 +23,9 @@ use Rattle.pager_core.specs.declared.flight.Purpose.TheVariants.{Call as OfCall}
 use Rattle.pager_core.specs.Flights.{HasVictim, IsLawfulAt, IsReady}
 use Rattle.pager_core.specs.Rows.{access_in, call_in, faulted, is_store, page_or_zero, row_of}
 use Rattle.pager_core.specs.Steps.{AreAgreed, Makes, MakesEntry}
-use Rattle.pager_core.proofs.AnswerSteps.{is_access_by_page, copies_none}
+use Rattle.pager_core.proofs.AnswerSteps.{is_access_by_page}
 use Rattle.pager_core.proofs.EntrySteps.{IsLeft, Leaves-on, keeps_own_if, unchanged}
-use Rattle.pager_core.proofs.NextFlights.{keeps_faulted, own_if-some}
+use Rattle.pager_core.proofs.NextFlights.{copies_none, keeps_faulted, own_if-some}
 use Rattle.pager_core.proofs.Purposes.{in_phase, with_phase, same_work, by_ready}
 use Rattle.pager_core.proofs.TakenFrames.{HasNothing-wanting}
 use Rattle.pager_core.proofs.UnchangedSpaces.{unchanged_stands}

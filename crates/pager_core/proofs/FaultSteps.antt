@@ -16,9 +16,9 @@ use Rattle.pager_core.specs.declared.flight.Phase.TheVariants.{Start, Fill, Unfi
 use Rattle.pager_core.specs.Flights.{IsReady}
 use Rattle.pager_core.specs.Rows.{access_in, call_in, faulted, page_or_zero, row_of}
 use Rattle.pager_core.specs.Steps.{AreAgreed, Makes}
-use Rattle.pager_core.proofs.AnswerSteps.{is_access_by_page, copies_none, allowed-same}
+use Rattle.pager_core.proofs.AnswerSteps.{is_access_by_page, allowed-same}
 use Rattle.pager_core.proofs.EntrySteps.{Leaves-on, same_space}
-use Rattle.pager_core.proofs.NextFlights.{keeps_faulted, own_if-own}
+use Rattle.pager_core.proofs.NextFlights.{copies_none, keeps_faulted, own_if-own}
 use Rattle.pager_core.proofs.Purposes.{in_phase, with_phase, same_work, by_ready}
 
 -- a store's fault in the call's own space keeps it

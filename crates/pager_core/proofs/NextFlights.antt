@@ -4,7 +4,7 @@ use Rattle.std.proofs.lemmas.Bool.{cases_Bool, cond-true, cond-false, eqb-true, 
 use Rattle.std.proofs.lemmas.Option.{none-some, same_Some, slice_get_within, slice_get_cases}
 use Rattle.pager_model.specs.declared.entry.Victim.{Victim}
 use Rattle.pager_model.specs.declared.call.Call.{Call}
-use Rattle.pager_model.specs.declared.call.Call.TheVariants.{Sync, Evict as EvictCall}
+use Rattle.pager_model.specs.declared.call.Call.TheVariants.{Load, Store}
 use Rattle.pager_model.specs.declared.reply.Reply.{Reply}
 use Rattle.pager_model.specs.Flat.{space_of_call}
 use Rattle.pager_model.specs.Locks.{keeps_in, own_if, under_in}
@@ -148,11 +148,11 @@ under_by_place_in c n own purpose (Fault space count) between is = under_alone (
 under_by_place_in c n None purpose p between is = refl
 under_by_place_in c n (Some s) purpose p between is = refl
 
--- no load or store writes a copy
-copies_none : (call : Call) (page : ℕ) → is_access call ≡ true → copied_page call ≡ Some page → ⊥
-copies_none (Sync space p) page access is = false≢true access
-copies_none (EvictCall space p) page access is = false≢true access
-copies_none call page access is = none-some page is
+-- a load or a store has no copy written
+pub copies_none : (call : Call) → is_access call ≡ true → copied_page call ≡ None
+copies_none (Load space address) is = refl
+copies_none (Store space address word) is = refl
+copies_none call is = absurd (false≢true is)
 
 -- a flight that goes on and keeps no space may go on in any that rests
 anywhere_in : (c n s : ℕ) (purpose : Purpose) (p : Phase) (kept : Kept) → s ≡ space_of_call (call_in purpose) → (row_in c n (Some s) purpose p).outcome ≡ Going → (row_in c n (Some s) purpose p).keeps ≡ None → PhaseFits purpose p → IsResting kept → ((row_in c n (Some s) purpose p).next ≡ Anyone) × PhaseStands (call_in purpose) kept p
@@ -167,7 +167,7 @@ anywhere_in c n s purpose (Fault space count) kept own is none fits rest = (
     resting = rest;
     must = λ page copied. elim fits [
       | inl here ↦ absurd (own_if-none s space (sym (keeps_faulted (Some s) (access_in purpose) space count (copied_page (call_in purpose))) ∙ none) (here.0 ∙ sym own))
-      | inr access ↦ absurd (copies_none (call_in purpose) page access copied)
+      | inr access ↦ absurd (none-some page (sym (copies_none (call_in purpose) access) ∙ copied))
     ];
   },
 )

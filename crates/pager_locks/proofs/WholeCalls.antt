@@ -1,12 +1,11 @@
 -- A flight at its start, and the call that it made at its end.
-use Rattle.std.proofs.Common.{◌≡◌, ℕ, ◌+◌, ◌<◌, false, [], ◌∷◌, ◌++◌, length, count_by, option_to_list, Option, Some, None, IsSome, refl, ap, ap₂, sym, subst, ◌∙◌, arith}
+use Rattle.std.proofs.Common.{◌≡◌, ℕ, ◌+◌, ◌<◌, [], ◌∷◌, ◌++◌, length, count_by, option_to_list, Some, None, IsSome, refl, ap, ap₂, sym, subst, ◌∙◌, arith}
 use Rattle.std.specs.List.{AllByRecursion}
 use Rattle.std.specs.Option.{IsSomeAnd}
 use Rattle.std.proofs.lemmas.Bool.{false≢true}
 use Rattle.std.proofs.lemmas.List.{append-nil, map-append}
 use Rattle.std.proofs.lemmas.Option.{none-some, same_Some}
 use Rattle.journal_core.specs.Journals.{JournalName, PassState, is_numbered_answer}
-use Rattle.pager_model.specs.declared.call.Call.{Call}
 use Rattle.pager_model.specs.declared.entry.Entry.{Entry}
 use Rattle.pager_model.specs.declared.entry.Numbered.{Numbered}
 use Rattle.pager_model.specs.declared.reply.Reply.{Reply}
@@ -16,33 +15,33 @@ use Rattle.pager_model.specs.Order.{at_rest, progress_of, progress_from}
 use Rattle.pager_model.specs.Settings.{mark_of}
 use Rattle.pager_model.proofs.Histories.{progress_from-append}
 use Rattle.pager_core.specs.declared.flight.Flight.{Flight}
-use Rattle.pager_core.specs.declared.flight.Phase.TheVariants.{Start}
+use Rattle.pager_core.specs.declared.flight.Purpose.TheVariants.{Call as OfCall}
+use Rattle.pager_core.specs.Flights.{Fits}
 use Rattle.pager_core.specs.Machines.{CanFly}
-use Rattle.pager_core.specs.Rows.{row_of, row_in, space_under}
+use Rattle.pager_core.specs.Rows.{Outcome, Going, TurnEnded, Answered, call_in, new_flight, own_space, reply_in, row_of, row_in, space_under}
 use Rattle.pager_core.specs.Steps.{answer_made}
-use Rattle.pager_core.proofs.NextFlights.{ended_by, under_some}
+use Rattle.pager_core.proofs.NextFlights.{ended_by, turn_goes_on, under_some}
+use Rattle.pager_core.proofs.Purposes.{of_call-is}
 use Rattle.pager_locks.specs.Calls.{MakesCall, IsNextFlight}
 use Rattle.pager_locks.specs.Locked.{Departure, IsFlying}
 use Rattle.pager_locks.specs.Prepared.{MayCall}
 use Rattle.pager_locks.proofs.CountedCalls.{counted}
 
 -- a flight that needs no space is ended
-pub answered : (f : Flight) → space_under (row_of f).needs ≡ None → IsSome (row_of f).reply
-answered f none = by (row_of f).reply refl
+pub answered : (f : Flight) → Fits f → space_under (row_of f).needs ≡ None → IsSome (reply_in (row_of f).outcome)
+answered f fits none = by (row_of f).outcome refl
   where
-    by : (o : Option Reply) → (row_of f).reply ≡ o → IsSome o
-    by None is = (let some = under_some f.processor f.number (space_of_call f.call) f.call f.claimed f.phase is in absurd (none-some some.0 (sym none ∙ some.1)))
-    by (Some r) is = refl
-
-abbrev start_of : ℕ → ℕ → Call → Flight
-start_of c n call = record { processor = c; number = n; call = call; phase = Start; claimed = false }
+    by : (o : Outcome) → (row_of f).outcome ≡ o → IsSome (reply_in o)
+    by Going is = (let some = under_some f fits is in absurd (none-some some.0 (sym none ∙ some.1)))
+    by TurnEnded is = absurd (turn_goes_on f is)
+    by (Answered r) is = refl
 
 -- a pass's processor is one of its journal's
 pub known_here : (j : JournalName) (p : PassState) (c : ℕ) → p.journal ≡ j → c ≡ p.processor → c < length p.journal.setting.marks → p.processor < length j.setting.marks
 known_here j p c journal number known = subst (λ (x : JournalName). p.processor < length x.setting.marks) journal (subst (λ n. n < length p.journal.setting.marks) number known)
 
 -- The flight of a pass's next call, from its start to its end.
-module _ (j : JournalName) (p : PassState) (f : Flight) (may : MayCall j p) (next : IsNextFlight p f) (can : CanFly (length j.setting.told) f.call) (known : p.processor < length j.setting.marks) where
+module _ (j : JournalName) (p : PassState) (f : Flight) (may : MayCall j p) (next : IsNextFlight p f) (can : CanFly (length j.setting.told) (call_in f.purpose)) (known : p.processor < length j.setting.marks) where
   made : may.whole.0 ≡ f.number
   made = (
       let count : may.whole.0 ≡ 0 + count_by is_numbered_answer p.entries = counted p.entries (at_rest 0 0) (at_rest 0 may.whole.0) refl may.whole.1 in
@@ -52,11 +51,13 @@ module _ (j : JournalName) (p : PassState) (f : Flight) (may : MayCall j p) (nex
   own_mark : mark_of j.setting f.processor ≡ 0
   own_mark = ap (mark_of j.setting) next.processor ∙ may.mark
 
-  is_start : start_of f.processor f.number f.call ≡ f
-  is_start = ap₂ (λ phase claimed. record { processor = f.processor; number = f.number; call = f.call; phase = phase; claimed = claimed }) (sym next.start) (sym next.unclaimed)
+  is_start : new_flight f.processor f.number (call_in f.purpose) ≡ f
+  is_start =
+      ap₂ (λ phase purpose. record { processor = f.processor; number = f.number; purpose = purpose; phase = phase }) (sym next.start)
+      (sym (of_call-is f.purpose next.is_call ∙ ap (OfCall (call_in f.purpose)) next.unclaimed))
 
   abbrev from : Departure
-  from = record { pass = p; number = f.number; call = f.call }
+  from = record { pass = p; number = f.number; call = call_in f.purpose }
 
   pub IsFlying-start : IsFlying j from f p
   IsFlying-start = subst (λ (x : Flight). IsFlying j from x p) is_start (record {
@@ -70,9 +71,9 @@ module _ (j : JournalName) (p : PassState) (f : Flight) (may : MayCall j p) (nex
     mark = own_mark;
     progress = ap (λ m. progress_of m (entries_in p.entries)) own_mark ∙ may.whole.1 ∙ ap (λ k. Some (at_rest 0 k)) made;
     room = may.room;
-    fits = record { can = can.can; phase = tt };
+    fits = record { of_call = refl; can = can.can; phase = refl };
     on = can.on;
-    under = λ s under. subst (λ k. k < length j.setting.told) (same_Some (space_of_call f.call) s under) can.on;
+    under = λ s under. subst (λ k. k < length j.setting.told) (same_Some (space_of_call (call_in f.purpose)) s under) can.on;
     piece = [];
     entries = sym (append-nil p.entries);
     spent = omega arith;
@@ -86,11 +87,11 @@ module _ (j : JournalName) (p : PassState) (f : Flight) (may : MayCall j p) (nex
   keeps-start = subst (λ (x : Flight). (row_of x).keeps ≡ None) is_start refl
 
   -- and once it is answered, the whole call
-  MakesCall-made : (g : Flight) (q : PassState) (r : Reply) → IsFlying j from g q → (row_of g).reply ≡ Some r → MakesCall j.setting p q f.call r
-  MakesCall-made g q r flying reply =
-      let phase = ended_by g.processor g.number (space_of_call g.call) g.call g.claimed g.phase r reply in
+  MakesCall-made : (g : Flight) (q : PassState) (r : Reply) → IsFlying j from g q → (row_of g).outcome ≡ Answered r → MakesCall j.setting p q (call_in f.purpose) r
+  MakesCall-made g q r flying answered =
+      let phase = ended_by g r answered in
       let own : g.processor ≡ f.processor = sym flying.processor ∙ flying.same_processor ∙ sym next.processor in
-      let ended : (row_of g).progress ≡ at_rest 0 (f.number + 1) = ap (λ x. (row_in g.processor g.number (space_of_call g.call) g.call g.claimed x).progress) phase ∙ ap (λ k. at_rest 0 (k + 1)) flying.number in
+      let ended : (row_of g).progress ≡ at_rest 0 (f.number + 1) = ap (λ x. (row_in g.processor g.number (own_space g.purpose) g.purpose x).progress) phase ∙ ap (λ k. at_rest 0 (k + 1)) flying.number in
       let all : progress_of 0 (entries_in q.entries) ≡ Some (at_rest 0 (f.number + 1)) =
       ap (λ m. progress_of m (entries_in q.entries)) (sym (ap (mark_of j.setting) own ∙ own_mark)) ∙ flying.progress ∙ ap Some ended in
       let before : progress_of 0 (entries_in p.entries) ≡ Some (at_rest 0 f.number) = may.whole.1 ∙ ap (λ k. Some (at_rest 0 k)) made in
@@ -110,16 +111,17 @@ module _ (j : JournalName) (p : PassState) (f : Flight) (may : MayCall j p) (nex
               ∙ sym (progress_from-append (Some (at_rest 0 0)) (entries_in p.entries) (entries_in flying.piece))
               ∙ sym (ap (progress_of 0) split)
               ∙ all;
-          answer = flying.answers ∙ ap (λ o. option_to_list (answer_made g o)) reply ∙ ap (λ k. (k, g.call) ∷ []) flying.number ∙ ap (λ k. (f.number, k) ∷ []) flying.call;
+          answer = flying.answers ∙ ap (λ o. option_to_list (answer_made g (reply_in o))) answered ∙ ap (λ k. (k, (call_in g.purpose)) ∷ []) flying.number ∙ ap (λ k. (f.number, k) ∷ []) flying.call;
         };
         before = before;
-        replies = flying.replies ∙ ap option_to_list reply;
+        replies = flying.replies ∙ ap (λ o. option_to_list (reply_in o)) answered;
         whole = (f.number + 1, all);
       }
 
-  pub MakesCall-ended : (g : Flight) (q : PassState) → IsFlying j from g q → IsSome (row_of g).reply → IsSomeAnd (row_of g).reply (MakesCall j.setting p q f.call)
-  MakesCall-ended g q flying ended = by (row_of g).reply refl ended
+  pub MakesCall-ended : (g : Flight) (q : PassState) → IsFlying j from g q → IsSome (reply_in (row_of g).outcome) → IsSomeAnd (reply_in (row_of g).outcome) (MakesCall j.setting p q (call_in f.purpose))
+  MakesCall-ended g q flying ended = by (row_of g).outcome refl ended
     where
-      by : (o : Option Reply) → (row_of g).reply ≡ o → IsSome o → IsSomeAnd o (MakesCall j.setting p q f.call)
-      by None is some = absurd (false≢true some)
-      by (Some r) is some = MakesCall-made g q r flying is
+      by : (o : Outcome) → (row_of g).outcome ≡ o → IsSome (reply_in o) → IsSomeAnd (reply_in o) (MakesCall j.setting p q (call_in f.purpose))
+      by Going is some = absurd (false≢true some)
+      by TurnEnded is some = absurd (false≢true some)
+      by (Answered r) is some = MakesCall-made g q r flying is

@@ -12,7 +12,7 @@ ghost use Rattle.pager_model.specs.Legal.{entries_in, frames_at};
 ghost use Rattle.pager_model.specs.Order.{IsWhole};
 ghost use Rattle.pager_model.specs.Settings.{mark_of};
 ghost use Rattle.pager_core.specs.Machines.{CanFly};
-ghost use Rattle.pager_core.specs.Rows.{row_of};
+ghost use Rattle.pager_core.specs.Rows.{call_in, reply_in, row_of};
 ghost use Rattle.pager_core.specs.Running.{IsNumbered, StoresEnd};
 ghost use Rattle.pager_locks.specs.Locked.{Departure, IsFlying};
 ghost use Rattle.pager_locks.specs.Calls.{MakesCall, IsNextFlight};

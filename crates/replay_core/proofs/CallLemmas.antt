@@ -11,10 +11,9 @@ use Rattle.pager_model.specs.Legal.{entries_in}
 use Rattle.pager_model.specs.Order.{Progress, at_rest}
 use Rattle.pager_model.specs.Flat.{space_of_call}
 use Rattle.pager_core.specs.declared.flight.Flight.{Flight}
-use Rattle.pager_core.specs.declared.flight.Phase.TheVariants.{Start}
 use Rattle.pager_core.specs.declared.machine.Turn.{Turn}
 use Rattle.pager_core.specs.declared.machine.Turn.TheVariants.{Ended as HasEnded, Stepped, Waits}
-use Rattle.pager_core.specs.Rows.{row_of}
+use Rattle.pager_core.specs.Rows.{Going, new_flight, row_of}
 use Rattle.pager_core.specs.Running.{Running, calls_at, flight_at, flight_of, progress_of_actor, progress_by_flight, StillFlies, WentOn, OneMore, MustWait, IsLawful}
 use Rattle.pager_core.proofs.NextFlights.{made_going}
 use Rattle.replay_core.specs.Replays.{NoneKeeps, IsAbout, MadeCall}
@@ -22,11 +21,11 @@ use Rattle.replay_core.specs.Replays.{NoneKeeps, IsAbout, MadeCall}
 -- a new flight has its number, no reply, and keeps nothing
 pub record IsNew (f : Flight) (number : ℕ) : Type 0 where
   pub same : f.number ≡ number
-  pub going : (row_of f).reply ≡ None
+  pub going : (row_of f).outcome ≡ Going
   pub keeps : (row_of f).keeps ≡ None
   pub progress : (row_of f).progress ≡ at_rest 0 number
 
-IsNew-of : (c n : ℕ) (call : Option Call) (f : Flight) → option_map (λ call. let f : Flight = record { processor = c; number = n; call = call; phase = Start; claimed = false } in f) call ≡ Some f → IsNew f n
+IsNew-of : (c n : ℕ) (call : Option Call) (f : Flight) → option_map (new_flight c n) call ≡ Some f → IsNew f n
 IsNew-of c n None f is = absurd (none-some f is)
 IsNew-of c n (Some call) f is = subst (λ g. IsNew g n) (same_Some _ _ is) (record { same = refl; going = refl; keeps = refl; progress = refl })
 
@@ -34,7 +33,7 @@ pub IsNew-flight_of : (c n : ℕ) (calls : List Call) (f : Flight) → flight_of
 IsNew-flight_of c n calls f is = IsNew-of c n (slice_get calls n) f is
 
 -- there is such a call
-call_there : (c n : ℕ) (call : Option Call) (f : Flight) → option_map (λ call. let f : Flight = record { processor = c; number = n; call = call; phase = Start; claimed = false } in f) call ≡ Some f → (x : Call) × (call ≡ Some x)
+call_there : (c n : ℕ) (call : Option Call) (f : Flight) → option_map (new_flight c n) call ≡ Some f → (x : Call) × (call ≡ Some x)
 call_there c n None f is = absurd (none-some f is)
 call_there c n (Some call) f is = (call, refl)
 
@@ -74,7 +73,7 @@ InCall-start run actor number lawful about =
 made_still : (run : Running) (actor number : ℕ) → StillFlies run actor number → (progress_of_actor run actor).made ≡ number
 made_still run actor number still =
     ap (λ f. (progress_by_flight (calls_at run.calls actor) f).made) still.flies
-    ∙ made_going still.flight.processor still.flight.number (space_of_call still.flight.call) still.flight.call still.flight.claimed still.flight.phase still.going ∙ still.same_call
+    ∙ made_going still.flight still.going ∙ still.same_call
 
 made_after : (c number : ℕ) (calls : List Call) (o : Option Flight) → flight_of c (number + 1) calls ≡ o → number < length calls → number < (progress_by_flight calls o).made
 made_after c number calls None none there = there

@@ -22,7 +22,7 @@ use Rattle.pager_model.specs.Showing.{answer_in, answers_in, calls_of, IsSequenc
 use Rattle.pager_model.proofs.Histories.{progress_from-append}
 use Rattle.pager_model.specs.TraceText.{IsLine}
 use Rattle.pager_core.specs.declared.flight.Flight.{Flight}
-use Rattle.pager_core.specs.declared.flight.Phase.TheVariants.{Start}
+use Rattle.pager_core.specs.Rows.{new_flight}
 use Rattle.pager_core.specs.Running.{Running, calls_at, flight_at, flight_of, first_flights, progress_of_actor, progress_by_flight, setting_over, HasEnded, IsLawful}
 use Rattle.pager_core.proofs.Lists.{enumerate-push}
 use Rattle.store_core.specs.Stored.{Stored}
@@ -77,7 +77,7 @@ past (x ∷ xs) (suc n) none = omega (arith, past xs n none)
 
 -- Where a processor is between two calls.
 
-none_left : (c n : ℕ) (call : Option Call) → None ≡ option_map (λ call. let f : Flight = record { processor = c; number = n; call = call; phase = Start; claimed = false } in f) call → call ≡ None
+none_left : (c n : ℕ) (call : Option Call) → None ≡ option_map (new_flight c n) call → call ≡ None
 none_left c n None is = refl
 none_left c n (Some call) is = absurd (none-some _ is)
 
@@ -202,8 +202,8 @@ module _ (plan : Plan) (stores : List Stored) (k : ℕ) (run : Running) (line : 
   IsAbout-line =
       let c = line.processor in
       let n = count_of c (take k plan.calls) in
-      let f : Flight = record { processor = c; number = n; call = line.call; phase = Start; claimed = false } in
-      let is : flight_of c n (calls_at run.calls c) ≡ Some f = ap (option_map (λ call. let f : Flight = record { processor = c; number = n; call = call; phase = Start; claimed = false } in f)) call_next in
+      let f : Flight = new_flight c n line.call in
+      let is : flight_of c n (calls_at run.calls c) ≡ Some f = ap (option_map (new_flight c n)) call_next in
       subst (IsAbout run c) (sym (ap (λ (p : Progress). p.made) rest_now)) (f, is, now.flights c ∙ is)
 
   pub NoneKeeps-line : NoneKeeps run.flights
@@ -242,7 +242,7 @@ HasEnded-filed plan stores k run now all c =
     elim (cases_lt c plan.processors) [
       | inl known ↦
           let few : length (calls_at run.calls c) ≤ n = (let e : length (calls_at run.calls c) ≡ n = ap length (calls_known plan run.calls now.of.calls c known ∙ ap (calls_of c) (sym lines)) in omega (arith, e)) in
-          now.flights c ∙ ap (option_map (λ call. let f : Flight = record { processor = c; number = n; call = call; phase = Start; claimed = false } in f)) (slice_get_past (calls_at run.calls c) n few)
+          now.flights c ∙ ap (option_map (new_flight c n)) (slice_get_past (calls_at run.calls c) n few)
       | inr past ↦
           let none : calls_at run.calls c ≡ [] = get_or_past run.calls c [] (subst (λ n. n ≤ c) (sym (length-calls plan run.calls now.of.calls)) past) in
           now.flights c ∙ ap (flight_of c n) none

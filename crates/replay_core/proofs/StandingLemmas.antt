@@ -21,57 +21,15 @@ use Rattle.space_core.specs.Standing.{copied_page}
 use Rattle.pager_core.specs.declared.flight.Flight.{Flight}
 use Rattle.pager_core.specs.declared.flight.Phase.{Phase}
 use Rattle.pager_core.specs.declared.flight.Phase.TheVariants.{Start, Gone, Short, Fill, Unfill, Out, Hand, Unclaim, Back, Late, Fault, Lack, Ended}
-use Rattle.pager_core.specs.Rows.{row_of, row_in, own_if, faulted, is_between, space_under}
+use Rattle.pager_core.specs.Rows.{call_in, is_of_call, is_between, row_of, space_under}
 use Rattle.pager_core.specs.Running.{Running, calls_at, flight_at, progress_of_actor, progress_by_flight, setting_over, kept_by, IsKeptByOther, IsOfCall, IsLawful}
-use Rattle.pager_core.proofs.NextFlights.{made_going, keeps_under}
+use Rattle.pager_core.proofs.NextFlights.{keeps_by_place, keeps_under, made_going, under_by_place}
+use Rattle.pager_core.proofs.Purposes.{own_space-is}
 use Rattle.store_core.specs.Stored.{Stored}
-use Rattle.pager_model.specs.TurnOrders.{Standing, keeps_in, under_in, standing_by, standing_at, is_kept_by, is_kept_by_other, has_left, can_go, can_step}
+use Rattle.pager_model.specs.Locks.{keeps_in, under_in}
+use Rattle.pager_model.specs.TurnOrders.{Standing, standing_by, standing_at, is_kept_by, is_kept_by_other, has_left, can_go, can_step}
 use Rattle.replay_core.specs.Turns.{flies, IsStuck}
 use Rattle.replay_core.proofs.RunLemmas.{IsRunOf, calls_known, length-calls}
-
--- What a phase that an entry led to says of its place.
-
-fault_keeps : (s space count : ℕ) (call : Call) (claimed : Bool) (page : Option ℕ) → own_if s space ≡ keeps_in s (faulted call claimed space count page)
-fault_keeps s space count call claimed None = refl
-fault_keeps s space count call claimed (Some page) = refl
-
-fault_under : (s space count : ℕ) (call : Call) (claimed : Bool) (page : Option ℕ) → Some s ≡ Some (under_in s (faulted call claimed space count page))
-fault_under s space count call claimed None = refl
-fault_under s space count call claimed (Some page) = refl
-
--- the space whose lock is kept is told by the place
-pub keeps_by_place : (c n s : ℕ) (call : Call) (claimed : Bool) (phase : Phase) → is_between phase ≡ true → (row_in c n s call claimed phase).reply ≡ None → (row_in c n s call claimed phase).keeps ≡ keeps_in s (row_in c n s call claimed phase).progress.doing
-keeps_by_place c n s call claimed Start between going = refl
-keeps_by_place c n s call claimed (Gone first len) between going = refl
-keeps_by_place c n s call claimed (Short wired claims held) between going = refl
-keeps_by_place c n s call claimed (Fill page frame) between going = refl
-keeps_by_place c n s call claimed (Unfill page frame count) between going = refl
-keeps_by_place c n s call claimed (Out v) between going = refl
-keeps_by_place c n s call claimed (Hand v) between going = refl
-keeps_by_place c n s call claimed (Unclaim v (Some count)) between going = refl
-keeps_by_place c n s call claimed (Back v) between going = refl
-keeps_by_place c n s call claimed Late between going = refl
-keeps_by_place c n s call claimed (Fault space count) between going = fault_keeps s space count call claimed (copied_page call)
-keeps_by_place c n s call claimed (Lack space) between going = refl
-keeps_by_place c n s call claimed (Ended reply) between going = absurd (none-some reply (sym going))
-keeps_by_place c n s call claimed phase between going = absurd (false≢true between)
-
--- and so is the space that the next step is made under
-pub under_by_place : (c n s : ℕ) (call : Call) (claimed : Bool) (phase : Phase) → is_between phase ≡ true → (row_in c n s call claimed phase).reply ≡ None → space_under (row_in c n s call claimed phase).needs ≡ Some (under_in s (row_in c n s call claimed phase).progress.doing)
-under_by_place c n s call claimed Start between going = refl
-under_by_place c n s call claimed (Gone first len) between going = refl
-under_by_place c n s call claimed (Short wired claims held) between going = refl
-under_by_place c n s call claimed (Fill page frame) between going = refl
-under_by_place c n s call claimed (Unfill page frame count) between going = refl
-under_by_place c n s call claimed (Out v) between going = refl
-under_by_place c n s call claimed (Hand v) between going = refl
-under_by_place c n s call claimed (Unclaim v (Some count)) between going = refl
-under_by_place c n s call claimed (Back v) between going = refl
-under_by_place c n s call claimed Late between going = refl
-under_by_place c n s call claimed (Fault space count) between going = fault_under s space count call claimed (copied_page call)
-under_by_place c n s call claimed (Lack space) between going = refl
-under_by_place c n s call claimed (Ended reply) between going = absurd (none-some reply (sym going))
-under_by_place c n s call claimed phase between going = absurd (false≢true between)
 
 -- A test over the processors.
 
@@ -92,10 +50,10 @@ one_of p n is =
 -- the call of a flight and its place
 abbrev pub standing_of : Option Flight → Option Standing
 standing_of None = None
-standing_of (Some f) = Some (record { call = f.call; doing = (row_of f).progress.doing })
+standing_of (Some f) = Some (record { call = call_in f.purpose; doing = (row_of f).progress.doing })
 
 made_by : (calls : List Call) (f : Flight) → IsOfCall calls f → (row_of f).progress.made ≡ f.number
-made_by calls f of = made_going f.processor f.number (space_of_call f.call) f.call f.claimed f.phase of.going
+made_by calls f of = made_going f of.going
 
 standing_call : (calls : List Call) (f : Flight) → IsOfCall calls f → standing_by calls (row_of f).progress ≡ standing_of (Some f)
 standing_call calls f of =
@@ -132,7 +90,7 @@ known_flight run c f lawful there = elim (cases_lt c (length run.calls)) [
   | inl below ↦ below
   | inr past ↦
       let none : calls_at run.calls c ≡ [] = get_or_past run.calls c [] past in
-      absurd (none-some f.call (ap (λ l. slice_get l f.number) (sym none) ∙ (lawful.flying c f there).call))
+      absurd (none-some (call_in f.purpose) (ap (λ l. slice_get l f.number) (sym none) ∙ (lawful.flying c f there).call))
 ]
 
 -- The spaces that flights keep, of processors that are at these places.
@@ -149,25 +107,25 @@ module _ (plan : Plan) (stores : List Stored) (run : Running) (is : IsRunOf plan
       ∙ ap (λ l. standing_by l (progress_of_actor run c)) (sym (calls_known plan run.calls is.calls c known))
       ∙ standing_flight (calls_at run.calls c) (flight_at run.flights c) (λ f flies. is.lawful.flying c f flies)
 
-  kept_is : (space : ℕ) (o : Option Flight) → ((f : Flight) → o ≡ Some f → (is_between f.phase ≡ true) × ((row_of f).reply ≡ None)) → is_kept_by space (standing_of o) ≡ is_that space (kept_by o)
+  kept_is : (space : ℕ) (o : Option Flight) → ((f : Flight) → o ≡ Some f → (is_between f.phase ≡ true) × (is_of_call f.purpose ≡ true)) → is_kept_by space (standing_of o) ≡ is_that space (kept_by o)
   kept_is space None fits = refl
   kept_is space (Some f) fits =
-      ap (is_that space) (sym (keeps_by_place f.processor f.number (space_of_call f.call) f.call f.claimed f.phase (fits f refl).0 (fits f refl).1))
+      ap (is_that space) (sym (keeps_by_place f (fits f refl).0 ∙ ap (λ own. keeps_in own (row_of f).progress.doing) (own_space-is f.purpose (fits f refl).1)))
 
   kept_at : (space d : ℕ) → d < plan.processors → is_kept_by space (standing_at plan (entries_in run.history) d) ≡ is_that space (kept_by (flight_at run.flights d))
   kept_at space d known =
       ap (is_kept_by space) (standing_is d known)
-      ∙ kept_is space (flight_at run.flights d) (λ f flies. (is.lawful.between d f flies, (is.lawful.flying d f flies).going))
+      ∙ kept_is space (flight_at run.flights d) (λ f flies. (is.lawful.between d f flies, (is.lawful.flying d f flies).is_call))
 
   -- the test of the place tells the flight that keeps the space
-  kept_from_test : (c space : ℕ) → is_kept_by_other plan (entries_in run.history) c space ≡ true → IsKeptByOther run.flights c space
+  kept_from_test : (c space : ℕ) → is_kept_by_other plan (entries_in run.history) c (Some space) ≡ true → IsKeptByOther run.flights c space
   kept_from_test c space test =
       let one = one_of (λ d. not (d == c) && is_kept_by space (standing_at plan (entries_in run.history) d)) plan.processors test in
       let both = and_parts (not (one.0 == c)) (is_kept_by space (standing_at plan (entries_in run.history) one.0)) one.2 in
       let kept : is_that space (kept_by (flight_at run.flights one.0)) ≡ true = sym (kept_at space one.0 one.1) ∙ both.1 in
       keeper run.flights c space one.0 (let differs = both.0 in λ same. absurd (let here : (one.0 == c) ≡ true = grind (arith, nat_tests) in false≢true (ap not (sym here) ∙ differs))) (flight_at run.flights one.0) refl kept
 
-  test_from_kept : (c space : ℕ) → IsKeptByOther run.flights c space → is_kept_by_other plan (entries_in run.history) c space ≡ true
+  test_from_kept : (c space : ℕ) → IsKeptByOther run.flights c space → is_kept_by_other plan (entries_in run.history) c (Some space) ≡ true
   test_from_kept c space kept =
       let known : kept.other < plan.processors = subst (λ n. kept.other < n) (length-calls plan run.calls is.calls) (known_flight run kept.other kept.flight is.lawful kept.flies) in
       let differs : (kept.other == c) ≡ false = (let apart = kept.differs in grind (arith, nat_tests)) in
@@ -176,10 +134,15 @@ module _ (plan : Plan) (stores : List Stored) (run : Running) (is : IsRunOf plan
       (ap (λ b. not b && is_kept_by space (standing_at plan (entries_in run.history) kept.other)) differs ∙ kept_at space kept.other known ∙ that)
 
   -- the space that a flight's next step is made under
-  under_is : (c : ℕ) (f : Flight) → flight_at run.flights c ≡ Some f → space_under (row_of f).needs ≡ Some (under_in (space_of_call f.call) (row_of f).progress.doing)
-  under_is c f flies = under_by_place f.processor f.number (space_of_call f.call) f.call f.claimed f.phase (is.lawful.between c f flies) (is.lawful.flying c f flies).going
+  abbrev under_at : Flight → Option ℕ
+  under_at f = under_in (Some (space_of_call (call_in f.purpose))) (row_of f).progress.doing
 
-  can_is : (c : ℕ) (f : Flight) → c < plan.processors → flight_at run.flights c ≡ Some f → can_step plan (entries_in run.history) c ≡ not (is_kept_by_other plan (entries_in run.history) c (under_in (space_of_call f.call) (row_of f).progress.doing))
+  under_is : (c : ℕ) (f : Flight) → flight_at run.flights c ≡ Some f → space_under (row_of f).needs ≡ under_at f
+  under_is c f flies =
+      let of = is.lawful.flying c f flies in
+      under_by_place f (is.lawful.between c f flies) of.going ∙ ap (λ own. under_in own (row_of f).progress.doing) (own_space-is f.purpose of.is_call)
+
+  can_is : (c : ℕ) (f : Flight) → c < plan.processors → flight_at run.flights c ≡ Some f → can_step plan (entries_in run.history) c ≡ not (is_kept_by_other plan (entries_in run.history) c (under_at f))
   can_is c f known flies = ap (can_go plan (entries_in run.history) c) (standing_is c known ∙ ap standing_of flies)
 
   -- a processor that has a call left, by its flight
@@ -191,17 +154,19 @@ module _ (plan : Plan) (stores : List Stored) (run : Running) (is : IsRunOf plan
   pub cannot_step : (c : ℕ) → c < plan.processors → IsStuck run c → can_step plan (entries_in run.history) c ≡ false
   cannot_step c known (inl none) = ap (can_go plan (entries_in run.history) c) (standing_is c known ∙ ap standing_of none)
   cannot_step c known (inr (space, must)) =
-      let under : space ≡ under_in (space_of_call must.flight.call) (row_of must.flight).progress.doing = same_Some _ _ (sym must.under ∙ under_is c must.flight must.flies) in
+      let under : Some space ≡ under_at must.flight = sym must.under ∙ under_is c must.flight must.flies in
       can_is c must.flight known must.flies
-      ∙ ap not (test_from_kept c (under_in (space_of_call must.flight.call) (row_of must.flight).progress.doing) (subst (IsKeptByOther run.flights c) under must.kept))
+      ∙ ap not (subst (λ o. is_kept_by_other plan (entries_in run.history) c o ≡ true) under (test_from_kept c space must.kept))
+
+  stuck_by : (c : ℕ) (f : Flight) → flight_at run.flights c ≡ Some f → (o : Option ℕ) → space_under (row_of f).needs ≡ o → is_kept_by_other plan (entries_in run.history) c o ≡ true → IsStuck run c
+  stuck_by c f flies None under test = absurd (false≢true test)
+  stuck_by c f flies (Some space) under test = inr (space, record { flight = f; flies = flies; under = under; kept = kept_from_test c space test })
 
   can_flying : (c : ℕ) → c < plan.processors → (IsStuck run c → ⊥) → (o : Option Flight) → flight_at run.flights c ≡ o → can_step plan (entries_in run.history) c ≡ true
   can_flying c known free None flies = absurd (free (inl flies))
   can_flying c known free (Some f) flies =
-      let space = under_in (space_of_call f.call) (row_of f).progress.doing in
       can_is c f known flies
-      ∙ ap not (false_from_ne_true (is_kept_by_other plan (entries_in run.history) c space)
-      (λ test. free (inr (space, record { flight = f; flies = flies; under = under_is c f flies; kept = kept_from_test c space test }))))
+      ∙ ap not (false_from_ne_true (is_kept_by_other plan (entries_in run.history) c (under_at f)) (λ test. free (stuck_by c f flies (under_at f) (under_is c f flies) test)))
 
   pub can_step_free : (c : ℕ) → c < plan.processors → (IsStuck run c → ⊥) → can_step plan (entries_in run.history) c ≡ true
   can_step_free c known free = can_flying c known free (flight_at run.flights c) refl
@@ -222,7 +187,7 @@ not_all_stuck run c f lawful flies all =
     let kept : IsKeptByOther run.flights c waits.0 = waits.2 in
     let g : Flight = kept.flight in
     let then = waits_for run kept.other g kept.flies (all kept.other g kept.flies) in
-    let under = keeps_under g.processor g.number (space_of_call g.call) waits.0 g.call g.claimed g.phase kept.keeps in
+    let under = keeps_under g waits.0 kept.keeps in
     let again : IsKeptByOther run.flights kept.other then.0 = then.2 in
     let same : then.0 ≡ waits.0 = same_Some _ _ (sym then.1 ∙ under) in
     again.differs (lawful.one_keeper waits.0 again.other kept.other again.flight g again.flies kept.flies (again.keeps ∙ ap Some same) kept.keeps)
