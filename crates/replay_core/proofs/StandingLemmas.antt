@@ -17,10 +17,7 @@ use Rattle.pager_model.specs.Order.{progress_of}
 use Rattle.pager_model.specs.Plans.{Plan}
 use Rattle.pager_model.specs.Settings.{Given, mark_of}
 use Rattle.pager_model.specs.Showing.{calls_of, daemon_marks}
-use Rattle.space_core.specs.Standing.{copied_page}
 use Rattle.pager_core.specs.declared.flight.Flight.{Flight}
-use Rattle.pager_core.specs.declared.flight.Phase.{Phase}
-use Rattle.pager_core.specs.declared.flight.Phase.TheVariants.{Start, Gone, Short, Fill, Unfill, Out, Hand, Unclaim, Back, Late, Fault, Lack, Ended}
 use Rattle.pager_core.specs.Rows.{call_in, is_of_call, is_between, row_of, space_under}
 use Rattle.pager_core.specs.Running.{Running, calls_at, flight_at, progress_of_actor, progress_by_flight, setting_over, kept_by, IsKeptByOther, IsOfCall, IsLawful}
 use Rattle.pager_core.proofs.NextFlights.{keeps_by_place, keeps_under, made_going, under_by_place}
