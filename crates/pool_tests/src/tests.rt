@@ -6,8 +6,18 @@ mod full;
 mod plain;
 mod rows;
 mod sizes;
+mod tested;
 
-use pager_model::{Sizes, Want};
+use pager_model::Want;
+
+/// How many frames a pool has that is compared with the plain one.
+const FRAMES: u32 = 512;
+
+/// How many processors it has.
+const PROCESSORS: u32 = 4;
+
+/// All page sizes, by how many base pages each has. Lists of sizes are in descending order, and have that of 1.
+const ALL_SIZES: &[u32] = &[512, 64, 8, 1];
 
 /// A region of 1,024 pages.
 const PLAIN: Want = Want {
@@ -16,12 +26,3 @@ const PLAIN: Want = Want {
     cap: 1024,
     wired: false,
 };
-
-/// Base pages and those of these levels: of 8, 64 and 512 base pages.
-fn sizes_of(levels: &[u8]) -> Sizes {
-    Sizes::of(
-        levels.contains(&1),
-        levels.contains(&2),
-        levels.contains(&3),
-    )
-}

@@ -1,73 +1,71 @@
-//! The pool's calls, each behind assertions of what it requires.
+//! The calls of a pool and their answers, as numbers.
 
-use frame_pool::{Collected, Full, NoneLeft, Pool};
-use pager_model::{Frame, Victim, Want};
-use std::process::Abort;
+use frame_pool::NoneLeft;
+use pager_model::{Victim, Want};
 
-/// A page without a frame takes one.
-pub fn take(
-    rt: &impl Abort,
-    pool: &mut Pool,
-    space: u32,
-    page: u32,
-    want: &Want,
-) -> Result<Frame, Full> {
-    assert!(rt; want.low <= page && page < want.high && want.high <= 1 << 20 && 1 <= want.cap);
-    assert!(rt; pool.has_room());
-    assert!(rt; pool.frame_of(space, page).is_none());
-    pool.take(space, page, want)
+/// A page of a space, and the region that it is in.
+#[derive(Clone, Copy)]
+pub struct Page {
+    pub space: u32,
+    pub page: u32,
+    pub want: Want,
 }
 
-/// A page gives its frame up.
-pub fn give(rt: &impl Abort, pool: &mut Pool, space: u32, page: u32, frame: Frame) -> Option<u32> {
-    assert!(rt; page < 1 << 20);
-    assert_eq!(rt; pool.frame_of(space, page), Some(frame.number()));
-    pool.give(space, page, frame)
+/// A call of a pool.
+#[derive(Clone, Copy)]
+pub enum Call {
+    /// A page without a frame takes one.
+    Take(Page),
+    /// A page of a space gives its frame up.
+    Give { space: u32, page: u32, frame: u32 },
+    /// A processor that neither claims nor holds a frame claims the victim.
+    Claim(u32),
+    /// What a processor claims is claimed no more.
+    Unclaim(u32),
+    /// A processor drops the frame that it holds.
+    DropHeld(u32),
+    /// A processor uses the frame that it holds for a page without one.
+    UseHeld(u32, Page),
+    /// An entry moves no frame.
+    EndEntry,
 }
 
-/// A processor that neither claims nor holds a frame claims the victim.
-pub fn claim(rt: &impl Abort, pool: &mut Pool, processor: u32) -> Result<Victim, NoneLeft> {
-    assert!(rt; pool.has_room());
-    assert!(rt; (processor as usize) < pool.processors());
-    assert!(rt; pool.claimed_by(processor).is_none());
-    assert!(rt; pool.held_by(processor).is_none());
-    pool.claim(processor)
+/// What a call is answered.
+#[derive(Clone, Copy, Debug, PartialEq, Eq)]
+pub enum Answer {
+    /// The frame that the page took.
+    Took(u32),
+    Full,
+    /// Who holds the frame that was given up.
+    Gave(Option<u32>),
+    Claimed(Victim),
+    NoneLeft(NoneLeft),
+    /// The frame that the page has, which its processor held or another.
+    Used(u32),
+    /// The frame that is claimed no more.
+    Unclaimed(Option<u32>),
+    /// The frame that was dropped.
+    Dropped(Option<u32>),
+    Ended,
 }
 
-/// What a processor claims, and has been given up by no page, is claimed no more.
-pub fn unclaim(rt: &impl Abort, pool: &mut Pool, processor: u32) -> u32 {
-    assert!(rt; pool.has_room());
-    assert!(rt; pool.claimed_by(processor).is_some());
-    assert_eq!(rt; pool.collect(processor), Collected::Claimed);
-    pool.unclaim(processor)
-}
+/// How many kinds of answers there are.
+pub const KINDS: usize = 10;
 
-/// A processor drops the frame that it holds.
-pub fn drop_held(rt: &impl Abort, pool: &mut Pool, processor: u32) -> u32 {
-    assert!(rt; pool.has_room());
-    assert!(rt; pool.held_by(processor).is_some());
-    assert_eq!(rt; pool.collect(processor), Collected::Held);
-    pool.drop_held(processor)
-}
-
-/// A processor uses the frame that it holds for a page without one.
-pub fn use_held(
-    rt: &impl Abort,
-    pool: &mut Pool,
-    processor: u32,
-    space: u32,
-    page: u32,
-    want: &Want,
-) -> Frame {
-    assert!(rt; want.low <= page && page < want.high && want.high <= 1 << 20 && 1 <= want.cap);
-    assert!(rt; pool.has_room());
-    assert!(rt; pool.held_by(processor).is_some());
-    assert!(rt; pool.frame_of(space, page).is_none());
-    pool.use_held(processor, space, page, want)
-}
-
-/// An entry that moves no frame.
-pub fn end_entry(rt: &impl Abort, pool: &mut Pool) {
-    assert!(rt; pool.has_room());
-    pool.end_entry();
+impl Answer {
+    /// The number of its kind: a frame that was given up and is held by a processor is one of its own.
+    pub fn kind(&self) -> usize {
+        match self {
+            Answer::Took(_) => 0,
+            Answer::Full => 1,
+            Answer::Gave(None) => 2,
+            Answer::Gave(Some(_)) => 3,
+            Answer::Claimed(_) => 4,
+            Answer::NoneLeft(_) => 5,
+            Answer::Used(_) => 6,
+            Answer::Unclaimed(_) => 7,
+            Answer::Dropped(_) => 8,
+            Answer::Ended => 9,
+        }
+    }
 }

@@ -1,7 +1,10 @@
 //! Drawn calls of every kind, made of a pool and of the plain one.
 
-use super::both::{Both, PROCESSORS, Reached};
-use super::{PLAIN, sizes_of};
+use super::both::Both;
+use super::calls::{Answer, Call, KINDS, Page};
+use super::plain::Plain;
+use super::{ALL_SIZES, FRAMES, PLAIN, PROCESSORS};
+use frame_pool::Victim;
 use pager_model::Want;
 use std::alloc::Global;
 use std::process::Abort;
@@ -77,19 +80,34 @@ const WIDE: Draws = Draws {
     calls: 210,
 };
 
-/// What drawn calls came to: how often each arm was reached, and how many reservations were broken.
-#[derive(Clone, Copy)]
-struct Outcome {
-    reached: Reached,
+/// What drawn calls came to: how often there was an answer of each kind, and how many reservations were broken.
+#[derive(Drop)]
+struct Tally {
+    answers: [u32; KINDS],
     broken: u64,
 }
 
-impl Outcome {
-    fn and(self, other: Outcome) -> Outcome {
-        Outcome {
-            reached: self.reached.with(&other.reached),
-            broken: self.broken.saturating_add(other.broken),
+impl Tally {
+    fn new() -> Tally {
+        Tally {
+            answers: [0; KINDS],
+            broken: 0,
         }
+    }
+
+    fn note(&mut self, answer: &Answer) {
+        if let Some(count) = self.answers.get_mut(answer.kind()) {
+            *count = count.saturating_add(1);
+        }
+    }
+
+    /// How often there was an answer of the kind that there was least often.
+    fn least(&self) -> u32 {
+        let mut least = u32::MAX;
+        for count in &self.answers {
+            least = least.min(*count);
+        }
+        least
     }
 }
 
@@ -101,131 +119,195 @@ fn draw(random: &mut u64) -> u32 {
     (*random >> 33) as u32
 }
 
-/// Makes the call that was drawn, of sixteen so many to take a frame.
-fn make_call(rt: &impl Abort, both: &mut Both, draw: u32, takes: u32) -> Result<(), Fail> {
-    let (space, processor, rest) = (draw % 3, draw / 4 % PROCESSORS, draw / 64);
-    match draw / 16 % 16 {
-        0 => both.end_entry(rt),
-        kind if kind <= takes => both.take(rt, space, rest)?,
-        15 => {
-            if let Some(frame) = both.used_frame(rest) {
-                both.give(rt, frame)?;
-            }
+/// The first of these pages of the space that has no frame.
+fn first_without(plain: &Plain, space: u32, first: u32, end: u32) -> Option<u32> {
+    for page in first..end {
+        if !plain.has_frame(space, page) {
+            return Some(page);
         }
-        _ => both.go_on(rt, processor, space, rest)?,
     }
-    Ok(())
+    None
 }
 
-/// Makes drawn calls of both pools with sizes of these levels, which are answered alike. None comes to nothing.
+/// The first page of the space from a drawn one on that has no frame.
+fn page_in(plain: &Plain, space: u32, want: &Want, drawn: u32) -> Option<u32> {
+    let drawn = want.low.max(drawn % want.high.max(1));
+    let page = first_without(plain, space, drawn, want.high);
+    if page.is_some() {
+        return page;
+    }
+    first_without(plain, space, want.low, drawn)
+}
+
+/// A page that has no frame, of this space or else of one after it.
+fn page_without(plain: &Plain, draws: &Draws, space: u32, drawn: u32) -> Option<Page> {
+    for step in 0..3 {
+        let space = (space % 3 + step) % 3;
+        let want = draws.spaces[space as usize];
+        if let Some(page) = page_in(plain, space, &want, drawn) {
+            return Some(Page { space, page, want });
+        }
+    }
+    None
+}
+
+/// The first frame from a drawn one on that a page has.
+fn used_frame(plain: &Plain, drawn: u32) -> Option<u32> {
+    for step in 0..FRAMES {
+        let frame = (drawn % FRAMES + step) % FRAMES;
+        if plain.is_used(frame) {
+            return Some(frame);
+        }
+    }
+    None
+}
+
+/// A page that has no frame takes one.
+fn take_call(plain: &Plain, draws: &Draws, space: u32, drawn: u32) -> Option<Call> {
+    Some(Call::Take(page_without(plain, draws, space, drawn)?))
+}
+
+/// The page that has the frame gives it up.
+fn give_call(plain: &Plain, frame: u32) -> Option<Call> {
+    let Victim { space, page, frame } = plain.page_of(frame)?;
+    Some(Call::Give { space, page, frame })
+}
+
+/// The processor goes on: it claims a frame; the page of one that it claims gives it up, or it is claimed no more; one that it
+/// holds it uses or drops.
+fn next_call(plain: &Plain, draws: &Draws, processor: u32, space: u32, drawn: u32) -> Option<Call> {
+    let turns_back = drawn % 3 == 0;
+    if plain.held_by(processor).is_some() {
+        if turns_back {
+            return Some(Call::DropHeld(processor));
+        }
+        return Some(Call::UseHeld(processor, page_without(plain, draws, space, drawn)?));
+    }
+    match plain.claimed_by(processor) {
+        None => Some(Call::Claim(processor)),
+        Some(_) if turns_back => Some(Call::Unclaim(processor)),
+        Some(frame) => give_call(plain, frame),
+    }
+}
+
+/// The call that was drawn, behind so many.
+fn draw_call(plain: &Plain, draws: &Draws, calls: u32, drawn: u32) -> Option<Call> {
+    if calls < draws.first {
+        return take_call(plain, draws, 0, drawn);
+    }
+    let (space, processor, rest) = (drawn % 3, drawn / 4 % PROCESSORS, drawn / 64);
+    match drawn / 16 % 16 {
+        0 => Some(Call::EndEntry),
+        kind if kind <= draws.takes => take_call(plain, draws, space, rest),
+        15 => give_call(plain, used_frame(plain, rest)?),
+        _ => next_call(plain, draws, processor, space, rest),
+    }
+}
+
+/// Makes the call of both pools that was drawn, behind so many. There always is one.
+fn make_drawn(rt: &impl Abort, both: &mut Both, draws: &Draws, calls: u32, drawn: u32) -> Answer {
+    let call = draw_call(&both.plain, draws, calls, drawn).expect(rt, "no call can be made");
+    both.make(rt, &call)
+}
+
+/// Makes drawn calls of both pools, which are answered alike.
 fn draw_calls(
     rt: &impl Abort,
     alloc: Global,
     draws: &Draws,
-    levels: &[u8],
-) -> Result<Outcome, Fail> {
-    let mut both = Both::create(alloc, draws.spaces, draws.announced, sizes_of(levels))?;
+    sizes: &'static [u32],
+    tally: &mut Tally,
+) -> Result<(), Fail> {
+    let mut both = Both::create(rt, alloc, draws.announced, sizes)?;
     let mut random = 5u64;
-    for call in 0..draws.calls {
-        let draw = draw(&mut random);
-        if call < draws.first {
-            both.take(rt, 0, draw)?;
-        } else {
-            make_call(rt, &mut both, draw, draws.takes)?;
-        }
-        both.compare(rt);
+    for calls in 0..draws.calls {
+        let answer = make_drawn(rt, &mut both, draws, calls, draw(&mut random));
+        tally.note(&answer);
     }
-    assert_eq!(rt; both.reached.all(), draws.calls);
-    Ok(Outcome {
-        reached: both.reached,
-        broken: both.pool.preempted(),
-    })
+    tally.broken = tally.broken.saturating_add(both.plain.broken());
+    Ok(())
 }
 
-/// Makes drawn calls with sizes of these levels over tight spaces, and over wide ones with more and more frames in use when the first
-/// reservation is broken. Each arm is reached. Answers how many reservations were broken.
-fn draw_over_all(rt: &impl Abort, alloc: Global, levels: &[u8]) -> Result<u64, Fail> {
-    let mut outcome = draw_calls(rt, alloc, &TIGHT, levels)?;
+/// Makes drawn calls over tight spaces, and over wide ones with more and more frames in use when the first reservation is broken.
+/// There are answers of each kind. Answers how many reservations were broken.
+fn draw_over_all(rt: &impl Abort, alloc: Global, sizes: &'static [u32]) -> Result<u64, Fail> {
+    let mut tally = Tally::new();
+    draw_calls(rt, alloc, &TIGHT, sizes, &mut tally)?;
     for first in [5u32, 20, 60, 200] {
+        let calls = first.saturating_add(150);
         let draws = Draws {
             first,
-            calls: first.saturating_add(150),
+            calls,
             ..WIDE
         };
-        outcome = outcome.and(draw_calls(rt, alloc, &draws, levels)?);
+        draw_calls(rt, alloc, &draws, sizes, &mut tally)?;
     }
-    assert!(rt; 20 <= outcome.reached.least(), "{:?}", outcome.reached);
-    Ok(outcome.broken)
+    assert!(rt; 20 <= tally.least(), "{:?}", tally.answers);
+    Ok(tally.broken)
 }
 
 #[test]
 fn does_as_the_plain_pool(rt: HostRuntime) -> Result<(), Fail> {
-    let loose = draw_calls(&rt, rt.alloc(), &LOOSE, &[1, 2, 3])?;
-    let tight = draw_calls(&rt, rt.alloc(), &TIGHT, &[1, 2, 3])?;
-    assert!(rt; 0 < loose.broken && 0 < tight.broken);
-    let both = loose.and(tight);
-    assert!(rt; 50 <= both.reached.least(), "{:?}", both.reached);
+    let mut tally = Tally::new();
+    draw_calls(&rt, rt.alloc(), &LOOSE, ALL_SIZES, &mut tally)?;
+    let broken = tally.broken;
+    draw_calls(&rt, rt.alloc(), &TIGHT, ALL_SIZES, &mut tally)?;
+    assert!(rt; 0 < broken && broken < tally.broken);
+    assert!(rt; 50 <= tally.least(), "{:?}", tally.answers);
+    Ok(())
+}
+
+/// Some reservation is broken by drawn calls.
+fn breaks_some(rt: &impl Abort, alloc: Global, draws: &Draws) -> Result<(), Fail> {
+    let mut tally = Tally::new();
+    draw_calls(rt, alloc, draws, ALL_SIZES, &mut tally)?;
+    assert!(rt; 0 < tally.broken);
     Ok(())
 }
 
 #[test]
 fn does_as_the_plain_pool_however_many_spaces_were_announced(rt: HostRuntime) -> Result<(), Fail> {
     for announced in 0..3 {
-        for draws in [LOOSE, WIDE] {
-            let draws = Draws { announced, ..draws };
-            let outcome = draw_calls(&rt, rt.alloc(), &draws, &[1, 2, 3])?;
-            assert!(rt; 0 < outcome.broken);
-        }
+        breaks_some(&rt, rt.alloc(), &Draws { announced, ..LOOSE })?;
+        breaks_some(&rt, rt.alloc(), &Draws { announced, ..WIDE })?;
     }
     Ok(())
 }
 
+/// Drawn calls with each of these sets of sizes.
+fn draw_with(rt: &impl Abort, alloc: Global, sets: &[&'static [u32]]) -> Result<(), Fail> {
+    for sizes in sets {
+        let broken = draw_over_all(rt, alloc, sizes)?;
+        assert!(rt; 4 <= broken, "{sizes:?}");
+    }
+    Ok(())
+}
+
+const FOUR_SIZES: [&[u32]; 1] = [ALL_SIZES];
+
+const THREE_SIZES: [&[u32]; 3] = [&[64, 8, 1], &[512, 8, 1], &[512, 64, 1]];
+
+const TWO_SIZES: [&[u32]; 3] = [&[8, 1], &[64, 1], &[512, 1]];
+
 #[test]
 fn with_all_sizes_does_as_the_plain_pool(rt: HostRuntime) -> Result<(), Fail> {
-    assert!(rt; 4 <= draw_over_all(&rt, rt.alloc(), &[1, 2, 3])?);
-    Ok(())
+    draw_with(&rt, rt.alloc(), &FOUR_SIZES)
 }
 
 #[test]
-fn without_pages_of_512_frames_does_as_the_plain_pool(rt: HostRuntime) -> Result<(), Fail> {
-    assert!(rt; 4 <= draw_over_all(&rt, rt.alloc(), &[1, 2])?);
-    Ok(())
+fn with_three_sizes_does_as_the_plain_pool(rt: HostRuntime) -> Result<(), Fail> {
+    draw_with(&rt, rt.alloc(), &THREE_SIZES)
 }
 
 #[test]
-fn without_pages_of_64_frames_does_as_the_plain_pool(rt: HostRuntime) -> Result<(), Fail> {
-    assert!(rt; 4 <= draw_over_all(&rt, rt.alloc(), &[1, 3])?);
-    Ok(())
-}
-
-#[test]
-fn without_pages_of_8_frames_does_as_the_plain_pool(rt: HostRuntime) -> Result<(), Fail> {
-    assert!(rt; 4 <= draw_over_all(&rt, rt.alloc(), &[2, 3])?);
-    Ok(())
-}
-
-#[test]
-fn with_pages_of_1_and_8_frames_does_as_the_plain_pool(rt: HostRuntime) -> Result<(), Fail> {
-    assert!(rt; 4 <= draw_over_all(&rt, rt.alloc(), &[1])?);
-    Ok(())
-}
-
-#[test]
-fn with_pages_of_1_and_64_frames_does_as_the_plain_pool(rt: HostRuntime) -> Result<(), Fail> {
-    assert!(rt; 4 <= draw_over_all(&rt, rt.alloc(), &[2])?);
-    Ok(())
-}
-
-#[test]
-fn with_pages_of_1_and_512_frames_does_as_the_plain_pool(rt: HostRuntime) -> Result<(), Fail> {
-    assert!(rt; 4 <= draw_over_all(&rt, rt.alloc(), &[3])?);
-    Ok(())
+fn with_two_sizes_does_as_the_plain_pool(rt: HostRuntime) -> Result<(), Fail> {
+    draw_with(&rt, rt.alloc(), &TWO_SIZES)
 }
 
 #[test]
 fn with_base_pages_alone_does_as_the_plain_pool_and_breaks_nothing(
     rt: HostRuntime,
 ) -> Result<(), Fail> {
-    assert_eq!(rt; draw_over_all(&rt, rt.alloc(), &[])?, 0);
+    assert_eq!(rt; draw_over_all(&rt, rt.alloc(), &[1])?, 0);
     Ok(())
 }

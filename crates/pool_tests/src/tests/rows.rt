@@ -1,8 +1,7 @@
 //! The frames that the rules say, in worked rows.
 
-use super::{PLAIN, calls, sizes_of};
-use frame_pool::Pool;
-use pager_model::Want;
+use super::ALL_SIZES;
+use super::tested::Tested;
 use std::alloc::Global;
 use std::process::Abort;
 use std::test::Fail;
@@ -14,19 +13,18 @@ type Told = (u32, u32, u32, u32);
 #[derive(Clone, Copy)]
 struct Row {
     frames: u32,
-    /// The levels of the sizes beside base pages.
-    levels: &'static [u8],
+    sizes: &'static [u32],
     /// How many reservations are broken.
     broken: u64,
     pages: &'static [Told],
 }
 
 /// Rows with all four sizes.
-const ALL_SIZES: [Row; 5] = [
+const OF_ALL_SIZES: [Row; 5] = [
     // Of two reservations the one that was allocated from least recently is broken.
     Row {
         frames: 1024,
-        levels: &[1, 2, 3],
+        sizes: ALL_SIZES,
         broken: 1,
         pages: &[
             (0, 0, 512, 0),
@@ -38,14 +36,14 @@ const ALL_SIZES: [Row; 5] = [
     // The second reservation of the row begins beside the one part of the first that has a used place.
     Row {
         frames: 512,
-        levels: &[1, 2, 3],
+        sizes: ALL_SIZES,
         broken: 1,
         pages: &[(0, 0, 512, 0), (0, 512, 512, 64)],
     },
     // Each part of the first has a used place, so its lowest part is broken too.
     Row {
         frames: 512,
-        levels: &[1, 2, 3],
+        sizes: ALL_SIZES,
         broken: 1,
         pages: &[
             (0, 0, 512, 0),
@@ -62,7 +60,7 @@ const ALL_SIZES: [Row; 5] = [
     // An older reservation that can give back more is left alone.
     Row {
         frames: 1024,
-        levels: &[1, 2, 3],
+        sizes: ALL_SIZES,
         broken: 1,
         pages: &[
             (1, 0, 512, 0),
@@ -80,7 +78,7 @@ const ALL_SIZES: [Row; 5] = [
     // The part that stayed of a broken reservation is the next to be broken.
     Row {
         frames: 512,
-        levels: &[1, 2, 3],
+        sizes: ALL_SIZES,
         broken: 2,
         pages: &[
             (0, 0, 512, 0),
@@ -97,11 +95,11 @@ const ALL_SIZES: [Row; 5] = [
 ];
 
 /// Rows with some sizes.
-const SOME_SIZES: [Row; 6] = [
+const OF_SOME_SIZES: [Row; 6] = [
     // The fourth page is in no reservation, and eight of the 496 frames that were given back are for it.
     Row {
         frames: 512,
-        levels: &[1, 3],
+        sizes: &[512, 8, 1],
         broken: 1,
         pages: &[
             (0, 0, 512, 0),
@@ -115,7 +113,7 @@ const SOME_SIZES: [Row; 6] = [
     // Eight parts, of which one stays.
     Row {
         frames: 512,
-        levels: &[2, 3],
+        sizes: &[512, 64, 1],
         broken: 1,
         pages: &[
             (0, 0, 512, 0),
@@ -128,7 +126,7 @@ const SOME_SIZES: [Row; 6] = [
     // The lowest part of 64 frames is broken into 64, of which one stays.
     Row {
         frames: 512,
-        levels: &[2],
+        sizes: &[64, 1],
         broken: 1,
         pages: &[
             (0, 0, 512, 0),
@@ -147,7 +145,7 @@ const SOME_SIZES: [Row; 6] = [
     // back one, and the older one is broken.
     Row {
         frames: 512,
-        levels: &[2],
+        sizes: &[64, 1],
         broken: 1,
         pages: &[
             (0, 0, 64, 0),
@@ -171,7 +169,7 @@ const SOME_SIZES: [Row; 6] = [
     // A region that may have 100 pages has eight, for want of a size between.
     Row {
         frames: 512,
-        levels: &[1, 3],
+        sizes: &[512, 8, 1],
         broken: 0,
         pages: &[
             (0, 0, 100, 0),
@@ -183,7 +181,7 @@ const SOME_SIZES: [Row; 6] = [
     // There are reservations of eight frames, and none larger.
     Row {
         frames: 512,
-        levels: &[1],
+        sizes: &[8, 1],
         broken: 0,
         pages: &[
             (0, 0, 512, 0),
@@ -196,14 +194,11 @@ const SOME_SIZES: [Row; 6] = [
 
 /// The pages of a row, where so many spaces are announced, get the frames that the rules say.
 fn assert_told(rt: &impl Abort, alloc: Global, announced: u32, row: &Row) -> Result<(), Fail> {
-    assert!(rt; row.frames % 512 == 0 && row.frames <= 32768);
-    let mut pool = Pool::create(alloc, row.frames, announced, 1, sizes_of(row.levels))?;
+    let mut tested = Tested::create(rt, alloc, row.frames, announced, 1, row.sizes)?;
     for (space, page, cap, frame) in row.pages {
-        let want = Want { cap: *cap, ..PLAIN };
-        let taken = calls::take(rt, &mut pool, *space, *page, &want)?;
-        assert_eq!(rt; taken.number(), *frame, "page {page} of space {space}");
+        tested.assert_takes(rt, *space, *page, *cap, *frame);
     }
-    assert_eq!(rt; pool.preempted(), row.broken);
+    assert_eq!(rt; tested.broken(), row.broken);
     Ok(())
 }
 
@@ -217,18 +212,18 @@ fn assert_all_told(rt: &impl Abort, alloc: Global, rows: &[Row]) -> Result<(), F
 
 #[test]
 fn pages_get_the_frames_that_the_rules_say(rt: HostRuntime) -> Result<(), Fail> {
-    assert_all_told(&rt, rt.alloc(), &ALL_SIZES)
+    assert_all_told(&rt, rt.alloc(), &OF_ALL_SIZES)
 }
 
 #[test]
 fn with_fewer_sizes_pages_get_the_frames_that_the_rules_say(rt: HostRuntime) -> Result<(), Fail> {
-    assert_all_told(&rt, rt.alloc(), &SOME_SIZES)
+    assert_all_told(&rt, rt.alloc(), &OF_SOME_SIZES)
 }
 
 /// Pages of three spaces, of which the first alone is announced.
 const UNANNOUNCED: Row = Row {
     frames: 1024,
-    levels: &[1, 2, 3],
+    sizes: ALL_SIZES,
     broken: 1,
     pages: &[
         (0, 0, 512, 0),

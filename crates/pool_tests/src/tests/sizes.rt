@@ -1,35 +1,38 @@
 //! What becomes of reservations where there are few page sizes, frame by frame.
 
-use super::{PLAIN, calls, sizes_of};
-use frame_pool::{Full, Pool};
-use pager_model::Frame;
+use super::FRAMES;
+use super::calls::{Answer, Call};
+use super::tested::Tested;
 use std::alloc::Global;
 use std::process::Abort;
 use std::test::Fail;
 
-const FRAMES: u32 = 512;
-
-/// A pool of 512 frames for two spaces, with sizes of these levels.
-fn pool_of(alloc: Global, levels: &[u8]) -> Result<Pool, Fail> {
-    Ok(Pool::create(alloc, FRAMES, 2, 1, sizes_of(levels))?)
+/// A pool of 512 frames for two spaces, with these sizes.
+fn pool_of(rt: &impl Abort, alloc: Global, sizes: &[u32]) -> Result<Tested, Fail> {
+    Ok(Tested::create(rt, alloc, FRAMES, 2, 1, sizes)?)
 }
 
-/// A page takes a frame, which is this one.
-fn assert_takes(
-    rt: &impl Abort,
-    pool: &mut Pool,
-    space: u32,
-    page: u32,
-    frame: u32,
-) -> Result<Frame, Full> {
-    let taken = calls::take(rt, pool, space, page, &PLAIN)?;
-    assert_eq!(rt; taken.number(), frame, "page {page} of space {space}");
-    Ok(taken)
+/// How many pages a reservation may have.
+const CAP: u32 = 1024;
+
+/// A page of the first space gives up the frame of its number, which nobody claims.
+fn assert_gives(rt: &impl Abort, tested: &mut Tested, page: u32) {
+    let call = Call::Give {
+        space: 0,
+        page,
+        frame: page,
+    };
+    assert_eq!(rt; tested.answer(rt, &call), Answer::Gave(None));
 }
 
-/// So many frames are free, so many used, and none is an unused place of a reservation.
-fn assert_counts(rt: &impl Abort, pool: &Pool, free: u32) {
-    let counts = pool.counts();
+/// So many frames are unused places of reservations.
+fn assert_reserved(rt: &impl Abort, tested: &Tested, reserved: u32) {
+    assert_eq!(rt; tested.counts().reserved, reserved);
+}
+
+/// So many frames are free, the others are used, and none is an unused place of a reservation.
+fn assert_free(rt: &impl Abort, tested: &Tested, free: u32) {
+    let counts = tested.counts();
     assert_eq!(rt;
         (counts.free, counts.reserved, counts.used),
         (free, 0, FRAMES.saturating_sub(free))
@@ -61,110 +64,92 @@ const BLOCKS: [(u32, u32); 17] = [
     (384, 512),
 ];
 
-/// Each page of the first space takes the frame of its number.
-fn take_own(
-    rt: &impl Abort,
-    alloc: Global,
-    pool: &mut Pool,
-    pages: &[u32],
-) -> Result<Vec<Frame>, Fail> {
-    let mut frames = Vec::new(alloc);
+/// Each of these pages of the first space takes the frame of its number.
+fn take_own(rt: &impl Abort, tested: &mut Tested, pages: &[u32]) {
     for page in pages {
-        frames.push(assert_takes(rt, pool, 0, *page, *page)?)?;
+        tested.assert_takes(rt, 0, *page, CAP, *page);
     }
-    Ok(frames)
 }
 
 /// The pages of the second space from this one on take the frames from `first` to before `end`, after which no place is reserved. Answers
 /// the next page.
-fn take_block(
-    rt: &impl Abort,
-    pool: &mut Pool,
-    page: u32,
-    first: u32,
-    end: u32,
-) -> Result<u32, Full> {
+fn take_block(rt: &impl Abort, tested: &mut Tested, page: u32, first: u32, end: u32) -> u32 {
     let mut next = page;
     for frame in first..end {
-        let _ = assert_takes(rt, pool, 1, next, frame)?;
-        assert_eq!(rt; pool.counts().reserved, 0);
+        tested.assert_takes(rt, 1, next, CAP, frame);
+        assert_reserved(rt, tested, 0);
         next = next.saturating_add(1);
     }
-    Ok(next)
+    next
 }
 
 /// The pages of the second space take the frames of these blocks. Answers how many they are.
-fn take_blocks(rt: &impl Abort, pool: &mut Pool, blocks: &[(u32, u32)]) -> Result<u32, Full> {
+fn take_blocks(rt: &impl Abort, tested: &mut Tested, blocks: &[(u32, u32)]) -> u32 {
     let mut page = 0;
     for (first, end) in blocks {
-        page = take_block(rt, pool, page, *first, *end)?;
+        page = take_block(rt, tested, page, *first, *end);
     }
-    Ok(page)
+    page
 }
 
-/// No frame is free, and each of these pages of the first space has the frame of its number in a reservation of its own: its page gives it
+/// No frame is free, and each of these pages of the first space has the frame of its number in a reservation of its own: it gives the frame
 /// up, and a page of the second space takes it, from this one on.
-fn assert_single(
-    rt: &impl Abort,
-    pool: &mut Pool,
-    frames: Vec<Frame>,
-    page: u32,
-) -> Result<(), Full> {
+fn assert_single(rt: &impl Abort, tested: &mut Tested, pages: &[u32], page: u32) {
     let mut next = page;
-    for frame in frames {
-        let number = frame.number();
-        assert_eq!(rt; calls::give(rt, pool, 0, number, frame), None);
-        assert_counts(rt, pool, 1);
-        let _ = assert_takes(rt, pool, 1, next, number)?;
+    for number in pages {
+        assert_gives(rt, tested, *number);
+        assert_free(rt, tested, 1);
+        tested.assert_takes(rt, 1, next, CAP, *number);
         next = next.saturating_add(1);
     }
-    Ok(())
 }
 
 #[test]
 fn with_no_size_between_a_reservation_of_512_frames_is_broken_into_single_ones(
     rt: HostRuntime,
 ) -> Result<(), Fail> {
-    let mut pool = pool_of(rt.alloc(), &[3])?;
-    let frames = take_own(&rt, rt.alloc(), &mut pool, &STAYS)?;
-    assert_eq!(rt; pool.counts().reserved, 509);
-    let page = take_blocks(&rt, &mut pool, &BLOCKS)?;
+    let mut tested = pool_of(&rt, rt.alloc(), &[512, 1])?;
+    take_own(&rt, &mut tested, &STAYS);
+    assert_reserved(&rt, &tested, 509);
+    let page = take_blocks(&rt, &mut tested, &BLOCKS);
     assert_eq!(rt; page, 509);
-    assert_single(&rt, &mut pool, frames, page)?;
-    assert_eq!(rt; pool.preempted(), 1);
+    assert_single(&rt, &mut tested, &STAYS, page);
+    assert_eq!(rt; tested.broken(), 1);
     Ok(())
 }
 
 /// The pages of the first space take all frames in order, each alone.
-fn take_all(rt: &impl Abort, alloc: Global, pool: &mut Pool) -> Result<Vec<Frame>, Fail> {
-    let mut frames = Vec::new(alloc);
+fn take_all(rt: &impl Abort, tested: &mut Tested) {
     for page in 0..FRAMES {
-        frames.push(assert_takes(rt, pool, 0, page, page)?)?;
-        assert_counts(rt, pool, FRAMES - 1 - page);
+        tested.assert_takes(rt, 0, page, CAP, page);
+        assert_free(rt, tested, FRAMES - 1 - page);
     }
-    Ok(frames)
 }
 
-/// Of these frames, which are the pages' of their numbers, each of those that are to be free is given up.
-fn give_some(rt: &impl Abort, pool: &mut Pool, frames: Vec<Frame>, free: &[u32]) {
-    for frame in frames {
-        let number = frame.number();
-        if free.contains(&number) {
-            assert_eq!(rt; calls::give(rt, pool, 0, number, frame), None);
-        }
+/// Each of these pages of the first space gives up the frame of its number.
+fn give_own(rt: &impl Abort, tested: &mut Tested, pages: &[u32]) {
+    for page in pages {
+        assert_gives(rt, tested, *page);
     }
 }
+
+/// Pages of the first space that give up the frames of their numbers.
+const GIVEN: [u32; 8] = [5, 6, 7, 100, 256, 257, 258, 259];
+
+/// These frames in the order in which they are taken again.
+const TAKEN: [(u32, u32); 4] = [(5, 6), (100, 101), (6, 8), (256, 260)];
 
 #[test]
 fn with_base_pages_alone_a_page_takes_the_first_frame_of_the_smallest_free_block(
     rt: HostRuntime,
 ) -> Result<(), Fail> {
-    let mut pool = pool_of(rt.alloc(), &[])?;
-    let frames = take_all(&rt, rt.alloc(), &mut pool)?;
-    give_some(&rt, &mut pool, frames, &[5, 6, 7, 100, 256, 257, 258, 259]);
-    assert_counts(&rt, &pool, 8);
-    take_blocks(&rt, &mut pool, &[(5, 6), (100, 101), (6, 8), (256, 260)])?;
-    assert_counts(&rt, &pool, 0);
-    assert_eq!(rt; pool.preempted(), 0);
+    let mut tested = pool_of(&rt, rt.alloc(), &[1])?;
+    take_all(&rt, &mut tested);
+    give_own(&rt, &mut tested, &GIVEN);
+    assert_free(&rt, &tested, 8);
+    let taken = take_blocks(&rt, &mut tested, &TAKEN);
+    assert_eq!(rt; taken, 8);
+    assert_free(&rt, &tested, 0);
+    assert_eq!(rt; tested.broken(), 0);
     Ok(())
 }
