@@ -4,7 +4,7 @@ use super::both::Both;
 use super::calls::{Answer, Call, KINDS, Page};
 use super::plain::Plain;
 use super::{ALL_SIZES, FRAMES, PLAIN, PROCESSORS};
-use frame_pool::Victim;
+use pager_model::Victim;
 use pager_model::Want;
 use std::alloc::Global;
 use std::process::Abort;

@@ -3,7 +3,8 @@
 use super::both::Both;
 use super::calls::{Answer, Call, Page};
 use super::{ALL_SIZES, FRAMES, PLAIN};
-use frame_pool::{NoneLeft, Victim};
+use frame_pool::NoneLeft;
+use pager_model::Victim;
 use pager_model::Want;
 use std::alloc::Global;
 use std::process::Abort;

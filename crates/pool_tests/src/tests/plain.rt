@@ -2,7 +2,8 @@
 
 use super::calls::{Answer, Call, Page};
 use super::{FRAMES, PROCESSORS};
-use frame_pool::{Counts, NoneLeft, Victim};
+use frame_pool::{Counts, NoneLeft};
+use pager_model::Victim;
 use pager_model::Used;
 use std::alloc::{AllocError, Global};
 
