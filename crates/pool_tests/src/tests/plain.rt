@@ -3,8 +3,7 @@
 use super::calls::{Answer, Call, Page};
 use super::{FRAMES, PROCESSORS};
 use frame_pool::{Counts, NoneLeft};
-use pager_model::Victim;
-use pager_model::Used;
+use pager_model::{Used, Victim};
 use std::alloc::{AllocError, Global};
 
 /// What a frame is.
