@@ -128,10 +128,10 @@ unclaimed v (Some count) = Fault v.space count
 
 module _ (f : Flight) (v : Victim) (frame : ℕ) (kept : Kept) (st : SpaceState) (before : FrameState) where
   -- what the entry makes, wherever it leads
-  unclaim-entry :
+  made_by_unclaim :
       (fault : Option ℕ) → is_access (call_in f.purpose) ≡ true → frame ≡ v.frame → claim_in (used_at before frame) ≡ Some f.processor → ((page : ℕ) × (frame_of before v.space page ≡ Some frame))
       → MakesEntry (in_phase f (Unclaim v fault)) (in_phase f (unclaimed v fault)) before (counted (claimed before frame None)) (unclaim_entry f.processor v.space frame)
-  unclaim-entry None access is claims place = record {
+  made_by_unclaim None access is claims place = record {
     same_work = same_work f (Unclaim v None) (Lack v.space);
     processor = refl;
     parts = ((v.space, refl), refl);
@@ -143,7 +143,7 @@ module _ (f : Flight) (v : Victim) (frame : ℕ) (kept : Kept) (st : SpaceState)
     between = refl;
     fewer = omega arith;
   }
-  unclaim-entry (Some count) access is claims place = record {
+  made_by_unclaim (Some count) access is claims place = record {
     same_work = same_work f (Unclaim v (Some count)) (Fault v.space count);
     processor = refl;
     parts = ((v.space, refl), refl);
@@ -159,17 +159,17 @@ module _ (f : Flight) (v : Victim) (frame : ℕ) (kept : Kept) (st : SpaceState)
   }
 
   -- and how it leaves the space
-  unclaim-left :
+  left_by_unclaim :
       (fault : Option ℕ) → IsReady (in_phase f (Unclaim v fault)) kept st → IsResting kept → v.space ≡ kept.number → (after : SpaceState) → StandsFor kept after → after.next ≡ Anyone
       → IsLeft (in_phase f (unclaimed v fault)) kept after
-  unclaim-left None ready resting on after stands next = record {
+  left_by_unclaim None ready resting on after stands next = record {
     fits = record { of_call = refl; can = ready.fits.can; phase = ready.fits.phase };
     stands = stands;
     next = next;
     found = resting;
     keeps = keeps_own_if (in_phase f (Lack v.space)) kept (Some (space_of_call (call_in f.purpose))) v.space refl (λ here. on) refl resting;
   }
-  unclaim-left (Some count) ready resting on after stands next = record {
+  left_by_unclaim (Some count) ready resting on after stands next = record {
     fits = record { of_call = refl; can = ready.fits.can; phase = inr ready.fits.phase };
     stands = stands;
     next = next;
@@ -187,19 +187,19 @@ module _ (f : Flight) (v : Victim) (frame : ℕ) (kept : Kept) (st : SpaceState)
       let at : frame_at kept v.page ≡ Some frame = has.place ∙ ap Some (sym is) in
       let e : Entry = unclaim_entry f.processor v.space frame in
       record {
-        entry = unclaim-entry fault ready.fits.phase is claims (v.page, ap (λ s. frame_of before s v.page) on ∙ sym (agree.pages v.page) ∙ at);
+        entry = made_by_unclaim fault ready.fits.phase is claims (v.page, ap (λ s. frame_of before s v.page) on ∙ sym (agree.pages v.page) ∙ at);
         space = Leaves-on (in_phase f (unclaimed v fault)) kept kept st f.processor v.space true (UnclaimEntry frame) on (unchanged kept) next tt
             (v.page, ready.stands.base v.page ∙ at, ready.stands.beside.dirty v.page (ap (λ r. is_in r v.page) has.resting.none_clearing) ∙ ready.found.dirty)
-            (unclaim-left fault ready has.resting on (space_after st e) (unchanged_stands kept st e ready.stands refl (λ p. refl) (λ p i. refl) refl refl) refl);
+            (left_by_unclaim fault ready has.resting on (space_after st e) (unchanged_stands kept st e ready.stands refl (λ p. refl) (λ p i. refl) refl refl) refl);
       }
 
 -- where the claim is given up, its processor claims or holds the victim, any may go on, and the victim's space is that of the step
-unclaiming : (f : Flight) (v : Victim) (fault : Option ℕ) (kept : Kept) (st : SpaceState) (before : FrameState) → IsReady (in_phase f (Unclaim v fault)) kept st → OwnsBy before f.processor (row_of (in_phase f (Unclaim v fault))).progress.doing
+at_unclaim : (f : Flight) (v : Victim) (fault : Option ℕ) (kept : Kept) (st : SpaceState) (before : FrameState) → IsReady (in_phase f (Unclaim v fault)) kept st → OwnsBy before f.processor (row_of (in_phase f (Unclaim v fault))).progress.doing
     → (v.space ≡ kept.number) × (st.next ≡ Anyone) × ClaimsOrHolds before f.processor v
-unclaiming f v None kept st before ready owns = (same_Some _ _ ready.under, ready.next, owns)
-unclaiming f v (Some count) kept st before ready owns = (same_Some _ _ ready.under, ready.next, owns)
+at_unclaim f v None kept st before ready owns = (same_Some _ _ ready.under, ready.next, owns)
+at_unclaim f v (Some count) kept st before ready owns = (same_Some _ _ ready.under, ready.next, owns)
 
 pub claim_ended : (f : Flight) (v : Victim) (fault : Option ℕ) (frame : ℕ) (kept : Kept) (st : SpaceState) (before : FrameState) → f.phase ≡ Unclaim v fault → OwnsBy before f.processor (row_of f).progress.doing → claim_in (used_at before frame) ≡ Some f.processor → IsReady f kept st → AreAgreed kept before → Makes f (with_phase f (unclaimed v fault)) kept kept st before (counted (claimed before frame None)) (unclaim_entry f.processor v.space frame)
 claim_ended f v fault frame kept st before phase owns claims ready agree =
     by_ready f (Unclaim v fault) kept st phase (λ g to. OwnsBy before f.processor (row_of g).progress.doing → Makes g (to (unclaimed v fault)) kept kept st before (counted (claimed before frame None)) (unclaim_entry f.processor v.space frame))
-    (λ is own. (let so = unclaiming f v fault kept st before is own in Makes-unclaim f v frame kept st before fault is so.0 so.1 agree so.2 claims)) ready owns
+    (λ is own. (let so = at_unclaim f v fault kept st before is own in Makes-unclaim f v frame kept st before fault is so.0 so.1 agree so.2 claims)) ready owns
