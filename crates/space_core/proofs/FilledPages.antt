@@ -10,8 +10,7 @@ use Rattle.space_core.specs.Standing.{Kept, StandsFor, IsCopied, frame_at, dirty
 use Rattle.pager_model.specs.CallEntries.{failed_entry}
 use Rattle.space_core.specs.Tables.{mapping_in}
 use Rattle.store_core.specs.Stored.{copy_at, SameCopies}
-use Rattle.space_core.proofs.SameView.{BesideAt, SameWhole, SameAt, settled_from, one_stands, raised_stands, within_faults}
-use Rattle.pager_laws.proofs.FaultReplies.{rises_told}
+use Rattle.space_core.proofs.SameView.{BesideAt, SameWhole, SameAt, settled_from, one_stands, raised_stands, rises_told, within_faults}
 use Rattle.space_core.proofs.ServedPages.{resident_from}
 use Rattle.space_core.proofs.TableLemmas.{frame-same, dirty-same}
 use Rattle.space_core.proofs.Translations.{Still, same_translates, stays}

@@ -18,8 +18,7 @@ use Rattle.pager_model.specs.CallEntries.{failed_entry}
 use Rattle.space_core.specs.Tables.{Table, mapping_in, frame_in, word_in, dirty_in}
 use Rattle.space_core.specs.Translating.{Retouches, CleansPage}
 use Rattle.store_core.specs.Stored.{Stored, copy_at}
-use Rattle.space_core.proofs.SameView.{BesideAt, SameWhole, SameAt, settled_from, same_regions, one_stands, same_stands, within_faults}
-use Rattle.pager_laws.proofs.FaultReplies.{rises_told}
+use Rattle.space_core.proofs.SameView.{BesideAt, SameWhole, SameAt, settled_from, same_regions, one_stands, same_stands, rises_told, within_faults}
 use Rattle.space_core.proofs.ServedPages.{resident_from}
 use Rattle.space_core.proofs.TableLemmas.{dirty_in-absent, dirty-same, cleans_frame, cleans_dirty}
 use Rattle.space_core.proofs.Translations.{Still, same_translates, stays, retouches, said_flag}
