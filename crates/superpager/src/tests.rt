@@ -85,7 +85,7 @@ const AMPLE: Setup = Setup {
 
 /// How a run ended, as plain data, so that no test carries the contract of `run`.
 #[derive(Drop)]
-struct Ran {
+struct Ending {
     status: u8,
     refusal: Option<TraceFault>,
     /// How many calls the trace has, where it was run.
@@ -104,7 +104,7 @@ fn ran<R: Threads + Wait + Sync>(
     words: &[&str],
     text: &[u8],
     setup: Setup,
-) -> Result<Ran, AllocError> {
+) -> Result<Ending, AllocError> {
     let mut source = source_of(alloc, text, setup.failing_read)?;
     let mut sink = sink_of(alloc, setup.limit, setup.failing_write)?;
     let stores = stores_of(
@@ -116,7 +116,7 @@ fn ran<R: Threads + Wait + Sync>(
     let outcome = run(rt, alloc, words, &mut source, &mut sink, stores);
     let mut next = [0];
     let count = source.read(&mut next);
-    Ok(Ran {
+    Ok(Ending {
         status: outcome.status,
         refusal: outcome.refusal,
         calls: outcome.trace.map(|trace| trace.calls().len()),
