@@ -380,12 +380,12 @@ fn a_full_sink_has_the_first_bytes_of_the_text(rt: HostRuntime) -> Result<(), Fa
 fn each_write_that_fails_leaves_what_went_before(rt: HostRuntime) -> Result<(), Fail> {
     let alloc = rt.alloc();
     let (trace, text) = (frames_run_out(alloc)?, frames_run_out_text(alloc)?);
-    // The write that fails, the status, and how many bytes went out; the text is three writes long, of which the first two are full but
-    // for a few bytes.
+    // The write that fails, the status, and how many bytes went out; the text is three writes long, of which the first two end with the last
+    // line that there was room for.
     let table = [
         (1, WRITE_FAULT, 0),
-        (2, WRITE_FAULT, 4093),
-        (3, WRITE_FAULT, 8188),
+        (2, WRITE_FAULT, 4087),
+        (3, WRITE_FAULT, 8182),
         (4, DONE, text.len()),
     ];
     for (failing_write, status, gone) in table {
