@@ -39,7 +39,7 @@ is_numbered_answer n = is_answer n.entry.what
 
 -- the author with one entry more
 abbrev pub written : AuthorState → Entry → AuthorState
-written a e = record { journal = a.journal; part = a.part; entries = a.entries ++ e ∷ [] }
+written a e = record a { entries = a.entries ++ e ∷ [] }
 
 -- the pass with one entry more, at this place of the history
 abbrev pub kept : PassState → ℕ → Entry → PassState

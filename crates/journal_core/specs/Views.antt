@@ -85,34 +85,34 @@ opener g =
 
 -- the first author goes, and what is left
 abbrev pub first_author : View → View
-first_author v = record { live = v.live; setting = v.setting; authors = take 1 v.authors; passes = [] }
+first_author v = record v { authors = take 1 v.authors; passes = [] }
 
 abbrev pub without_author : View → View
-without_author v = record { live = v.live; setting = v.setting; authors = drop 1 v.authors; passes = v.passes }
+without_author v = record v { authors = drop 1 v.authors }
 
 -- the first pass goes, and what is left
 abbrev pub first_pass : View → View
-first_pass v = record { live = v.live; setting = v.setting; authors = []; passes = take 1 v.passes }
+first_pass v = record v { authors = []; passes = take 1 v.passes }
 
 abbrev pub without_pass : View → View
-without_pass v = record { live = v.live; setting = v.setting; authors = v.authors; passes = drop 1 v.passes }
+without_pass v = record v { passes = drop 1 v.passes }
 
 -- two views in one, and what the second seat is left with
 abbrev pub joined : View → View → View
-joined v w = record { live = v.live; setting = v.setting; authors = v.authors ++ w.authors; passes = v.passes ++ w.passes }
+joined v w = record v { authors = v.authors ++ w.authors; passes = v.passes ++ w.passes }
 
 abbrev pub spent : View
 spent = record { live = false; setting = record { sizes = all_sizes; frames = 0; marks = []; told = []; faults = [] }; authors = []; passes = [] }
 
 -- the lists grown by an entry at this place of the history
 abbrev pub part_grown : Entry → Part → Part
-part_grown e p = record { part = p.part; entries = p.entries ++ e ∷ [] }
+part_grown e p = record p { entries = p.entries ++ e ∷ [] }
 
 abbrev pub own_grown : ℕ → Entry → Own → Own
-own_grown place e o = record { processor = o.processor; entries = o.entries ++ record { number = place; entry = e } ∷ [] }
+own_grown place e o = record o { entries = o.entries ++ record { number = place; entry = e } ∷ [] }
 
 abbrev pub grown : ℕ → Entry → View → View
-grown place e v = record { live = v.live; setting = v.setting; authors = map (part_grown e) v.authors; passes = map (own_grown place e) v.passes }
+grown place e v = record v { authors = map (part_grown e) v.authors; passes = map (own_grown place e) v.passes }
 
 -- the view is of one legal history of this length
 pub record Meets (g : Given) (long : ℕ) (v : View) : Type 0 where

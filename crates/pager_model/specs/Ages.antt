@@ -38,6 +38,6 @@ list_at lists (suc zero) = lists.small
 list_at lists (suc (suc n)) = lists.middle
 
 abbrev pub with_list : Lists → ℕ → List Member → Lists
-with_list lists zero ms = record { base = ms; small = lists.small; middle = lists.middle }
-with_list lists (suc zero) ms = record { base = lists.base; small = ms; middle = lists.middle }
-with_list lists (suc (suc n)) ms = record { base = lists.base; small = lists.small; middle = ms }
+with_list lists zero ms = record lists { base = ms }
+with_list lists (suc zero) ms = record lists { small = ms }
+with_list lists (suc (suc n)) ms = record lists { middle = ms }

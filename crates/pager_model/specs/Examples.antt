@@ -187,7 +187,7 @@ abbrev pub with_read : ℕ → (ℕ → Option Mapping) → ℕ → Option Mappi
 with_read read pages page = if page == read then Some (record { frame = 16 + page; region = 0; rights = Read; dirty = false }) else pages page
 
 abbrev pub with_region : ℕ → (ℕ → Option Mapping) → ℕ → Option Mapping
-with_region first pages page = if nat_lt page first then pages page else option_map (λ m. record { frame = m.frame; region = first; rights = m.rights; dirty = m.dirty }) (pages page)
+with_region first pages page = if nat_lt page first then pages page else option_map (λ (m : Mapping). record m { region = first }) (pages page)
 
 -- a translation of one page
 abbrev pub small_tile : ℕ → Tile

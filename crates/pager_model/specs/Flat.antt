@@ -145,9 +145,9 @@ after_call f call =
 -- a page is written to its copy
 abbrev pub out : Flat → ℕ → Flat
 out f page =
-    record { regions = f.regions; rights = f.rights; words = f.words; copies = λ p. if p == page then Some (f.words p) else f.copies p; dirty = λ p. if p == page then false else f.dirty p }
+    record f { copies = λ p. if p == page then Some (f.words p) else f.copies p; dirty = λ p. if p == page then false else f.dirty p }
 
 -- a failed write leaves the copy unknown
 abbrev pub lost : Flat → ℕ → Flat
 lost f page =
-    record { regions = f.regions; rights = f.rights; words = f.words; copies = λ p. if p == page then None else f.copies p; dirty = f.dirty }
+    record f { copies = λ p. if p == page then None else f.copies p }

@@ -6,7 +6,7 @@ use Rattle.pager_model.specs.contracts.frame.Frame.{the_row}
 
 -- f with these words written over its own, from the first on
 abbrev pub with_words : Framed → List ℕ → Framed
-with_words f ws = record { number = f.number; words = take 1024 (ws ++ drop (length ws) f.words) }
+with_words f ws = record f { words = take 1024 (ws ++ drop (length ws) f.words) }
 
 -- the frame ends with the last words behind the slice
 abbrev pub LendsWords : MutBor Framed → MutBor (List ℕ) → Fml

@@ -60,7 +60,7 @@ pub record HasNothing (st : FrameState) (processor : ℕ) : Type 0 where
 
 -- one entry more
 abbrev pub counted : FrameState → FrameState
-counted st = record { sizes = st.sizes; free = st.free; records = st.records; used = st.used; held = st.held; entries = st.entries + 1; preemptions = st.preemptions }
+counted st = record st { entries = st.entries + 1 }
 
 -- Taking.
 
@@ -72,13 +72,11 @@ pub record Taking : Type 0 where
 -- the page has its place: its age is the count of entries
 abbrev pub taken : FrameState → Want → Placing → FrameState
 taken st want place =
-    record {
+    record st {
       sizes = place.layout.sizes;
       free = place.layout.free;
       records = place.layout.records;
       used = slice_set st.used place.frame (Some (record { age = st.entries; wired = want.wired; claim = None }));
-      held = st.held;
-      entries = st.entries;
       preemptions = st.preemptions + place.broken;
     }
 
@@ -113,14 +111,12 @@ held_given (Some processor) frame held = slice_set held processor (Some frame)
 -- is free; where a processor claims it, it is carved out of its reservation, and the processor holds it.
 abbrev pub given : FrameState → ℕ → Reservation → FrameState
 given st frame r =
-    record {
+    record st {
       sizes = (layout_given (claim_in (used_at st frame)) frame r (layout_of st)).sizes;
       free = (layout_given (claim_in (used_at st frame)) frame r (layout_of st)).free;
       records = (layout_given (claim_in (used_at st frame)) frame r (layout_of st)).records;
       used = slice_set st.used frame None;
       held = held_given (claim_in (used_at st frame)) frame st.held;
-      entries = st.entries;
-      preemptions = st.preemptions;
     }
 
 abbrev pub given_in : FrameState → ℕ → Option Reservation → FrameState
@@ -142,17 +138,17 @@ give_range st space first len = fold (give_if_used space) st (range_with_len fir
 
 abbrev pub with_claim : Option ℕ → Option Used → Option Used
 with_claim claim None = None
-with_claim claim (Some u) = Some (record { age = u.age; wired = u.wired; claim = claim })
+with_claim claim (Some u) = Some (record u { claim = claim })
 
 -- the used frame is claimed by this processor, or by none
 abbrev pub claimed : FrameState → ℕ → Option ℕ → FrameState
 claimed st frame claim =
-    record { sizes = st.sizes; free = st.free; records = st.records; used = slice_set st.used frame (with_claim claim (used_at st frame)); held = st.held; entries = st.entries; preemptions = st.preemptions }
+    record st { used = slice_set st.used frame (with_claim claim (used_at st frame)) }
 
 abbrev pub dropped_in : FrameState → ℕ → Option ℕ → FrameState
 dropped_in st processor None = st
 dropped_in st processor (Some frame) =
-    record { sizes = st.sizes; free = (put_back frame (layout_of st)).free; records = st.records; used = st.used; held = slice_set st.held processor None; entries = st.entries; preemptions = st.preemptions }
+    record st { free = (put_back frame (layout_of st)).free; held = slice_set st.held processor None }
 
 -- the frame that the processor holds is free
 abbrev pub dropped : FrameState → ℕ → FrameState

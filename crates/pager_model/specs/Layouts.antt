@@ -69,7 +69,7 @@ parted_free k used r free = fold (freed_part k used r) free (range_with_len 0 (p
 -- a reservation is split into its extents of size k: those with a used place are reservations, and the frames of the others are free
 abbrev pub parted : ℕ → Reservation → Layout → Layout
 parted k r l =
-    record { sizes = l.sizes; free = parted_free k (is_used l.used) r l.free; records = parted_records k (is_used l.used) r l.records; used = l.used }
+    record l { free = parted_free k (is_used l.used) r l.free; records = parted_records k (is_used l.used) r l.records }
 
 -- a reservation is split into its extents of the next smaller size
 abbrev pub split_layout : Reservation → Layout → Layout
@@ -98,7 +98,7 @@ narrow_layout frame r l = split_on (narrows_to l.sizes frame) r.size r l
 
 -- a reservation of one frame is none any more, and its frame is neither free nor a place
 abbrev pub take_out : ℕ → Layout → Layout
-take_out frame l = record { sizes = l.sizes; free = l.free; records = slice_set l.records frame None; used = slice_set l.used frame false }
+take_out frame l = record l { records = slice_set l.records frame None; used = slice_set l.used frame false }
 
 -- a used frame is carved out of its reservation
 abbrev pub carve_layout : ℕ → Reservation → Layout → Layout
@@ -176,13 +176,13 @@ pub record Placing : Type 0 where
   pub broken : ℕ
 
 abbrev pub stamped : Reservation → ℕ → Reservation
-stamped r stamp = record { space = r.space; first = r.first; size = r.size; frame = r.frame; stamp = stamp }
+stamped r stamp = record r { stamp = stamp }
 
 -- the page's place in a reservation is used from then on, and the reservation is as young as the stamp
 abbrev pub populated : ℕ → ℕ → Layout → Reservation → Placing
 populated stamp page l r =
     record {
-      layout = record { sizes = l.sizes; free = l.free; records = slice_set l.records r.frame (Some (stamped r stamp)); used = slice_set l.used (frame_for page r) true };
+      layout = record l { records = slice_set l.records r.frame (Some (stamped r stamp)); used = slice_set l.used (frame_for page r) true };
       frame = frame_for page r;
       broken = 0;
     }
@@ -197,8 +197,7 @@ abbrev pub reserved : ℕ → ℕ → ℕ → Found → Placing
 reserved stamp space page found =
     let r = new_reservation stamp space page found in
     record {
-      layout = record {
-        sizes = found.layout.sizes;
+      layout = record found.layout {
         free = with_range found.layout.free found.first (8 ^ found.size) false;
         records = slice_set found.layout.records found.first (Some r);
         used = slice_set found.layout.used (frame_for page r) true;
@@ -234,8 +233,7 @@ is_last frame r l = none_used (is_used (slice_set l.used frame false)) r.frame (
 -- a used place of a reservation is used no more, and a reservation without a used place becomes free
 abbrev pub vacate_layout : ℕ → Reservation → Layout → Layout
 vacate_layout frame r l =
-    record {
-      sizes = l.sizes;
+    record l {
       free = if is_last frame r l then with_range l.free r.frame (8 ^ r.size) true else l.free;
       records = if is_last frame r l then slice_set l.records r.frame None else l.records;
       used = slice_set l.used frame false;
@@ -243,4 +241,4 @@ vacate_layout frame r l =
 
 -- a frame that was out of the layout is free
 abbrev pub put_back : ℕ → Layout → Layout
-put_back frame l = record { sizes = l.sizes; free = with_range l.free frame 1 true; records = l.records; used = l.used }
+put_back frame l = record l { free = with_range l.free frame 1 true }

@@ -33,7 +33,7 @@ yield_of used r = yield_up_to used r r.size
 -- the i-th of the eight parts, by all four sizes, of a reservation of size 1 or more, which keeps the stamp
 abbrev pub part_of : Reservation → ℕ → Reservation
 part_of r i =
-    record { space = r.space; first = r.first + i * 8 ^ (r.size - 1); size = r.size - 1; frame = r.frame + i * 8 ^ (r.size - 1); stamp = r.stamp }
+    record r { first = r.first + i * 8 ^ (r.size - 1); size = r.size - 1; frame = r.frame + i * 8 ^ (r.size - 1) }
 
 abbrev pub is_part_empty : (ℕ → Bool) → Reservation → ℕ → Bool
 is_part_empty used r i = none_used used (part_of r i).frame (8 ^ (r.size - 1))
@@ -72,7 +72,7 @@ part_count k r = 8 ^ (r.size - k)
 
 -- the i-th of them, which keeps the stamp
 abbrev pub part_at : ℕ → Reservation → ℕ → Reservation
-part_at k r i = record { space = r.space; first = r.first + i * 8 ^ k; size = k; frame = r.frame + i * 8 ^ k; stamp = r.stamp }
+part_at k r i = record r { first = r.first + i * 8 ^ k; size = k; frame = r.frame + i * 8 ^ k }
 
 abbrev pub is_empty_at : ℕ → (ℕ → Bool) → Reservation → ℕ → Bool
 is_empty_at k used r i = none_used used (part_at k r i).frame (8 ^ k)

@@ -43,7 +43,7 @@ without_region page regions = filter (λ r. not (has_page page r)) regions
 
 -- the region that has the page is longer by so many pages
 abbrev pub grown_region : ℕ → ℕ → Region → Region
-grown_region page by r = if has_page page r then record { first = r.first; length = r.length + by; kind = r.kind; rights = r.rights } else r
+grown_region page by r = if has_page page r then record r { length = r.length + by } else r
 
 abbrev pub grown_regions : ℕ → ℕ → List Region → List Region
 grown_regions page by regions = map (grown_region page by) regions

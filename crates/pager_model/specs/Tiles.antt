@@ -23,7 +23,7 @@ mappings flat base page = mapping_with (base page) (region_at flat.regions page)
 
 -- the mapping of the page that is i pages further in the same tile
 abbrev pub moved_by : ℕ → Mapping → Mapping
-moved_by i m = record { frame = m.frame + i; region = m.region; rights = m.rights; dirty = m.dirty }
+moved_by i m = record m { frame = m.frame + i }
 
 -- Tests of equality.
 

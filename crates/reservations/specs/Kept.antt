@@ -11,10 +11,10 @@ abbrev pub reservation_at : Records → ℕ → Option Reservation
 reservation_at st frame = slice_index_or st.records frame None
 
 abbrev pub with_record : Records → ℕ → Option Reservation → Records
-with_record st frame r = record { records = slice_set st.records frame r; used = st.used }
+with_record st frame r = record st { records = slice_set st.records frame r }
 
 abbrev pub with_used : Records → ℕ → Bool → Records
-with_used st frame b = record { records = st.records; used = slice_set st.used frame b }
+with_used st frame b = record st { used = slice_set st.used frame b }
 
 -- the page is one of the reservation's
 abbrev pub CoversPage : Reservation → ℕ → Type 0

@@ -13,7 +13,7 @@ use Rattle.store_core.specs.Stored.{Stored, keeps_at, SameCopies, SetsCopy}
 -- the space with another store
 abbrev pub with_store : Kept → Stored → Kept
 with_store kept store =
-    record { number = kept.number; frames = kept.frames; regions = kept.regions; table = kept.table; pending = kept.pending; clearing = kept.clearing; paged = kept.paged; store = store; images = kept.images; promotions = kept.promotions; demotions = kept.demotions; broken = kept.broken }
+    record kept { store = store }
 
 -- the page's words are its copy, which was written
 abbrev pub WroteWords : Kept → Kept → ℕ → Type 0

@@ -44,10 +44,10 @@ pub record Maps (page : ℕ) (given : Option Mapping) (old new : Resident) : Typ
   pub at : (p : ℕ) → mapping_at new p ≡ (if p == page then given else mapping_at old p)
 
 abbrev pub with_rights : Rights → Mapping → Mapping
-with_rights rights m = record { frame = m.frame; region = m.region; rights = rights; dirty = m.dirty }
+with_rights rights m = record m { rights = rights }
 
 abbrev pub with_flag : Bool → Mapping → Mapping
-with_flag dirty m = record { frame = m.frame; region = m.region; rights = m.rights; dirty = dirty }
+with_flag dirty m = record m { dirty = dirty }
 
 -- the resident pages of the range have these rights, and all else is as before
 pub record Protects (first len : ℕ) (rights : Rights) (old new : Resident) : Type 0 where
