@@ -114,7 +114,7 @@ sync_written (Some r) true has is = refl
 
 evict_written : (region : Option Region) (dirty : Bool) → is_unwired region ≡ true → dirty ≡ true → evict_reply region dirty ≡ Written
 evict_written None dirty unwired is = absurd (false≢true unwired)
-evict_written (Some r) dirty unwired is = cond-false _ _ _ (not-true (is_wired r.kind) unwired) ∙ cond-true dirty _ _ is
+evict_written (Some r) dirty unwired is = cond-false _ _ _ (not-true (is_wired r) unwired) ∙ cond-true dirty _ _ is
 
 -- so they may meet it where they have to write their page
 MayFail-copying : (kept : Kept) (st : SpaceState) (call : Call) → StandsFor kept st → IsResting kept → IsSome (copied_page call) → ((page : ℕ) → copied_page call ≡ Some page → MustWrite kept call page) → MayFail st call

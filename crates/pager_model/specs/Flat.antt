@@ -65,7 +65,7 @@ sync_reply (Some r) dirty = if dirty then Written else Clean
 
 abbrev pub evict_reply : Option Region → Bool → Reply
 evict_reply None dirty = Unmapped
-evict_reply (Some r) dirty = if is_wired r.kind then Denied else (if dirty then Written else Clean)
+evict_reply (Some r) dirty = if is_wired r then Denied else (if dirty then Written else Clean)
 
 -- what a call is answered
 abbrev pub reply_of : Flat → Call → Reply

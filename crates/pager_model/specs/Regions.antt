@@ -84,10 +84,13 @@ abbrev pub range_in : ℕ → ℕ → Option Region → Bool
 range_in page len None = false
 range_in page len (Some r) = nat_le (page + len) (end_of r)
 
-abbrev pub is_wired : Kind → Bool
-is_wired Fixed = false
-is_wired Growing = false
-is_wired Wired = true
+abbrev pub is_wired_kind : Kind → Bool
+is_wired_kind Fixed = false
+is_wired_kind Growing = false
+is_wired_kind Wired = true
+
+abbrev pub is_wired : Region → Bool
+is_wired r = is_wired_kind r.kind
 
 -- how far a reservation in a region may reach
 abbrev pub want_end : Kind → Region → ℕ → ℕ
@@ -96,7 +99,7 @@ want_end Growing r next = next
 want_end Wired r next = end_of r
 
 abbrev pub want_in : List Region → ℕ → Region → Want
-want_in regions page r = record { low = r.first; high = want_end r.kind r (next_start regions page); cap = r.length; wired = is_wired r.kind }
+want_in regions page r = record { low = r.first; high = want_end r.kind r (next_start regions page); cap = r.length; wired = is_wired r }
 
 abbrev pub wanted_at : List Region → ℕ → Option Region → Option Want
 wanted_at regions page None = None

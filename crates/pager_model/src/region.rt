@@ -1,3 +1,6 @@
+ghost use Rattle.std.specs.Prelude.{◌≡◌};
+ghost use Rattle.pager_model.specs.Regions.{is_wired};
+
 /// What a page may be used for. The right to write includes the right to read.
 #[derive(Clone, Copy, Debug, Default, PartialEq, Eq)]
 pub enum Rights {
@@ -24,4 +27,13 @@ pub struct Region {
     pub kind: Kind,
     /// The rights that each of its pages begins with.
     pub rights: Rights,
+}
+
+impl Region {
+    /// Whether its pages are never evicted.
+    pub fn is_wired(&self) -> bool
+        ensures { result ≡ is_wired self.now }
+    {
+        matches!(self.kind, Kind::Wired)
+    }
 }

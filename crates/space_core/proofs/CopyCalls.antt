@@ -1,12 +1,10 @@
 -- What a sync and an evict are answered, and what they do, where a region has their page.
 use Rattle.std.proofs.Common.{◌≡◌, ◌≢◌, ℕ, Bool, true, false, ◌&&◌, ◌==◌, if◌then◌else◌, not, List, Option, Some, None, is_some, option_map, ◌<◌, refl, sym, ap, ◌∙◌, arith, subst}
-use Rattle.std.proofs.lemmas.Bool.{not-true, false≢true}
+use Rattle.std.proofs.lemmas.Bool.{cond-true, not-true, false≢true}
 use Rattle.std.proofs.lemmas.Option.{same_Some}
 use Rattle.pager_model.specs.declared.call.Call.{Call}
 use Rattle.pager_model.specs.declared.call.Call.TheVariants.{Sync, Evict}
 use Rattle.pager_model.specs.declared.entry.What.TheVariants.{Answer}
-use Rattle.pager_model.specs.declared.region.Kind.{Kind}
-use Rattle.pager_model.specs.declared.region.Kind.TheVariants.{Fixed, Growing, Wired}
 use Rattle.pager_model.specs.declared.region.Region.{Region}
 use Rattle.pager_model.specs.declared.reply.Reply.TheVariants.{Clean, Denied, NoMemory, Written}
 use Rattle.pager_model.specs.declared.tile.Tile.{Tile}
@@ -156,18 +154,13 @@ module _ (old new : Kept) (c page : ℕ) (resting : IsResting old) where
       record { must = record { is = is; may = ap (λ rs. may_copy call (region_at rs page)) fails.same.same.regions ∙ may; dirty = fails.dirty }; fails = fails }
   begins_unwritten call OutNoMemory is may failed lacks = lacking call is may (lacks refl)
 
--- a region of no wired kind
-pub unwired_at : (regions : List Region) (page : ℕ) (r : Region) → region_at regions page ≡ Some r → r.kind ≢ Wired → is_unwired (region_at regions page) ≡ true
-unwired_at regions page r at other = ap is_unwired at ∙ not_wired r.kind other
-  where
-    not_wired : (k : Kind) → k ≢ Wired → not (is_wired k) ≡ true
-    not_wired Fixed other = refl
-    not_wired Growing other = refl
-    not_wired Wired other = absurd (other refl)
+-- a region that isn't wired
+pub unwired_at : (regions : List Region) (page : ℕ) (r : Region) → region_at regions page ≡ Some r → is_wired r ≡ false → is_unwired (region_at regions page) ≡ true
+unwired_at regions page r at other = ap is_unwired at ∙ ap not other
 
 -- a page of a wired region is not evicted
-pub evict_denied : (regions : List Region) (page : ℕ) (r : Region) → region_at regions page ≡ Some r → r.kind ≡ Wired → (dirty : Bool) → evict_reply (region_at regions page) dirty ≡ Denied
-evict_denied regions page r at wired dirty = ap (λ o. evict_reply o dirty) at ∙ ap (λ k. if is_wired k then Denied else (if dirty then Written else Clean)) wired
+pub evict_denied : (regions : List Region) (page : ℕ) (r : Region) → region_at regions page ≡ Some r → is_wired r ≡ true → (dirty : Bool) → evict_reply (region_at regions page) dirty ≡ Denied
+evict_denied regions page r at wired dirty = ap (λ o. evict_reply o dirty) at ∙ cond-true _ _ _ wired
 
 -- nothing is done for a clean page
 saves_clean : (old : Kept) (page : ℕ) → dirty_at old page ≡ false → Saves old old page false

@@ -167,7 +167,7 @@ is_allowed kept call = false
 -- the page has a region, which isn't wired
 abbrev pub is_unwired : Option Region → Bool
 is_unwired None = false
-is_unwired (Some r) = not (is_wired r.kind)
+is_unwired (Some r) = not (is_wired r)
 
 -- the page whose copy a call writes where it is dirty
 abbrev pub copied_page : Call → Option ℕ

@@ -67,7 +67,7 @@ pub fn want_in(region: &Region, page: u32, next: u32) -> Want
       low = region.now.first;
       high = want_end region.now.kind region.now next;
       cap = region.now.length;
-      wired = is_wired region.now.kind;
+      wired = is_wired region.now;
     } }
     ensures for_page { IsWanted result page }
 {
@@ -79,7 +79,7 @@ pub fn want_in(region: &Region, page: u32, next: u32) -> Want
         low: region.first,
         high,
         cap: region.length,
-        wired: matches!(region.kind, Kind::Wired),
+        wired: region.is_wired(),
     }
 }
 

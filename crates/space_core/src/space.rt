@@ -446,7 +446,7 @@ impl<S: Store + Send + Drop> Space<S> {
         let Some(region) = self.regions.find(page) else {
             return Begun::Answered(answered(Reply::Unmapped));
         };
-        if matches!(region.kind, Kind::Wired) {
+        if region.is_wired() {
             return Begun::Answered(answered(Reply::Denied));
         }
         if self.table.number(page).is_none() {

@@ -1,15 +1,13 @@
 use Rattle.std.proofs.Common.{◌≡◌, ◌≢◌, ◌<◌, ◌∙◌, ap, sym, refl, true, None, Some, Err, rules}
-use Rattle.std.proofs.lemmas.Bool.{true≢false}
 use Rattle.pager_model.specs.declared.call.Call.TheVariants.{Evict}
 use Rattle.pager_model.specs.declared.reply.Reply.TheVariants.{Denied, Unmapped}
 use Rattle.pager_model.specs.Flat.{evict_reply}
-use Rattle.pager_model.specs.Regions.{region_at}
+use Rattle.pager_model.specs.Regions.{is_wired, region_at}
 use Rattle.space_core.specs.Standing.{Kept, is_unwired, frame_at}
 use Rattle.space_core.proofs.Refusals.{begins_refused}
 use Rattle.space_core.proofs.SameView.{same_regions}
 use Rattle.space_core.proofs.CopyCalls.{evicts_absent, begins_unwritten, begins_evicting, evict_denied, unwired_at}
 use Rattle.space_core.proofs.space.Space.begin_evict.Goals as goal
-use Rattle.space_core.proofs.space.Space.begin_evict.Goals.{in-Wired, in_default-matches}
 
 pub returns-in_default : goal.returns-in_default
 returns-in_default g c =
@@ -17,14 +15,12 @@ returns-in_default g c =
     rw c.answered.ensures (λ processor. begins_refused c.args.self.now processor (Evict c.args.self.now.number c.args.page) Unmapped c.requires.can c.requires.resting refl tt
     (λ st s. ap (λ o. evict_reply o (st.flat.dirty c.args.page)) (ap (λ rs. region_at rs c.args.page) s.beside.regions ∙ none)))
 
-pub returns-then-matches : goal.returns-then-matches
-returns-then-matches g c =
+pub returns-then-is_wired : goal.returns-then-is_wired
+returns-then-is_wired g c =
     let found : region_at c.args.self.now.regions c.args.page ≡ Some c.in-Some.region = ap (λ (k : Kept). region_at k.regions c.args.page) (sym c.self.view_is) ∙ sym c.in-Some.ensures.value in
-    elim c.match-matches.branch [
-      | in-Wired w ↦ rw c.answered-then-matches.ensures (λ processor. begins_refused c.args.self.now processor (Evict c.args.self.now.number c.args.page) Denied c.requires.can c.requires.resting refl tt
-          (λ st s. ap (λ rs. evict_reply (region_at rs c.args.page) (st.flat.dirty c.args.page)) s.beside.regions ∙ evict_denied _ c.args.page c.in-Some.region found w.in-Wired.is (st.flat.dirty c.args.page)))
-      | in_default-matches w ↦ absurd (true≢false (sym c.if-matches.true ∙ w.matches-is))
-    ]
+    let wired : is_wired c.in-Some.region ≡ true = search rules in
+    rw c.answered-then-is_wired.ensures (λ processor. begins_refused c.args.self.now processor (Evict c.args.self.now.number c.args.page) Denied c.requires.can c.requires.resting refl tt
+    (λ st s. ap (λ rs. evict_reply (region_at rs c.args.page) (st.flat.dirty c.args.page)) s.beside.regions ∙ evict_denied _ c.args.page c.in-Some.region found wired (st.flat.dirty c.args.page)))
 
 pub returns-then-is_none : goal.returns-then-is_none
 returns-then-is_none g c =
