@@ -19,7 +19,7 @@ use space_core::{Begun, OutFault, Space};
 use store_core::Store;
 
 /// How far a flight is.
-#[derive(Clone, Copy, Debug, PartialEq, Eq)]
+#[derive(Clone, Copy)]
 pub enum Phase {
     /// Nothing was done.
     Start,
@@ -108,7 +108,7 @@ pub enum Phase {
 }
 
 /// What the next step is made under.
-#[derive(Clone, Copy, Debug, PartialEq, Eq)]
+#[derive(Clone, Copy)]
 pub enum Needs {
     /// The lock of a space.
     Space(u32),
@@ -121,7 +121,7 @@ pub enum Needs {
 }
 
 /// What a flight is for.
-#[derive(Clone, Copy, Debug, PartialEq, Eq)]
+#[derive(Clone, Copy)]
 pub enum Purpose {
     /// A call of a processor, and whether a frame was claimed for it.
     Call { call: Call, claimed: bool },
@@ -130,7 +130,7 @@ pub enum Purpose {
 }
 
 /// One call of a processor, or one turn of a paging daemon, in progress.
-#[derive(Clone, Copy, Debug, PartialEq, Eq)]
+#[derive(Clone, Copy)]
 pub struct Flight {
     pub processor: u32,
     /// The number of the call or of the turn, counted from 0 by its processor.
