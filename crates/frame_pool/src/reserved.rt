@@ -19,7 +19,8 @@ use population_map::{MOST_SPACES, PopulationMap};
 use reservation_lists::Lists;
 use reservations::{Part, Reservations, frame_for};
 use std::alloc::Global;
-use std::marker::Model;
+use std::marker::{Brand, Model};
+use std::sync::ledger::Blank;
 
 /// The reservations with their used places, the lists of them by age, and the map by which the one that has a page is found: all three
 /// change together. The map knows as many spaces as were announced; the pages of others are looked for among all reservations.
@@ -105,7 +106,7 @@ impl Reserved {
         if self.map.spaces() <= space {
             return covering_among_all(&self.reservations, self.frames, space, page);
         }
-        let id = mapped::find(&self.map, space, page)?;
+        let id = mapped::find::<Brand>(&self.map, space, page, Blank::new(1))?;
         self.reservations.get(id)
     }
 
@@ -119,7 +120,7 @@ impl Reserved {
         if self.map.spaces() <= space {
             return meets_among_all(&self.reservations, self.frames, space, extent);
         }
-        mapped::meets(&self.map, space, *extent)
+        mapped::meets::<Brand>(&self.map, space, *extent, Blank::new(1))
     }
 
     /// The size that is tried first for a page.
