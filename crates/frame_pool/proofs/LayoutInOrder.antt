@@ -1,5 +1,5 @@
 -- What the calls of a layout keep: it stays sound, and its lists are those of its reservations.
-use Rattle.std.proofs.Common.{◌≡◌, ℕ, suc, ◌-◌, ◌^◌, ◌<◌, ◌≤◌, inl, inr, Bool, true, false, cond, List, length, get_or, set, Option, Some, None, refl, sym, ap, subst, ◌∙◌, arith}
+use Rattle.std.proofs.Common.{◌≡◌, ℕ, suc, ◌-◌, ◌^◌, ◌<◌, ◌≤◌, inl, inr, Bool, true, false, List, length, get_or, set, Option, Some, None, refl, sym, ap, subst, ◌∙◌, arith}
 use Rattle.std.specs.Option.{IfNone, IsSome, IsSomeAnd, option_map_or}
 use Rattle.std.proofs.lemmas.Bool.{cases_lt, cases_Bool, cond-true, cond-false, lt-ltb, le-ltb, false≢true}
 use Rattle.std.proofs.lemmas.List.{get_or-set_same, get_or-set_other, length-set, set-set}
@@ -7,15 +7,14 @@ use Rattle.std.proofs.lemmas.Option.{none-some, same_Some}
 use Rattle.pager_model.specs.declared.reservation.Reservation.{Reservation}
 use Rattle.pager_model.specs.Ages.{Lists}
 use Rattle.pager_model.specs.Agreement.{has_frame}
-use Rattle.pager_model.specs.Layouts.{Layout, frame_for, stamped, populated, split_layout, part_with, narrows_to, narrow_layout, vacate_layout, is_last, split_on, record_at, is_free}
-use Rattle.pager_model.specs.Records.{Records, is_used, yield_in, part_size, part_count, part_at, split_records}
+use Rattle.pager_model.specs.Layouts.{Layout, frame_for, stamped, populated, split_layout, part_with, narrows_to, narrow_layout, split_on, record_at, is_free}
+use Rattle.pager_model.specs.Records.{Records, is_used, part_size, part_count, part_at, split_records}
 use Rattle.pager_model.specs.SizeSets.{SizeSet}
-use Rattle.pager_model.specs.FreeBlocks.{with_range}
 use Rattle.reservation_lists.specs.Kept.{KeptLists, is_listed}
 use Rattle.reservations.specs.Kept.{CoversPage}
 use Rattle.pager_model.specs.RecordPlaces.{IsPlaced, ArePlaced}
 use Rattle.pager_laws.proofs.PartsAt.{part_ends, used_part}
-use Rattle.pager_model.proofs.ExtentLemmas.{part_inside}
+use Rattle.pager_model.proofs.ExtentLemmas.{eight_pos, part_inside}
 use Rattle.pager_model.proofs.Lists.{get_or_within, get_or-set_default}
 use Rattle.reservations.proofs.FrameIds.{ArePlaced-set}
 use Rattle.pager_model.proofs.RecordFrames.{has_frame_bounds, has_frame_from}
@@ -26,21 +25,14 @@ use Rattle.frame_pool.specs.Listed.{IsInOrder, WasSplit}
 use Rattle.frame_pool.specs.Mapped.{IsMapped}
 use Rattle.population_map.specs.Populations.{Populations}
 use Rattle.pager_laws.proofs.LayoutBreak.{record_at-part, part_with-has, part_size-most, part_size-less, Settles-split, Falls-narrows, split_on-enough}
-use Rattle.pager_laws.proofs.PartYields.{yield_less}
 use Rattle.pager_laws.proofs.LayoutRelease.{not_in_rest}
-use Rattle.pager_laws.proofs.AgeLists.{list_of-used, AreListed-full}
+use Rattle.pager_laws.proofs.AgeLists.{list_of-used}
+use Rattle.frame_pool.proofs.ListsByFrame.{found_record_and}
 use Rattle.frame_pool.proofs.UnlistedFrames.{is_listed-none}
 use Rattle.pager_laws.proofs.PagePlaces.{covers-CoversPageOf, frame_in-is, used_in-unused}
 use Rattle.pager_laws.proofs.LayoutPlacing.{MayPut-stamped}
 use Rattle.pager_laws.proofs.LayoutWithRecord.{IsLaid-put}
 use Rattle.pager_laws.proofs.SplitFrames.{free_up_to, free_up_to-cases}
-
--- Clauses on an option.
-
--- its value, and what holds of it
-pub some_of : {X : Type 0} (o : Option X) (P : X → Type 0) → IsSomeAnd o P → (x : X) × (o ≡ Some x) × P x
-some_of None P holds = absurd holds
-some_of (Some x) P holds = (x, refl, holds)
 
 -- Which reservation has a frame.
 
@@ -173,17 +165,6 @@ free_up_to-later k used r free n f le placed below taken has =
       | inr not_yet ↦ not_yet
     ]
 
--- Vacating.
-
--- a reservation whose last used place this was becomes free, and another one stays
-pub vacated : (l : Layout) (frame : ℕ) (r : Reservation) (last : Bool) (free : List Bool) (st : Records) → is_last frame r l ≡ last → free ≡ cond last (with_range l.free r.frame (8 ^ r.size) true) l.free → st ≡ record { records = cond last (set l.records r.frame None) l.records; used = set l.used frame false } → record { sizes = l.sizes; free = free; records = st.records; used = st.used } ≡ vacate_layout frame r l
-vacated l frame r last free st is freed kept =
-    let with_free : List Bool → Layout = λ f. record { sizes = l.sizes; free = f; records = st.records; used = st.used } in
-    let freed_as : Bool → List Bool = λ b. cond b (with_range l.free r.frame (8 ^ r.size) true) l.free in
-    let with_records : Records → Layout = λ k. record { sizes = l.sizes; free = freed_as last; records = k.records; used = k.used } in
-    let by_last : Bool → Layout = λ b. record { sizes = l.sizes; free = freed_as b; records = cond b (set l.records r.frame None) l.records; used = set l.used frame false } in
-    ap with_free freed ∙ ap with_records kept ∙ sym (ap by_last is)
-
 -- Narrowing.
 
 -- a reservation of one frame has no other
@@ -227,15 +208,23 @@ narrow_step l frame r q laid is has used splits at holds =
     subst (λ p. (p.size < r.size) × (narrow_layout frame p next ≡ narrow_layout frame r l)) same
     (part_size-less z r splits, ap (λ p. narrow_layout frame p next) part.2 ∙ sym (narrow_suc (r.size - 1) frame r l (omega arith)))
 
--- Carving.
+-- A reservation of one frame begins at the frame.
+module _ (l : Layout) (frame : ℕ) (laid : IsLaid l) (alone : IsSomeAnd (record_at l frame) (λ r. r.size ≡ 0)) where
+  own : (r : Reservation) × (record_at l frame ≡ Some r) × (r.size ≡ 0)
+  own = found_record_and (record_at l frame) (λ r. r.size ≡ 0) alone
 
--- a reservation of one frame is full, and stands in no list: without it the lists stay
-pub AreListed-take_out : (l : Layout) (frame : ℕ) (r : Reservation) (lists : Lists) → IsLaid l → record_at l frame ≡ Some r → r.size ≡ 0 → AreListed l.sizes lists l.used l.records → AreListed l.sizes lists (set l.used frame false) (set l.records frame None)
-AreListed-take_out l frame r lists laid is one are =
-    let named = (laid.placed frame r is).named in
-    let width : 8 ^ r.size ≡ 1 = ap (λ k. 8 ^ k) one in
-    let some = laid.some_used frame r is in
-    let full : (k : ℕ) → yield_in l.sizes (is_used l.used) r ≡ Some k → 3 ≤ k =
-    λ k yields. absurd (omega (arith, yield_less l.sizes (is_used l.used) r k some.0 some.1 some.2 yields)) in
-    let mine = has_frame_from frame r (omega (arith, named)) (omega (arith, named, width)) in
-    rest_listed l frame r laid is lists frame false mine ((AreListed-full l.sizes lists l.used l.records frame r is full).0 are)
+  named : own.0.frame ≡ frame
+  named = (laid.placed frame own.0 own.1).named
+
+  -- the frame is used
+  pub used_alone : is_used l.used frame ≡ true
+  used_alone =
+      let some = laid.some_used frame own.0 own.1 in
+      ap (is_used l.used) (sym named ∙ sym (only_frame own.0 some.0 own.2 some.1)) ∙ some.2
+
+  -- and no other reservation has it
+  pub same_alone : (q : Reservation) → record_at l q.frame ≡ Some q → has_frame frame (Some q) ≡ true → (q.frame ≡ frame) × (q.size ≡ 0)
+  same_alone q stands has =
+      let mine = has_frame_from frame own.0 (omega (arith, named)) (omega (arith, named, eight_pos own.0.size)) in
+      let same = same_reservation l frame own.0 laid own.1 frame q.frame q mine stands has in
+      (ap (λ (r : Reservation). r.frame) (sym same) ∙ named, ap (λ (r : Reservation). r.size) (sym same) ∙ own.2)

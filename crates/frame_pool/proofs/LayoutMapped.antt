@@ -24,12 +24,12 @@ use Rattle.frame_pool.proofs.LayoutInOrder.{rest_placed}
 use Rattle.pager_laws.proofs.LayoutRelease.{not_in_rest}
 
 -- a reservation of frames that are in none, with which the layout is sound
-pub MayEnter-added : (l : Layout) (r : Reservation) (page : ℕ) → IsLaid l → IsPlaced (length l.free) r.frame r → r.first < 1048576 → ((frame id : ℕ) → has_frame frame (Some r) ≡ true → has_frame frame (record_at l id) ≡ false) → IsLaid (with_reservation r page l) → MayEnter l.records r
+pub MayEnter-added : (l : Layout) (r : Reservation) (page : ℕ) → IsLaid l → IsPlaced (length l.records) r.frame r → r.first < 1048576 → ((frame id : ℕ) → has_frame frame (Some r) ≡ true → has_frame frame (record_at l id) ≡ false) → IsLaid (with_reservation r page l) → MayEnter l.records r
 MayEnter-added l r page laid placed within apart after =
-    let known : r.frame < length l.records = omega (arith, placed.within, eight_pos r.size, laid.records_long) in
+    let known : r.frame < length l.records = omega (arith, placed.within, eight_pos r.size) in
     let none = none_begins l.records r.frame laid.placed (apart r.frame r.frame (has_frame_from r.frame r (omega arith) (omega (arith, eight_pos r.size)))) in
     record {
-      placed = subst (λ n. IsPlaced n r.frame r) (sym laid.records_long) placed;
+      placed = placed;
       within = within;
       none = λ frame has. none_begins l.records frame laid.placed (apart frame frame has);
       apart = λ id p q is has also. elim (cases_eq id r.frame) [

@@ -6,6 +6,7 @@ pub mod PartRecords
 pub mod BreakSteps
 pub mod TakenExtent
 pub mod PlacingResult
+pub mod ReservedLayouts
 pub mod LayoutInOrder
 pub mod PoolFields
 pub mod MappedPages

@@ -1,10 +1,13 @@
 -- What placing a page answers: in the reservation that has the page, or in a new one of an extent that was found.
-use Rattle.std.proofs.Common.{◌≡◌, ℕ, ◌+◌, ◌^◌, ◌<◌, ◌≤◌, length, Some, None, option_map, refl, sym, ap, subst, ◌∙◌, arith}
+use Rattle.std.proofs.Common.{◌≡◌, ℕ, ◌+◌, ◌^◌, ◌<◌, ◌≤◌, false, inl, inr, length, Some, None, option_map, refl, sym, ap, subst, ◌∙◌, arith}
+use Rattle.std.proofs.lemmas.Bool.{cases_Bool, cond-true}
 use Rattle.std.proofs.lemmas.Nat.{div-add-mod', mod_below}
+use Rattle.std.proofs.lemmas.Option.{none-some}
 use Rattle.pager_model.specs.declared.entry.Want.{Want}
 use Rattle.pager_model.specs.declared.reservation.Reservation.{Reservation}
 use Rattle.pager_model.specs.Extents.{extent_start}
-use Rattle.pager_model.specs.Layouts.{Layout, Placing, covering, frame_for, frame_in, largest_extent, preferred_in, populated, new_reservation, reserved, placing_in, placing, record_at}
+use Rattle.pager_model.specs.Layouts.{Layout, Placing, covering, frame_for, frame_in, largest_extent, preferred_in, populated, new_reservation, reserved, placing_in, placing, record_at, used_in}
+use Rattle.pager_model.specs.Records.{is_used}
 use Rattle.reservations.specs.Kept.{CoversPage}
 use Rattle.pager_model.proofs.ExtentLemmas.{eight_pos}
 use Rattle.pager_laws.specs.Laid.{IsLaid}
@@ -45,6 +48,13 @@ module _ (l : Layout) (space page : ℕ) (r : Reservation) (laid : IsLaid l) (co
       let w = covering-found space page l.records r covers in
       let bounds = CoversPageOf-covers space page r w.3 in
       (bounds.low, bounds.high)
+
+  -- and the page's place in it is unused where the page has none
+  pub unused_covered : frame_in l space page ≡ None → is_used l.used (frame_for page r) ≡ false
+  unused_covered none = elim (cases_Bool (is_used l.used (frame_for page r))) [
+    | inl used ↦ absurd (none-some (frame_for page r) (sym none ∙ ap (used_in l.used page) covers ∙ cond-true _ _ _ used))
+    | inr not ↦ not
+  ]
 
 -- In a new reservation.
 

@@ -9,15 +9,13 @@ use Rattle.pager_model.specs.FreeBlocks.{choice}
 use Rattle.pager_model.specs.Layouts.{Layout, Found, break_layout, broken_at, to_break, chosen, extent_of, largest_extent, record_at, is_free}
 use Rattle.pager_model.specs.Records.{is_used, yield_in}
 use Rattle.pager_model.specs.SizeSets.{has_size}
-use Rattle.reservation_lists.specs.Kept.{KeptLists}
 use Rattle.pager_laws.specs.Laid.{IsLaid}
-use Rattle.population_map.specs.Populations.{Populations}
-use Rattle.frame_pool.specs.Listed.{IsInOrder}
 use Rattle.frame_pool.specs.Placed.{CanBreak, FindsExtent, without_extent, extent_there}
 use Rattle.pager_laws.proofs.PartYields.{yield_less}
 use Rattle.pager_laws.proofs.BreakYield.{choice-break}
 use Rattle.pager_laws.proofs.AgeLists.{oldest_from-found}
 use Rattle.frame_pool.proofs.BreakSteps.{option_or-some, option_or-none}
+use Rattle.frame_pool.proofs.ReservedLayouts.{IsLaid-fewer}
 
 -- An extent that was chosen in a sound layout.
 
@@ -31,20 +29,11 @@ module _ (found : Found) (laid : IsLaid found.layout) (is : choice found.layout.
 
   -- the layout without its frames is sound
   pub IsLaid-without : IsLaid (without_extent found)
-  IsLaid-without = record {
-    records_long = laid.records_long ∙ sym without-long;
-    used_long = laid.used_long ∙ sym without-long;
-    placed = laid.placed;
-    apart = laid.apart;
-    not_free = λ frame id free has.
-        range_cases found.first (8 ^ found.size) (λ f. is_free (without_extent found) f ≡ true → has_frame f (record_at found.layout id) ≡ true → ⊥)
-        (λ f out still holds. laid.not_free f id (sym (with_range_outside found.layout.free found.first (8 ^ found.size) false within f out) ∙ still) holds)
-        (λ f low high still holds. false≢true (sym (with_range_inside found.layout.free found.first (8 ^ found.size) false within f low high) ∙ still))
-        frame free has;
-    places = laid.places;
-    some_used = laid.some_used;
-    one_cover = laid.one_cover;
-  }
+  IsLaid-without = IsLaid-fewer found.layout (without_extent found).free laid without-long (λ f still.
+      range_cases found.first (8 ^ found.size) (λ g. is_free (without_extent found) g ≡ true → is_free found.layout g ≡ true)
+      (λ g out now. sym (with_range_outside found.layout.free found.first (8 ^ found.size) false within g out) ∙ now)
+      (λ g low high now. absurd (false≢true (sym (with_range_inside found.layout.free found.first (8 ^ found.size) false within g low high) ∙ now)))
+      f still)
 
   -- no reservation has a frame of it
   out_of_all : (frame id : ℕ) → found.first ≤ frame → frame < found.first + 8 ^ found.size → has_frame frame (record_at found.layout id) ≡ false
@@ -68,17 +57,6 @@ module _ (found : Found) (laid : IsLaid found.layout) (is : choice found.layout.
     known = omega (arith, within, without-long);
     out = out_of_all;
   }
-
--- the lists are those of the layout without its frames
-pub IsInOrder-without : (frames : ℕ) (found : Found) (kept : KeptLists) (map : Populations) → IsInOrder frames found.layout kept map → choice found.layout.free found.size ≡ Some found.first → IsInOrder frames (without_extent found) kept map
-IsInOrder-without frames found kept map order is = record {
-  known = without-long found order.laid is ∙ order.known;
-  few = order.few;
-  laid = IsLaid-without found order.laid is;
-  listed = order.listed;
-  room = order.room;
-  mapped = order.mapped;
-}
 
 -- Where an extent is found.
 

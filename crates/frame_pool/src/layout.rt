@@ -1,58 +1,45 @@
-ghost use Rattle.std.specs.Prelude.{◌≡◌, ℕ, Bool, ◌+◌, ◌-◌, ◌%◌, ◌<◌, ◌≤◌, Some, true, false, length, slice_index_or, count_by, IfOk, IfSome, IfNone, IsSome, IsSomeAnd, None};
+ghost use Rattle.std.specs.Prelude.{◌≡◌, ℕ, Bool, ◌+◌, ◌-◌, ◌%◌, ◌<◌, ◌≤◌, Some, true, false, length, slice_index_or, count_by, IfOk, IfSome, IfNone, IsSomeAnd, None};
 ghost use Rattle.std.specs.Option.{option_and_then};
 ghost use Rattle.pager_model.specs.Agreement.{has_frame};
 ghost use Rattle.pager_model.specs.Layouts.{start_layout, frame_for, frame_in, parted, parted_free, split_layout, broken_at, to_break, record_at};
 ghost use Rattle.pager_model.specs.Layouts.{carve_layout, narrow_layout, vacate_layout, put_back};
-ghost use Rattle.pager_model.specs.Layouts.{extent_of, largest_extent, populated, placing};
+ghost use Rattle.pager_model.specs.Layouts.{extent_of, largest_extent, placing};
 ghost use Rattle.pager_model.specs.PreferredSize.{IsWanted};
-ghost use Rattle.pager_model.specs.Records.{is_used, yield_in, part_size, same_size, goes_on_at};
-ghost use Rattle.reservations.specs.Kept.{CoversPage};
+ghost use Rattle.pager_model.specs.Records.{is_used, part_size, same_size, goes_on_at};
 ghost use Rattle.pager_model.specs.RecordPlaces.{IsPlaced};
 ghost use Rattle.reservations.specs.Parts.{told_parts};
 ghost use Rattle.pager_laws.specs.Laid.{IsIn, IsLaid};
-ghost use Rattle.frame_pool.specs.Placed.{CanBreak, extent_there, is_larger, FindsExtent, PlacesPage, with_reservation};
+ghost use Rattle.frame_pool.specs.Placed.{CanBreak, extent_there, is_larger, FindsExtent, PlacesPage};
 
 use crate::free::{give, take};
-use crate::lists::{enlist, enlist_parts, unlist};
-use crate::mapped;
-use crate::records::{covering, lowest_as_wide, page_at, preferred, yields_in};
+use crate::reserved::Reserved;
 use buddy_extents::Free;
 use pager_model::{Extent, NoMemory, Reservation, Size, Sizes, Want};
-use population_map::PopulationMap;
-use reservation_lists::Lists;
-use reservations::{Part, Reservations, frame_for};
+use reservations::{Part, frame_for};
 use size_policy::extent_round;
 use std::alloc::Global;
 use std::marker::Model;
 
-/// How many spaces a map of pages knows at most.
-const MOST_MAPPED: u32 = 1024;
-
-/// Which page sizes there are, which frames are free, the reservations with their used places, the lists of reservations by age, and the
-/// map by which the reservation that has a page is found. The map knows as many spaces as were announced; the pages of others are looked
-/// for among all reservations.
+/// Which frames are free, and the reservations of the others.
 ///
 /// Contracts see it as the layout of the frames.
 #[derive(Debug, Drop)]
 pub(crate) struct Layout {
-    frames: u32,
-    sizes: Sizes,
     free: Free,
-    reservations: Reservations,
-    lists: Lists,
-    map: PopulationMap,
+    reserved: Reserved,
 }
 
 impl Model for Layout {
+    ghost use Rattle.std.specs.Prelude.{◌≤◌, length};
     ghost use Rattle.pager_model.specs.Layouts.{Layout};
+    ghost use Rattle.pager_laws.specs.Laid.{IsLaid};
     ghost use Rattle.frame_pool.specs.LayoutState.{layout_in};
-    ghost use Rattle.frame_pool.specs.Listed.{IsInOrder};
 
     ghost Value = { Layout };
 
     ghost view = { layout_in };
 
-    ghost invariant = { λ l. IsInOrder l.frames (layout_in l) l.lists l.map };
+    ghost invariant = { λ l. IsLaid (layout_in l) × (length l.free ≤ 32768) };
 }
 
 /// An extent of frames for a new reservation, and how many reservations were broken for it.
@@ -83,12 +70,8 @@ impl Layout {
         ensures { IfOk result (λ l. l ≡ start_layout sizes frames) }
     {
         Ok(Layout {
-            frames,
-            sizes,
             free: Free::create(alloc, frames)?,
-            reservations: Reservations::create(alloc, frames)?,
-            lists: Lists::create(alloc, frames)?,
-            map: PopulationMap::create(alloc, spaces.min(MOST_MAPPED), frames)?,
+            reserved: Reserved::create(alloc, frames, spaces, sizes)?,
         })
     }
 
@@ -98,8 +81,7 @@ impl Layout {
         ensures none { IfNone result ((id : ℕ) → has_frame frame (record_at self.now id) ≡ false) }
         ensures laid { IsLaid self.now }
     {
-        let id = self.reservations.id_of(frame)?;
-        self.reservations.get(id)
+        self.reserved.reservation_of(frame)
     }
 
     /// The frame of the page's place, where it has one.
@@ -109,9 +91,9 @@ impl Layout {
         requires { page < 1048576 }
         ensures { result ≡ frame_in self.now space page }
     {
-        let reservation = covering(&self.reservations, &self.map, self.frames, space, page)?;
+        let reservation = self.reserved.covering(space, page)?;
         let frame = frame_for(&reservation, page);
-        self.reservations.used(frame).then_some(frame)
+        self.reserved.used(frame).then_some(frame)
     }
 
     /// How many frames are free.
@@ -132,25 +114,11 @@ impl Layout {
         ensures placed { IfSome result (λ p. PlacesPage self.old self.new (placing stamp space page want.now self.old) p.frame p.broken) }
         ensures none { IfNone result ((placing stamp space page want.now self.old ≡ None) × (self.new ≡ self.old)) }
     {
-        if let Some(reservation) = covering(
-            &self.reservations,
-            &self.map,
-            self.frames,
-            space,
-            page,
-        ) {
-            let frame = self.populate(&reservation, page, stamp);
+        if let Some(reservation) = self.reserved.covering(space, page) {
+            let frame = self.reserved.populate(&reservation, page, stamp);
             return Some(Place { frame, broken: 0 });
         }
-        let wide = preferred(
-            &self.reservations,
-            &self.map,
-            self.frames,
-            space,
-            page,
-            want,
-        );
-        let size = self.sizes.within(wide);
+        let size = self.reserved.preferred(space, page, want);
         let found = self.largest_extent(size)?;
         let pages = extent_round(found.size, page);
         let reservation = Reservation {
@@ -160,45 +128,11 @@ impl Layout {
             frame: found.first,
             stamp,
         };
-        let frame = self.add(reservation, page);
+        let frame = self.reserved.put(reservation, page);
         Some(Place {
             frame,
             broken: found.broken,
         })
-    }
-
-    /// Uses the page's place in the reservation, which is as young as the stamp from then on. Answers the place's frame.
-    fn populate(&mut self, reservation: &Reservation, page: u32, stamp: u64) -> u32
-        requires there { record_at self.old reservation.now.frame ≡ Some reservation.now }
-        requires has { CoversPage reservation.now page }
-        requires unused { is_used self.old.used (frame_for page reservation.now) ≡ false }
-        ensures layout { self.new ≡ (populated stamp page self.old reservation.now).layout }
-        ensures frame { result ≡ frame_for page reservation.now }
-    {
-        let id = reservation.frame;
-        unlist(&mut self.lists, &self.reservations, self.sizes, id);
-        self.reservations.populate(id, page, stamp);
-        enlist(&mut self.lists, &self.reservations, self.sizes, id);
-        frame_for(reservation, page)
-    }
-
-    /// Adds a reservation of frames that are in none, whose one used place is the page's, where the layout is sound with it.
-    /// Answers the place's frame.
-    fn add(&mut self, reservation: Reservation, page: u32) -> u32
-        requires has { CoversPage reservation page }
-        requires placed { IsPlaced (length self.old.free) reservation.frame reservation }
-        requires apart { (frame id : ℕ) → has_frame frame (Some reservation) ≡ true → has_frame frame (record_at self.old id) ≡ false }
-        requires within { reservation.first < 1048576 }
-        requires laid { IsLaid (with_reservation reservation page self.old) }
-        ensures layout { self.new ≡ with_reservation reservation page self.old }
-        ensures frame { result ≡ frame_for page reservation }
-    {
-        let id = reservation.frame;
-        let frame = frame_for(&reservation, page);
-        self.reservations.add(reservation, page);
-        mapped::insert(&mut self.map, &reservation);
-        enlist(&mut self.lists, &self.reservations, self.sizes, id);
-        frame
     }
 
     /// Takes an extent for a new reservation out of the free frames: of the largest size, up to this one, for which one can be
@@ -222,7 +156,7 @@ impl Layout {
         ensures found { IfSome result (λ f. FindsExtent self.new (extent_there size self.old) f.size f.first f.broken) }
         ensures none { IfNone result ((extent_there size self.old ≡ None) × (self.new ≡ self.old)) }
     {
-        if !self.sizes.has(size) {
+        if !self.reserved.sizes().has(size) {
             return None;
         }
         self.extent_of(size)
@@ -256,7 +190,7 @@ impl Layout {
         ensures { result ≡ to_break self.now size }
     {
         for level in size.level()..3 {
-            let oldest = self.lists.oldest(Size::of(level).unwrap());
+            let oldest = self.reserved.oldest(Size::of(level).unwrap());
             if oldest.is_some() {
                 return oldest;
             }
@@ -284,8 +218,8 @@ impl Layout {
             (λ r. option_and_then (record_at self.new) result ≡ goes_on_at self.old.sizes (is_used self.old.used) r) }
         ensures breaks { IfSome result (CanBreak self.new) }
     {
-        let whole = self.reservations.get(id).unwrap();
-        let yields = self.yields(id);
+        let whole = self.reserved.get(id).unwrap();
+        let yields = self.reserved.yields(id);
         let size = self.part_size(&whole);
         self.split_down(id);
         if size.level() == 0 {
@@ -294,16 +228,7 @@ impl Layout {
         if is_size(&yields, size) {
             return None;
         }
-        let sizes = self.sizes;
-        lowest_as_wide(&self.reservations, sizes, &whole, size, yields)
-    }
-
-    /// The yield of the reservation that begins at the frame `id`.
-    fn yields(&self, id: u32) -> Option<Size>
-        requires { IsSome (record_at self.now id) }
-        ensures { IfSome (record_at self.now id) (λ r. result ≡ yield_in self.now.sizes (is_used self.now.used) r) }
-    {
-        yields_in(&self.reservations, self.sizes, id)
+        self.reserved.lowest_as_wide(&whole, size, yields)
     }
 
     /// The size of the parts into which a reservation is split.
@@ -311,7 +236,7 @@ impl Layout {
         requires { 0 < whole.now.size }
         ensures { result ≡ part_size self.now.sizes whole.now }
     {
-        self.sizes.within(Size::of(whole.size.level() - 1).unwrap())
+        self.reserved.sizes().within(whole.size.smaller())
     }
 
     /// Splits the reservation that begins at the frame `id` into its extents of the next smaller size: those with a used place are
@@ -320,7 +245,7 @@ impl Layout {
         requires { IsSomeAnd (record_at self.old id) (λ r. 0 < r.size) }
         ensures { IfSome (record_at self.old id) (λ r. self.new ≡ split_layout r self.old) }
     {
-        let whole = self.reservations.get(id).unwrap();
+        let whole = self.reserved.get(id).unwrap();
         let size = self.part_size(&whole);
         self.split_to(id, size);
     }
@@ -330,7 +255,7 @@ impl Layout {
         requires { IsSomeAnd (record_at self.old id) (λ r. size < r.size) }
         ensures { IfSome (record_at self.old id) (λ r. self.new ≡ parted size r self.old) }
     {
-        let whole = self.reservations.get(id).unwrap();
+        let whole = self.reserved.get(id).unwrap();
         let end = id + whole.size.pages();
         let mut next = id;
         while next < end {
@@ -346,7 +271,7 @@ impl Layout {
     fn is_larger(&self, frame: u32, size: Size) -> bool
         ensures { result ≡ is_larger size (record_at self.now frame) }
     {
-        match self.reservations.get(frame) {
+        match self.reserved.get(frame) {
             Some(reservation) => reservation.size.level() > size.level(),
             None => false,
         }
@@ -358,13 +283,9 @@ impl Layout {
         requires { IsSomeAnd (record_at self.old id) (λ r. 0 < r.size) }
         ensures { IfSome (record_at self.old id) (λ r. self.new ≡ parted (r.size - 1) r self.old) }
     {
-        let whole = self.reservations.get(id).unwrap();
-        unlist(&mut self.lists, &self.reservations, self.sizes, id);
-        mapped::remove(&mut self.map, &self.reservations, id);
-        let parts = self.reservations.split(id);
+        let whole = self.reserved.get(id).unwrap();
+        let parts = self.reserved.split(id);
         give_parts(&mut self.free, &whole, &parts);
-        enlist_parts(&mut self.lists, &self.reservations, self.sizes, &whole);
-        mapped::insert_parts(&mut self.map, &self.reservations, &whole);
     }
 
     /// The used frame is a used place no more, and where its reservation has no other used place, all its frames are free.
@@ -372,22 +293,10 @@ impl Layout {
         requires { is_used self.old.used frame ≡ true }
         ensures { (id : ℕ) → IfSome (record_at self.old id) (λ r. has_frame frame (Some r) ≡ true → self.new ≡ vacate_layout frame r self.old) }
     {
-        let reservation = self.reservation_of(frame).unwrap();
-        let id = reservation.frame;
-        unlist(&mut self.lists, &self.reservations, self.sizes, id);
-        if self.reservations.vacate(id, page_at(&reservation, frame)) {
-            mapped::remove(&mut self.map, &self.reservations, id);
-            self.reservations.dissolve(id);
-            give(
-                &mut self.free,
-                Extent {
-                    size: reservation.size,
-                    first: id,
-                },
-            );
+        let Some(extent) = self.reserved.vacate(frame) else {
             return;
-        }
-        enlist(&mut self.lists, &self.reservations, self.sizes, id);
+        };
+        give(&mut self.free, extent);
     }
 
     /// The used frame is carved out: it is neither free nor a place then, and the rest of its reservation is free or reserved.
@@ -395,24 +304,21 @@ impl Layout {
         requires { is_used self.old.used frame ≡ true }
         ensures { (id : ℕ) → IfSome (record_at self.old id) (λ r. has_frame frame (Some r) ≡ true → self.new ≡ carve_layout frame r self.old) }
     {
-        let page = self.narrow(frame);
-        self.reservations.vacate(frame, page);
-        mapped::remove(&mut self.map, &self.reservations, frame);
-        self.reservations.dissolve(frame);
+        self.narrow(frame);
+        self.reserved.vacate(frame);
     }
 
-    /// Splits the reservation that has the used frame, and then the part that has it, down to the frame. Answers its page.
-    fn narrow(&mut self, frame: u32) -> u32
+    /// Splits the reservation that has the used frame, and then the part that has it, down to the frame.
+    fn narrow(&mut self, frame: u32)
         requires { is_used self.old.used frame ≡ true }
         ensures narrowed { (id : ℕ) → IfSome (record_at self.old id) (λ r. has_frame frame (Some r) ≡ true → self.new ≡ narrow_layout frame r self.old) }
-        ensures alone { IsSomeAnd (record_at self.new frame) (λ r. (r.size ≡ 0) × (r.first ≡ result)) }
+        ensures alone { IsSomeAnd (record_at self.new frame) (λ r. r.size ≡ 0) }
     {
         let mut part = self.reservation_of(frame).unwrap();
         while part.size.level() > 0 {
             self.split_down(part.frame);
             part = self.reservation_of(frame).unwrap();
         }
-        part.first
     }
 
     /// A frame that is neither free nor a place is free.

@@ -12,5 +12,6 @@ mod lists;
 mod mapped;
 mod pool;
 mod records;
+mod reserved;
 
 pub use pool::{Collected, Counts, Full, NoneLeft, Pool};

@@ -1,5 +1,5 @@
-//! The reservations in the map of their pages, and what the map answers of them. Each counted call has a counter of steps of its own that
-//! begins at 0.
+//! The reservations in the map of their pages, and what the map answers of them. A counted call counts its steps on a blank of its own,
+//! from 0.
 
 ghost use Rattle.std.specs.Prelude.{◌≡◌, ℕ, ◌/◌, ◌^◌, ◌<◌, ◌≤◌, true, List, Option, Some, None, IsSome, MatchOption, slice_set};
 ghost use Rattle.std.specs.Bool.{OnTrue, OnFalse};
@@ -12,7 +12,6 @@ ghost use Rattle.frame_pool.specs.Mapped.{IsMapped, MayEnter, WasSplitFrom};
 use pager_model::{Extent, Reservation, Steps};
 use population_map::PopulationMap;
 use reservations::Reservations;
-use std::marker::Brand;
 use std::sync::ledger::{Blank, Ledger};
 
 /// The pages of a reservation.
@@ -68,16 +67,12 @@ pub(crate) fn insert_parts(
 }
 
 /// The first frame of the reservation that has the page of a space that the map knows, by at most four looks.
-pub(crate) fn find(map: &PopulationMap, space: u32, page: u32) -> Option<u32>
-    requires space { space < space_count map.now }
-    requires page { page < 1048576 }
-    ensures { MatchOption result (IsInNone map.now (page_at space page))
-        (λ id. (size : ℕ) × (size ≤ 3) × (id_of map.now size (page_at space page) ≡ Some id)) }
-{
-    find_counted::<Brand>(map, space, page, Blank::new(1))
-}
-
-fn find_counted<L: Ledger>(map: &PopulationMap, space: u32, page: u32, blank: Blank) -> Option<u32>
+pub(crate) fn find<L: Ledger>(
+    map: &PopulationMap,
+    space: u32,
+    page: u32,
+    blank: Blank,
+) -> Option<u32>
     requires name { blank.name ≡ L.name }
     requires parts { blank.parts ≡ L.parts }
     requires share { 0 < blank.parts }
@@ -91,19 +86,12 @@ fn find_counted<L: Ledger>(map: &PopulationMap, space: u32, page: u32, blank: Bl
 }
 
 /// Whether a reservation of the space, which the map knows, has a page of the extent, by at most four looks.
-pub(crate) fn meets(map: &PopulationMap, space: u32, extent: Extent) -> bool
-    requires space { space < space_count map.now }
-    requires aligned { IsExtent extent.size extent.first }
-    requires within { extent.first < 1048576 }
-    ensures meets { OnTrue result ((page : ℕ) × (page / 8 ^ extent.size ≡ page_at space extent.first / 8 ^ extent.size)
-        × (is_placed map.now page ≡ true)) }
-    ensures apart { OnFalse result ((page : ℕ) → page / 8 ^ extent.size ≡ page_at space extent.first / 8 ^ extent.size
-        → IsInNone map.now page) }
-{
-    meets_counted::<Brand>(map, space, extent, Blank::new(1))
-}
-
-fn meets_counted<L: Ledger>(map: &PopulationMap, space: u32, extent: Extent, blank: Blank) -> bool
+pub(crate) fn meets<L: Ledger>(
+    map: &PopulationMap,
+    space: u32,
+    extent: Extent,
+    blank: Blank,
+) -> bool
     requires name { blank.name ≡ L.name }
     requires parts { blank.parts ≡ L.parts }
     requires share { 0 < blank.parts }

@@ -3,6 +3,9 @@
 //!
 //! Pages are counted over all spaces (`page_at`). What is kept of an extent is its id, and which of its eight parts have populated pages
 //! and are full of them, as a row of the tree. Each look at a root or a node of it, and each write of one, counts as a step.
+//!
+//! The pool places extents, removes them and finds them. `populate`, `evict`, `some` and `full` are for policies that look at which pages
+//! are populated: the pool calls none of them.
 #![tactic(auto)]
 
 ghost use Rattle.std.specs.Prelude.{◌≡◌, ℕ, ◌+◌, ◌-◌, ◌*◌, ◌/◌, ◌%◌, ◌^◌, ◌<◌, ◌≤◌, ◌↔◌, true, false, IfOk, MatchOption, Some, None, is_some};
@@ -21,6 +24,9 @@ use pager_model::{Extent, NoMemory, PAGES, Steps};
 use std::alloc::Global;
 use std::marker::{Brand, Model};
 use std::sync::ledger::{Blank, Ledger};
+
+/// How many spaces a map has at most.
+pub const MOST_SPACES: u32 = 1024;
 
 /// The extents of 512 pages of a space.
 const ROOTS: u32 = 2048;
@@ -58,7 +64,8 @@ fn page_at(space: u32, page: u32) -> u32
 }
 
 impl PopulationMap {
-    /// A map over this many spaces in which no extent is placed, with room to place extents of this many pages together.
+    /// A map over this many spaces, at most `MOST_SPACES`, in which no extent is placed, with room to place extents of this many pages
+    /// together.
     pub fn create(alloc: Global, spaces: u32, frames: u32) -> Result<PopulationMap, NoMemory>
         requires spaces { spaces ≤ 1024 }
         requires frames { frames ≤ 16777216 }

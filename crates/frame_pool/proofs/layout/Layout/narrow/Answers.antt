@@ -8,41 +8,41 @@ use Rattle.frame_pool.proofs.layout.Layout.narrow.Goals as goal
 pub unwrap-part-requires : goal.unwrap-part-requires
 unwrap-part-requires c = reservation_is c.args.self.now c.args.frame c.reservation_of.result c.reservation_of.ensures.laid c.requires c.reservation_of.ensures.none
 
-pub loop-self-init : goal.loop-self-init
-loop-self-init c =
+pub loop-part-init : goal.loop-part-init
+loop-part-init c =
     let found = rw c.unwrap-part.ensures at c.reservation_of.ensures.found in
     record { laid = c.reservation_of.ensures.laid; stands = found.0; has = found.1; used = c.requires; narrows = refl }
 
 pub split_down-requires : goal.split_down-requires
-split_down-requires c = rw c.loop-self.invariant.stands (omega (arith, c.loop-self-test.true, c.level.ensures.level))
+split_down-requires c = rw c.loop-part.invariant.stands (omega (arith, c.loop-part-test.true, c.level.ensures.level))
 
-pub unwrap-part-requires-in-loop-self : goal.unwrap-part-requires-in-loop-self
-unwrap-part-requires-in-loop-self c =
-    let was = c.loop-self.invariant in
-    let split : c.split_down.new.self ≡ split_layout c.loop-self.part c.loop-self.self = rw was.stands at c.split_down.ensures in
-    reservation_is c.split_down.new.self c.args.frame c.reservation_of-in-loop-self.result c.reservation_of-in-loop-self.ensures.laid (rw split was.used) c.reservation_of-in-loop-self.ensures.none
+pub unwrap-part-requires-in-loop-part : goal.unwrap-part-requires-in-loop-part
+unwrap-part-requires-in-loop-part c =
+    let was = c.loop-part.invariant in
+    let split : c.split_down.new.self ≡ split_layout c.loop-part.part c.loop-part.self = rw was.stands at c.split_down.ensures in
+    reservation_is c.split_down.new.self c.args.frame c.reservation_of-in-loop-part.result c.reservation_of-in-loop-part.ensures.laid (rw split was.used) c.reservation_of-in-loop-part.ensures.none
 
-pub loop-self-smaller : goal.loop-self-smaller
-loop-self-smaller c =
-    let was = c.loop-self.invariant in
-    let r = c.loop-self.part in
-    let splits : 0 < r.size = omega (arith, c.loop-self-test.true, c.level.ensures.level) in
-    let split : c.split_down.new.self ≡ split_layout r c.loop-self.self = rw was.stands at c.split_down.ensures in
-    let found = rw (c.unwrap-part-in-loop-self.ensures, split) at c.reservation_of-in-loop-self.ensures.found in
-    (narrow_step c.loop-self.self c.args.frame r c.unwrap-part-in-loop-self.result was.laid was.stands was.has was.used splits found.0 found.1).0
+pub loop-part-smaller : goal.loop-part-smaller
+loop-part-smaller c =
+    let was = c.loop-part.invariant in
+    let r = c.loop-part.part in
+    let splits : 0 < r.size = omega (arith, c.loop-part-test.true, c.level.ensures.level) in
+    let split : c.split_down.new.self ≡ split_layout r c.loop-part.self = rw was.stands at c.split_down.ensures in
+    let found = rw (c.unwrap-part-in-loop-part.ensures, split) at c.reservation_of-in-loop-part.ensures.found in
+    (narrow_step c.loop-part.self c.args.frame r c.unwrap-part-in-loop-part.result was.laid was.stands was.has was.used splits found.0 found.1).0
 
-pub loop-self-preserved : goal.loop-self-preserved
-loop-self-preserved c =
-    let was = c.loop-self.invariant in
-    let r = c.loop-self.part in
+pub loop-part-preserved : goal.loop-part-preserved
+loop-part-preserved c =
+    let was = c.loop-part.invariant in
+    let r = c.loop-part.part in
     let frame = c.args.frame in
-    let q = c.unwrap-part-in-loop-self.result in
-    let splits : 0 < r.size = omega (arith, c.loop-self-test.true, c.level.ensures.level) in
-    let split : c.split_down.new.self ≡ split_layout r c.loop-self.self = rw was.stands at c.split_down.ensures in
-    let found = rw (c.unwrap-part-in-loop-self.ensures, split) at c.reservation_of-in-loop-self.ensures.found in
-    let step = narrow_step c.loop-self.self frame r q was.laid was.stands was.has was.used splits found.0 found.1 in
+    let q = c.unwrap-part-in-loop-part.result in
+    let splits : 0 < r.size = omega (arith, c.loop-part-test.true, c.level.ensures.level) in
+    let split : c.split_down.new.self ≡ split_layout r c.loop-part.self = rw was.stands at c.split_down.ensures in
+    let found = rw (c.unwrap-part-in-loop-part.ensures, split) at c.reservation_of-in-loop-part.ensures.found in
+    let step = narrow_step c.loop-part.self frame r q was.laid was.stands was.has was.used splits found.0 found.1 in
     rw split (record {
-      laid = (Settles-split c.loop-self.self r.frame r was.laid was.stands).laid;
+      laid = (Settles-split c.loop-part.self r.frame r was.laid was.stands).laid;
       stands = found.0;
       has = found.1;
       used = was.used;
@@ -51,21 +51,21 @@ loop-self-preserved c =
 
 pub returns-clause-narrowed : goal.returns-clause-narrowed
 returns-clause-narrowed c =
-    let was = c.loop-self.invariant in
+    let was = c.loop-part.invariant in
     let l = c.args.self.now in
     let frame = c.args.frame in
     let first = c.unwrap-part.result in
-    let part = c.loop-self.part in
+    let part = c.loop-part.part in
     let found = rw c.unwrap-part.ensures at c.reservation_of.ensures.found in
-    let one : part.size ≡ 0 = omega (arith, c.loop-self-test.false, c.level.ensures.level) in
-    let stops : narrow_layout frame part c.loop-self.self ≡ c.loop-self.self = ap (λ k. split_on (narrows_to c.loop-self.self.sizes frame) k part c.loop-self.self) one in
+    let one : part.size ≡ 0 = omega (arith, c.loop-part-test.false, c.level.ensures.level) in
+    let stops : narrow_layout frame part c.loop-part.self ≡ c.loop-part.self = ap (λ k. split_on (narrows_to c.loop-part.self.sizes frame) k part c.loop-part.self) one in
     λ id. IfSome-from (record_at l id) _ (λ r is has.
     sym stops ∙ was.narrows ∙ ap (λ q. narrow_layout frame q l) (same_reservation l first.frame first c.reservation_of.ensures.laid found.0 frame id r found.1 is has))
 
 pub returns-clause-alone : goal.returns-clause-alone
 returns-clause-alone c =
-    let was = c.loop-self.invariant in
-    let part = c.loop-self.part in
-    let one : part.size ≡ 0 = omega (arith, c.loop-self-test.false, c.level.ensures.level) in
+    let was = c.loop-part.invariant in
+    let part = c.loop-part.part in
+    let one : part.size ≡ 0 = omega (arith, c.loop-part-test.false, c.level.ensures.level) in
     let here = only_frame part c.args.frame one was.has in
-    rw (here, was.stands) (one, refl)
+    rw (here, was.stands) one

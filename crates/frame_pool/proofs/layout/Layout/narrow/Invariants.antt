@@ -5,8 +5,8 @@ use Rattle.pager_model.specs.Records.{is_used}
 use Rattle.pager_laws.specs.Laid.{IsLaid}
 use Rattle.frame_pool.proofs.layout.Layout.narrow.Given as goal
 
-abbrev pub invariant-loop-self : goal.invariant-loop-self
-invariant-loop-self l =
+abbrev pub invariant-loop-part : goal.invariant-loop-part
+invariant-loop-part l =
     record {
       laid : IsLaid l.self;
       stands : record_at l.self l.part.frame ≡ Some l.part;
@@ -15,5 +15,5 @@ invariant-loop-self l =
       narrows : narrow_layout l.frame l.part l.self ≡ narrow_layout l.frame l.initial.part l.initial.self;
     }
 
-abbrev pub decreases-loop-self : goal.decreases-loop-self
-decreases-loop-self l = l.part.size
+abbrev pub decreases-loop-part : goal.decreases-loop-part
+decreases-loop-part l = l.part.size

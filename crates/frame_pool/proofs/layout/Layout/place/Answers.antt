@@ -1,63 +1,80 @@
-use Rattle.std.proofs.Common.{option_map, sym, ap, subst, ◌∙◌, arith}
-use Rattle.pager_model.specs.Layouts.{Layout, covering, populated, preferred_in, placing_in, reserved, largest_extent}
-use Rattle.pager_laws.specs.Laid.{IsLaid}
-use Rattle.frame_pool.proofs.PlacingResult.{PlacesPage-from, placing-covered, record_at-covered, HasPage-covered, round_page, IsLaid-added, PlacesPage-added}
-use Rattle.pager_model.specs.SizeSets.{size_within}
-use Rattle.pager_laws.proofs.PreferredExtent.{preferred_among-within}
+use Rattle.std.proofs.Common.{option_map, refl, sym, ap, ◌∙◌, arith}
+use Rattle.pager_model.specs.Layouts.{populated, placing_in, reserved, largest_extent}
+use Rattle.frame_pool.specs.LayoutState.{layout_in}
+use Rattle.frame_pool.proofs.LayoutInOrder.{IsLaid-populated}
+use Rattle.frame_pool.proofs.PlacingResult.{PlacesPage-from, placing-covered, record_at-covered, HasPage-covered, unused_covered, round_page, IsLaid-added, PlacesPage-added}
 use Rattle.frame_pool.proofs.layout.Layout.place.Goals as goal
 
 pub populate-frame-requires-clause-there : goal.populate-frame-requires-clause-there
 populate-frame-requires-clause-there c =
-    let laid = subst IsLaid c.self.view_is c.self.invariant.laid in
-    let covers = ap (λ (l : Layout). covering c.args.space c.args.page l.records) (sym c.self.view_is) ∙ sym c.in-Some.ensures in
-    record_at-covered c.args.self.now c.args.space c.args.page c.in-Some.reservation laid covers
+    record_at-covered (layout_in c.self.inside) c.args.space c.args.page c.in-Some.reservation c.self.invariant.0 (sym c.in-Some.ensures)
 
 pub populate-frame-requires-clause-has : goal.populate-frame-requires-clause-has
 populate-frame-requires-clause-has c =
-    let laid = subst IsLaid c.self.view_is c.self.invariant.laid in
-    let covers = ap (λ (l : Layout). covering c.args.space c.args.page l.records) (sym c.self.view_is) ∙ sym c.in-Some.ensures in
-    HasPage-covered c.args.self.now c.args.space c.args.page c.in-Some.reservation laid covers
+    HasPage-covered (layout_in c.self.inside) c.args.space c.args.page c.in-Some.reservation c.self.invariant.0 (sym c.in-Some.ensures)
+
+pub populate-frame-requires-clause-unused : goal.populate-frame-requires-clause-unused
+populate-frame-requires-clause-unused c =
+    unused_covered (layout_in c.self.inside) c.args.space c.args.page c.in-Some.reservation c.self.invariant.0 (sym c.in-Some.ensures) (rw (← c.self.view_is) at c.requires.unplaced)
+
+pub invariant_of-self : goal.invariant_of-self
+invariant_of-self c =
+    let l = layout_in c.self.inside in
+    let r = c.in-Some.reservation in
+    let laid = c.self.invariant.0 in
+    let covers = sym c.in-Some.ensures in
+    let unused = unused_covered l c.args.space c.args.page r laid covers (rw (← c.self.view_is) at c.requires.unplaced) in
+    rw c.populate-frame.ensures.populated
+    (IsLaid-populated l r c.args.stamp c.args.page laid (record_at-covered l c.args.space c.args.page r laid covers) (HasPage-covered l c.args.space c.args.page r laid covers) unused, c.self.invariant.1)
 
 pub returns-in-Some-clause-placed : goal.returns-in-Some-clause-placed
 returns-in-Some-clause-placed c =
-    let l = c.args.self.now in
+    let l = layout_in c.self.inside in
     let r = c.in-Some.reservation in
-    let laid = subst IsLaid c.self.view_is c.self.invariant.laid in
-    let covers = ap (λ (m : Layout). covering c.args.space c.args.page m.records) (sym c.self.view_is) ∙ sym c.in-Some.ensures in
-    let is = placing-covered l c.args.stamp c.args.space c.args.page c.args.want.now r covers in
-    rw c.populate-frame.ensures.frame
-    (PlacesPage-from l c.populate-frame.new.self c.args.stamp c.args.space c.args.page c.args.want.now (populated c.args.stamp c.args.page l r) laid c.requires.unplaced is c.populate-frame.ensures.layout (omega arith))
+    let is = placing-covered l c.args.stamp c.args.space c.args.page c.args.want.now r (sym c.in-Some.ensures) in
+    rw (c.populate-frame.ensures.populated, c.populate-frame.ensures.frame, ← c.self.view_is)
+    (PlacesPage-from l (populated c.args.stamp c.args.page l r).layout c.args.stamp c.args.space c.args.page c.args.want.now (populated c.args.stamp c.args.page l r) c.self.invariant.0 (rw (← c.self.view_is) at c.requires.unplaced) is refl (omega arith))
 
-pub add-frame-requires-clause-has : goal.add-frame-requires-clause-has
-add-frame-requires-clause-has c =
+pub put-frame-requires-clause-has : goal.put-frame-requires-clause-has
+put-frame-requires-clause-has c =
     round_page c.in_ok-found.found.size c.args.page c.extent_round-pages.result.first c.extent_round-pages.ensures.first
 
-pub add-frame-requires-clause-laid : goal.add-frame-requires-clause-laid
-add-frame-requires-clause-laid c =
-    let l = c.args.self.now in
+pub put-frame-requires-clause-laid : goal.put-frame-requires-clause-laid
+put-frame-requires-clause-laid c =
+    let l = layout_in c.self.inside in
     let found = c.in_ok-found.found in
-    let laid = subst IsLaid c.self.view_is c.self.invariant.laid in
-    let none = ap (λ (m : Layout). covering c.args.space c.args.page m.records) (sym c.self.view_is) ∙ sym c.in_default.ensures in
-    let preferred = c.within-size.ensures ∙ ap (size_within c.self.inside.sizes) c.preferred-wide.ensures ∙ sym (preferred_among-within c.self.inside.sizes c.args.space c.args.page c.self.inside.reservations.records c.args.want.now) ∙ ap (λ m. preferred_in m c.args.space c.args.page c.args.want.now) c.self.view_is in
-    IsLaid-added l c.largest_extent.new.self c.args.stamp c.args.space c.args.page c.args.want.now c.within-size.result found.size found.first found.broken c.extent_round-pages.result.first none preferred c.in_ok-found.ensures.found c.extent_round-pages.ensures.first laid c.requires.unplaced
+    let unplaced = rw (← c.self.view_is) at c.requires.unplaced in
+    let finds = rw (← c.self.view_is) at c.in_ok-found.ensures.found in (
+      c.self-2.inside.free,
+      IsLaid-added l (layout_in c.self-2.inside) c.args.stamp c.args.space c.args.page c.args.want.now c.preferred-size.result found.size found.first found.broken c.extent_round-pages.result.first (sym c.in_default.ensures) c.preferred-size.ensures (rw (← c.self-2.view_is) at finds) c.extent_round-pages.ensures.first c.self.invariant.0 unplaced,
+    )
+
+pub invariant_of-self-2 : goal.invariant_of-self-2
+invariant_of-self-2 c =
+    let l = layout_in c.self.inside in
+    let found = c.in_ok-found.found in
+    let unplaced = rw (← c.self.view_is) at c.requires.unplaced in
+    let finds = rw (← c.self.view_is) at c.in_ok-found.ensures.found in
+    rw c.put-frame.ensures.put (
+      IsLaid-added l (layout_in c.self-2.inside) c.args.stamp c.args.space c.args.page c.args.want.now c.preferred-size.result found.size found.first found.broken c.extent_round-pages.result.first (sym c.in_default.ensures) c.preferred-size.ensures (rw (← c.self-2.view_is) at finds) c.extent_round-pages.ensures.first c.self.invariant.0 unplaced,
+      c.self-2.invariant.1,
+    )
 
 pub returns-clause-placed : goal.returns-clause-placed
 returns-clause-placed c =
-    let l = c.args.self.now in
+    let l = layout_in c.self.inside in
     let found = c.in_ok-found.found in
-    let laid = subst IsLaid c.self.view_is c.self.invariant.laid in
-    let none = ap (λ (m : Layout). covering c.args.space c.args.page m.records) (sym c.self.view_is) ∙ sym c.in_default.ensures in
-    let preferred = c.within-size.ensures ∙ ap (size_within c.self.inside.sizes) c.preferred-wide.ensures ∙ sym (preferred_among-within c.self.inside.sizes c.args.space c.args.page c.self.inside.reservations.records c.args.want.now) ∙ ap (λ m. preferred_in m c.args.space c.args.page c.args.want.now) c.self.view_is in
-    rw (c.add-frame.ensures.layout, c.add-frame.ensures.frame)
-    (PlacesPage-added l c.largest_extent.new.self c.args.stamp c.args.space c.args.page c.args.want.now c.within-size.result found.size found.first found.broken c.extent_round-pages.result.first none preferred c.in_ok-found.ensures.found c.extent_round-pages.ensures.first laid c.requires.unplaced)
+    let unplaced = rw (← c.self.view_is) at c.requires.unplaced in
+    let finds = rw (← c.self.view_is) at c.in_ok-found.ensures.found in
+    rw (c.put-frame.ensures.put, c.put-frame.ensures.frame, ← c.self.view_is)
+    (PlacesPage-added l (layout_in c.self-2.inside) c.args.stamp c.args.space c.args.page c.args.want.now c.preferred-size.result found.size found.first found.broken c.extent_round-pages.result.first (sym c.in_default.ensures) c.preferred-size.ensures (rw (← c.self-2.view_is) at finds) c.extent_round-pages.ensures.first c.self.invariant.0 unplaced)
 
 pub returns-in_err-found-clause-none : goal.returns-in_err-found-clause-none
 returns-in_err-found-clause-none c =
-    let l = c.args.self.now in
-    let none = ap (λ (m : Layout). covering c.args.space c.args.page m.records) (sym c.self.view_is) ∙ sym c.in_default.ensures in
-    let preferred = c.within-size.ensures ∙ ap (size_within c.self.inside.sizes) c.preferred-wide.ensures ∙ sym (preferred_among-within c.self.inside.sizes c.args.space c.args.page c.self.inside.reservations.records c.args.want.now) ∙ ap (λ m. preferred_in m c.args.space c.args.page c.args.want.now) c.self.view_is in
-    rw c.from_residual.ensures (
-      ap (placing_in c.args.stamp c.args.space c.args.page c.args.want.now l) none
-          ∙ ap (option_map (reserved c.args.stamp c.args.space c.args.page)) (ap (λ k. largest_extent k l) (sym preferred) ∙ c.in_err-found.ensures.none.0),
-      c.in_err-found.ensures.none.1,
+    let l = layout_in c.self.inside in
+    let none = rw (← c.self.view_is) at c.in_err-found.ensures.none in
+    rw (c.from_residual.ensures, ← c.self.view_is) (
+      ap (placing_in c.args.stamp c.args.space c.args.page c.args.want.now l) (sym c.in_default.ensures)
+          ∙ ap (option_map (reserved c.args.stamp c.args.space c.args.page)) (ap (λ k. largest_extent k l) (sym c.preferred-size.ensures) ∙ none.0),
+      none.1,
     )

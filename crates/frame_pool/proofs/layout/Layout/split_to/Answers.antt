@@ -5,12 +5,18 @@ use Rattle.pager_laws.specs.Laid.{IsLaid}
 use Rattle.frame_pool.proofs.PartedOnce.{IsGoing, IsGoing-start, IsGoing-split, IsGoing-skip, going_done, split_nearer, size_there-small}
 use Rattle.frame_pool.proofs.layout.Layout.split_to.Goals as goal
 
+pub overflow_add-end : goal.overflow_add-end
+overflow_add-end c =
+    let laid = c.self.invariant.0 in
+    let placed = laid.placed c.args.id c.unwrap-whole.result (sym c.get.ensures ∙ c.unwrap-whole.ensures) in
+    omega (arith, placed.within, placed.named, laid.records_long, c.self.invariant.1, c.pages.ensures)
+
 pub loop-next-init : goal.loop-next-init
 loop-next-init c =
     let l = c.args.self.now in
     let r = c.unwrap-whole.result in
-    let laid = subst IsLaid c.self.view_is c.self.invariant.laid in
-    let is : record_at l c.args.id ≡ Some r = sym (ap (λ m. record_at m c.args.id) c.self.view_is) ∙ sym c.get.ensures.record ∙ c.unwrap-whole.ensures in
+    let laid = subst IsLaid c.self.view_is c.self.invariant.0 in
+    let is : record_at l c.args.id ≡ Some r = sym (ap (λ m. record_at m c.args.id) c.self.view_is) ∙ sym c.get.ensures ∙ c.unwrap-whole.ensures in
     let less : c.args.size < r.size = rw is at c.requires in
     IsGoing-start c.args.size (c.args.id + c.pages.result) c.args.id l r laid is less (omega (arith, c.pages.ensures))
 
@@ -30,7 +36,7 @@ overflow_add-next c =
     let going = c.loop-next.invariant in
     let skips = IsGoing-skip c.args.size c.loop-next.next (c.args.id + c.pages.result) c.args.id l c.loop-next.self going c.loop-next-test.true (sym c.is_larger.ensures ∙ c.if-is_larger.false) in
     let within = (going.laid.placed c.args.id going.whole going.is).within in
-    let few : length l.free ≤ 32768 = subst (λ (m : Layout). length m.free ≤ 32768) c.self.view_is (omega (arith, c.self.invariant.known, c.self.invariant.few)) in
+    let few : length l.free ≤ 32768 = subst (λ (m : Layout). length m.free ≤ 32768) c.self.view_is c.self.invariant.1 in
     omega (arith, skips.low, c.pages-next.ensures, going.ends, within, going.laid.records_long, few)
 
 pub loop-next-smaller : goal.loop-next-smaller

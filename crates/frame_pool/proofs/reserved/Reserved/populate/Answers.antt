@@ -4,15 +4,15 @@ use Rattle.pager_model.specs.Records.{Records, is_used}
 use Rattle.reservations.specs.Kept.{with_record, with_used}
 use Rattle.pager_laws.specs.Laid.{IsLaid}
 use Rattle.frame_pool.specs.Mapped.{IsMapped}
+use Rattle.frame_pool.specs.ReservedState.{reserved_in}
 use Rattle.frame_pool.proofs.MappedRecords.{IsMapped-alike}
 use Rattle.frame_pool.proofs.LayoutInOrder.{IsLaid-populated, IsInOrder-again, place_has, rest_unlisted}
-use Rattle.frame_pool.proofs.layout.Layout.populate.Goals as goal
+use Rattle.frame_pool.proofs.reserved.Reserved.populate.Goals as goal
 
 pub enlist-requires-clause-unlisted : goal.enlist-requires-clause-unlisted
 enlist-requires-clause-unlisted c =
-    let inside = c.self.inside in
     let r = c.args.reservation.now in
-    let l : Layout = record { sizes = inside.sizes; free = inside.free; records = inside.reservations.records; used = inside.reservations.used } in
+    let l = reserved_in c.self.inside in
     let is : record_at l r.frame ≡ Some r = rw (← c.self.view_is) at c.requires.there in
     rest_unlisted l r.frame r c.self.invariant.laid is c.unlist.new.lists.lists c.unlist.ensures.listed
 
@@ -21,12 +21,12 @@ invariant_of-self c =
     let inside = c.self.inside in
     let r = c.args.reservation.now in
     let page = c.args.page in
-    let l : Layout = record { sizes = inside.sizes; free = inside.free; records = inside.reservations.records; used = inside.reservations.used } in
+    let l = reserved_in inside in
     let is : record_at l r.frame ≡ Some r = rw (← c.self.view_is) at c.requires.there in
     let unused : is_used l.used (frame_for page r) ≡ false = rw (← c.self.view_is) at c.requires.unused in
     let laid = IsLaid-populated l r c.args.stamp page c.self.invariant.laid is c.requires.has unused in
     let done : c.populate.new.self ≡ with_used (with_record inside.reservations r.frame (Some (stamped r c.args.stamp))) (frame_for page r) true = rw is at c.populate.ensures in
-    let after : Records → Layout = λ st. record { sizes = inside.sizes; free = inside.free; records = st.records; used = st.used } in
+    let after : Records → Layout = λ st. record { sizes = l.sizes; free = l.free; records = st.records; used = st.used } in
     IsInOrder-again l r.frame r c.self.invariant.laid is inside.frames (frame_for page r) true (Some (stamped r c.args.stamp)) (after c.populate.new.self) inside.lists c.unlist.new.lists c.enlist.new.lists inside.map inside.map c.self.invariant (place_has r page c.requires.has)
     (subst (λ st. IsLaid (after st)) (sym done) laid) refl refl (ap (λ (st : Records). st.used) done) (ap (λ (st : Records). st.records) done)
     c.unlist.ensures.room c.enlist.ensures.room c.unlist.ensures.listed c.enlist.ensures.listed

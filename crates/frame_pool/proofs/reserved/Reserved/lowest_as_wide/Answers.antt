@@ -6,7 +6,7 @@ use Rattle.frame_pool.specs.Placed.{first_of}
 use Rattle.pager_laws.proofs.PartsAt.{part_ends}
 use Rattle.frame_pool.proofs.RecordSearch.{same_size-is, find_none}
 use Rattle.pager_model.proofs.Ranges.{find_first}
-use Rattle.frame_pool.proofs.records.lowest_as_wide.Goals as goal
+use Rattle.frame_pool.proofs.reserved.Reserved.lowest_as_wide.Goals as goal
 
 -- how many parts there are
 counted : (size whole pages part : ℕ) → size < whole → pages ≡ 8 ^ whole → part ≡ 8 ^ size → pages / part ≡ 8 ^ (whole - size)
@@ -20,11 +20,11 @@ overflow_add-first c =
     let r = c.args.whole.now in
     let one : c.loop-i.i < part_count c.args.size r = omega (arith, c.loop-i-test.true, counted c.args.size r.size c.pages.result c.pages-pages.result c.requires.splits c.pages.ensures c.pages-pages.ensures) in
     let ends = part_ends c.args.size c.loop-i.i r (omega (arith, c.requires.splits)) one in
-    let last = aligned_end r.size r.frame c.requires.placed.aligned.0 c.requires.placed.aligned.1 (omega arith) in
+    let last = aligned_end r.size r.frame c.requires.aligned.0 c.requires.aligned.1 (omega arith) in
     rw c.pages-pages.ensures (omega (arith, ends, last, eight_pos c.args.size))
 
-pub yields_in-requires : goal.yields_in-requires
-yields_in-requires c =
+pub yields-requires : goal.yields-requires
+yields-requires c =
     let r = c.args.whole.now in
     let one : c.loop-i.i < part_count c.args.size r = omega (arith, c.loop-i-test.true, counted c.args.size r.size c.pages.result c.pages-pages.result c.requires.splits c.pages.ensures c.pages-pages.ensures) in
     let is = c.requires.parts c.loop-i.i one in
@@ -34,12 +34,12 @@ pub returns-then-eq : goal.returns-then-eq
 returns-then-eq c =
     let r = c.args.whole.now in
     let i = c.loop-i.i in
-    let z = c.args.sizes in
-    let used = is_used c.args.reservations.now.used in
+    let z = c.args.self.now.sizes in
+    let used = is_used c.args.self.now.used in
     let one : i < part_count c.args.size r = omega (arith, c.loop-i-test.true, counted c.args.size r.size c.pages.result c.pages-pages.result c.requires.splits c.pages.ensures c.pages-pages.ensures) in
     let is = c.requires.parts i one in
-    let yields = rw (c.pages-pages.ensures, is) at c.yields_in.ensures in
-    let tells : c.eq.result ≡ same_size c.yields_in.result c.args.yields = c.eq.ensures ∙ same_size-is c.yields_in.result c.args.yields in
+    let yields = rw (c.pages-pages.ensures, is) at c.yields.ensures in
+    let tells : c.eq.result ≡ same_size c.yields.result c.args.yields = c.eq.ensures ∙ same_size-is c.yields.result c.args.yields in
     let test : ℕ → Bool = λ k. same_size (yield_in z used (part_at c.args.size r k)) (yield_in z used r) in
     let same : test i ≡ true = rw (← yields, ← c.requires.yields) (sym tells ∙ c.if-eq.true) in
     let found = find_first test 0 (part_count c.args.size r) i (λ k _ below. c.loop-i.invariant k below) (omega arith) (omega (arith, one)) same in
@@ -49,12 +49,12 @@ pub loop-i-preserved : goal.loop-i-preserved
 loop-i-preserved c =
     let r = c.args.whole.now in
     let i = c.loop-i.i in
-    let z = c.args.sizes in
-    let used = is_used c.args.reservations.now.used in
+    let z = c.args.self.now.sizes in
+    let used = is_used c.args.self.now.used in
     let one : i < part_count c.args.size r = omega (arith, c.loop-i-test.true, counted c.args.size r.size c.pages.result c.pages-pages.result c.requires.splits c.pages.ensures c.pages-pages.ensures) in
     let is = c.requires.parts i one in
-    let yields = rw (c.pages-pages.ensures, is) at c.yields_in.ensures in
-    let tells : c.eq.result ≡ same_size c.yields_in.result c.args.yields = c.eq.ensures ∙ same_size-is c.yields_in.result c.args.yields in
+    let yields = rw (c.pages-pages.ensures, is) at c.yields.ensures in
+    let tells : c.eq.result ≡ same_size c.yields.result c.args.yields = c.eq.ensures ∙ same_size-is c.yields.result c.args.yields in
     let test : ℕ → Bool = λ k. same_size (yield_in z used (part_at c.args.size r k)) (yield_in z used r) in
     let other : test i ≡ false = rw (← yields, ← c.requires.yields) (sym tells ∙ c.if-eq.false) in
     λ k below. elim (cases_eq k i) [ inl here ↦ ap test here ∙ other | inr before ↦ c.loop-i.invariant k (omega arith) ]
@@ -62,8 +62,8 @@ loop-i-preserved c =
 pub returns : goal.returns
 returns c =
     let r = c.args.whole.now in
-    let z = c.args.sizes in
-    let used = is_used c.args.reservations.now.used in
+    let z = c.args.self.now.sizes in
+    let used = is_used c.args.self.now.used in
     let test : ℕ → Bool = λ k. same_size (yield_in z used (part_at c.args.size r k)) (yield_in z used r) in
     let count = counted c.args.size r.size c.pages.result c.pages-pages.result c.requires.splits c.pages.ensures c.pages-pages.ensures in
     let none = find_none test 0 (part_count c.args.size r) (λ k _ below. c.loop-i.invariant k (omega (arith, below, count, c.loop-i-test.false))) in

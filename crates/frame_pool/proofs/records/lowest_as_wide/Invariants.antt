@@ -1,7 +1,0 @@
-use Rattle.std.proofs.Common.{◌≡◌, ℕ, ◌<◌, false}
-use Rattle.pager_model.specs.Records.{is_used, part_at, yield_in, same_size}
-use Rattle.frame_pool.proofs.records.lowest_as_wide.Given as goal
-
-abbrev pub invariant-loop-i : goal.invariant-loop-i
-invariant-loop-i l =
-    (k : ℕ) → k < l.i → same_size (yield_in l.sizes (is_used l.reservations.used) (part_at l.fn.size l.whole k)) (yield_in l.sizes (is_used l.reservations.used) l.whole) ≡ false

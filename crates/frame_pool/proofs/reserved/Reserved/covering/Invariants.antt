@@ -1,0 +1,4 @@
+use Rattle.frame_pool.proofs.reserved.Reserved.covering.Given as goal
+
+abbrev pub ghosts-find : goal.ghosts-find
+ghosts-find a = record { name = a.blank.name; parts = a.blank.parts }

@@ -1,0 +1,244 @@
+ghost use Rattle.std.specs.Prelude.{◌≡◌, ℕ, ◌-◌, ◌<◌, ◌≤◌, Bool, List, Some, true, false, length, option_map, IfOk, IfSome, IfNone, IsSome, IsSomeAnd};
+ghost use Rattle.pager_model.specs.Agreement.{has_frame};
+ghost use Rattle.pager_model.specs.Extents.{IsExtent};
+ghost use Rattle.pager_model.specs.Layouts.{frame_for, populated, record_at, covering, meets_any, oldest_of, preferred_in};
+ghost use Rattle.pager_model.specs.PreferredSize.{IsWanted};
+ghost use Rattle.pager_model.specs.Records.{is_used, yield_in, part_at, part_count, parted_records, lowest_as_wide};
+ghost use Rattle.pager_model.specs.RecordPlaces.{IsPlaced};
+ghost use Rattle.pager_laws.specs.Laid.{IsLaid};
+ghost use Rattle.reservations.specs.Kept.{CoversPage};
+ghost use Rattle.reservations.specs.Parts.{told_parts};
+ghost use Rattle.frame_pool.specs.Placed.{first_of, with_reservation};
+ghost use Rattle.frame_pool.specs.ReservedChanges.{Vacates, none_reserved, with_free};
+
+use crate::lists::{enlist, enlist_parts, unlist};
+use crate::mapped;
+use crate::records::{covering_among_all, meets_among_all, page_at, yields_in};
+use pager_model::{Extent, NoMemory, Reservation, Size, Sizes, Want};
+use population_map::{MOST_SPACES, PopulationMap};
+use reservation_lists::Lists;
+use reservations::{Part, Reservations, frame_for};
+use std::alloc::Global;
+use std::marker::{Brand, Model};
+use std::sync::ledger::Blank;
+
+/// The reservations with their used places, the lists of them by age, and the map by which the one that has a page is found: all three
+/// change together. The map knows as many spaces as were announced; the pages of others are looked for among all reservations.
+///
+/// Contracts see them as a layout in which no frame is free.
+#[derive(Debug, Drop)]
+pub(crate) struct Reserved {
+    frames: u32,
+    sizes: Sizes,
+    reservations: Reservations,
+    lists: Lists,
+    map: PopulationMap,
+}
+
+impl Model for Reserved {
+    ghost use Rattle.pager_model.specs.Layouts.{Layout};
+    ghost use Rattle.frame_pool.specs.ReservedState.{reserved_in};
+    ghost use Rattle.frame_pool.specs.Listed.{IsInOrder};
+
+    ghost Value = { Layout };
+
+    ghost view = { reserved_in };
+
+    ghost invariant = { λ r. IsInOrder r.frames (reserved_in r) r.lists r.map };
+}
+
+impl Reserved {
+    /// No reservation, over so many frames, by these sizes, and so many spaces are announced.
+    pub(crate) fn create(
+        alloc: Global,
+        frames: u32,
+        spaces: u32,
+        sizes: Sizes,
+    ) -> Result<Reserved, NoMemory>
+        requires { frames ≤ 32768 }
+        ensures { IfOk result (λ r. r ≡ none_reserved sizes frames) }
+    {
+        Ok(Reserved {
+            frames,
+            sizes,
+            reservations: Reservations::create(alloc, frames)?,
+            lists: Lists::create(alloc, frames)?,
+            map: PopulationMap::create(alloc, spaces.min(MOST_SPACES), frames)?,
+        })
+    }
+
+    /// Which page sizes there are.
+    pub(crate) fn sizes(&self) -> Sizes
+        ensures { result ≡ self.now.sizes }
+    {
+        self.sizes
+    }
+
+    /// The reservation that begins at the frame `id`, if one does.
+    pub(crate) fn get(&self, id: u32) -> Option<Reservation>
+        ensures { result ≡ record_at self.now id }
+    {
+        self.reservations.get(id)
+    }
+
+    /// The reservation that has the frame, if one has it.
+    pub(crate) fn reservation_of(&self, frame: u32) -> Option<Reservation>
+        ensures found { IfSome result (λ r. (record_at self.now r.frame ≡ Some r) × (has_frame frame (Some r) ≡ true)) }
+        ensures none { IfNone result ((id : ℕ) → has_frame frame (record_at self.now id) ≡ false) }
+    {
+        let id = self.reservations.id_of(frame)?;
+        self.reservations.get(id)
+    }
+
+    /// Whether the frame is a used place.
+    pub(crate) fn used(&self, frame: u32) -> bool
+        ensures { result ≡ is_used self.now.used frame }
+    {
+        self.reservations.used(frame)
+    }
+
+    /// The reservation that has the page of the space, if one has it: by at most four looks at the map, however many reservations there
+    /// are. In a space that the map doesn't know, it is looked for among all.
+    pub(crate) fn covering(&self, space: u32, page: u32) -> Option<Reservation>
+        requires { page < 1048576 }
+        ensures { result ≡ covering space page self.now.records }
+    {
+        if self.map.spaces() <= space {
+            return covering_among_all(&self.reservations, self.frames, space, page);
+        }
+        let id = mapped::find::<Brand>(&self.map, space, page, Blank::new(1))?;
+        self.reservations.get(id)
+    }
+
+    /// Whether a reservation has a page of the extent of the space's pages: by at most four looks at the map, however many reservations
+    /// there are. In a space that the map doesn't know, each is asked.
+    fn meets_any(&self, space: u32, extent: &Extent) -> bool
+        requires aligned { IsExtent extent.now.size extent.now.first }
+        requires within { extent.now.first < 1048576 }
+        ensures { result ≡ meets_any space self.now.records extent.now.size extent.now.first }
+    {
+        if self.map.spaces() <= space {
+            return meets_among_all(&self.reservations, self.frames, space, extent);
+        }
+        mapped::meets::<Brand>(&self.map, space, *extent, Blank::new(1))
+    }
+
+    /// The size that is tried first for a page.
+    pub(crate) fn preferred(&self, space: u32, page: u32, want: &Want) -> Size
+        requires { IsWanted want.now page }
+        ensures { result ≡ preferred_in self.now space page want.now }
+    {
+        let meets = |extent: Extent| self.meets_any(space, &extent);
+        let widest = size_policy::preferred(page, want, meets);
+        self.sizes.within(widest)
+    }
+
+    /// The first frame of the oldest reservation of this yield.
+    pub(crate) fn oldest(&self, size: Size) -> Option<u32>
+        requires { size < 3 }
+        ensures { result ≡ oldest_of self.now size }
+    {
+        self.lists.oldest(size)
+    }
+
+    /// The yield of the reservation that begins at the frame `id`.
+    pub(crate) fn yields(&self, id: u32) -> Option<Size>
+        requires { IsSome (record_at self.now id) }
+        ensures { IfSome (record_at self.now id) (λ r. result ≡ yield_in self.now.sizes (is_used self.now.used) r) }
+    {
+        yields_in(&self.reservations, self.sizes, id)
+    }
+
+    /// The first frame of the lowest of the parts of a size of a reservation that has this yield, where each is a reservation.
+    pub(crate) fn lowest_as_wide(
+        &self,
+        whole: &Reservation,
+        size: Size,
+        yields: Option<Size>,
+    ) -> Option<u32>
+        requires splits { size < whole.now.size }
+        requires aligned { IsExtent whole.now.size whole.now.frame }
+        requires parts { (i : ℕ) → i < part_count size whole.now → record_at self.now (part_at size whole.now i).frame ≡ Some (part_at size whole.now i) }
+        requires yields { yields ≡ yield_in self.now.sizes (is_used self.now.used) whole.now }
+        ensures { result ≡ first_of (option_map (part_at size whole.now) (lowest_as_wide self.now.sizes size (is_used self.now.used) whole.now)) }
+    {
+        let pages = size.pages();
+        for i in 0..whole.size.pages() / pages {
+            let first = whole.frame + i * pages;
+            if self.yields(first) == yields {
+                return Some(first);
+            }
+        }
+        None
+    }
+
+    /// Adds a reservation of frames that are in none, whose one used place is the page's. Answers the place's frame.
+    pub(crate) fn put(&mut self, reservation: Reservation, page: u32) -> u32
+        requires has { CoversPage reservation page }
+        requires placed { IsPlaced (length self.old.records) reservation.frame reservation }
+        requires apart { (frame id : ℕ) → has_frame frame (Some reservation) ≡ true → has_frame frame (record_at self.old id) ≡ false }
+        requires within { reservation.first < 1048576 }
+        requires laid { (free : List Bool) × IsLaid (with_free free (with_reservation reservation page self.old)) }
+        ensures put { self.new ≡ with_reservation reservation page self.old }
+        ensures frame { result ≡ frame_for page reservation }
+    {
+        let id = reservation.frame;
+        let frame = frame_for(&reservation, page);
+        self.reservations.add(reservation, page);
+        mapped::insert(&mut self.map, &reservation);
+        enlist(&mut self.lists, &self.reservations, self.sizes, id);
+        frame
+    }
+
+    /// Uses the page's place in the reservation, which is as young as the stamp from then on. Answers the place's frame.
+    pub(crate) fn populate(&mut self, reservation: &Reservation, page: u32, stamp: u64) -> u32
+        requires there { record_at self.old reservation.now.frame ≡ Some reservation.now }
+        requires has { CoversPage reservation.now page }
+        requires unused { is_used self.old.used (frame_for page reservation.now) ≡ false }
+        ensures populated { self.new ≡ (populated stamp page self.old reservation.now).layout }
+        ensures frame { result ≡ frame_for page reservation.now }
+    {
+        let id = reservation.frame;
+        unlist(&mut self.lists, &self.reservations, self.sizes, id);
+        self.reservations.populate(id, page, stamp);
+        enlist(&mut self.lists, &self.reservations, self.sizes, id);
+        frame_for(reservation, page)
+    }
+
+    /// The used frame is a used place no more. Where its reservation has no other used place it goes, and these are its frames.
+    pub(crate) fn vacate(&mut self, frame: u32) -> Option<Extent>
+        requires { is_used self.old.used frame ≡ true }
+        ensures { Vacates self.old self.new frame result }
+    {
+        let reservation = self.reservation_of(frame).unwrap();
+        let id = reservation.frame;
+        unlist(&mut self.lists, &self.reservations, self.sizes, id);
+        if self.reservations.vacate(id, page_at(&reservation, frame)) {
+            mapped::remove(&mut self.map, &self.reservations, id);
+            self.reservations.dissolve(id);
+            return Some(Extent {
+                size: reservation.size,
+                first: id,
+            });
+        }
+        enlist(&mut self.lists, &self.reservations, self.sizes, id);
+        None
+    }
+
+    /// Splits the reservation that begins at the frame `id` into its eight parts: those with a used place are reservations, and the
+    /// frames of the others are in none.
+    pub(crate) fn split(&mut self, id: u32) -> [Part; 8]
+        requires { IsSomeAnd (record_at self.old id) (λ r. 0 < r.size) }
+        ensures parts { IfSome (record_at self.old id) (λ r. result ≡ told_parts (is_used self.old.used) r) }
+        ensures split { IfSome (record_at self.old id)
+            (λ r. self.new ≡ record self.old { records = parted_records (r.size - 1) (is_used self.old.used) r self.old.records }) }
+    {
+        let whole = self.reservations.get(id).unwrap();
+        unlist(&mut self.lists, &self.reservations, self.sizes, id);
+        mapped::remove(&mut self.map, &self.reservations, id);
+        let parts = self.reservations.split(id);
+        enlist_parts(&mut self.lists, &self.reservations, self.sizes, &whole);
+        mapped::insert_parts(&mut self.map, &self.reservations, &whole);
+        parts
+    }
+}
