@@ -23,7 +23,7 @@ use std::marker::Model;
 /// Which frames are free, and the reservations of the others.
 ///
 /// Contracts see it as the layout of the frames.
-#[derive(Debug, Drop)]
+#[derive(Drop)]
 pub(crate) struct Layout {
     free: Free,
     reserved: Reserved,

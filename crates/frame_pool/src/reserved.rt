@@ -26,7 +26,7 @@ use std::sync::ledger::Blank;
 /// change together. The map knows as many spaces as were announced; the pages of others are looked for among all reservations.
 ///
 /// Contracts see them as a layout in which no frame is free.
-#[derive(Debug, Drop)]
+#[derive(Drop)]
 pub(crate) struct Reserved {
     frames: u32,
     sizes: Sizes,
