@@ -1,4 +1,4 @@
--- A region's pages give their frames up, the lowest first, until none is resident.
+-- A range's pages give their frames up, the lowest first, until none is resident.
 use Rattle.std.proofs.Common.{◌≡◌, ℕ, ◌+◌, ◌<◌, ◌≤◌, true, false, cond, eqb, leb, ltb, ◌&&◌, is_some, Some, None, refl, ap, sym, subst, ◌∙◌, inl, inr, arith}
 use Rattle.std.specs.List.{range_with_len, count_by}
 use Rattle.std.proofs.lemmas.Bool.{cases_eq, cond-true, cond-false, and_parts, and_from, and_right, eq-eqb, ne_eqb, le-leb, leb-true, lt-ltb, ltb-true, false≢true}
@@ -114,7 +114,7 @@ StandsBut-rest kept st first len resting stands = record {
   pages = λ page out. stands.pages page;
   translates = stands.translates;
   not_begun = λ out page. stands.pages page;
-  counted = λ is. absurd (false≢true (sym (ap (λ o. is_clearing o first) resting.none_clearing) ∙ is));
+  counted = λ is. absurd (false≢true (sym (ap (λ o. is_clearing o first len) resting.none_clearing) ∙ is));
 }
   where
     beside : StandsBeside (is_in kept.clearing) kept st
@@ -159,7 +159,7 @@ module _ (f : Flight) (first len : ℕ) (was kept now : Kept) (before pool : Fra
             unmapping = unmapping;
             none_pending = clears.same_pending ∙ so_far.same_pending ∙ ready.found.resting.none_pending;
             none_paged = clears.same_paged ∙ so_far.same_paged ∙ ready.found.resting.none_paged;
-            clearing = clears.clearing is.region (ap (λ rs. region_at rs first) so_far.same_regions ∙ is.at_first);
+            clearing = clears.clearing;
             none = clears.none;
           };
           keeps = inl (ap Some (on ∙ sym (clears.same.same.number ∙ so_far.same_space.number)));

@@ -10,7 +10,7 @@ use Rattle.pager_model.specs.PreferredSize.{IsWanted}
 use Rattle.pager_model.specs.Regions.{wanted}
 use Rattle.pager_model.specs.SpaceStates.{SpaceState, Anyone, access_page}
 use Rattle.space_core.specs.Beginning.{IsUnmapping, IsEvicting, NoneResident, NeedsNoFrame}
-use Rattle.space_core.specs.Standing.{Kept, StandsFor, IsResting, MustWrite, frame_at, dirty_at, is_allowed, copied_page, CanBegin}
+use Rattle.space_core.specs.Standing.{Kept, StandsFor, IsResting, MustWrite, range_of, frame_at, dirty_at, is_allowed, copied_page, CanBegin}
 use Rattle.pager_core.specs.declared.flight.Flight.{Flight}
 use Rattle.pager_core.specs.declared.flight.Phase.{Phase}
 use Rattle.pager_core.specs.declared.flight.Phase.TheVariants.{Start, Evict, Clear, Gone, Frame, Short, Fill, Unfill, Out, Write, Hand, Unclaim, Back, Drop, Late, Use, Fault, Lack, Ended}
@@ -53,12 +53,12 @@ pub record WillClear (call : Call) (kept : Kept) (first len : ℕ) : Type 0 wher
   pub unmapping : IsUnmapping kept call first len
   pub resting : IsResting kept
 
--- it unmaps this region, of which no page is resident
+-- it unmaps the region of this range, which was cleared
 pub record HasCleared (call : Call) (kept : Kept) (first len : ℕ) : Type 0 where
   pub unmapping : IsUnmapping kept call first len
   pub none_pending : kept.pending ≡ None
   pub none_paged : kept.paged ≡ None
-  pub clearing : kept.clearing ≡ Some unmapping.region
+  pub clearing : kept.clearing ≡ Some (range_of first len)
   pub none : NoneResident kept first len
 
 -- it evicts this page, which gives its frame up next

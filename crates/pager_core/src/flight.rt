@@ -14,7 +14,7 @@ ghost use Rattle.pager_model.specs.Locks.{own_if};
 ghost use Rattle.pager_core.specs.Steps.{AreAgreed, Makes, Passes, Refuses};
 
 use frame_pool::{Collected, Full, Pool};
-use pager_model::{Answered, Call, Entry, Need, Reply, Victim, Want, What};
+use pager_model::{Answered, Call, Entry, Need, PageRange, Reply, Victim, Want, What};
 use space_core::{Begun, OutFault, Space};
 use store_core::Store;
 
@@ -546,7 +546,8 @@ impl Flight {
         ensures nearer { (row_of self.new).steps < (row_of self.old).steps }
     {
         let own = self.own();
-        while let Some((page, frame)) = space.clear_next(first, length) {
+        let range = PageRange { first, length };
+        while let Some((page, frame)) = space.clear_next(range) {
             pool.give(own, page, frame);
         }
         pool.end_entry();

@@ -3,7 +3,7 @@ use Rattle.std.proofs.Common.{◌≡◌, ◌≢◌, ℕ, ◌+◌, Bool, true, fa
 use Rattle.std.proofs.lemmas.Bool.{ne_eqb, eq-eqb, true≢false, and_right, cond-true, cond-false}
 use Rattle.pager_model.specs.Options.{is_that}
 use Rattle.pager_model.specs.declared.call.Call.TheVariants.{Evict}
-use Rattle.pager_model.specs.declared.region.Region.{Region}
+use Rattle.pager_model.specs.declared.page_range.PageRange.{PageRange}
 use Rattle.pager_model.specs.Flat.{Flat, reply_of, out}
 use Rattle.pager_model.specs.declared.tile.Mapping.{Mapping}
 use Rattle.pager_model.specs.Images.{images_with}
@@ -100,7 +100,7 @@ module _ (old new : Kept) (page frame : ℕ) (same : SameRegions old new) (only 
   unsettled = ap (λ o. is_some o && not (is_that page new.pending)) gone
 
   out_of : is_in old.clearing page ≡ false
-  out_of = ap (λ (r : Option Region). is_in r page) only.none_clearing
+  out_of = ap (λ (r : Option PageRange). is_in r page) only.none_clearing
 
   -- the page without a frame has its copy's words, as before
   copied_after : IsCopied old page → IsCopied new page

@@ -8,5 +8,5 @@ pub mod ServedPages
 pub mod Refusals
 pub mod RegionSearch
 pub mod RegionChanges
-pub mod ClearedRegions
+pub mod ClearedRanges
 pub mod Translations

@@ -6,6 +6,7 @@ use Rattle.std.proofs.lemmas.Bool.Decides.{nat_tests}
 use Rattle.std.proofs.lemmas.Option.{none-some, same_Some}
 use Rattle.pager_model.specs.declared.call.Call.TheVariants.{Map, Grow, Unmap, Protect}
 use Rattle.pager_model.specs.declared.region.Kind.{Kind}
+use Rattle.pager_model.specs.declared.page_range.PageRange.{PageRange}
 use Rattle.pager_model.specs.declared.region.Region.{Region}
 use Rattle.pager_model.specs.declared.region.Rights.{Rights}
 use Rattle.pager_model.specs.declared.reply.Reply.{Reply}
@@ -144,8 +145,8 @@ module _ (number : ℕ) (regions : List Region) (t : Table) (page len : ℕ) (ki
           memory = λ lacking. cc;
         }
 
--- what is kept of regions that changed, where no page is pending and no region is being unmapped
-pub changed_kept : (regions changed : List Region) (t u : Table) (pending : Option ℕ) (was clearing : Option Region) (scan scan' : ℕ) → IsKept regions t pending was scan → IsTable changed → ((p : ℕ) → region_at changed p ≡ None → own_in u p ≡ None) → AreMapped changed u → pending ≡ None → clearing ≡ None → IsKept changed u pending clearing scan'
+-- what is kept of regions that changed, where no page is pending and no range is being cleared
+pub changed_kept : (regions changed : List Region) (t u : Table) (pending : Option ℕ) (was clearing : Option PageRange) (scan scan' : ℕ) → IsKept regions t pending was scan → IsTable changed → ((p : ℕ) → region_at changed p ≡ None → own_in u p ≡ None) → AreMapped changed u → pending ≡ None → clearing ≡ None → IsKept changed u pending clearing scan'
 changed_kept regions changed t u pending was clearing scan scan' k ordered own mapped rests none =
     record {
       ordered = ordered;

@@ -2,7 +2,7 @@
 use Rattle.std.proofs.Common.{nat_lt, ◌≡◌, ◌≢◌, ℕ, ◌≤◌, Bool, true, false, ◌&&◌, if◌then◌else◌, Option, Some, None, is_some, length, refl, sym, ap, inl, inr, ◌∙◌, arith, subst}
 use Rattle.std.proofs.lemmas.Bool.{cases_Bool, cases_eq, cond-true, cond-false, cond_both}
 use Rattle.pager_model.specs.Options.{is_that}
-use Rattle.pager_model.specs.declared.region.Region.{Region}
+use Rattle.pager_model.specs.declared.page_range.PageRange.{PageRange}
 use Rattle.pager_model.specs.Regions.{region_at}
 use Rattle.pager_model.specs.SpaceStates.{SpaceState, Rises, pages_of}
 use Rattle.space_core.specs.Beginning.{SameRegions}
@@ -121,7 +121,7 @@ pub raised_stands : (old new : Kept) (st after : SpaceState) → SameWhole old n
     → StandsFor old st → ((p : ℕ) → pages_of after p ≡ mapping_in new.table p) → Translates new after → StandsFor new after
 raised_stands old new st after same clearing rest within at unmoved base s pages translates =
     record {
-      beside = subst (λ (r : Option Region). StandsBeside (is_in r) new after) (sym clearing) (beside_from (is_in old.clearing) old new st after same rest within s.beside
+      beside = subst (λ (r : Option PageRange). StandsBeside (is_in r) new after) (sym clearing) (beside_from (is_in old.clearing) old new st after same rest within s.beside
           (λ p. same_at (is_in old.clearing) old new st after s.beside rest.told p (at p) (unmoved p)));
       base = λ p. base p ∙ s.base p ∙ sym ((at p).frame);
       pages = pages;
@@ -149,7 +149,7 @@ pub one_stands : (old new : Kept) (st after : SpaceState) (page : ℕ) → SameW
     → ((p : ℕ) → pages_of after p ≡ mapping_in new.table p) → Translates new after → StandsFor new after
 one_stands old new st after page same clearing rest highest at state base s here resident pages translates =
     record {
-      beside = subst (λ (r : Option Region). StandsBeside (is_in r) new after) (sym clearing) (beside_from (is_in old.clearing) old new st after same rest highest s.beside (λ p. elim (cases_eq p page) [
+      beside = subst (λ (r : Option PageRange). StandsBeside (is_in r) new after) (sym clearing) (beside_from (is_in old.clearing) old new st after same rest highest s.beside (λ p. elim (cases_eq p page) [
         | inl e ↦ rw e here
         | inr n ↦ same_at (is_in old.clearing) old new st after s.beside rest.told p (at p n) (state p n)
       ]));

@@ -2,7 +2,7 @@
 use Rattle.std.proofs.Common.{◌≡◌, ◌≢◌, ℕ, ◌≤◌, ◌+◌, ◌⊎◌, Bool, true, false, if◌then◌else◌, option_map, length, ◌&&◌, ◌==◌, not, List, Option, Some, None, slice_index_or, refl, sym, ap, inl, inr, ◌∙◌, arith, subst}
 use Rattle.std.proofs.lemmas.Bool.{cases_Bool, ne_eqb, eq-eqb, true≢false, cond-true, cond-false}
 use Rattle.pager_model.specs.Options.{is_that}
-use Rattle.pager_model.specs.declared.region.Region.{Region}
+use Rattle.pager_model.specs.declared.page_range.PageRange.{PageRange}
 use Rattle.pager_model.specs.declared.tile.Mapping.{Mapping}
 use Rattle.pager_model.specs.Flat.{Flat, out}
 use Rattle.pager_model.specs.Images.{images_with}
@@ -116,7 +116,7 @@ pub record IsSaved (old : Kept) (store : Stored) (page : ℕ) : Type 0 where
 
 module _ (old : Kept) (resting : IsResting old) where
   pub none_in : (p : ℕ) → is_in old.clearing p ≡ false
-  none_in p = ap (λ (r : Option Region). is_in r p) resting.none_clearing
+  none_in p = ap (λ (r : Option PageRange). is_in r p) resting.none_clearing
 
   none_pending : (p : ℕ) → is_that p old.pending ≡ false
   none_pending p = ap (is_that p) resting.none_pending

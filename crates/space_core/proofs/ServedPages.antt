@@ -4,6 +4,7 @@ use Rattle.std.proofs.lemmas.Bool.{cases_Bool, cases_eq, and_parts, cond-true, c
 use Rattle.std.proofs.lemmas.Bool.Decides.{nat_tests}
 use Rattle.std.proofs.lemmas.Option.{none-some, same_Some}
 use Rattle.pager_model.specs.declared.call.Call.TheVariants.{Load, Store}
+use Rattle.pager_model.specs.declared.page_range.PageRange.{PageRange}
 use Rattle.pager_model.specs.declared.region.Region.{Region}
 use Rattle.pager_model.specs.declared.reply.Answered.{Answered}
 use Rattle.pager_model.specs.declared.reply.Reply.{Reply}
@@ -29,7 +30,7 @@ use Rattle.space_core.proofs.Translations.{Still, stays_used, retouches_used, re
 use Rattle.store_core.specs.Stored.{Stored, zero_words, TellsZero}
 use Rattle.tiles.specs.Resident.{with_flag}
 
-abbrev pub kept : ℕ → List Region → Table → Option ℕ → Option Region → Option ℕ → Stored → List (List Tile) → ℕ → ℕ → ℕ → Kept
+abbrev pub kept : ℕ → List Region → Table → Option ℕ → Option PageRange → Option ℕ → Stored → List (List Tile) → ℕ → ℕ → ℕ → Kept
 kept number regions table pending clearing paged store images promotions demotions broken =
     record {
       number = number;
@@ -188,8 +189,8 @@ module _ (number : ℕ) (regions : List Region) (t u : Table) (store : Stored) (
             };
       }
 
--- where no region is being unmapped, any page may get a frame
-pub placed_kept : (regions : List Region) (t u : Table) (p : Option ℕ) (page scan : ℕ) (m : Mapping) (clearing : Option Region) → IsKept regions t p clearing scan → Maps page (Some m) t u → page < 1048576 → clearing ≡ None → m.dirty ≡ false → IsMapped regions t page m → IsKept regions u (Some page) clearing scan
+-- where no range is being cleared, any page may get a frame
+pub placed_kept : (regions : List Region) (t u : Table) (p : Option ℕ) (page scan : ℕ) (m : Mapping) (clearing : Option PageRange) → IsKept regions t p clearing scan → Maps page (Some m) t u → page < 1048576 → clearing ≡ None → m.dirty ≡ false → IsMapped regions t page m → IsKept regions u (Some page) clearing scan
 placed_kept regions t u p page scan m clearing k moves in_space none unwritten is =
     record {
       ordered = k.ordered;
@@ -209,7 +210,7 @@ pub refilled_mapped : (regions : List Region) (t u : Table) (page : ℕ) → Ref
 refilled_mapped regions t u page refills mapped p m is = mapped_again regions t u p m (refills.same.own p) (mapped p m (sym (refills.mapping p) ∙ is))
 
 -- what is kept stays so where each page keeps its frame, and no page is pending
-pub same_kept : (regions : List Region) (t u : Table) (p : Option ℕ) (clearing : Option Region) (scan : ℕ) → IsKept regions t p clearing scan → SameOwn t u → ((q : ℕ) → frame_in u q ≡ frame_in t q) → AreMapped regions u → IsKept regions u None clearing scan
+pub same_kept : (regions : List Region) (t u : Table) (p : Option ℕ) (clearing : Option PageRange) (scan : ℕ) → IsKept regions t p clearing scan → SameOwn t u → ((q : ℕ) → frame_in u q ≡ frame_in t q) → AreMapped regions u → IsKept regions u None clearing scan
 same_kept regions t u p clearing scan k same frame mapped =
     record {
       ordered = k.ordered;
@@ -218,11 +219,11 @@ same_kept regions t u p clearing scan k same frame mapped =
       pending_in = λ q h. absurd (none-some q h);
       pending_clean = λ q h. absurd (none-some q h);
       pending_alone = λ q h. absurd (none-some q h);
-      clearing_in = λ r h. let was = k.clearing_in r h in record { is_region = was.is_region; begun = was.begun; done = λ q a b. frame q ∙ was.done q a b };
+      clearing_in = λ r h. let was = k.clearing_in r h in record { begun = was.begun; done = λ q a b. frame q ∙ was.done q a b };
     }
 
 -- what is kept stays so where no page gets a frame, and none is dirty that wasn't
-pub kept_again : (regions : List Region) (t u : Table) (p : Option ℕ) (clearing : Option Region) (scan : ℕ) → IsKept regions t p clearing scan → SameOwn t u → ((q : ℕ) → frame_in t q ≡ None → frame_in u q ≡ None) → ((q : ℕ) → dirty_in t q ≡ false → dirty_in u q ≡ false) → AreMapped regions u → IsKept regions u p clearing scan
+pub kept_again : (regions : List Region) (t u : Table) (p : Option ℕ) (clearing : Option PageRange) (scan : ℕ) → IsKept regions t p clearing scan → SameOwn t u → ((q : ℕ) → frame_in t q ≡ None → frame_in u q ≡ None) → ((q : ℕ) → dirty_in t q ≡ false → dirty_in u q ≡ false) → AreMapped regions u → IsKept regions u p clearing scan
 kept_again regions t u p clearing scan k same frame clean mapped =
     record {
       ordered = k.ordered;
@@ -231,7 +232,7 @@ kept_again regions t u p clearing scan k same frame clean mapped =
       pending_in = k.pending_in;
       pending_clean = λ q h. clean q (k.pending_clean q h);
       pending_alone = k.pending_alone;
-      clearing_in = λ r h. let was = k.clearing_in r h in record { is_region = was.is_region; begun = was.begun; done = λ q a b. frame q (was.done q a b) };
+      clearing_in = λ r h. let was = k.clearing_in r h in record { begun = was.begun; done = λ q a b. frame q (was.done q a b) };
     }
 
 left_or : {A : Type 0} (b : Bool) (x y : A) → (b ≡ false → y ≡ x) → (if b then x else y) ≡ x
@@ -239,13 +240,13 @@ left_or true x y h = refl
 left_or false x y h = h refl
 
 -- a page may be clean then
-pub cleaned_kept : (regions : List Region) (t u : Table) (p : Option ℕ) (clearing : Option Region) (scan page : ℕ) → IsKept regions t p clearing scan → Cleans page t u → IsKept regions u p clearing scan
+pub cleaned_kept : (regions : List Region) (t u : Table) (p : Option ℕ) (clearing : Option PageRange) (scan page : ℕ) → IsKept regions t p clearing scan → Cleans page t u → IsKept regions u p clearing scan
 cleaned_kept regions t u p clearing scan page k cleans =
     kept_again regions t u p clearing scan k cleans.same (λ q none. cleans_frame page t u cleans q ∙ none) (λ q clean. cleans_dirty page t u cleans q ∙ left_or (q == page) false (dirty_in t q) (λ _. clean))
     (mapped_flagged regions t u cleans.same (λ q. q == page) false cleans.mapping k.mapped)
 
 -- or is stored to
-pub stored_kept : (regions : List Region) (t u : Table) (p : Option ℕ) (clearing : Option Region) (scan page index word : ℕ) → IsKept regions t p clearing scan → Writes page index word t u → p ≡ None → IsKept regions u p clearing scan
+pub stored_kept : (regions : List Region) (t u : Table) (p : Option ℕ) (clearing : Option PageRange) (scan page index word : ℕ) → IsKept regions t p clearing scan → Writes page index word t u → p ≡ None → IsKept regions u p clearing scan
 stored_kept regions t u p clearing scan page index word k writes none =
     subst (λ (o : Option ℕ). IsKept regions u o clearing scan) (sym none)
     (same_kept regions t u p clearing scan k writes.same (writes_frame page index word t u writes) (mapped_flagged regions t u writes.same (λ q. q == page) true writes.mapping k.mapped))
@@ -254,13 +255,13 @@ stored_kept regions t u p clearing scan page index word k writes none =
 gone_mapped : (regions : List Region) (t u : Table) (page : ℕ) → Maps page None t u → AreMapped regions t → AreMapped regions u
 gone_mapped regions t u page maps mapped = mapped_but regions t u page None maps mapped (λ m e. absurd (none-some m e))
 
-pub gone_kept : (regions : List Region) (t u : Table) (p : Option ℕ) (clearing : Option Region) (scan page : ℕ) → IsKept regions t p clearing scan → Maps page None t u → IsKept regions u p clearing scan
+pub gone_kept : (regions : List Region) (t u : Table) (p : Option ℕ) (clearing : Option PageRange) (scan page : ℕ) → IsKept regions t p clearing scan → Maps page None t u → IsKept regions u p clearing scan
 gone_kept regions t u p clearing scan page k maps =
     kept_again regions t u p clearing scan k maps.same (λ q none. maps_frame page None t u maps q ∙ left_or (q == page) None (frame_in t q) (λ _. none)) (λ q clean. maps_dirty page None t u maps q ∙ left_or (q == page) false (dirty_in t q) (λ _. clean))
     (gone_mapped regions t u page maps k.mapped)
 
--- also the lowest of a region that is being unmapped
-pub scanned_kept : (regions : List Region) (t u : Table) (p : Option ℕ) (clearing : Option Region) (scan page : ℕ) → IsKept regions t p clearing scan → Maps page None t u → ((r : Region) → clearing ≡ Some r → (r.first ≤ page) × ((q : ℕ) → r.first ≤ q → q < page → frame_in t q ≡ None)) → IsKept regions u p clearing (page + 1)
+-- also the lowest of a range that is being cleared
+pub scanned_kept : (regions : List Region) (t u : Table) (p : Option ℕ) (clearing : Option PageRange) (scan page : ℕ) → IsKept regions t p clearing scan → Maps page None t u → ((r : PageRange) → clearing ≡ Some r → (r.first ≤ page) × ((q : ℕ) → r.first ≤ q → q < page → frame_in t q ≡ None)) → IsKept regions u p clearing (page + 1)
 scanned_kept regions t u p clearing scan page k maps before =
     let gone = gone_kept regions t u p clearing scan page k maps in
     record {
@@ -273,7 +274,6 @@ scanned_kept regions t u p clearing scan page k maps before =
       clearing_in = λ r h.
           let b = before r h in
           record {
-            is_region = (k.clearing_in r h).is_region;
             begun = omega (arith, b.0);
             done = λ q from below. maps_frame page None t u maps q ∙ elim (cases_eq q page) [
               | inl e ↦ cond-true _ _ _ (eq-eqb q page e)

@@ -3,7 +3,6 @@ use Rattle.std.proofs.Common.{◌≡◌, ℕ, ◌+◌, ◌<◌, ◌≤◌, Bool,
 use Rattle.std.proofs.lemmas.Bool.{cases_lt}
 use Rattle.std.proofs.lemmas.Bool.Decides.{nat_tests}
 use Rattle.std.proofs.lemmas.List.{get_or-map, length-map}
-use Rattle.std.proofs.lemmas.Option.{none-some, same_Some}
 use Rattle.std.proofs.Math.Nat.{min-eq_left, min-eq_right}
 use Rattle.pager_model.specs.declared.region.Region.{Region}
 use Rattle.pager_model.specs.declared.region.Rights.{Rights}
@@ -171,7 +170,7 @@ module _ (old new : Kept) (st after : SpaceState) (c : ℕ) (follows : Follows s
       (λ i within. retouched.images i within ∙ sym (untouched (i == c) (still_tiles all_sizes (mapping_in new.table) (image_at old i))))
       retouched.promotions retouched.demotions
 
--- The pages of a region were cleared one after another: their tiles were counted before, and the images keep what is a tile still.
+-- The pages of a range were cleared one after another: the tiles that meet it were counted before, and the images keep what is a tile still.
 pub translates_cleared : (old new : Kept) (st after : SpaceState) (c lost : ℕ) → Follows st after c None → Translates old st → ((p : ℕ) → pages_of after p ≡ mapping_in new.table p)
     → length new.images ≡ length old.images → ((i : ℕ) → i < length old.images → image_at new i ≡ still_tiles all_sizes (mapping_in new.table) (image_at old i))
     → promotions_between (pages_of st) (pages_of after) ≡ 0 → demotions_between (pages_of st) (pages_of after) ≡ lost
@@ -253,12 +252,6 @@ said_gone false d o r rights = refl
 pub said_out : (b d : Bool) (o : Option ℕ) (r : Option Region) (rights : Rights) → mapping_with (if b then None else o) r rights (if b then false else d) ≡ (if b then None else mapping_with o r rights d)
 said_out true d o r rights = refl
 said_out false d o r rights = refl
-
--- a page of which something is said has a region
-pub said_region : (o : Option ℕ) (r : Option Region) (rights : Rights) (d : Bool) (m : Mapping) → mapping_with o r rights d ≡ Some m → (q : Region) × (r ≡ Some q) × (m.region ≡ q.first)
-said_region None r rights d m h = absurd (none-some m h)
-said_region (Some n) None rights d m h = absurd (none-some m h)
-said_region (Some n) (Some q) rights d m h = (q, refl, ap (λ (x : Mapping). x.region) (sym (same_Some _ _ h)))
 
 -- it is what is kept of the page, where the page's frame, region, rights and flag are
 module _ (kept : Kept) (st : SpaceState) (p : ℕ) (regions : st.flat.regions ≡ kept.regions)

@@ -15,7 +15,7 @@ use Rattle.pager_model.specs.Regions.{in_range, region_at, wanted}
 use Rattle.pager_model.specs.SpaceStates.{SpaceState, AfterClear, space_after, access_page, Rises, WhatAllowed}
 use Rattle.space_core.specs.declared.space.Begun.{Begun}
 use Rattle.space_core.specs.declared.space.Begun.TheVariants.{Answered as HasAnswered, NeedsFrame, NeedsClear, NeedsEvict, Failed as HasFailed}
-use Rattle.space_core.specs.Standing.{Kept, StandsFor, StandsBut, IsResting, MustWrite, frame_at, rights_at, dirty_at, is_allowed, is_unwired, copied_page}
+use Rattle.space_core.specs.Standing.{Kept, StandsFor, StandsBut, IsResting, MustWrite, range_of, frame_at, rights_at, dirty_at, is_allowed, is_unwired, copied_page}
 use Rattle.pager_model.specs.CallEntries.{answer_entry, evict_entry, take_entry, give_entry, clear_entry, out_entry, failed_entry}
 use Rattle.store_core.specs.Stored.{keeps_at}
 
@@ -210,13 +210,6 @@ pub record Evicts (old new : Kept) (page frame : ℕ) (a : Answered) : Type 0 wh
   pub allowed : (st : SpaceState) → StandsFor old st → (c number : ℕ) → WhatAllowed st true c (Answer number (Evict old.number page) a)
   pub stands : (st : SpaceState) → StandsFor old st → (c number : ℕ) → StandsFor new (space_after st (evict_entry c number old.number page a))
 
--- a region has this range
-pub record IsRange (kept : Kept) (first len : ℕ) : Type 0 where
-  pub region : Region
-  pub at : region_at kept.regions first ≡ Some region
-  pub first_is : region.first ≡ first
-  pub length_is : region.length ≡ len
-
 -- no page of the range is resident
 abbrev pub NoneResident : Kept → ℕ → ℕ → Type 0
 NoneResident kept first len = (p : ℕ) → in_range first len p ≡ true → frame_at kept p ≡ None
@@ -233,13 +226,13 @@ pub record ClearsOne (old new : Kept) (first len page frame : ℕ) : Type 0 wher
 -- No page of the range is resident, and the space stands for one clearing more.
 pub record ClearsNone (old new : Kept) (first len : ℕ) : Type 0 where
   pub none : NoneResident new first len
-  pub clearing : (r : Region) → region_at old.regions first ≡ Some r → new.clearing ≡ Some r
+  pub clearing : new.clearing ≡ Some (range_of first len)
   pub same_pending : new.pending ≡ old.pending
   pub same_paged : new.paged ≡ old.paged
   pub same : SameFrames old new
   pub stands : (st : SpaceState) (c : ℕ) → StandsBut first len old st → StandsFor new (space_after st (clear_entry c old.number first len))
 
--- The region that was cleared is gone, in each state in which its clearing was the last entry and this processor's.
+-- The region whose range was cleared is gone, in each state in which its clearing was the last entry and this processor's.
 pub record Unmapped (old new : Kept) (page : ℕ) (a : Answered) : Type 0 where
   pub done : a.reply ≡ Done
   pub same_number : new.number ≡ old.number

@@ -1,6 +1,7 @@
 -- What the fields of a space keep true.
 use Rattle.std.specs.Prelude.{ℕ, ◌≡◌, ◌<◌, ◌≤◌, false, List, Option, Some, None}
 use Rattle.std.specs.Option.{ForSome}
+use Rattle.pager_model.specs.declared.page_range.PageRange.{PageRange}
 use Rattle.pager_model.specs.declared.region.Region.{Region}
 use Rattle.pager_model.specs.declared.tile.Mapping.{Mapping}
 use Rattle.pager_model.specs.Regions.{region_at}
@@ -8,9 +9,8 @@ use Rattle.region_table.specs.Table.{IsTable}
 use Rattle.space_core.specs.Standing.{rights_by}
 use Rattle.space_core.specs.Tables.{Table, mapping_in, frame_in, own_in, dirty_in}
 
--- The region that is being unmapped is one of the regions, and none of its pages before the scan is resident.
-pub record IsClearing (regions : List Region) (table : Table) (scan : ℕ) (r : Region) : Type 0 where
-  pub is_region : region_at regions r.first ≡ Some r
+-- None of the pages before the scan of the range that is being cleared is resident.
+pub record IsClearing (table : Table) (scan : ℕ) (r : PageRange) : Type 0 where
   pub begun : r.first ≤ scan
   pub done : (p : ℕ) → r.first ≤ p → p < scan → frame_in table p ≡ None
 
@@ -21,7 +21,7 @@ pub record IsMapped (regions : List Region) (table : Table) (page : ℕ) (m : Ma
   pub first : m.region ≡ region.first
   pub rights : m.rights ≡ rights_by (own_in table page) (Some region)
 
-pub record IsKept (regions : List Region) (table : Table) (pending : Option ℕ) (clearing : Option Region) (scan : ℕ) : Type 0 where
+pub record IsKept (regions : List Region) (table : Table) (pending : Option ℕ) (clearing : Option PageRange) (scan : ℕ) : Type 0 where
   pub ordered : IsTable regions
   -- only a region's pages have rights of their own, so a new region's pages begin with its first rights
   pub own : (p : ℕ) → region_at regions p ≡ None → own_in table p ≡ None
@@ -29,6 +29,6 @@ pub record IsKept (regions : List Region) (table : Table) (pending : Option ℕ)
   pub pending_in : ForSome pending (λ p. p < 1048576)
   -- a page that was placed and not yet read in wasn't stored to
   pub pending_clean : ForSome pending (λ p. dirty_in table p ≡ false)
-  -- no page is placed while a region is being unmapped
+  -- no page is placed while a range is being cleared
   pub pending_alone : ForSome pending (λ p. clearing ≡ None)
-  pub clearing_in : ForSome clearing (IsClearing regions table scan)
+  pub clearing_in : ForSome clearing (IsClearing table scan)

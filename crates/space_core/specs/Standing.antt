@@ -3,6 +3,7 @@ use Rattle.std.specs.Prelude.{ℕ, ◌≡◌, ◌<◌, ◌≤◌, Bool, true, fa
 use Rattle.pager_model.specs.Options.{is_that}
 use Rattle.pager_model.specs.declared.call.Call.{Call}
 use Rattle.pager_model.specs.declared.call.Call.TheVariants.{Load, Store, Sync, Evict}
+use Rattle.pager_model.specs.declared.page_range.PageRange.{PageRange}
 use Rattle.pager_model.specs.declared.region.Region.{Region}
 use Rattle.pager_model.specs.declared.region.Rights.{Rights}
 use Rattle.pager_model.specs.declared.region.Rights.TheVariants.{NoAccess}
@@ -15,7 +16,7 @@ use Rattle.pager_model.specs.SpaceStates.{SpaceState, pages_of, last_count}
 use Rattle.pager_model.specs.TraceText.{IsCall}
 use Rattle.space_core.specs.Tables.{Table, mapping_in, frame_in, word_in, own_in, dirty_in}
 use Rattle.store_core.specs.Stored.{Stored, copy_at}
-use Rattle.tiles.specs.Resident.{large_tiles_in}
+use Rattle.tiles.specs.Resident.{large_tiles_meeting}
 
 pub record Kept : Type 0 where
   -- the space's number
@@ -27,8 +28,8 @@ pub record Kept : Type 0 where
   pub table : Table
   -- the page that was placed and is not yet read in
   pub pending : Option ℕ
-  -- the region that is being unmapped, whose pages give their frames up
-  pub clearing : Option Region
+  -- the range whose pages give their frames up
+  pub clearing : Option PageRange
   -- the page that is being evicted: it is equal to its copy, and gives its frame up next
   pub paged : Option ℕ
   -- the store of its pages' copies
@@ -38,7 +39,7 @@ pub record Kept : Type 0 where
   -- how many extents became tiles that lay in none, and how many tiles were broken; each stands still at its type's end
   pub promotions : ℕ
   pub demotions : ℕ
-  -- how many tiles of size 1 or more the region that is being unmapped had
+  -- how many tiles of size 1 or more met the range that is being cleared
   pub broken : ℕ
 
 abbrev pub image_at : Kept → ℕ → List Tile
@@ -79,11 +80,15 @@ word_at kept page i = if is_settled kept page then word_in kept.table page i els
 abbrev pub is_behind : Kept → ℕ → Bool
 is_behind kept page = dirty_at kept page && not (is_that page kept.paged)
 
-abbrev pub is_in : Option Region → ℕ → Bool
+-- the range of so many pages from the first one on
+abbrev pub range_of : ℕ → ℕ → PageRange
+range_of first len = record { first = first; length = len }
+
+abbrev pub is_in : Option PageRange → ℕ → Bool
 is_in None page = false
 is_in (Some r) page = in_range r.first r.length page
 
--- no page is pending or being evicted, and no region is being unmapped
+-- no page is pending or being evicted, and no range is being cleared
 pub record IsResting (kept : Kept) : Type 0 where
   pub none_pending : kept.pending ≡ None
   pub none_clearing : kept.clearing ≡ None
@@ -133,7 +138,7 @@ pub record Translates (kept : Kept) (state : SpaceState) : Type 0 where
   pub promotions : state.promotions ≤ last_count → kept.promotions ≡ state.promotions
   pub demotions : state.demotions ≤ last_count → kept.demotions ≡ state.demotions
 
--- A space stands for its list of entries, which leads to the state. Of the pages of a region that is being unmapped the words, the copies
+-- A space stands for its list of entries, which leads to the state. Of the pages of a range that is being cleared the words, the copies
 -- and the dirty flags are open.
 pub record StandsFor (kept : Kept) (state : SpaceState) : Type 0 where
   pub beside : StandsBeside (is_in kept.clearing) kept state
@@ -141,20 +146,20 @@ pub record StandsFor (kept : Kept) (state : SpaceState) : Type 0 where
   pub pages : (page : ℕ) → pages_of state page ≡ mapping_in kept.table page
   pub translates : Translates kept state
 
--- a region that begins at the page is being unmapped
-abbrev pub is_clearing : Option Region → ℕ → Bool
-is_clearing None first = false
-is_clearing (Some r) first = r.first == first
+-- this range is being cleared
+abbrev pub is_clearing : Option PageRange → ℕ → ℕ → Bool
+is_clearing None first len = false
+is_clearing (Some r) first len = (r.first == first) && (r.length == len)
 
--- The same but for a range, of which any frames may be missing: some of its pages gave theirs up, and no entry says so yet. Its tiles
--- were counted before the first page did.
+-- The same but for a range, of which any frames may be missing: some of its pages gave theirs up, and no entry says so yet. The tiles that
+-- meet it were counted before the first page did.
 pub record StandsBut (first len : ℕ) (kept : Kept) (state : SpaceState) : Type 0 where
   pub beside : StandsBeside (in_range first len) kept state
   pub base : (page : ℕ) → in_range first len page ≡ false → state.base page ≡ frame_at kept page
   pub pages : (page : ℕ) → in_range first len page ≡ false → pages_of state page ≡ mapping_in kept.table page
   pub translates : Translates kept state
-  pub not_begun : is_clearing kept.clearing first ≡ false → (page : ℕ) → pages_of state page ≡ mapping_in kept.table page
-  pub counted : is_clearing kept.clearing first ≡ true → kept.broken ≡ large_tiles_in first len (pages_of state)
+  pub not_begun : is_clearing kept.clearing first len ≡ false → (page : ℕ) → pages_of state page ≡ mapping_in kept.table page
+  pub counted : is_clearing kept.clearing first len ≡ true → kept.broken ≡ large_tiles_meeting first len (pages_of state)
 
 -- Calls.
 

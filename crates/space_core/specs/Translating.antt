@@ -1,16 +1,14 @@
 -- What becomes of a space's translations as its pages change and are used.
 use Rattle.std.specs.Prelude.{ℕ, ◌≡◌, ◌+◌, ◌<◌, ◌==◌, true, false, nat_lt, if◌then◌else◌, length, Option, Some, None}
-use Rattle.pager_model.specs.declared.region.Region.{Region}
 use Rattle.pager_model.specs.declared.tile.Tile.{Tile}
 use Rattle.pager_model.specs.Images.{still_tiles, touched_by}
-use Rattle.pager_model.specs.Regions.{region_at}
 use Rattle.pager_model.specs.SpaceStates.{last_count}
 use Rattle.pager_model.specs.SizeSets.{all_sizes}
 use Rattle.pager_model.specs.Tiles.{promotions_between, demotions_between}
 use Rattle.space_core.specs.Pages.{Cleans}
-use Rattle.space_core.specs.Standing.{Kept, image_at, dirty_at, is_clearing}
+use Rattle.space_core.specs.Standing.{Kept, range_of, image_at, dirty_at, is_clearing}
 use Rattle.space_core.specs.Tables.{mapping_in}
-use Rattle.tiles.specs.Resident.{large_tiles_in}
+use Rattle.tiles.specs.Resident.{large_tiles_meeting}
 
 -- a count that stands still at its type's end
 abbrev pub counted_up : ℕ → ℕ → ℕ
@@ -40,9 +38,9 @@ pub record Touches (old new : Kept) (processor : ℕ) (tile : Option Tile) : Typ
   pub processors : length new.images ≡ length old.images
   pub images : (c : ℕ) → c < length old.images → image_at new c ≡ touched_by (if c == processor then tile else None) (image_at old c)
 
--- A region's clearing goes on, or begins: its tiles are counted then, and it is the region that is being unmapped.
+-- A range's clearing goes on, or begins: the tiles that meet it are counted then, and it is the range that is being cleared.
 pub record BeginsClear (old new : Kept) (first len : ℕ) : Type 0 where
   pub same : new ≡ record old { clearing = new.clearing; broken = new.broken }
-  pub begun : (r : Region) → region_at old.regions first ≡ Some r → new.clearing ≡ Some r
-  pub went_on : is_clearing old.clearing first ≡ true → new.broken ≡ old.broken
-  pub counted : is_clearing old.clearing first ≡ false → new.broken ≡ large_tiles_in first len (mapping_in old.table)
+  pub begun : new.clearing ≡ Some (range_of first len)
+  pub went_on : is_clearing old.clearing first len ≡ true → new.broken ≡ old.broken
+  pub counted : is_clearing old.clearing first len ≡ false → new.broken ≡ large_tiles_meeting first len (mapping_in old.table)

@@ -8,17 +8,19 @@ ghost use Rattle.pager_model.specs.SizeSets.{all_sizes};
 ghost use Rattle.pager_model.specs.Tiles.{tile_of, tiles_of_size};
 ghost use Rattle.pager_model.specs.SpaceStates.{empty_state, access_page};
 ghost use Rattle.space_core.specs.Beginning.{Begins, NeedsItsFrame, NeedsNoFrame, Places, ReadsIn, FailsToRead, Finishes, WritesOut, FailsToWrite, LeavesUnwritten, Removes, IsEvicting, Evicts, copied_reply};
-ghost use Rattle.space_core.specs.Beginning.{IsRange, NoneResident, ClearsOne, ClearsNone, Unmapped};
+ghost use Rattle.space_core.specs.Beginning.{NoneResident, ClearsOne, ClearsNone, Unmapped};
 ghost use Rattle.space_core.specs.Pages.{IsFresh, Maps};
 ghost use Rattle.space_core.specs.Saving.{Saves, FailsToSave, LacksRoom, unwritten_by};
-ghost use Rattle.space_core.specs.Standing.{StandsFor, IsResting, frame_at, dirty_at, image_at, rights_by, is_allowed, CanBegin};
+ghost use Rattle.space_core.specs.Standing.{StandsFor, IsResting, range_of, frame_at, dirty_at, image_at, rights_by, is_allowed, CanBegin};
 ghost use Rattle.space_core.specs.Tables.{mapping_in, own_in};
 ghost use Rattle.space_core.specs.Translating.{counted_up, Retouches, ChangesPages, CleansPage, Touches, BeginsClear};
 ghost use Rattle.store_core.specs.Stored.{TellsZero};
 
 use crate::access::{accessed_page, answered, page_of, permits, want_in, word_of};
 use crate::table::PageTable;
-use pager_model::{Answered, Call, Frame, Kind, NoMemory, Region, Reply, Rights, Tile, Want};
+use pager_model::{
+    Answered, Call, Frame, Kind, NoMemory, PageRange, Region, Reply, Rights, Tile, Want,
+};
 use region_table::Regions;
 use std::alloc::Global;
 use std::marker::Model;
@@ -58,9 +60,9 @@ pub struct Space<S: Store + Send + Drop> {
     table: PageTable,
     /// The page that was placed and is not yet read in.
     pending: Option<u32>,
-    /// The region whose pages give their frames up.
-    clearing: Option<Region>,
-    /// None of the clearing region's pages before this one is resident.
+    /// The range whose pages give their frames up.
+    clearing: Option<PageRange>,
+    /// None of that range's pages before this one is resident.
     scan: u32,
     /// The page that is being evicted: it is equal to its copy, and gives its frame up next.
     paged: Option<u32>,
@@ -69,7 +71,7 @@ pub struct Space<S: Store + Send + Drop> {
     images: Vec<Image>,
     promotions: u64,
     demotions: u64,
-    /// How many tiles of size 1 or more the clearing region had.
+    /// How many large tiles met that range when its clearing began.
     broken: u32,
 }
 
@@ -267,17 +269,17 @@ impl<S: Store + Send + Drop> Space<S> {
         (self.take(page), answered(reply))
     }
 
-    /// The lowest resident page of a region's range, with its frame, which it gives up. `None` exactly where no page of the range is
-    /// resident; the space then waits for the region's unmap.
-    pub fn clear_next(&mut self, first: u32, length: u32) -> Option<(u32, Frame)>
-        requires range { IsRange self.old first length }
+    /// The lowest resident page of a range, with its frame, which it gives up. `None` exactly where no page of the range is resident; where
+    /// a region has that range, the space then waits for its unmap.
+    pub fn clear_next(&mut self, range: PageRange) -> Option<(u32, Frame)>
+        requires in_space { range.first + range.length ≤ 1048576 }
         requires none_pending { self.old.pending ≡ None }
-        ensures some { IfSome result (λ given. ClearsOne self.old self.new first length given.0 given.1.number) }
-        ensures none { IfNone result (ClearsNone self.old self.new first length) }
-        ensures none_left { NoneResident self.old first length → result ≡ None }
+        ensures some { IfSome result (λ given. ClearsOne self.old self.new range.first range.length given.0 given.1.number) }
+        ensures none { IfNone result (ClearsNone self.old self.new range.first range.length) }
+        ensures none_left { NoneResident self.old range.first range.length → result ≡ None }
     {
-        let from = self.begin_clearing(first, length);
-        let end = first + length;
+        let from = self.begin_clearing(range);
+        let end = range.first + range.length;
         let Some(page) = self.table.first_resident(from, end) else {
             self.scan = end;
             self.demotions = self.demotions.saturating_add(u64::from(self.broken));
@@ -289,11 +291,11 @@ impl<S: Store + Send + Drop> Space<S> {
         Some((page, frame))
     }
 
-    /// Takes away the region that has the page, after its pages were cleared.
+    /// Takes away the region that has the page, after its range was cleared.
     pub fn unmap(&mut self, page: u32) -> Answered
         requires none_pending { self.old.pending ≡ None }
         requires none_paged { self.old.paged ≡ None }
-        requires cleared { (r : Item) × (region_at self.old.regions page ≡ Some r) × (self.old.clearing ≡ Some r) × NoneResident self.old r.first r.length }
+        requires cleared { (r : Item) × (region_at self.old.regions page ≡ Some r) × (self.old.clearing ≡ Some (range_of r.first r.length)) × NoneResident self.old r.first r.length }
         ensures { Unmapped self.old self.new page result }
     {
         let Ok(region) = self.regions.unmap(page) else {
@@ -305,25 +307,22 @@ impl<S: Store + Send + Drop> Space<S> {
         answered(Reply::Done)
     }
 
-    /// Goes on with the clearing of a region, or begins it, where its tiles are counted first. None of its pages before the result is
-    /// resident.
-    fn begin_clearing(&mut self, first: u32, length: u32) -> u32
-        requires range { IsRange self.old first length }
+    /// Goes on with the clearing of a range, or begins it, where the large tiles that meet it are counted first. None of its pages before the
+    /// result is resident.
+    fn begin_clearing(&mut self, range: PageRange) -> u32
+        requires in_space { range.first + range.length ≤ 1048576 }
         requires none_pending { self.old.pending ≡ None }
-        ensures in_space { first + length ≤ 1048576 }
-        ensures begun { first ≤ result }
-        ensures done { (p : ℕ) → first ≤ p → p < result → frame_at self.old p ≡ None }
-        ensures counts { BeginsClear self.old self.new first length }
+        ensures begun { range.first ≤ result }
+        ensures done { (p : ℕ) → range.first ≤ p → p < result → frame_at self.old p ≡ None }
+        ensures counts { BeginsClear self.old self.new range.first range.length }
     {
-        if let Some(region) = self.clearing
-            && region.first == first
-        {
+        if self.clearing == Some(range) {
             return self.scan;
         }
-        self.broken = self.table.tiles_in(first, length);
-        self.clearing = self.regions.find(first);
-        self.scan = first;
-        first
+        self.broken = self.table.tiles_meeting(range.first, range.length);
+        self.clearing = Some(range);
+        self.scan = range.first;
+        range.first
     }
 
     /// Maps a region, or refuses to.

@@ -3,7 +3,7 @@
 ghost use Rattle.std.specs.Prelude.{◌≡◌, ◌≢◌, ◌∷◌, [], ◌+◌, ◌-◌, ◌^◌, ◌<◌, ◌≤◌, ℕ, List, true, false, length, replicate, None, Some, IfOk, IfSome, IfNone, OnErr};
 ghost use Rattle.pager_model.specs.SpaceStates.{Rises};
 ghost use Rattle.pager_model.specs.Tiles.{tile_of, is_tile, tiles_of_size};
-ghost use Rattle.tiles.specs.Resident.{AreMoves, large_tiles_in};
+ghost use Rattle.tiles.specs.Resident.{AreMoves, large_tiles_meeting};
 ghost use Rattle.space_core.specs.Tables.{mapping_in, frame_in, word_in, own_in, dirty_in};
 ghost use Rattle.space_core.specs.Pages.{IsFresh, Maps, Refills, HasWords, Writes, Cleans, OwnsRights, Protects, Forgets, IsFirstResident, NoneFrom};
 ghost use Rattle.store_core.specs.Stored.{copy_at, keeps_at, SameCopies, SetsCopy};
@@ -80,12 +80,12 @@ impl PageTable {
         self.pages.is_tile(tile)
     }
 
-    /// How many tiles of size 1 or more begin in the range.
-    pub fn tiles_in(&self, first: u32, length: u32) -> u32
+    /// How many tiles of size 1 or more have a page of the range.
+    pub fn tiles_meeting(&self, first: u32, length: u32) -> u32
         requires { first + length ≤ 1048576 }
-        ensures { result ≡ large_tiles_in first length (mapping_in self.now) }
+        ensures { result ≡ large_tiles_meeting first length (mapping_in self.now) }
     {
-        self.pages.tiles_in(first, length)
+        self.pages.tiles_meeting(first, length)
     }
 
     /// How many tiles there are of each size.

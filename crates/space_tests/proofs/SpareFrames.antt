@@ -11,9 +11,10 @@ use Rattle.pager_model.specs.declared.reply.Answered.{Answered}
 use Rattle.pager_model.specs.Regions.{in_range, region_at}
 use Rattle.pager_model.specs.SizeSets.{all_sizes}
 use Rattle.pager_model.specs.SpaceStates.{SpaceState, empty_state}
-use Rattle.space_core.specs.Beginning.{SameRegions, GaveUp, IsRange, NoneResident, ClearsOne, ClearsNone, Unmapped}
+use Rattle.space_core.specs.Beginning.{SameRegions, GaveUp, NoneResident, ClearsOne, ClearsNone, Unmapped}
+use Rattle.space_tests.specs.Ranges.{IsRange}
 use Rattle.space_tests.specs.Spares.{HasSpare}
-use Rattle.space_core.specs.Standing.{Kept, StandsFor, StandsBut, IsResting, frame_at}
+use Rattle.space_core.specs.Standing.{Kept, StandsFor, StandsBut, IsResting, range_of, frame_at}
 
 pub record IsPopped (spare rest : List Framed) (frame : Framed) : Type 0 where
   pub number : frame.number ≡ length rest
@@ -86,12 +87,12 @@ clears_one_more first len page frame old mid new so_far one =
 -- a region that is there is still there
 pub range_again : (first len : ℕ) (old new : Kept) → SameRegions old new → IsRange old first len → IsRange new first len
 range_again first len old new same range =
-    record { region = range.region; at = ap (λ (rs : List Region). region_at rs first) same.regions ∙ range.at; first_is = range.first_is; length_is = range.length_is }
+    record { region = range.region; at = ap (λ (rs : List Region). region_at rs first) same.regions ∙ range.at; first_is = range.first_is; length_is = range.length_is; in_space = range.in_space }
 
 -- no page of the range is resident any more, so its region can be taken away
-pub may_unmap : (first len : ℕ) (mid new : Kept) → IsRange mid first len → ClearsNone mid new first len → (r : Region) × (region_at new.regions first ≡ Some r) × (new.clearing ≡ Some r) × NoneResident new r.first r.length
+pub may_unmap : (first len : ℕ) (mid new : Kept) → IsRange mid first len → ClearsNone mid new first len → (r : Region) × (region_at new.regions first ≡ Some r) × (new.clearing ≡ Some (range_of r.first r.length)) × NoneResident new r.first r.length
 may_unmap first len mid new range none =
-    (range.region, ap (λ (rs : List Region). region_at rs first) none.same.same.regions ∙ range.at, none.clearing range.region range.at, rw (range.first_is, range.length_is) none.none)
+    (range.region, ap (λ (rs : List Region). region_at rs first) none.same.same.regions ∙ range.at, rw (range.first_is, range.length_is) none.clearing, rw (range.first_is, range.length_is) none.none)
 
 left_base : (b : Bool) (o : Option ℕ) (number : ℕ) → (if b then None else o) ≡ Some number → o ≡ Some number
 left_base true o number h = absurd (none-some number h)

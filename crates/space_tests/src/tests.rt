@@ -2,11 +2,11 @@ ghost use Rattle.std.specs.Prelude.{◌≡◌, ◌<◌, ◌≤◌, ◌*◌, ◌^
 ghost use Rattle.pager_model.specs.Flat.{space_of_call};
 ghost use Rattle.pager_model.specs.Frame.{Framed};
 ghost use Rattle.pager_model.specs.TraceText.{IsCall};
-ghost use Rattle.space_core.specs.Beginning.{IsRange};
+ghost use Rattle.space_tests.specs.Ranges.{IsRange};
 ghost use Rattle.space_tests.specs.Spares.{HasSpare};
 ghost use Rattle.space_core.specs.Standing.{IsResting, CanBegin};
 
-use pager_model::{Call, Frame, Kind, Reply, Rights, frames_of};
+use pager_model::{Call, Frame, Kind, PageRange, Reply, Rights, frames_of};
 use space_core::{Begun, Space};
 use std::alloc::Global;
 use std::process::Abort;
@@ -197,9 +197,10 @@ fn clear(space: &mut Space<MemoryStore>, first: u32, length: u32) -> Result<Repl
     ensures number { OnOk result (space.new.number ≡ space.old.number) }
     ensures spare { OnOk result ((spare : List Framed) → HasSpare space.old spare → HasSpare space.new spare) }
 {
+    let range = PageRange { first, length };
     let mut next = first;
     for _ in 0..=length {
-        let Some((page, _)) = space.clear_next(first, length) else {
+        let Some((page, _)) = space.clear_next(range) else {
             return Ok(space.unmap(first).reply);
         };
         if page < next {

@@ -1,5 +1,5 @@
 -- The size of a page's tile: the largest at which the extent round it is eligible.
-use Rattle.std.proofs.Common.{◌≡◌, ℕ, zero, suc, ◌+◌, ◌-◌, ◌%◌, ◌^◌, ◌<◌, ◌≤◌, Bool, true, false, Option, Some, None, eqb, refl, sym, ap, inl, inr, ◌∙◌, ◌⊎◌, arith, subst}
+use Rattle.std.proofs.Common.{◌≡◌, ℕ, zero, suc, ◌+◌, ◌-◌, ◌/◌, ◌%◌, ◌^◌, ◌<◌, ◌≤◌, Bool, true, false, Option, Some, None, eqb, refl, sym, ap, inl, inr, ◌∙◌, ◌⊎◌, arith, subst}
 use Rattle.std.specs.Option.{option_or}
 use Rattle.std.proofs.lemmas.Bool.{cases_Bool, cases_eq, cases_lt}
 use Rattle.std.proofs.lemmas.Bool.Decides.{nat_tests}
@@ -8,8 +8,9 @@ use Rattle.pager_model.specs.declared.tile.Mapping.{Mapping}
 use Rattle.pager_model.specs.declared.tile.Tile.{Tile}
 use Rattle.pager_model.specs.Extents.{extent_start}
 use Rattle.pager_model.specs.Tiles.{moved_by, tile_with, eligible_at, largest_up_to, tile_of, size_in, size_at, begins_at}
+use Rattle.pager_model.proofs.ExtentLemmas.{coarser}
 use Rattle.tiles.specs.Beside.{whole}
-use Rattle.tiles.proofs.Eligible.{HasExtent, whole_has, has_whole, whole_none, eligible_is, page_in, smaller, page_whole}
+use Rattle.tiles.proofs.Eligible.{HasExtent, whole_has, has_whole, whole_none, whole_alike, eligible_is, page_in, smaller, page_whole}
 use Rattle.tiles.proofs.Extents.{StartsBelow, starts_below}
 
 -- the largest eligible extent round a page has this size, up to one
@@ -135,6 +136,15 @@ size_is pages page n low passes misses =
         | inr to ↦ omega arith
       ]
     ]
+
+-- pages of one tile have tiles of one size
+pub size_alike : (pages : ℕ → Option Mapping) (page other : ℕ) → other / 8 ^ size_at pages page ≡ page / 8 ^ size_at pages page → size_at pages other ≡ size_at pages page
+size_alike pages page other same =
+    let n = size_at pages page in
+    let low = size_small pages page in
+    size_is pages other n low
+    (λ positive. whole_alike pages n page other same ∙ whole_within pages page n positive (omega arith))
+    (λ k more small. whole_alike pages k page other (coarser n k other page (omega arith) small same) ∙ whole_beyond pages page k more small)
 
 -- ---- the tile of a page by its own mapping
 

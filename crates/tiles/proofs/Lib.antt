@@ -7,6 +7,7 @@ pub mod Eligible
 pub mod Extents
 pub mod KeptPages
 pub mod Largest
+pub mod Meeting
 pub mod Numbering
 pub mod MoveCounts
 pub mod SettledSizes

@@ -1,5 +1,5 @@
 -- The resident pages of a space. Contracts look at them only through the mapping of a page, where it is resident.
-use Rattle.std.specs.Prelude.{ℕ, ◌≡◌, Bool, ◌&&◌, ◌==◌, nat_lt, if◌then◌else◌, List, slice_index_or, length, option_map, Option, Some, None}
+use Rattle.std.specs.Prelude.{ℕ, ◌≡◌, ◌+◌, ◌%◌, ◌^◌, Bool, ◌&&◌, ◌==◌, not, nat_lt, if◌then◌else◌, List, slice_index_or, length, option_map, Option, Some, None}
 use Rattle.extent_tree.specs.Rows.{Arena, row}
 use Rattle.pager_model.specs.declared.region.Rights.{Rights}
 use Rattle.pager_model.specs.declared.tile.Mapping.{Mapping}
@@ -64,5 +64,17 @@ abbrev pub begins_large : (ℕ → Option Mapping) → ℕ → Bool
 begins_large pages page = begins_at page (tile_of pages page) && nat_lt 0 (size_at pages page)
 
 -- how many tiles of size 1 or more begin in the range
-abbrev pub large_tiles_in : ℕ → ℕ → (ℕ → Option Mapping) → ℕ
-large_tiles_in first len pages = count_pages (λ page. in_range first len page && begins_large pages page)
+abbrev pub large_tiles_begun : ℕ → ℕ → (ℕ → Option Mapping) → ℕ
+large_tiles_begun first len pages = count_pages (λ page. in_range first len page && begins_large pages page)
+
+-- the page's tile begins before it
+abbrev pub begins_before : (ℕ → Option Mapping) → ℕ → Bool
+begins_before pages page = not (page % 8 ^ size_at pages page == 0)
+
+-- the extent of this size from a page on has a page of the range
+abbrev pub extent_meets : ℕ → ℕ → ℕ → ℕ → Bool
+extent_meets first len size page = nat_lt 0 len && (nat_lt page (first + len) && nat_lt first (page + 8 ^ size))
+
+-- how many tiles of size 1 or more have a page of the range
+abbrev pub large_tiles_meeting : ℕ → ℕ → (ℕ → Option Mapping) → ℕ
+large_tiles_meeting first len pages = count_pages (λ page. begins_large pages page && extent_meets first len (size_at pages page) page)

@@ -3,7 +3,7 @@
 ghost use Rattle.std.specs.Prelude.{◌≡◌, ◌≢◌, ◌∷◌, [], ℕ, ◌+◌, ◌*◌, ◌<◌, ◌≤◌, true, false, Option, None, Some, IfOk, IfNone, IfSome, option_map, slice_index};
 ghost use Rattle.pager_model.specs.Tiles.{tile_of, is_tile, size_at, tiles_of_size};
 ghost use Rattle.pager_model.specs.declared.tile.Mapping.{Mapping};
-ghost use Rattle.tiles.specs.Resident.{mapping_at, frames_in, frame_of_page, large_tiles_in, Maps, Protects, AreMoves, with_flag, with_rights, begins_large};
+ghost use Rattle.tiles.specs.Resident.{mapping_at, frames_in, frame_of_page, Maps, Protects, AreMoves, with_flag, with_rights, begins_large, begins_before, large_tiles_begun, large_tiles_meeting};
 ghost use Rattle.tiles.specs.Blocks.{KeepsRights, ProtectsTo, ProtectsInBlock, AreSizesOfBlock, OutsideSame, AreMovesOf, begun_at};
 
 use crate::moves::Moves;
@@ -258,10 +258,26 @@ impl Base {
         }
     }
 
-    /// How many tiles of size 1 or more begin in the range.
-    pub fn tiles_in(&self, first: u32, length: u32) -> u32
+    /// How many tiles of size 1 or more have a page of the range.
+    pub fn tiles_meeting(&self, first: u32, length: u32) -> u32
         requires { first + length ≤ 1048576 }
-        ensures { result ≡ large_tiles_in first length (mapping_at self.now) }
+        ensures { result ≡ large_tiles_meeting first length (mapping_at self.now) }
+    {
+        let crossing = length > 0 && self.begins_before(first);
+        self.tiles_begun(first, length) + u32::from(crossing)
+    }
+
+    /// Whether a page's tile begins before it.
+    fn begins_before(&self, page: u32) -> bool
+        ensures { result ≡ begins_before (mapping_at self.now) page }
+    {
+        page % self.size(page).pages() != 0
+    }
+
+    /// How many tiles of size 1 or more begin in the range.
+    fn tiles_begun(&self, first: u32, length: u32) -> u32
+        requires { first + length ≤ 1048576 }
+        ensures { result ≡ large_tiles_begun first length (mapping_at self.now) }
     {
         let mut count = 0;
         for page in first..first + length {

@@ -8,7 +8,7 @@ ghost use Rattle.pager_model.specs.SizeSets.{SizeSet};
 ghost use Rattle.pager_model.specs.Tiles.{IsTile, tile_of, is_tile, tile_in, is_tile_in, cut_to, promotions_between, demotions_between};
 ghost use Rattle.tiles.specs.Cleared.{Clears};
 ghost use Rattle.tiles.specs.Parts.{IsPart};
-ghost use Rattle.tiles.specs.Resident.{large_tiles_in};
+ghost use Rattle.tiles.specs.Resident.{large_tiles_meeting};
 
 /// The tile of a page is an eligible extent round it that lies in no larger one, and each such extent is the tile of its pages.
 pub fn a_tile_is_a_largest_eligible_extent()
@@ -41,12 +41,11 @@ pub fn a_tile_is_uniform()
         ≡ Some (record { frame = t.frame + i; region = region; rights = t.rights; dirty = t.dirty })) }
 {}
 
-/// Where the pages of a region are cleared, no tile becomes larger, and each of the region's tiles of size 1 or more is broken.
-pub fn a_clear_breaks_the_tiles_of_its_region()
-    ensures promotions { (first len region : ℕ) (old new : ℕ → Option Mapping) → Clears first len region old new
-        → promotions_between old new ≡ 0 }
-    ensures demotions { (first len region : ℕ) (old new : ℕ → Option Mapping) → Clears first len region old new
-        → demotions_between old new ≡ large_tiles_in first len old }
+/// Where the pages of a range are cleared, no tile becomes larger, and each tile of size 1 or more that has a page of it is broken.
+pub fn a_clear_breaks_the_tiles_that_meet_its_range()
+    ensures promotions { (first len : ℕ) (old new : ℕ → Option Mapping) → Clears first len old new → promotions_between old new ≡ 0 }
+    ensures demotions { (first len : ℕ) (old new : ℕ → Option Mapping) → Clears first len old new
+        → demotions_between old new ≡ large_tiles_meeting first len old }
 {}
 
 /// Where the pages are as they were, so are the tiles, and none becomes larger or is broken.

@@ -206,14 +206,15 @@ impl Beside {
                     if let Some(count) = counts.get_mut(level as usize) {
                         *count = count.wrapping_add(1);
                     }
-                    if level > 0 && page < 900 {
+                    let end = page.wrapping_add(tile.extent.size.pages() as usize);
+                    if level > 0 && page < 700 && end > 100 {
                         large = large.wrapping_add(1);
                     }
                 }
             }
         }
         assert_eq!(rt; self.base.counts(), counts);
-        assert_eq!(rt; self.base.tiles_in(0, 900), large);
+        assert_eq!(rt; self.base.tiles_meeting(100, 600), large);
     }
 }
 
@@ -261,7 +262,10 @@ fn the_last_page_of_an_extent_makes_it_a_tile(rt: HostRuntime) -> Result<(), Fai
     let moves = both.set_dirty(100, true);
     assert_eq!(rt; moves.demotions, 1);
     assert_eq!(rt; both.base.counts(), [8, 7, 7, 0]);
-    assert_eq!(rt; both.base.tiles_in(0, 512), 14);
+    assert_eq!(rt; both.base.tiles_meeting(0, 512), 14);
+    assert_eq!(rt; both.base.tiles_meeting(60, 8), 2);
+    assert_eq!(rt; both.base.tiles_meeting(300, 1), 1);
+    assert_eq!(rt; both.base.tiles_meeting(300, 0), 0);
     let moves = both.protect(64, 192, Rights::Read);
     assert_eq!(rt; moves.demotions, 0);
     both.set_dirty(100, false);

@@ -1,4 +1,4 @@
-use Rattle.space_core.specs.Beginning.{IsRange}
+use Rattle.space_tests.specs.Ranges.{IsRange}
 use Rattle.space_tests.proofs.SpareFrames.{ClearsBut}
 use Rattle.space_tests.proofs.tests.clear.Given as goal
 

@@ -1,7 +1,8 @@
 use Rattle.std.proofs.Common.{◌≡◌, ◌∙◌, ap, sym, Some, None, arith, refl}
 use Rattle.std.proofs.lemmas.Option.{same_Some}
-use Rattle.space_core.specs.Standing.{Kept}
-use Rattle.space_core.proofs.ClearedRegions.{unmaps, unmap_own, unmap_mapped}
+use Rattle.pager_model.specs.declared.region.Region.{Region}
+use Rattle.space_core.specs.Standing.{Kept, range_of}
+use Rattle.space_core.proofs.ClearedRanges.{unmaps, unmap_own, unmap_mapped}
 use Rattle.space_core.proofs.RegionChanges.{changed_kept}
 use Rattle.space_core.proofs.RegionSearch.{found_page}
 use Rattle.space_core.proofs.space.Space.unmap.Goals as goal
@@ -27,6 +28,6 @@ returns g c =
     let cleared = rw (← c.self.view_is) at c.requires.cleared in
     let region : cleared.0 ≡ c.in-Ok.region = same_Some _ _ (sym cleared.1 ∙ c.in-Ok.ensures.region) in
     let none = rw region at cleared.3 in
-    let clearing : c.self.inside.clearing ≡ Some c.in-Ok.region = cleared.2 ∙ ap Some region in
+    let clearing : c.self.inside.clearing ≡ Some (range_of c.in-Ok.region.first c.in-Ok.region.length) = cleared.2 ∙ ap (λ (r : Region). Some (range_of r.first r.length)) region in
     rw (c.in-Ok.ensures.after, c.answered.ensures, ← c.self.view_is, pending, clearing, paged)
     (unmaps c.self.inside.number c.self.inside.regions c.self.inside.table _ c.args.page c.in-Ok.region c.self.invariant.ordered c.in-Ok.ensures.region c.self.invariant.own none c.forget_rights.ensures _ _ c.drop_pages.ensures.dropped _ _ _ _ c.self.invariant.mapped)

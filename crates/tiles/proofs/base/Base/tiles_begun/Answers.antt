@@ -3,8 +3,8 @@ use Rattle.pager_model.proofs.CountLemmas.{weight}
 use Rattle.tiles.specs.Resident.{mapping_at, begins_large}
 use Rattle.tiles.proofs.Blocks.{count_in_range, count_on}
 use Rattle.tiles.proofs.Counting.{count, count-zero}
-use Rattle.tiles.proofs.base.Base.tiles_in.Goals as goal
-use Rattle.tiles.proofs.base.Base.tiles_in.Goals.{then-begins_large, else-begins_large}
+use Rattle.tiles.proofs.base.Base.tiles_begun.Goals as goal
+use Rattle.tiles.proofs.base.Base.tiles_begun.Goals.{then-begins_large, else-begins_large}
 
 pub loop-page-init : goal.loop-page-init
 loop-page-init c = record {

@@ -1,5 +1,5 @@
 use Rattle.tiles.proofs.Cleared.{promotions_cleared, demotions_cleared}
-use Rattle.tiles.proofs.laws.a_clear_breaks_the_tiles_of_its_region.Goals as goal
+use Rattle.tiles.proofs.laws.a_clear_breaks_the_tiles_that_meet_its_range.Goals as goal
 
 pub returns-clause-promotions : goal.returns-clause-promotions
 returns-clause-promotions c = promotions_cleared

@@ -1,7 +1,7 @@
 use Rattle.std.proofs.Common.{◌≡◌, ◌-◌, ◌≤◌}
 use Rattle.tiles.specs.Resident.{mapping_at, begins_large}
 use Rattle.tiles.proofs.Counting.{count}
-use Rattle.tiles.proofs.base.Base.tiles_in.Given as goal
+use Rattle.tiles.proofs.base.Base.tiles_begun.Given as goal
 
 -- the tiles so far
 abbrev pub invariant-loop-page : goal.invariant-loop-page

@@ -1,11 +1,12 @@
--- What becomes of a space when the pages of a region give their frames up, and when the region then goes.
-use Rattle.std.proofs.Common.{◌≡◌, ◌≢◌, ℕ, Bool, ◌+◌, ◌<◌, ◌≤◌, true, false, ◌&&◌, ◌==◌, not, if◌then◌else◌, List, [], map, Option, Some, None, is_some, refl, sym, ap, inl, inr, ◌∙◌, arith, subst}
-use Rattle.std.proofs.lemmas.Bool.{cases_Bool, cases_eq, cases_lt, eq-eqb, ne_eqb, cond-true, cond-false, true≢false}
+-- What becomes of a space when the pages of a range give their frames up, and when a region of that range then goes.
+use Rattle.std.proofs.Common.{◌≡◌, ◌≢◌, ℕ, Bool, ◌+◌, ◌<◌, ◌≤◌, true, false, ◌&&◌, not, if◌then◌else◌, List, [], map, Option, Some, None, is_some, refl, sym, ap, inl, inr, ◌∙◌, arith, subst}
+use Rattle.std.proofs.lemmas.Bool.{cases_Bool, cases_lt, and_from, eq-eqb, cond-true, cond-false, true≢false}
 use Rattle.std.proofs.lemmas.Bool.Decides.{nat_tests}
 use Rattle.std.proofs.lemmas.Option.{none-some, same_Some}
 use Rattle.std.proofs.lemmas.List.{get_or-map, length-map}
 use Rattle.pager_model.specs.Options.{is_that}
 use Rattle.pager_model.specs.declared.call.Call.TheVariants.{Unmap}
+use Rattle.pager_model.specs.declared.page_range.PageRange.{PageRange}
 use Rattle.pager_model.specs.declared.region.Region.{Region}
 use Rattle.pager_model.specs.declared.reply.Reply.TheVariants.{Done}
 use Rattle.pager_model.specs.declared.tile.Mapping.{Mapping}
@@ -17,27 +18,23 @@ use Rattle.pager_model.specs.Regions.{has_page, in_range, region_at, without_reg
 use Rattle.pager_model.specs.SpaceStates.{SpaceState, IsClearedAt, pages_of, space_after}
 use Rattle.region_table.specs.Table.{IsTable}
 use Rattle.pager_model.proofs.Lists.{get_or-alike}
-use Rattle.space_core.specs.Beginning.{SameRegions, IsRange, ClearsOne, ClearsNone, Unmapped as IsUnmapped}
+use Rattle.space_core.specs.Beginning.{SameRegions, ClearsOne, ClearsNone, Unmapped as IsUnmapped}
 use Rattle.space_core.specs.Pages.{Maps, Forgets, IsFirstResident, NoneFrom}
-use Rattle.space_core.specs.Standing.{Kept, StandsBut, IsCopy, IsCopied, frame_at, is_clearing, rights_by, is_settled, word_at}
+use Rattle.space_core.specs.Standing.{Kept, StandsBut, IsCopy, IsCopied, range_of, frame_at, is_clearing, rights_by, is_settled, word_at}
 use Rattle.pager_model.specs.CallEntries.{answer_entry, clear_entry}
 use Rattle.space_core.specs.Tables.{Table, mapping_in, frame_in, own_in, dirty_in}
 use Rattle.space_core.specs.Translating.{BeginsClear, counted_up}
 use Rattle.store_core.specs.Stored.{Stored, copy_at, zero_words, DropsCopies}
-use Rattle.space_core.proofs.RegionSearch.{in_bounds, bounds_in, found_has, found_from, found_same, found_page, found_without}
+use Rattle.space_core.proofs.RegionSearch.{in_bounds, bounds_in, found_without}
 use Rattle.space_core.proofs.ServedPages.{kept, AreMapped}
 use Rattle.space_core.proofs.TableLemmas.{dirty_in-absent, frame-same, dirty-same, frame-mapped, mapping-absent, maps_frame}
-use Rattle.space_core.proofs.Translations.{same_translates, stays, translates_cleared, pages_from, said_gone, said_region}
+use Rattle.space_core.proofs.Translations.{same_translates, stays, translates_cleared, pages_from, said_gone}
 use Rattle.tiles.specs.Cleared.{Clears}
-use Rattle.tiles.specs.Resident.{large_tiles_in}
+use Rattle.tiles.specs.Resident.{large_tiles_meeting}
 use Rattle.tiles.proofs.Cleared.{promotions_cleared, demotions_cleared}
 
-pub range_in_space : (old : Kept) (first len : ℕ) → IsTable old.regions → IsRange old first len → first + len ≤ 1048576
-range_in_space old first len ordered range =
-    omega (arith, (found_from 0 old.regions ordered.in_order first range.region range.at).in_space, range.first_is, range.length_is)
-
 -- A page of the range that is cleared gives its frame up.
-module _ (number : ℕ) (regions : List Region) (t u : Table) (pending : Option ℕ) (was is : Option Region) (paged : Option ℕ) (store : Stored) (images : List (List Tile)) (promotions demotions had_broken broken : ℕ)
+module _ (number : ℕ) (regions : List Region) (t u : Table) (pending : Option ℕ) (was is : Option PageRange) (paged : Option ℕ) (store : Stored) (images : List (List Tile)) (promotions demotions had_broken broken : ℕ)
     (first len page : ℕ) (within : in_range first len page ≡ true) (moves : Maps page None t u) where
   abbrev having : Kept
   having = kept number regions t pending was paged store images promotions demotions had_broken
@@ -76,7 +73,7 @@ module _ (number : ℕ) (regions : List Region) (t u : Table) (pending : Option 
         | inr unsettled ↦ cond-false _ _ _ unsettled ∙ sym (cond-false _ _ _ (settled_others p n ∙ unsettled))
       ]
 
-  pub clears_one : (frame : ℕ) → is_clearing is first ≡ true → (is_clearing was first ≡ true → broken ≡ had_broken) → (is_clearing was first ≡ false → broken ≡ large_tiles_in first len (mapping_in t))
+  pub clears_one : (frame : ℕ) → is_clearing is first len ≡ true → (is_clearing was first len ≡ true → broken ≡ had_broken) → (is_clearing was first len ≡ false → broken ≡ large_tiles_meeting first len (mapping_in t))
       → frame_in t page ≡ Some frame → ((p : ℕ) → in_range first len p ≡ true → p < page → frame_in t p ≡ None) → ClearsOne having lacking first len page frame
   clears_one frame begun went_on counted had lowest =
       record {
@@ -108,21 +105,21 @@ module _ (number : ℕ) (regions : List Region) (t u : Table) (pending : Option 
           pages = λ p out. s.pages p out ∙ sym (mapping_others p (outside p out));
           translates = same_translates having lacking st (record { images = refl; promotions = refl; demotions = refl }) s.translates;
           not_begun = λ none. absurd (true≢false (sym begun ∙ none));
-          counted = λ _. elim (cases_Bool (is_clearing was first)) [
+          counted = λ _. elim (cases_Bool (is_clearing was first len)) [
             | inl on ↦ went_on on ∙ s.counted on
-            | inr off ↦ counted off ∙ ap (large_tiles_in first len) (sym (let whole : pages_of st ≡ mapping_in t = λ i p. s.not_begun off p i in whole))
+            | inr off ↦ counted off ∙ ap (large_tiles_meeting first len) (sym (let whole : pages_of st ≡ mapping_in t = λ i p. s.not_begun off p i in whole))
           ];
         };
       }
 
--- The region's pages are all cleared.
-module _ (number : ℕ) (regions : List Region) (t : Table) (was : Option Region) (paged : Option ℕ) (store : Stored) (images : List (List Tile)) (promotions demotions had_broken broken : ℕ)
-    (r : Region) (ordered : IsTable regions) (at : region_at regions r.first ≡ Some r) (none : (p : ℕ) → in_range r.first r.length p ≡ true → frame_in t p ≡ None) where
+-- The range's pages are all cleared.
+module _ (number : ℕ) (regions : List Region) (t : Table) (was : Option PageRange) (paged : Option ℕ) (store : Stored) (images : List (List Tile)) (promotions demotions had_broken broken : ℕ)
+    (first len : ℕ) (none : (p : ℕ) → in_range first len p ≡ true → frame_in t p ≡ None) where
   abbrev clearing : Kept
   clearing = kept number regions t None was paged store images promotions demotions had_broken
 
   abbrev all_cleared : Kept
-  all_cleared = kept number regions t None (Some r) paged store (map (still_tiles all_sizes (mapping_in t)) images) promotions (counted_up demotions broken) broken
+  all_cleared = kept number regions t None (Some (range_of first len)) paged store (map (still_tiles all_sizes (mapping_in t)) images) promotions (counted_up demotions broken) broken
 
   frame_cleared : (b : Bool) (o : Option ℕ) (p : ℕ) → (b ≡ true → frame_in t p ≡ None) → (b ≡ false → o ≡ frame_in t p) → (if b then None else o) ≡ frame_in t p
   frame_cleared true o p gone left = sym (gone refl)
@@ -132,41 +129,19 @@ module _ (number : ℕ) (regions : List Region) (t : Table) (was : Option Region
   said_cleared true o p gone left = sym (gone refl)
   said_cleared false o p gone left = left refl
 
-  -- a page is in the range just where its region is the region
-  of_region : (p : ℕ) (q : Region) → region_at regions p ≡ Some q → in_range r.first r.length p ≡ (q.first == r.first)
-  of_region p q found =
-      elim (cases_Bool (in_range r.first r.length p)) [
-        | inl inside ↦
-            let same : q ≡ r = same_Some _ _ (sym found ∙ found_same 0 regions ordered.in_order r.first r at p inside) in
-            inside ∙ sym (eq-eqb q.first r.first (ap (λ (x : Region). x.first) same))
-        | inr outside ↦ elim (cases_eq q.first r.first) [
-          | inl e ↦
-              let here = found_page regions ordered.in_order p q found in
-              let at_q : region_at regions q.first ≡ Some q = found_same 0 regions ordered.in_order p q found q.first (bounds_in q.first q.length q.first (omega arith) (omega (arith, here.from_on, here.before_end))) in
-              let same : q ≡ r = same_Some _ _ (sym at_q ∙ ap (region_at regions) e ∙ at) in
-              absurd (true≢false (sym (found_has regions p q found) ∙ ap (λ (x : Region). has_page p x) same ∙ outside))
-          | inr n ↦ outside ∙ sym (ne_eqb q.first r.first n)
-        ]
-      ]
-
-  clears_counted : ((st : SpaceState) → StandsBut r.first r.length clearing st → broken ≡ large_tiles_in r.first r.length (pages_of st)) → ClearsNone clearing all_cleared r.first r.length
+  clears_counted : ((st : SpaceState) → StandsBut first len clearing st → broken ≡ large_tiles_meeting first len (pages_of st)) → ClearsNone clearing all_cleared first len
   clears_counted counted =
       record {
         none = none;
-        clearing = λ q found. ap Some (same_Some _ _ (sym at ∙ found));
+        clearing = refl;
         same_pending = refl;
         same_paged = refl;
         same = record { same = record { number = refl; frames = refl; processors = length-map images (still_tiles all_sizes (mapping_in t)); regions = refl; rights = λ p. refl }; frame = λ p. refl };
         stands = λ st c s.
-            let after = space_after st (clear_entry c number r.first r.length) in
-            let clears : Clears r.first r.length r.first (pages_of st) (pages_of after) = record {
-              cleared = λ p. said_gone (in_range r.first r.length p) (st.flat.dirty p) (st.base p) (region_at st.flat.regions p) (st.flat.rights p);
-              region = λ p m said.
-                  let q = said_region (st.base p) (region_at st.flat.regions p) (st.flat.rights p) (st.flat.dirty p) m said in
-                  of_region p q.0 (ap (λ rs. region_at rs p) (sym s.beside.regions) ∙ q.1) ∙ ap (λ (n : ℕ). n == r.first) (sym q.2);
-            } in
+            let after = space_after st (clear_entry c number first len) in
+            let clears : Clears first len (pages_of st) (pages_of after) = λ p. said_gone (in_range first len p) (st.flat.dirty p) (st.base p) (region_at st.flat.regions p) (st.flat.rights p) in
             let pages : (p : ℕ) → pages_of after p ≡ mapping_in t p = λ p.
-            clears.cleared p ∙ said_cleared (in_range r.first r.length p) (pages_of st p) p (λ inside. mapping-absent t p (none p inside)) (s.pages p) in
+            clears p ∙ said_cleared (in_range first len p) (pages_of st p) p (λ inside. mapping-absent t p (none p inside)) (s.pages p) in
             record {
               beside = record {
                 regions = s.beside.regions;
@@ -182,20 +157,20 @@ module _ (number : ℕ) (regions : List Region) (t : Table) (was : Option Region
                 untied = s.beside.untied;
                 highest = s.beside.highest;
               };
-              base = λ p. frame_cleared (in_range r.first r.length p) (st.base p) p (none p) (s.base p);
+              base = λ p. frame_cleared (in_range first len p) (st.base p) p (none p) (s.base p);
               pages = pages;
               translates = translates_cleared clearing all_cleared st after c broken (record { sizes = refl; images = refl; promotions = refl; demotions = refl }) s.translates pages (length-map images (still_tiles all_sizes (mapping_in t)))
                   (λ i within. get_or-map (still_tiles all_sizes (mapping_in t)) images i [] [] within)
-                  (promotions_cleared r.first r.length r.first (pages_of st) (pages_of after) clears)
-                  (demotions_cleared r.first r.length r.first (pages_of st) (pages_of after) clears ∙ sym (counted st s)) refl refl;
+                  (promotions_cleared first len (pages_of st) (pages_of after) clears)
+                  (demotions_cleared first len (pages_of st) (pages_of after) clears ∙ sym (counted st s)) refl refl;
             };
       }
 
-  pub clears_none : is_clearing was r.first ≡ true → broken ≡ had_broken → ClearsNone clearing all_cleared r.first r.length
+  pub clears_none : is_clearing was first len ≡ true → broken ≡ had_broken → ClearsNone clearing all_cleared first len
   clears_none on went_on = clears_counted (λ st s. went_on ∙ s.counted on)
 
-  pub clears_at_once : is_clearing was r.first ≡ false → broken ≡ large_tiles_in r.first r.length (mapping_in t) → ClearsNone clearing all_cleared r.first r.length
-  clears_at_once off counted = clears_counted (λ st s. counted ∙ ap (large_tiles_in r.first r.length) (sym (let whole : pages_of st ≡ mapping_in t = λ i p. s.not_begun off p i in whole)))
+  pub clears_at_once : is_clearing was first len ≡ false → broken ≡ large_tiles_meeting first len (mapping_in t) → ClearsNone clearing all_cleared first len
+  clears_at_once off counted = clears_counted (λ st s. counted ∙ ap (large_tiles_meeting first len) (sym (let whole : pages_of st ≡ mapping_in t = λ i p. s.not_begun off p i in whole)))
 
 -- the lowest page from a page on is the lowest of the range, where none before it is resident
 pub none_below : (t : Table) (first len from end page : ℕ) → ((p : ℕ) → first ≤ p → p < from → frame_in t p ≡ None) → IsFirstResident t from end page → (p : ℕ) → in_range first len p ≡ true → p < page → frame_in t p ≡ None
@@ -205,20 +180,20 @@ none_below t first len from end page before found p inside below =
       | inr past ↦ found.lowest p past below
     ]
 
--- A region's clearing goes on, or begins.
-module _ (old : Kept) (number : ℕ) (regions : List Region) (t : Table) (pending : Option ℕ) (is : Option Region) (paged : Option ℕ) (store : Stored) (images : List (List Tile)) (promotions demotions broken : ℕ)
-    (first len : ℕ) (begins : BeginsClear old (kept number regions t pending is paged store images promotions demotions broken) first len) (range : IsRange old first len) where
+-- A range's clearing goes on, or begins.
+module _ (old : Kept) (number : ℕ) (regions : List Region) (t : Table) (pending : Option ℕ) (is : Option PageRange) (paged : Option ℕ) (store : Stored) (images : List (List Tile)) (promotions demotions broken : ℕ)
+    (first len : ℕ) (begins : BeginsClear old (kept number regions t pending is paged store images promotions demotions broken) first len) where
   as_begun : old ≡ kept number regions t pending old.clearing paged store images promotions demotions old.broken
   as_begun = ap (λ (k : Kept). record k { clearing = old.clearing; broken = old.broken }) (sym begins.same)
 
   table_was : old.table ≡ t
   table_was = ap (λ (k : Kept). k.table) as_begun
 
-  here : is ≡ Some range.region
-  here = begins.begun range.region range.at
+  here : is ≡ Some (range_of first len)
+  here = begins.begun
 
-  counted_first : is_clearing old.clearing first ≡ false → broken ≡ large_tiles_in first len (mapping_in t)
-  counted_first off = begins.counted off ∙ ap (λ (u : Table). large_tiles_in first len (mapping_in u)) table_was
+  counted_first : is_clearing old.clearing first len ≡ false → broken ≡ large_tiles_meeting first len (mapping_in t)
+  counted_first off = begins.counted off ∙ ap (λ (u : Table). large_tiles_meeting first len (mapping_in u)) table_was
 
   none_before : (from : ℕ) → ((p : ℕ) → first ≤ p → p < from → frame_at old p ≡ None) → (p : ℕ) → first ≤ p → p < from → frame_in t p ≡ None
   none_before from before p low below = ap (λ (u : Table). frame_in u p) (sym table_was) ∙ before p low below
@@ -231,14 +206,14 @@ module _ (old : Kept) (number : ℕ) (regions : List Region) (t : Table) (pendin
       let within = bounds_in first len page (omega (arith, begun, found.from_on)) found.before_end in
       subst (λ (k : Kept). ClearsOne k (kept number regions u pending is paged store images promotions demotions broken) first len page frame) (sym as_begun)
       (clears_one number regions t u pending old.clearing is paged store images promotions demotions old.broken broken first len page within moves frame
-      (ap (λ (o : Option Region). is_clearing o first) here ∙ eq-eqb range.region.first first range.first_is) begins.went_on counted_first had
+      (ap (λ (o : Option PageRange). is_clearing o first len) here ∙ and_from _ _ (eq-eqb first first refl) (eq-eqb len len refl)) begins.went_on counted_first had
       (none_below t first len from (first + len) page (none_before from before) found))
 
   -- and the clearing goes on behind it
   pub scanned_from : (from end page : ℕ) → first ≤ from → ((p : ℕ) → first ≤ p → p < from → frame_at old p ≡ None) → IsFirstResident t from end page
-      → (r : Region) → is ≡ Some r → (r.first ≤ page) × ((q : ℕ) → r.first ≤ q → q < page → frame_in t q ≡ None)
+      → (r : PageRange) → is ≡ Some r → (r.first ≤ page) × ((q : ℕ) → r.first ≤ q → q < page → frame_in t q ≡ None)
   scanned_from from end page begun before found r at =
-      let same : r.first ≡ first = ap (λ (x : Region). x.first) (same_Some _ _ (sym at ∙ here)) ∙ range.first_is in (
+      let same : r.first ≡ first = ap (λ (x : PageRange). x.first) (same_Some _ _ (sym at ∙ here)) in (
         omega (arith, same, begun, found.from_on),
         λ q low below. elim (cases_lt q from) [
           | inl l ↦ none_before from before q (omega (arith, same, low)) l
@@ -246,37 +221,30 @@ module _ (old : Kept) (number : ℕ) (regions : List Region) (t : Table) (pendin
         ],
       )
 
-  abbrev all_gone : Option ℕ → Option Region → Kept
-  all_gone o region = kept number regions t o region paged store (map (still_tiles all_sizes (mapping_in t)) images) promotions (counted_up demotions broken) broken
+  abbrev all_gone : Option ℕ → Option PageRange → Kept
+  all_gone o range = kept number regions t o range paged store (map (still_tiles all_sizes (mapping_in t)) images) promotions (counted_up demotions broken) broken
 
   -- no page is resident
-  pub clears_range : (from : ℕ) → old.pending ≡ None → IsTable regions → ((p : ℕ) → first ≤ p → p < from → frame_at old p ≡ None) → NoneFrom t from (first + len)
+  pub clears_range : (from : ℕ) → old.pending ≡ None → ((p : ℕ) → first ≤ p → p < from → frame_at old p ≡ None) → NoneFrom t from (first + len)
       → ClearsNone old (all_gone pending is) first len
-  clears_range from none_pending ordered before none =
-      let r = range.region in
-      let at : region_at regions r.first ≡ Some r = ap (region_at regions) range.first_is ∙ ap (λ (k : Kept). region_at k.regions first) (sym as_begun) ∙ range.at in
-      let inside : (p : ℕ) → in_range r.first r.length p ≡ true → frame_in t p ≡ None = λ p h.
-      let b = in_bounds r.first r.length p h in
+  clears_range from none_pending before none =
+      let inside : (p : ℕ) → in_range first len p ≡ true → frame_in t p ≡ None = λ p h.
+      let b = in_bounds first len p h in
       elim (cases_lt p from) [
-        | inl l ↦ none_before from before p (omega (arith, b.0, range.first_is)) l
-        | inr past ↦ none p past (omega (arith, b.1, range.first_is, range.length_is))
+        | inl l ↦ none_before from before p b.0 l
+        | inr past ↦ none p past b.1
       ] in
       let empty : pending ≡ None = ap (λ (k : Kept). k.pending) (sym as_begun) ∙ none_pending in
       let was : old ≡ kept number regions t None old.clearing paged store images promotions demotions old.broken =
       as_begun ∙ ap (λ (o : Option ℕ). kept number regions t o old.clearing paged store images promotions demotions old.broken) empty in
-      let cleared : ClearsNone (kept number regions t None old.clearing paged store images promotions demotions old.broken) (all_gone None (Some r)) r.first r.length =
-      elim (cases_Bool (is_clearing old.clearing r.first)) [
-        | inl on ↦ clears_none number regions t old.clearing paged store images promotions demotions old.broken broken r ordered at inside on
-            (begins.went_on (ap (is_clearing old.clearing) (sym range.first_is) ∙ on))
-        | inr off ↦ clears_at_once number regions t old.clearing paged store images promotions demotions old.broken broken r ordered at inside off
-            (counted_first (ap (is_clearing old.clearing) (sym range.first_is) ∙ off)
-            ∙ ap (λ (n : ℕ). large_tiles_in n len (mapping_in t)) (sym range.first_is) ∙ ap (λ (n : ℕ). large_tiles_in r.first n (mapping_in t)) (sym range.length_is))
+      let cleared : ClearsNone (kept number regions t None old.clearing paged store images promotions demotions old.broken) (all_gone None (Some (range_of first len))) first len =
+      elim (cases_Bool (is_clearing old.clearing first len)) [
+        | inl on ↦ clears_none number regions t old.clearing paged store images promotions demotions old.broken broken first len inside on (begins.went_on on)
+        | inr off ↦ clears_at_once number regions t old.clearing paged store images promotions demotions old.broken broken first len inside off (counted_first off)
       ] in
-      subst (λ (n : ℕ). ClearsNone old (all_gone pending is) first n) range.length_is
-      (subst (λ (n : ℕ). ClearsNone old (all_gone pending is) n r.length) range.first_is
-      (subst (λ (o : Option ℕ). ClearsNone old (all_gone o is) r.first r.length) (sym empty)
-      (subst (λ (o : Option Region). ClearsNone old (all_gone None o) r.first r.length) (sym here)
-      (subst (λ (k : Kept). ClearsNone k (all_gone None (Some r)) r.first r.length) (sym was) cleared))))
+      subst (λ (o : Option ℕ). ClearsNone old (all_gone o is) first len) (sym empty)
+      (subst (λ (o : Option PageRange). ClearsNone old (all_gone None o) first len) (sym here)
+      (subst (λ (k : Kept). ClearsNone k (all_gone None (Some (range_of first len))) first len) (sym was) cleared))
 
 -- A region goes after none of its pages is resident.
 module _ (number : ℕ) (regions : List Region) (t u : Table) (page : ℕ) (r : Region) (ordered : IsTable regions)
@@ -329,7 +297,7 @@ module _ (number : ℕ) (regions : List Region) (t u : Table) (page : ℕ) (r : 
   -- and with it the copies of its pages
   module _ (old new : Stored) (drops : DropsCopies r.first r.length old new) (images : List (List Tile)) (promotions demotions broken : ℕ) where
     abbrev cleared : Kept
-    cleared = kept number regions t None (Some r) None old images promotions demotions broken
+    cleared = kept number regions t None (Some (range_of r.first r.length)) None old images promotions demotions broken
 
     abbrev left : Kept
     left = kept number rest u None None None new images promotions demotions broken
