@@ -22,12 +22,13 @@ use Rattle.pager_model.proofs.Lists.{get_or_within}
 use Rattle.pager_laws.proofs.LegalHistories.{Agrees-legal}
 use Rattle.space_core.specs.Standing.{Kept}
 use Rattle.pager_model.specs.SizeSets.{all_sizes}
-use Rattle.store_core.specs.Stored.{Stored}
+use Rattle.pager_model.specs.Stored.{Stored}
+use Rattle.pager_model.specs.Stores.{setting_over}
 use Rattle.pager_core.specs.declared.flight.Flight.{Flight}
 use Rattle.pager_core.specs.Machines.{CanFly, all_left, IsFlying, IsMachine}
 use Rattle.pager_core.specs.Rows.{row_of, is_between, new_flight}
 use Rattle.pager_core.specs.RunParts.{AreNewSpaces}
-use Rattle.pager_core.specs.Running.{Running, calls_at, flight_at, flight_of, first_flights, progress_by_flight, setting_over, entries_left, left_at, IsLawful}
+use Rattle.pager_core.specs.Running.{Running, calls_at, flight_at, flight_of, first_flights, progress_by_flight, entries_left, left_at, IsLawful}
 use Rattle.pager_core.proofs.Lists.{sum_by-same, map_range-push}
 use Rattle.pager_core.proofs.MachineTurns.{mark-zero, marked}
 

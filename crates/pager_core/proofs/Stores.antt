@@ -13,10 +13,10 @@ use Rattle.pager_model.specs.FrameStates.{FrameState}
 use Rattle.pager_model.specs.Legal.{space_at, entries_in}
 use Rattle.pager_model.specs.Settings.{Given, is_told, faults_at_entry}
 use Rattle.pager_model.specs.SpaceStates.{SpaceState, empty_state, space_after}
+use Rattle.pager_model.specs.Stored.{Stored, TellsZero}
+use Rattle.pager_model.specs.Stores.{given_over, EndsWith, StoresEnd}
 use Rattle.space_core.specs.Standing.{Kept, is_in}
-use Rattle.store_core.specs.Stored.{Stored, TellsZero}
-use Rattle.pager_core.specs.RunParts.{given_over, IsNew, AreNewSpaces, AreAtRest}
-use Rattle.pager_core.specs.Running.{EndsWith, StoresEnd}
+use Rattle.pager_core.specs.RunParts.{IsNew, AreNewSpaces, AreAtRest}
 use Rattle.pager_core.proofs.Lists.{slice_get-push}
 
 -- Their order.

@@ -1,5 +1,5 @@
 -- What a run begins with and what it leaves: its setting, its spaces and its frames.
-use Rattle.std.specs.Prelude.{ℕ, ◌≡◌, Bool, List, length, map, slice_get, Some}
+use Rattle.std.specs.Prelude.{ℕ, ◌≡◌, Bool, List, length, slice_get, Some}
 use Rattle.pager_model.specs.declared.entry.Entry.{Entry}
 use Rattle.pager_model.specs.FrameStates.{FrameState}
 use Rattle.pager_model.specs.Legal.{space_at, frames_at}
@@ -7,20 +7,7 @@ use Rattle.pager_model.specs.Settings.{Given, is_told, faults_at_entry}
 use Rattle.pager_model.specs.SizeSets.{all_sizes}
 use Rattle.pager_model.specs.SpaceStates.{empty_state}
 use Rattle.space_core.specs.Standing.{Kept, IsResting, StandsFor}
-use Rattle.store_core.specs.Stored.{Stored}
 use Rattle.pager_core.specs.Flights.{IsAtRest}
-
--- The setting of a run over stores, one for each space: so many frames, all four page sizes, these marks, and what each store said at the
--- start of its copies and its faults.
-abbrev pub given_over : ℕ → List ℕ → List Stored → Given
-given_over frames marks stores =
-    record {
-      sizes = all_sizes;
-      frames = frames;
-      marks = marks;
-      told = map (λ (s : Stored). s.told) stores;
-      faults = map (λ (s : Stored). s.faults) stores;
-    }
 
 -- a space as a run begins with it: without regions, with an image for each of so many processors, over a store of which this was
 -- told and which has had so many faults

@@ -1,22 +1,18 @@
 -- A machine as contracts see it, and what holds of it after any turns.
-use Rattle.std.specs.Prelude.{ℕ, ◌≡◌, ◌≢◌, ◌+◌, ◌-◌, ◌*◌, ◌<◌, ◌≤◌, ◌⊎◌, true, List, [], ◌∷◌, ◌++◌, length, map, take, replicate, slice_get, slice_index_or, option_map, Option, Some, None, IsSomeAnd}
+use Rattle.std.specs.Prelude.{ℕ, ◌≡◌, ◌≢◌, ◌+◌, ◌-◌, ◌*◌, ◌<◌, ◌⊎◌, true, List, [], ◌∷◌, ◌++◌, length, map, take, slice_get, slice_index_or, option_map, Option, Some, None}
 use Rattle.std.specs.List.{enumerate_from, range_with_len}
 use Rattle.pager_model.specs.declared.call.Call.{Call}
 use Rattle.pager_model.specs.declared.entry.Entry.{Entry}
 use Rattle.pager_model.specs.declared.entry.Numbered.{Numbered}
 use Rattle.pager_model.specs.Agreement.{IsPartition, NothingHeld, Agrees}
 use Rattle.pager_model.specs.Entries.{entries_of}
-use Rattle.pager_model.specs.Legal.{IsLegal, space_at, frames_at, progress_at, entries_in}
+use Rattle.pager_model.specs.Legal.{IsLegal, frames_at, progress_at, entries_in}
 use Rattle.pager_model.specs.Order.{Progress, at_rest, IsWhole}
-use Rattle.pager_model.specs.Plans.{Plan}
-use Rattle.pager_model.specs.Settings.{Given, is_told}
-use Rattle.pager_model.specs.Showing.{answers_in, daemon_marks}
-use Rattle.pager_model.specs.SpaceStates.{last_count}
-use Rattle.store_core.specs.Stored.{Stored, copy_at}
-use Rattle.space_core.specs.Standing.{IsCopy}
+use Rattle.pager_model.specs.Settings.{Given}
+use Rattle.pager_model.specs.Showing.{answers_in}
+use Rattle.pager_model.specs.Stored.{Stored}
 use Rattle.pager_core.specs.declared.flight.Flight.{Flight}
 use Rattle.pager_core.specs.Rows.{call_in, is_of_call, new_flight, row_of, is_between, space_under, Going}
-use Rattle.pager_core.specs.RunParts.{given_over}
 
 -- The setting of its history, the calls of each processor, for each processor the call that is in progress or comes next, where one is
 -- left, the history, and the stores that no space uses.
@@ -26,11 +22,6 @@ pub record Running : Type 0 where
   pub flights : List (Option Flight)
   pub history : List Numbered
   pub unused : List Stored
-
--- The setting of a trace over the stores that are handed in, of which each space uses the one of its number: its frames, all four page sizes, a mark of 0
--- for each processor and the daemon's low mark for one more, and what each store said at the start of its copies and its faults.
-abbrev pub setting_over : Plan → List Stored → Given
-setting_over plan stores = given_over plan.frames (replicate plan.processors 0 ++ daemon_marks plan.daemon) (take plan.spaces stores)
 
 abbrev pub calls_at : List (List Call) → ℕ → List Call
 calls_at calls c = slice_index_or calls c []
@@ -140,18 +131,3 @@ pub record IsWholeRun (given : Given) (calls : List (List Call)) (history : List
   pub partition : IsPartition given.frames (frames_at given (entries_in history))
   pub none_held : NothingHeld (frames_at given (entries_in history))
   pub agrees : Agrees given (entries_in history)
-
--- What holds of the store of a space after a history: where it told its copies at the start it tells them still, and they are the flat
--- memory's; and no failure in the history has a higher count than it.
-pub record EndsWith (given : Given) (history : List Numbered) (s : ℕ) (store : Stored) : Type 0 where
-  pub tells : is_told given s ≡ true → store.tells ≡ true
-  pub copies : is_told given s ≡ true → (page : ℕ) → IsCopy ((space_at given (entries_in history) s).flat.copies page) (copy_at store page)
-  pub counts : (space_at given (entries_in history) s).highest ≤ store.faults
-
--- each space has a store, of which it holds
-abbrev pub StoresEnd : Given → List Numbered → List Stored → Type 0
-StoresEnd given history stores = (s : ℕ) → s < length given.told → IsSomeAnd (slice_get stores s) (EndsWith given history s)
-
--- the counts of faults of the stores of so many spaces are of 64 bits
-abbrev pub AreCapped : ℕ → List Stored → Type 0
-AreCapped spaces stores = (s : ℕ) (store : Stored) → s < spaces → slice_get stores s ≡ Some store → store.faults ≤ last_count

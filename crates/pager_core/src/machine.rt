@@ -9,10 +9,11 @@ ghost use Rattle.pager_model.specs.Legal.{entries_in};
 ghost use Rattle.pager_model.specs.Showing.{calls_of};
 ghost use Rattle.pager_model.specs.SpaceStates.{SpaceState};
 ghost use Rattle.pager_model.specs.TraceText.{HasText};
+ghost use Rattle.pager_model.specs.Stores.{setting_over, StoresEnd, AreCapped};
 ghost use Rattle.pager_core.specs.Flights.{IsReady};
 ghost use Rattle.pager_core.specs.Rows.{Going, reply_in, row_of};
 ghost use Rattle.pager_core.specs.RunParts.{AreNewSpaces};
-ghost use Rattle.pager_core.specs.Running.{Running, progress_of_actor, flight_at, flight_of, first_flights, kept_by, setting_over, HasEnded, IsKeptByOther, MustWait, OneMore, IsLawful, IsWholeRun, StoresEnd, AreCapped};
+ghost use Rattle.pager_core.specs.Running.{Running, progress_of_actor, flight_at, flight_of, first_flights, kept_by, HasEnded, IsKeptByOther, MustWait, OneMore, IsLawful, IsWholeRun};
 ghost use Rattle.pager_core.specs.Steps.{AreAgreed, Makes, Passes};
 
 use crate::flight::{Flight, Needs};

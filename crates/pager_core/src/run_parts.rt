@@ -8,11 +8,11 @@ ghost use Rattle.pager_model.specs.Legal.{entries_in};
 ghost use Rattle.pager_model.specs.Settings.{Given};
 ghost use Rattle.pager_model.specs.Showing.{calls_of};
 ghost use Rattle.pager_model.specs.SizeSets.{all_sizes};
+ghost use Rattle.pager_model.specs.Stores.{given_over, StoresEnd, AreCapped};
+ghost use Rattle.pager_model.specs.Stored.{Stored, TellsZero};
 ghost use Rattle.space_core.specs.Standing.{Kept};
-ghost use Rattle.pager_core.specs.RunParts.{given_over, IsNew, AreNewSpaces, AreAtRest, most_in_history};
-ghost use Rattle.pager_core.specs.Running.{StoresEnd, AreCapped};
+ghost use Rattle.pager_core.specs.RunParts.{IsNew, AreNewSpaces, AreAtRest, most_in_history};
 ghost use Rattle.pager_core.specs.Sums.{AreFewer, sum_at, tiles_in, promotions_in, demotions_in};
-ghost use Rattle.store_core.specs.Stored.{Stored, TellsZero};
 
 use frame_pool::Pool;
 use pager_model::{Call, Line, NoMemory, Numbered, Setting, Sizes, Summary, What};

@@ -11,10 +11,11 @@ use Rattle.pager_model.specs.FrameStates.{FrameState, start_frames}
 use Rattle.pager_model.specs.Settings.{Given, is_told, faults_at_entry}
 use Rattle.pager_model.specs.SizeSets.{SizeSet, all_sizes}
 use Rattle.pager_model.specs.SpaceStates.{empty_state}
+use Rattle.pager_model.specs.Stores.{given_over}
+use Rattle.pager_model.specs.Stored.{Stored}
 use Rattle.space_core.specs.Standing.{Kept, StandsFor}
 use Rattle.pager_core.specs.RunParts.{IsNew}
-use Rattle.pager_core.specs.RunParts.{AreNewSpaces, given_over}
-use Rattle.store_core.specs.Stored.{Stored}
+use Rattle.pager_core.specs.RunParts.{AreNewSpaces}
 use Rattle.pager_locks.specs.Locked.{IsLockedSpace, IsPoolAt}
 use Rattle.pager_locks.specs.Locks.{AreLeft}
 use Rattle.pager_locks.specs.Prepared.{AreNewParts}

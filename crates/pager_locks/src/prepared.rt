@@ -2,9 +2,8 @@
 
 ghost use Rattle.std.specs.Prelude.{◌≡◌, ◌<◌, ◌≤◌, ◌+◌, ◌^◌, ◌%◌, ℕ, IfOk, IfErr, length, map, sum};
 ghost use Rattle.std.specs.List.{All};
+ghost use Rattle.pager_model.specs.Stores.{given_over, AreCapped};
 ghost use Rattle.journal_core.specs.Journals.{new_passes};
-ghost use Rattle.pager_core.specs.RunParts.{given_over};
-ghost use Rattle.pager_core.specs.Running.{AreCapped};
 
 use crate::naming::Named;
 use crate::pager::Pager;

@@ -21,6 +21,8 @@ pub mod Agreement
 pub mod Laws
 pub mod Headline
 pub mod Showing
+pub mod Stored
+pub mod Stores
 pub mod TurnOrders
 pub mod Counts
 pub mod PrintedText

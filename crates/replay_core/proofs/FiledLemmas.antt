@@ -21,11 +21,12 @@ use Rattle.pager_model.specs.Settings.{mark_of}
 use Rattle.pager_model.specs.Showing.{answer_in, answers_in, calls_of, IsSequence, IsFiled}
 use Rattle.pager_model.proofs.Histories.{progress_from-append}
 use Rattle.pager_model.specs.TraceText.{IsLine}
+use Rattle.pager_model.specs.Stores.{setting_over}
+use Rattle.pager_model.specs.Stored.{Stored}
 use Rattle.pager_core.specs.declared.flight.Flight.{Flight}
 use Rattle.pager_core.specs.Rows.{new_flight}
-use Rattle.pager_core.specs.Running.{Running, calls_at, flight_at, flight_of, first_flights, progress_of_actor, progress_by_flight, setting_over, HasEnded, IsLawful}
+use Rattle.pager_core.specs.Running.{Running, calls_at, flight_at, flight_of, first_flights, progress_of_actor, progress_by_flight, HasEnded, IsLawful}
 use Rattle.pager_core.proofs.Lists.{enumerate-push}
-use Rattle.store_core.specs.Stored.{Stored}
 use Rattle.replay_core.specs.Replays.{NoneKeeps, IsAbout, MadeCall}
 use Rattle.replay_core.proofs.CallLemmas.{IsNew-flight_of}
 use Rattle.replay_core.proofs.RunLemmas.{IsRunOf, calls_known, length-calls}

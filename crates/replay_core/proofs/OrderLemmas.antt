@@ -6,11 +6,11 @@ use Rattle.std.specs.List.{AllByRecursion, find, range_with_len}
 use Rattle.pager_model.specs.declared.entry.Entry.{Entry}
 use Rattle.pager_model.specs.Legal.{entries_in}
 use Rattle.pager_model.specs.Plans.{Plan}
+use Rattle.pager_model.specs.Stored.{Stored}
 use Rattle.pager_core.specs.Machines.{all_left}
 use Rattle.pager_core.specs.declared.machine.Turn.{Turn}
 use Rattle.pager_core.specs.declared.machine.Turn.TheVariants.{Ended as HasNone, Stepped, Waits}
 use Rattle.pager_core.specs.Running.{Running, flight_at, MustWait, OneMore, IsLawful}
-use Rattle.store_core.specs.Stored.{Stored}
 use Rattle.pager_model.specs.TurnOrders.{can_step, next_state, drawn, turned, picked, IsDrawn, IsSeeded, AreLowest, Follows, IsScheduled}
 use Rattle.replay_core.specs.Turns.{drawn_order, flying_in, IsStuck, FirstStepped}
 use Rattle.replay_core.proofs.RunLemmas.{IsRunOf, length-calls}

@@ -16,11 +16,12 @@ use Rattle.pager_model.specs.Plans.{Plan}
 use Rattle.pager_model.specs.Settings.{Given, faults_at_entry}
 use Rattle.pager_model.specs.Showing.{calls_of}
 use Rattle.pager_model.specs.SpaceStates.{Rises, last_count}
+use Rattle.pager_model.specs.Stores.{setting_over, EndsWith, StoresEnd, AreCapped}
+use Rattle.pager_model.specs.Stored.{Stored}
 use Rattle.pager_laws.proofs.OldestBroken.{PreemptsOldest-legal}
 use Rattle.pager_laws.proofs.OrderedRefusals.{RefusesRightly-legal}
-use Rattle.pager_core.specs.Running.{Running, calls_at, setting_over, IsLawful, IsWholeRun, EndsWith, StoresEnd, AreCapped}
+use Rattle.pager_core.specs.Running.{Running, calls_at, IsLawful, IsWholeRun}
 use Rattle.pager_laws.proofs.KeptLaws.{KeepsLawsAllAlong-legal}
-use Rattle.store_core.specs.Stored.{Stored}
 use Rattle.replay_core.specs.Replays.{NoneFailed, IsReplay, AreItsCounts}
 use Rattle.pager_laws.specs.Faults.{HasFailed}
 use Rattle.pager_laws.proofs.FaultReplies.{AllServed-legal}

@@ -17,12 +17,13 @@ use Rattle.pager_model.specs.Order.{progress_of}
 use Rattle.pager_model.specs.Plans.{Plan}
 use Rattle.pager_model.specs.Settings.{Given, mark_of}
 use Rattle.pager_model.specs.Showing.{calls_of, daemon_marks}
+use Rattle.pager_model.specs.Stores.{setting_over}
+use Rattle.pager_model.specs.Stored.{Stored}
 use Rattle.pager_core.specs.declared.flight.Flight.{Flight}
 use Rattle.pager_core.specs.Rows.{call_in, is_of_call, is_between, row_of, space_under}
-use Rattle.pager_core.specs.Running.{Running, calls_at, flight_at, progress_of_actor, progress_by_flight, setting_over, kept_by, IsKeptByOther, IsOfCall, IsLawful}
+use Rattle.pager_core.specs.Running.{Running, calls_at, flight_at, progress_of_actor, progress_by_flight, kept_by, IsKeptByOther, IsOfCall, IsLawful}
 use Rattle.pager_core.proofs.NextFlights.{keeps_by_place, keeps_under, made_going, under_by_place}
 use Rattle.pager_core.proofs.Purposes.{own_space-is}
-use Rattle.store_core.specs.Stored.{Stored}
 use Rattle.pager_model.specs.Locks.{keeps_in, under_in}
 use Rattle.pager_model.specs.TurnOrders.{Standing, standing_by, standing_at, is_kept_by, is_kept_by_other, has_left, can_go, can_step}
 use Rattle.replay_core.specs.Turns.{flies, IsStuck}

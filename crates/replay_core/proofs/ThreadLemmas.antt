@@ -18,14 +18,14 @@ use Rattle.pager_model.specs.Plans.{Plan}
 use Rattle.pager_model.specs.Settings.{Given}
 use Rattle.pager_model.specs.Showing.{calls_of}
 use Rattle.pager_model.specs.TraceText.{HasText}
+use Rattle.pager_model.specs.Stores.{given_over, setting_over, EndsWith, StoresEnd, AreCapped}
+use Rattle.pager_model.specs.Stored.{Stored}
 use Rattle.pager_core.specs.Machines.{CanFly}
-use Rattle.pager_core.specs.RunParts.{given_over}
-use Rattle.pager_core.specs.Running.{calls_at, setting_over, IsWholeRun, EndsWith, StoresEnd, AreCapped}
+use Rattle.pager_core.specs.Running.{calls_at, IsWholeRun}
 use Rattle.pager_core.proofs.MachineTurns.{mark-zero}
 use Rattle.pager_core.proofs.StartMachines.{marks-start, call_on, call_of_line, length-calls as length-calls_of}
 use Rattle.pager_core.proofs.Stores.{slice_get-take}
 use Rattle.pager_locks.specs.Prepared.{PreparedState}
-use Rattle.store_core.specs.Stored.{Stored}
 use Rattle.replay_core.specs.Jobs.{room_for, IsPreparedFor}
 use Rattle.replay_core.specs.Replays.{IsReplay, AreItsCounts}
 use Rattle.replay_core.proofs.RunLemmas.{calls_known, length-calls, IsReplay-of}

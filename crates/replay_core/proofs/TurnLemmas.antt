@@ -9,13 +9,13 @@ use Rattle.pager_model.specs.declared.entry.Numbered.{Numbered}
 use Rattle.pager_model.specs.Legal.{entries_in}
 use Rattle.pager_model.specs.Plans.{Plan}
 use Rattle.pager_model.proofs.Ranges.{range_with_len-more}
+use Rattle.pager_model.specs.Stored.{Stored}
 use Rattle.pager_core.specs.declared.flight.Flight.{Flight}
 use Rattle.pager_core.specs.declared.machine.Turn.{Turn}
 use Rattle.pager_core.specs.declared.machine.Turn.TheVariants.{Ended as HasNone, Stepped, Waits}
 use Rattle.pager_core.specs.Machines.{all_left}
 use Rattle.pager_core.specs.Running.{Running, calls_at, flight_at, left_at, entries_left, MustWait, OneMore, HasEnded, IsLawful}
 use Rattle.pager_core.proofs.Lists.{sum_by-lower}
-use Rattle.store_core.specs.Stored.{Stored}
 use Rattle.pager_model.specs.TurnOrders.{can_step, has_left, left_of}
 use Rattle.replay_core.specs.Turns.{flies, flying_in, IsStuck, FirstStepped}
 use Rattle.replay_core.proofs.RunLemmas.{IsRunOf, length-calls}

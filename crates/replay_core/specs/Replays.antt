@@ -12,10 +12,11 @@ use Rattle.pager_model.specs.Plans.{Plan}
 use Rattle.pager_model.specs.declared.summary.Summary.{Summary}
 use Rattle.pager_model.specs.Showing.{Shows}
 use Rattle.pager_model.specs.SpaceStates.{Rises}
+use Rattle.pager_model.specs.Stores.{setting_over, StoresEnd}
+use Rattle.pager_model.specs.Stored.{Stored}
 use Rattle.pager_core.specs.declared.flight.Flight.{Flight}
 use Rattle.pager_core.specs.Rows.{row_of}
-use Rattle.pager_core.specs.Running.{Running, calls_at, flight_at, flight_of, setting_over, IsNumbered, IsLawful, StoresEnd}
-use Rattle.store_core.specs.Stored.{Stored}
+use Rattle.pager_core.specs.Running.{Running, calls_at, flight_at, flight_of, IsNumbered, IsLawful}
 
 -- no store of a space failed: where one fails, its count of faults rises
 abbrev pub NoneFailed : ℕ → List Stored → List Stored → Type 0

@@ -4,7 +4,8 @@ ghost use Rattle.std.specs.Prelude.{◌≡◌, ◌<◌, ◌≤◌, ℕ, [], Some
 ghost use Rattle.std.specs.List.{All};
 ghost use Rattle.pager_model.specs.Counts.{counts};
 ghost use Rattle.pager_model.specs.Legal.{entries_in};
-ghost use Rattle.pager_core.specs.Running.{IsWholeRun, StoresEnd};
+ghost use Rattle.pager_model.specs.Stores.{StoresEnd};
+ghost use Rattle.pager_core.specs.Running.{IsWholeRun};
 ghost use Rattle.replay_core.specs.Jobs.{HasPass, HasMade, HaveMade, IsDoneFrom, IsPreparedFor, IsReadyJob, MayMake, MayMakeAll, calls_in};
 
 use journal_core::Pass;

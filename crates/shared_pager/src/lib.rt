@@ -7,8 +7,8 @@ ghost use Rattle.pager_model.specs.declared.reply.Reply.{Reply as Replied};
 ghost use Rattle.pager_model.specs.Entries.{entries_of};
 ghost use Rattle.pager_model.specs.Legal.{IsLegal, entries_in};
 ghost use Rattle.pager_model.specs.Showing.{answers_in};
+ghost use Rattle.pager_model.specs.Stores.{given_over};
 ghost use Rattle.pager_core.specs.Machines.{CanFly};
-ghost use Rattle.pager_core.specs.RunParts.{given_over};
 ghost use Rattle.pager_locks.specs.Calls.{MakesCall};
 ghost use Rattle.pager_locks.specs.Prepared.{MayCall};
 

@@ -18,13 +18,14 @@ use Rattle.pager_model.specs.Regions.{has_page, in_range, region_at, without_reg
 use Rattle.pager_model.specs.SpaceStates.{SpaceState, IsClearedAt, pages_of, space_after}
 use Rattle.region_table.specs.Table.{IsTable}
 use Rattle.pager_model.proofs.Lists.{get_or-alike}
+use Rattle.pager_model.specs.Stores.{IsCopy}
 use Rattle.space_core.specs.Beginning.{SameRegions, ClearsOne, ClearsNone, Unmapped as IsUnmapped}
 use Rattle.space_core.specs.Pages.{Maps, Forgets, IsFirstResident, NoneFrom}
-use Rattle.space_core.specs.Standing.{Kept, StandsBut, IsCopy, IsCopied, range_of, frame_at, is_clearing, rights_by, is_settled, word_at}
+use Rattle.space_core.specs.Standing.{Kept, StandsBut, IsCopied, range_of, frame_at, is_clearing, rights_by, is_settled, word_at}
 use Rattle.pager_model.specs.CallEntries.{answer_entry, clear_entry}
+use Rattle.pager_model.specs.Stored.{Stored, copy_at, zero_words, DropsCopies}
 use Rattle.space_core.specs.Tables.{Table, mapping_in, frame_in, own_in, dirty_in}
 use Rattle.space_core.specs.Translating.{BeginsClear, counted_up}
-use Rattle.store_core.specs.Stored.{Stored, copy_at, zero_words, DropsCopies}
 use Rattle.space_core.proofs.RegionSearch.{in_bounds, bounds_in, found_without}
 use Rattle.space_core.proofs.ServedPages.{kept, AreMapped}
 use Rattle.space_core.proofs.TableLemmas.{dirty_in-absent, frame-same, dirty-same, frame-mapped, mapping-absent, maps_frame}

@@ -21,9 +21,9 @@ use Rattle.space_core.specs.Beginning.{Begins, BeginsAnswered, BeginsEvicting, S
 use Rattle.space_core.specs.Saving.{Saves, FailsToSave, LacksRoom, unwritten_by}
 use Rattle.space_core.specs.Standing.{Kept, StandsFor, IsResting, frame_at, dirty_at, copied_page, may_copy, is_unwired}
 use Rattle.pager_model.specs.CallEntries.{answer_entry}
+use Rattle.pager_model.specs.Stored.{Stored}
 use Rattle.space_core.specs.Tables.{mapping_in, frame_in, word_in}
 use Rattle.space_core.specs.Translating.{CleansPage}
-use Rattle.store_core.specs.Stored.{Stored}
 use Rattle.space_core.proofs.TableLemmas.{dirty_in-absent, cleans_none}
 use Rattle.space_core.proofs.Translations.{Still}
 use Rattle.space_core.proofs.SameView.{next_stands}

@@ -8,8 +8,8 @@ use Rattle.space_core.specs.Beginning.{SameRegions, ReadsIn, FailsToRead}
 use Rattle.space_core.specs.Pages.{Refills, HasWords}
 use Rattle.space_core.specs.Standing.{Kept, StandsFor, IsCopied, frame_at, dirty_at, is_in, is_settled, is_behind, word_at}
 use Rattle.pager_model.specs.CallEntries.{failed_entry}
+use Rattle.pager_model.specs.Stored.{copy_at, SameCopies}
 use Rattle.space_core.specs.Tables.{mapping_in}
-use Rattle.store_core.specs.Stored.{copy_at, SameCopies}
 use Rattle.space_core.proofs.SameView.{BesideAt, SameWhole, SameAt, settled_from, one_stands, raised_stands, rises_told, within_faults}
 use Rattle.space_core.proofs.ServedPages.{resident_from}
 use Rattle.space_core.proofs.TableLemmas.{frame-same, dirty-same}

@@ -11,13 +11,14 @@ use Rattle.pager_model.specs.Regions.{region_at}
 use Rattle.pager_model.specs.Tiles.{mappings, promotions_in, demotions_in}
 use Rattle.pager_model.specs.SpaceStates.{SpaceState, pages_of, space_after}
 use Rattle.pager_model.specs.SpaceStates.Next.{Anyone}
+use Rattle.pager_model.specs.Stores.{IsCopy}
 use Rattle.space_core.specs.Beginning.{SameRegions, GaveUp, Removes, Evicts, IsEvicting, copied_reply}
 use Rattle.space_core.specs.Pages.{Maps}
-use Rattle.space_core.specs.Standing.{Kept, StandsFor, IsResting, IsCopied, IsCopy, frame_at, dirty_at, is_in, is_settled, is_behind, is_unwired, word_at, word_in_copy}
+use Rattle.space_core.specs.Standing.{Kept, StandsFor, IsResting, IsCopied, frame_at, dirty_at, is_in, is_settled, is_behind, is_unwired, word_at, word_in_copy}
 use Rattle.pager_model.specs.CallEntries.{give_entry}
+use Rattle.pager_model.specs.Stored.{Stored, copy_at}
 use Rattle.space_core.specs.Tables.{mapping_in}
 use Rattle.space_core.specs.Translating.{Retouches}
-use Rattle.store_core.specs.Stored.{Stored, copy_at}
 use Rattle.space_core.proofs.SameView.{SameWhole, SameRest, SameAt, SameStateAt, one_stands}
 use Rattle.space_core.proofs.TableLemmas.{maps_frame, maps_dirty}
 use Rattle.space_core.proofs.Translations.{Follows, retouches, said_gone, said_out}

@@ -15,13 +15,14 @@ use Rattle.pager_model.specs.Order.{is_plain, is_no_memory, is_unmapped, is_answ
 use Rattle.pager_model.specs.Regions.{has_page, region_at, range_in, without_region, unmap_reply_at, map_reply, grow_reply, grow_reply_at}
 use Rattle.pager_model.specs.SpaceStates.{SpaceState, answered_flat, ReplyAllowed, access_page, pages_of, pages_after, tile_at, space_after}
 use Rattle.pager_model.proofs.SpaceEntries.{base-unnamed, frees-unlawful, said-unlawful, served-unlawful}
+use Rattle.pager_model.specs.Stores.{IsCopy}
 use Rattle.space_core.specs.Beginning.{BeginsAnswered}
-use Rattle.space_core.specs.Standing.{Kept, StandsFor, IsResting, IsCopy, CanBegin, rights_at, rights_by}
+use Rattle.space_core.specs.Standing.{Kept, StandsFor, IsResting, CanBegin, rights_at, rights_by}
 use Rattle.pager_model.specs.CallEntries.{answer_entry}
+use Rattle.pager_model.specs.Stored.{copy_at}
 use Rattle.space_core.specs.Pages.{permits}
 use Rattle.space_core.specs.Tables.{mapping_in, own_in}
 use Rattle.space_core.proofs.Translations.{stays, said_same}
-use Rattle.store_core.specs.Stored.{copy_at}
 
 -- what a space shows of flat memory is the same
 record Unmoved (f g : Flat) : Type 0 where

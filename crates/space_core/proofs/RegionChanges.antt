@@ -22,9 +22,9 @@ use Rattle.space_core.specs.Keeping.{IsKept, IsMapped}
 use Rattle.space_core.specs.Pages.{Protects}
 use Rattle.space_core.specs.Standing.{Kept, rights_by, is_settled, word_at}
 use Rattle.pager_model.specs.CallEntries.{answer_entry}
+use Rattle.pager_model.specs.Stored.{Stored}
 use Rattle.space_core.specs.Tables.{Table, mapping_in, frame_in, own_in}
 use Rattle.space_core.specs.Translating.{Retouches}
-use Rattle.store_core.specs.Stored.{Stored}
 use Rattle.space_core.proofs.RegionSearch.{in_bounds, bounds_in, none_in, found_has, found_from, found_same, found_with, found_grown, grown}
 use Rattle.space_core.proofs.ServedPages.{kept, AreMapped, mapped_again}
 use Rattle.space_core.proofs.TableLemmas.{protects_frame, protects_dirty}

@@ -5,11 +5,12 @@ use Rattle.pager_model.specs.Options.{is_that}
 use Rattle.pager_model.specs.declared.page_range.PageRange.{PageRange}
 use Rattle.pager_model.specs.Regions.{region_at}
 use Rattle.pager_model.specs.SpaceStates.{SpaceState, Rises, pages_of}
+use Rattle.pager_model.specs.Stores.{IsCopy}
+use Rattle.pager_model.specs.Stored.{copy_at}
 use Rattle.space_core.specs.Beginning.{SameRegions}
-use Rattle.space_core.specs.Standing.{Kept, StandsBeside, StandsFor, Translates, IsCopy, IsCopied, frame_at, rights_at, dirty_at, is_in, is_settled, is_behind, word_at, word_in_copy}
+use Rattle.space_core.specs.Standing.{Kept, StandsBeside, StandsFor, Translates, IsCopied, frame_at, rights_at, dirty_at, is_in, is_settled, is_behind, word_at, word_in_copy}
 use Rattle.space_core.specs.Tables.{mapping_in, word_in, own_in}
 use Rattle.space_core.proofs.Translations.{Follows, Still, same_translates, stays}
-use Rattle.store_core.specs.Stored.{copy_at}
 
 -- what a space and a state have in common of one page, but for its frame
 pub record BesideAt (aside : Bool) (kept : Kept) (st : SpaceState) (p : ℕ) : Type 0 where

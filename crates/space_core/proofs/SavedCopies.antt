@@ -15,9 +15,9 @@ use Rattle.space_core.specs.Pages.{Cleans}
 use Rattle.space_core.specs.Saving.{Saves, FailsToSave, LacksRoom, with_store}
 use Rattle.space_core.specs.Standing.{Kept, StandsFor, IsResting, IsCopied, frame_at, rights_at, dirty_at, is_in, is_settled, is_behind, word_at, word_in_copy}
 use Rattle.pager_model.specs.CallEntries.{failed_entry}
+use Rattle.pager_model.specs.Stored.{Stored, copy_at}
 use Rattle.space_core.specs.Tables.{Table, mapping_in, frame_in, word_in, dirty_in}
 use Rattle.space_core.specs.Translating.{Retouches, CleansPage}
-use Rattle.store_core.specs.Stored.{Stored, copy_at}
 use Rattle.space_core.proofs.SameView.{BesideAt, SameWhole, SameAt, settled_from, same_regions, one_stands, same_stands, rises_told, within_faults}
 use Rattle.space_core.proofs.ServedPages.{resident_from}
 use Rattle.space_core.proofs.TableLemmas.{dirty_in-absent, dirty-same, cleans_frame, cleans_dirty}

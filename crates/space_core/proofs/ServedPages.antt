@@ -23,11 +23,11 @@ use Rattle.space_core.specs.Keeping.{IsKept, IsMapped}
 use Rattle.space_core.specs.Pages.{SameOwn, IsFresh, Maps, Refills, Writes, Cleans}
 use Rattle.space_core.specs.Standing.{Kept, StandsFor, image_at, rights_by, word_at, is_settled, is_allowed}
 use Rattle.pager_model.specs.CallEntries.{answer_entry, take_entry}
+use Rattle.pager_model.specs.Stored.{Stored, zero_words, TellsZero}
 use Rattle.space_core.specs.Tables.{Table, mapping_in, frame_in, word_in, own_in, dirty_in, flag_in}
 use Rattle.space_core.specs.Translating.{Retouches, Touches}
 use Rattle.space_core.proofs.TableLemmas.{dirty_in-is, dirty_in-absent, frame-absent, maps_frame, maps_dirty, cleans_frame, cleans_dirty, writes_frame, writes_dirty}
 use Rattle.space_core.proofs.Translations.{Still, stays_used, retouches_used, retouches, pages_from, said_flag}
-use Rattle.store_core.specs.Stored.{Stored, zero_words, TellsZero}
 use Rattle.tiles.specs.Resident.{with_flag}
 
 abbrev pub kept : ℕ → List Region → Table → Option ℕ → Option PageRange → Option ℕ → Stored → List (List Tile) → ℕ → ℕ → ℕ → Kept

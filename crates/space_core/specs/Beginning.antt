@@ -17,7 +17,7 @@ use Rattle.space_core.specs.declared.space.Begun.{Begun}
 use Rattle.space_core.specs.declared.space.Begun.TheVariants.{Answered as HasAnswered, NeedsFrame, NeedsClear, NeedsEvict, Failed as HasFailed}
 use Rattle.space_core.specs.Standing.{Kept, StandsFor, StandsBut, IsResting, MustWrite, range_of, frame_at, rights_at, dirty_at, is_allowed, is_unwired, copied_page}
 use Rattle.pager_model.specs.CallEntries.{answer_entry, evict_entry, take_entry, give_entry, clear_entry, out_entry, failed_entry}
-use Rattle.store_core.specs.Stored.{keeps_at}
+use Rattle.pager_model.specs.Stored.{keeps_at}
 
 -- The space allows the answer to this processor's call, whatever its number, and then stands for one entry more.
 pub record Answers (old new : Kept) (c : ℕ) (call : Call) (a : Answered) : Type 0 where

@@ -2,13 +2,13 @@
 use Rattle.std.specs.Prelude.{ℕ, ◌≡◌, ◌≤◌, Bool, true, false, List, None, Some}
 use Rattle.pager_model.specs.declared.reply.Reply.TheVariants.{NoMemory}
 use Rattle.pager_model.specs.SpaceStates.{Rises}
+use Rattle.pager_model.specs.Stored.{Stored, keeps_at, SameCopies, SetsCopy}
 use Rattle.space_core.specs.declared.space.Begun.{Begun}
 use Rattle.space_core.specs.declared.space.Begun.TheVariants.{Answered as HasAnswered, Failed as HasFailed}
 use Rattle.space_core.specs.declared.space.OutFault.{OutFault}
 use Rattle.space_core.specs.declared.space.OutFault.TheVariants.{Failed as OutFailed, NoMemory as OutNoMemory}
 use Rattle.space_core.specs.Pages.{HasWords}
 use Rattle.space_core.specs.Standing.{Kept, dirty_at}
-use Rattle.store_core.specs.Stored.{Stored, keeps_at, SameCopies, SetsCopy}
 
 -- the space with another store
 abbrev pub with_store : Kept → Stored → Kept

@@ -14,8 +14,9 @@ use Rattle.pager_model.specs.Images.{still_tiles}
 use Rattle.pager_model.specs.SizeSets.{all_sizes}
 use Rattle.pager_model.specs.SpaceStates.{SpaceState, pages_of, last_count}
 use Rattle.pager_model.specs.TraceText.{IsCall}
+use Rattle.pager_model.specs.Stored.{Stored, copy_at}
+use Rattle.pager_model.specs.Stores.{IsCopy}
 use Rattle.space_core.specs.Tables.{Table, mapping_in, frame_in, word_in, own_in, dirty_in}
-use Rattle.store_core.specs.Stored.{Stored, copy_at}
 use Rattle.tiles.specs.Resident.{large_tiles_meeting}
 
 pub record Kept : Type 0 where
@@ -93,13 +94,6 @@ pub record IsResting (kept : Kept) : Type 0 where
   pub none_pending : kept.pending ≡ None
   pub none_clearing : kept.clearing ≡ None
   pub none_paged : kept.paged ≡ None
-
--- the copy of flat memory is that of the store: both are unknown, or their words are the same
-abbrev pub IsCopy : Option (ℕ → ℕ) → Option (List ℕ) → Type 0
-IsCopy None None = Unit {0}
-IsCopy None (Some words) = ⊥
-IsCopy (Some f) None = ⊥
-IsCopy (Some f) (Some words) = (i : ℕ) → f i ≡ slice_index_or words i 0
 
 -- the page's copy is known, and the page is equal to it
 pub record IsCopied (kept : Kept) (page : ℕ) : Type 0 where

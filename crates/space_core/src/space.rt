@@ -7,6 +7,7 @@ ghost use Rattle.pager_model.specs.Regions.{region_at};
 ghost use Rattle.pager_model.specs.SizeSets.{all_sizes};
 ghost use Rattle.pager_model.specs.Tiles.{tile_of, tiles_of_size};
 ghost use Rattle.pager_model.specs.SpaceStates.{empty_state, access_page};
+ghost use Rattle.pager_model.specs.Stored.{TellsZero};
 ghost use Rattle.space_core.specs.Beginning.{Begins, NeedsItsFrame, NeedsNoFrame, Places, ReadsIn, FailsToRead, Finishes, WritesOut, FailsToWrite, LeavesUnwritten, Removes, IsEvicting, Evicts, copied_reply};
 ghost use Rattle.space_core.specs.Beginning.{NoneResident, ClearsOne, ClearsNone, Unmapped};
 ghost use Rattle.space_core.specs.Pages.{IsFresh, Maps};
@@ -14,7 +15,6 @@ ghost use Rattle.space_core.specs.Saving.{Saves, FailsToSave, LacksRoom, unwritt
 ghost use Rattle.space_core.specs.Standing.{StandsFor, IsResting, range_of, frame_at, dirty_at, image_at, rights_by, is_allowed, CanBegin};
 ghost use Rattle.space_core.specs.Tables.{mapping_in, own_in};
 ghost use Rattle.space_core.specs.Translating.{counted_up, Retouches, ChangesPages, CleansPage, Touches, BeginsClear};
-ghost use Rattle.store_core.specs.Stored.{TellsZero};
 
 use crate::access::{accessed_page, answered, page_of, permits, want_in, word_of};
 use crate::table::PageTable;

@@ -3,10 +3,10 @@
 ghost use Rattle.std.specs.Prelude.{◌≡◌, ◌≢◌, ◌∷◌, [], ◌+◌, ◌-◌, ◌^◌, ◌<◌, ◌≤◌, ℕ, List, true, false, length, replicate, None, Some, IfOk, IfSome, IfNone, OnErr};
 ghost use Rattle.pager_model.specs.SpaceStates.{Rises};
 ghost use Rattle.pager_model.specs.Tiles.{tile_of, is_tile, tiles_of_size};
+ghost use Rattle.pager_model.specs.Stored.{copy_at, keeps_at, SameCopies, SetsCopy};
 ghost use Rattle.tiles.specs.Resident.{AreMoves, large_tiles_meeting};
 ghost use Rattle.space_core.specs.Tables.{mapping_in, frame_in, word_in, own_in, dirty_in};
 ghost use Rattle.space_core.specs.Pages.{IsFresh, Maps, Refills, HasWords, Writes, Cleans, OwnsRights, Protects, Forgets, IsFirstResident, NoneFrom};
-ghost use Rattle.store_core.specs.Stored.{copy_at, keeps_at, SameCopies, SetsCopy};
 
 use crate::frames::{set_word, set_words, word};
 use pager_model::{Frame, Mapping, NoMemory, PAGES, Rights, Tile, WORDS};

@@ -9,8 +9,8 @@ use Rattle.std.proofs.lemmas.Bool.{eqb-true}
 use Rattle.std.proofs.lemmas.Bool.Decides.{nat_tests}
 use Rattle.std.proofs.lemmas.Map.Entries.{lookup-filter-keys}
 use Rattle.pager_model.specs.Regions.{in_range}
+use Rattle.pager_model.specs.Stored.{Copy, copy_in, copy_at, keeps_at, zero_words, SameCopies, SetsCopy, DropsCopies, TellsZero}
 use Rattle.store_core.specs.MemoryState.{copies_of, stored_copies}
-use Rattle.store_core.specs.Stored.{Copy, copy_in, copy_at, keeps_at, zero_words, SameCopies, SetsCopy, DropsCopies, TellsZero}
 
 -- the entries of a map from pages to words
 abbrev pub Entries : Type 0

@@ -1,6 +1,6 @@
 -- What a `MemoryStore` is to a caller.
 use Rattle.std.specs.Prelude.{ℕ, ◌+◌, ◌-◌, ◌^◌, true, ◌==◌, min, List, length, map, Option, Some}
-use Rattle.store_core.specs.Stored.{Copy, Stored}
+use Rattle.pager_model.specs.Stored.{Copy, Stored}
 
 -- a count with one more, which stands still at 2^64 - 1
 abbrev pub one_more : ℕ → ℕ

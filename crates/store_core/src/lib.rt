@@ -1,7 +1,7 @@
 //! Backing stores: what keeps the copies of a space's pages.
 //!
 //! A `Store` reads, writes and drops the copies of pages, and counts its faults. Contracts see one as the plain record `Stored` of
-//! specs/Stored.antt. `MemoryStore` keeps the copies in memory.
+//! `pager_model`. `MemoryStore` keeps the copies in memory.
 #![tactic(auto)]
 
 mod memory;

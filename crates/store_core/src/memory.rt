@@ -6,8 +6,8 @@ ghost use Rattle.std.specs.Option.{option_copied};
 ghost use Rattle.std.specs.Ordering.{nat_cmp};
 ghost use Rattle.pager_model.specs.Regions.{in_range};
 ghost use Rattle.pager_model.specs.SpaceStates.{Rises};
+ghost use Rattle.pager_model.specs.Stored.{Stored, copy_in, copy_at, keeps_at, zero_words, SameCopies, SetsCopy, DropsCopies, TellsZero};
 ghost use Rattle.store_core.specs.MemoryState.{MemoryState, copies_of, one_more, stored_of};
-ghost use Rattle.store_core.specs.Stored.{Stored, copy_in, copy_at, keeps_at, zero_words, SameCopies, SetsCopy, DropsCopies, TellsZero};
 
 mod room;
 

@@ -2,7 +2,7 @@
 
 ghost use Rattle.std.specs.Prelude.{◌≡◌, ◌-◌, ◌^◌, ◌≤◌, true, false, length, Some, None, IfOk, IfSome, OnErr};
 ghost use Rattle.pager_model.specs.SpaceStates.{Rises};
-ghost use Rattle.store_core.specs.Stored.{Stored, copy_at, keeps_at, SameCopies, SetsCopy, DropsCopies, TellsZero};
+ghost use Rattle.pager_model.specs.Stored.{Stored, copy_at, keeps_at, SameCopies, SetsCopy, DropsCopies, TellsZero};
 
 use pager_model::NoMemory;
 

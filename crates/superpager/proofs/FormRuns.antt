@@ -8,11 +8,11 @@ use Rattle.pager_model.specs.declared.entry.Numbered.{Numbered}
 use Rattle.pager_model.specs.Legal.{entries_in}
 use Rattle.pager_model.specs.Plans.{Plan}
 use Rattle.pager_model.specs.PrintedText.{out_text}
+use Rattle.pager_model.specs.Stored.{Stored}
 use Rattle.replay_core.specs.Replays.{IsReplay, AreItsCounts}
 use Rattle.report_text.specs.declared.report.Parts.{Parts}
 use Rattle.report_text.specs.Parts.{has_history}
 use Rattle.report_text.specs.Written.{WroteAll, WrotePart}
-use Rattle.store_core.specs.Stored.{Stored}
 use Rattle.superpager.specs.declared.form.Form.{Form}
 use Rattle.superpager.specs.declared.run.Outcome.{Outcome}
 use Rattle.superpager.specs.declared.run.TheConstants.{DONE, WRITE_FAULT}

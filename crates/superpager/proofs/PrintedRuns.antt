@@ -1,15 +1,15 @@
 -- What a run prints, by what was gathered of it.
 use Rattle.std.proofs.Common.{◌≡◌, List, ap, sym, ◌∙◌}
-use Rattle.pager_core.specs.Running.{setting_over}
+use Rattle.pager_model.specs.Stores.{setting_over}
 use Rattle.pager_model.specs.declared.entry.Numbered.{Numbered}
 use Rattle.pager_model.specs.declared.summary.Summary.{Summary}
 use Rattle.pager_model.specs.Counts.{counts}
 use Rattle.pager_model.specs.Legal.{entries_in}
 use Rattle.pager_model.specs.Plans.{Plan}
 use Rattle.pager_model.specs.PrintedText.{out_text}
+use Rattle.pager_model.specs.Stored.{Stored}
 use Rattle.report_text.specs.declared.report.Parts.{Parts}
 use Rattle.report_text.specs.Parts.{has_history}
-use Rattle.store_core.specs.Stored.{Stored}
 use Rattle.superpager.specs.declared.form.Form.{Form}
 use Rattle.superpager.specs.Forms.{parts_of}
 use Rattle.superpager.specs.Runs.{run_text}

@@ -1,17 +1,17 @@
 -- What a run of the program promises, by its status.
 use Rattle.std.specs.Prelude.{ℕ, ◌≡◌, ◌≢◌, ◌<◌, ◌≤◌, ◌⊎◌, List, [], length, map, Option, Some, None, IsSome, IfSome, IsSomeAnd}
+use Rattle.pager_model.specs.Stores.{setting_over}
 use Rattle.io_core.specs.Faults.{Rose}
-use Rattle.pager_core.specs.Running.{setting_over}
 use Rattle.pager_model.specs.declared.entry.Numbered.{Numbered}
 use Rattle.pager_model.specs.Counts.{counts}
 use Rattle.pager_model.specs.Legal.{entries_in}
 use Rattle.pager_model.specs.Plans.{Plan}
 use Rattle.pager_model.specs.PrintedText.{out_text}
 use Rattle.pager_model.specs.TraceText.{IsTextOf}
+use Rattle.pager_model.specs.Stored.{Stored}
 use Rattle.replay_core.specs.Replays.{IsReplay}
 use Rattle.report_text.specs.Parts.{has_history}
 use Rattle.report_text.specs.Written.{WroteAll, WrotePart}
-use Rattle.store_core.specs.Stored.{Stored}
 use Rattle.superpager.specs.declared.form.Form.{Form}
 use Rattle.superpager.specs.declared.run.Outcome.{Outcome}
 use Rattle.superpager.specs.declared.run.TheConstants.{DONE, USAGE, REFUSED, READ_FAULT, MEMORY, WRITE_FAULT}

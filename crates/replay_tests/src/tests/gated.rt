@@ -100,7 +100,7 @@ impl Gated {
 impl Store for Gated {
     ghost seen = { λ s. record { tells = false; told = false; copies = []; kept = None; faults = s.faults } };
 
-    #[tactic(auto, unfolding(store_core::specs::Stored::keeps_at))]
+    #[tactic(auto, unfolding(pager_model::specs::Stored::keeps_at))]
     fn read(&mut self, _page: u32, _words: &mut [u64]) -> Result<(), StoreFailed> {
         if !self.goes_on(Shown::Reads) {
             self.faults = self.faults.saturating_add(1);
@@ -109,7 +109,7 @@ impl Store for Gated {
         Ok(())
     }
 
-    #[tactic(auto, unfolding(store_core::specs::Stored::keeps_at))]
+    #[tactic(auto, unfolding(pager_model::specs::Stored::keeps_at))]
     fn write(&mut self, _page: u32, _words: &[u64]) -> Result<(), WriteRefused> {
         if !self.goes_on(Shown::Writes) {
             self.faults = self.faults.saturating_add(1);

@@ -21,7 +21,7 @@ impl Silent {
 impl Store for Silent {
     ghost seen = { λ s. record { tells = false; told = false; copies = []; kept = None; faults = s.faults } };
 
-    #[tactic(auto, unfolding(crate::specs::Stored::keeps_at))]
+    #[tactic(auto, unfolding(pager_model::specs::Stored::keeps_at))]
     fn read(&mut self, _page: u32, _words: &mut [u64]) -> Result<(), StoreFailed> {
         if self.fails {
             self.faults = self.faults.saturating_add(1);
@@ -30,7 +30,7 @@ impl Store for Silent {
         Ok(())
     }
 
-    #[tactic(auto, unfolding(crate::specs::Stored::keeps_at))]
+    #[tactic(auto, unfolding(pager_model::specs::Stored::keeps_at))]
     fn write(&mut self, _page: u32, _words: &[u64]) -> Result<(), WriteRefused> {
         if self.fails {
             self.faults = self.faults.saturating_add(1);

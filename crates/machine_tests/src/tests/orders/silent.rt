@@ -15,7 +15,7 @@ impl Store for Silent {
         Ok(())
     }
 
-    #[tactic(auto, unfolding(store_core::specs::Stored::keeps_at))]
+    #[tactic(auto, unfolding(pager_model::specs::Stored::keeps_at))]
     fn write(&mut self, _page: u32, _words: &[u64]) -> Result<(), WriteRefused> {
         Ok(())
     }

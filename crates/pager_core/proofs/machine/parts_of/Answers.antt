@@ -3,8 +3,7 @@ use Rattle.std.specs.List.{range_with_len}
 use Rattle.std.proofs.lemmas.List.FromFn.{length-map-range_with_len}
 use Rattle.std.proofs.Math.ListN.{length-map}
 use Rattle.pager_model.specs.Showing.{calls_of, daemon_marks}
-use Rattle.pager_core.specs.RunParts.{given_over}
-use Rattle.pager_core.specs.Running.{AreCapped}
+use Rattle.pager_model.specs.Stores.{given_over, AreCapped}
 use Rattle.pager_core.proofs.StartMachines.{marks-start}
 use Rattle.pager_core.proofs.machine.parts_of.Goals as goal
 

@@ -7,7 +7,7 @@ use Rattle.std.proofs.lemmas.Iterator.Consumers.{YieldsList-end}
 use Rattle.std.proofs.lemmas.List.{map_push, take-map}
 use Rattle.pager_model.specs.SizeSets.{all_sizes}
 use Rattle.pager_model.specs.SpaceStates.{last_count}
-use Rattle.store_core.specs.Stored.{Stored}
+use Rattle.pager_model.specs.Stored.{Stored}
 use Rattle.pager_core.proofs.Stores.{slice_get-take, read_more, Each-push, IsZeroIfTold}
 use Rattle.pager_core.proofs.run_parts.setting_of.Given.{Over}
 use Rattle.pager_core.proofs.run_parts.setting_of.Goals as goal

@@ -1,6 +1,6 @@
 use Rattle.std.proofs.Common.{◌≡◌, ◌≤◌, map}
 use Rattle.pager_model.specs.SpaceStates.{last_count}
-use Rattle.store_core.specs.Stored.{Stored}
+use Rattle.pager_model.specs.Stored.{Stored}
 use Rattle.pager_core.proofs.Stores.{Each, IsZeroIfTold}
 use Rattle.pager_core.proofs.run_parts.setting_of.Given as goal
 

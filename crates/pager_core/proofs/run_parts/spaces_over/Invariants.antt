@@ -1,6 +1,6 @@
 use Rattle.std.proofs.Common.{◌≡◌, ℕ, ◌+◌, ◌≤◌, ◌++◌, Bool, true, length, map, reverse, slice_get, Some, vec_capacity}
+use Rattle.pager_model.specs.Stored.{TellsZero}
 use Rattle.space_core.specs.Standing.{Kept}
-use Rattle.store_core.specs.Stored.{TellsZero}
 use Rattle.pager_core.specs.RunParts.{IsNew}
 use Rattle.pager_core.proofs.run_parts.spaces_over.Given as goal
 

@@ -4,7 +4,8 @@ use Rattle.journal_core.specs.Journals.{JournalName, JournalState, PassState}
 use Rattle.pager_model.specs.Counts.{counts}
 use Rattle.pager_model.specs.Legal.{entries_in}
 use Rattle.pager_model.specs.Settings.{mark_of}
-use Rattle.pager_core.specs.Running.{IsWholeRun, StoresEnd}
+use Rattle.pager_model.specs.Stores.{StoresEnd}
+use Rattle.pager_core.specs.Running.{IsWholeRun}
 use Rattle.replay_core.specs.declared.jobs.Job.{Job}
 use Rattle.replay_core.specs.Jobs.{HaveMade, calls_in}
 use Rattle.replay_core.proofs.JobLemmas.{journals_done, processors_done, rooms_done, whole_done, run_done}

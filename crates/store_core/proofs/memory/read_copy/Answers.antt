@@ -1,6 +1,6 @@
 use Rattle.std.proofs.Common.{◌≡◌, ◌∙◌, ap, replicate, arith}
 use Rattle.std.proofs.lemmas.Grind.{common_steps}
-use Rattle.store_core.specs.Stored.{zero_words}
+use Rattle.pager_model.specs.Stored.{zero_words}
 use Rattle.store_core.proofs.CopyLemmas.{copy_in_entries}
 use Rattle.store_core.proofs.memory.read_copy.Goals as goal
 

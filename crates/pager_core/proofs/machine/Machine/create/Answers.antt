@@ -1,8 +1,8 @@
 use Rattle.std.proofs.Common.{◌≡◌, length, map, reverse, drop, ap, subst, ◌∙◌, arith}
 use Rattle.std.proofs.lemmas.List.{length-reverse}
 use Rattle.std.proofs.Math.ListN.{length-map}
+use Rattle.pager_model.specs.Stores.{setting_over, AreCapped}
 use Rattle.pager_core.specs.Machines.{IsMachine}
-use Rattle.pager_core.specs.Running.{setting_over, AreCapped}
 use Rattle.pager_laws.proofs.KeptLaws.{KeepsLaws-legal}
 use Rattle.pager_core.proofs.StartMachines.{IsMachine-started, length-spaces}
 use Rattle.pager_core.proofs.Stores.{as_long, same_reversed, turned_back}

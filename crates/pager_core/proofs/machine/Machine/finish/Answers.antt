@@ -1,7 +1,8 @@
 use Rattle.std.proofs.Common.{◌≡◌, drop, length, map, subst, sym, ap, ◌∙◌}
 use Rattle.pager_model.specs.Counts.{counts}
 use Rattle.pager_model.specs.Legal.{entries_in}
-use Rattle.pager_core.specs.Running.{Running, HasEnded, IsWholeRun, StoresEnd}
+use Rattle.pager_model.specs.Stores.{StoresEnd}
+use Rattle.pager_core.specs.Running.{Running, HasEnded, IsWholeRun}
 use Rattle.pager_core.proofs.WholeRuns.{IsWholeRun-ended, AreAtRest-ended, few_entries}
 use Rattle.pager_core.proofs.machine.Machine.finish.Goals as goal
 

@@ -1,7 +1,7 @@
 use Rattle.std.proofs.Common.{◌≡◌, ℕ, ◌<◌, true, map, reverse, take, slice_get, Some, subst, sym}
-use Rattle.store_core.specs.Stored.{Stored, TellsZero}
-use Rattle.pager_core.specs.RunParts.{given_over, AreNewSpaces}
-use Rattle.pager_core.specs.Running.{AreCapped}
+use Rattle.pager_model.specs.Stored.{Stored, TellsZero}
+use Rattle.pager_model.specs.Stores.{given_over, AreCapped}
+use Rattle.pager_core.specs.RunParts.{AreNewSpaces}
 use Rattle.pager_core.proofs.Stores.{are_new}
 use Rattle.pager_core.proofs.run_parts.RunParts.create.Goals as goal
 

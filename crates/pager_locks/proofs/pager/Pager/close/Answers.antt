@@ -8,8 +8,9 @@ use Rattle.pager_model.specs.Agreement.{NothingHeld}
 use Rattle.pager_model.specs.Counts.{counts}
 use Rattle.pager_model.specs.Laws.{KeepsLawsAllAlong}
 use Rattle.pager_model.specs.Legal.{entries_in, frames_at}
+use Rattle.pager_model.specs.Stores.{StoresEnd}
 use Rattle.pager_core.specs.RunParts.{AreAtRest}
-use Rattle.pager_core.specs.Running.{IsNumbered, StoresEnd}
+use Rattle.pager_core.specs.Running.{IsNumbered}
 use Rattle.pager_laws.proofs.KeptLaws.{KeepsLawsAllAlong-legal}
 use Rattle.pager_locks.proofs.ClosedPagers.{journals_all, AreAtRest-closed, IsNumbered-closed, whole_at}
 use Rattle.pager_locks.proofs.Histories.{few_numbered}

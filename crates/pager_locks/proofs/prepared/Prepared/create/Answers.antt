@@ -2,8 +2,8 @@ use Rattle.std.proofs.Common.{◌≡◌, length, map, reverse, take, ap, sym, su
 use Rattle.std.proofs.lemmas.List.{length-reverse, length-take, nil_from_length}
 use Rattle.std.proofs.Math.ListN.{length-map}
 use Rattle.pager_model.specs.Settings.{Given}
-use Rattle.store_core.specs.Stored.{Stored}
-use Rattle.pager_core.specs.Running.{AreCapped}
+use Rattle.pager_model.specs.Stored.{Stored}
+use Rattle.pager_model.specs.Stores.{AreCapped}
 use Rattle.pager_core.proofs.Stores.{in_order, same_reversed, turned_back, as_long}
 use Rattle.pager_locks.proofs.OpenedPagers.{AreNewParts-made}
 use Rattle.pager_locks.proofs.prepared.Prepared.create.Given.{Over}

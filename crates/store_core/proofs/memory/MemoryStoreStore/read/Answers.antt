@@ -1,5 +1,5 @@
 use Rattle.std.proofs.Common.{◌≡◌, ℕ, List, Option, Some, None, IfSome, unwrap_or, ap, ◌∙◌}
-use Rattle.store_core.specs.Stored.{copy_in, copy_at, zero_words}
+use Rattle.pager_model.specs.Stored.{copy_in, copy_at, zero_words}
 use Rattle.store_core.proofs.CopyLemmas.{same_copies}
 use Rattle.store_core.proofs.memory.MemoryStoreStore.read.Goals as goal
 

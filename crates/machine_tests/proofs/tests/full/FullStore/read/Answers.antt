@@ -1,5 +1,5 @@
 use Rattle.std.proofs.Common.{◌∙◌, ap, replicate}
-use Rattle.store_core.specs.Stored.{copy_at}
+use Rattle.pager_model.specs.Stored.{copy_at}
 use Rattle.machine_tests.proofs.tests.full.FullStore.read.Goals as goal
 
 pub returns-clause-read : goal.returns-clause-read
