@@ -172,7 +172,8 @@ impl Reserved {
         None
     }
 
-    /// Adds a reservation of frames that are in none, whose one used place is the page's. Answers the place's frame.
+    /// Adds a reservation of frames that are in none, whose one used place is the page's, where a layout is sound with it. Answers the
+    /// place's frame.
     pub(crate) fn put(&mut self, reservation: Reservation, page: u32) -> u32
         requires has { CoversPage reservation page }
         requires placed { IsPlaced (length self.old.records) reservation.frame reservation }

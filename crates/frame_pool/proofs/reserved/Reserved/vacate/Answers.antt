@@ -1,14 +1,36 @@
-use Rattle.std.proofs.Common.{◌≡◌, ◌∙◌, None, true, false, refl, sym, ap, subst}
+use Rattle.std.proofs.Common.{◌≡◌, ◌∙◌, Some, None, true, false, refl, sym, ap, subst}
 use Rattle.std.proofs.lemmas.List.{set-get_or}
-use Rattle.pager_model.specs.Layouts.{record_at}
+use Rattle.pager_model.specs.Agreement.{has_frame}
+use Rattle.pager_model.specs.Layouts.{record_at, is_last}
 use Rattle.pager_model.specs.Records.{Records}
 use Rattle.reservations.specs.Kept.{with_record, with_used}
 use Rattle.pager_laws.specs.Laid.{IsLaid}
 use Rattle.frame_pool.specs.Mapped.{IsMapped}
+use Rattle.frame_pool.specs.ReservedChanges.{without_place}
 use Rattle.frame_pool.specs.ReservedState.{reserved_in}
 use Rattle.frame_pool.proofs.LayoutInOrder.{IsInOrder-again, IsInOrder-gone, rest_unlisted}
 use Rattle.frame_pool.proofs.ReservedLayouts.{IsLaid-without_place, vacated}
 use Rattle.frame_pool.proofs.reserved.Reserved.vacate.Goals as goal
+use Rattle.frame_pool.proofs.reserved.Reserved.vacate.Goals.{After-vacate}
+
+-- the reservation stands, and has the frame
+owner : (c : After-vacate) → (record_at (reserved_in c.self.inside) c.unwrap-reservation.result.frame ≡ Some c.unwrap-reservation.result) × (has_frame c.args.frame (Some c.unwrap-reservation.result) ≡ true)
+owner c = rw (c.unwrap-reservation.ensures, ← c.self.view_is) at c.reservation_of.ensures.found
+
+-- the frame is a used place no more
+unused : (c : After-vacate) → c.vacate.new.self ≡ with_used c.self.inside.reservations c.args.frame false
+unused c =
+    let at_place = rw (owner c).0 at c.vacate.ensures.vacated in
+    at_place ∙ ap (λ f. with_used c.self.inside.reservations f false) c.page_at.ensures.joined
+
+-- it is told whether it was the last one
+tells : (c : After-vacate) → is_last c.args.frame c.unwrap-reservation.result (reserved_in c.self.inside) ≡ c.vacate.result
+tells c =
+    let last = rw ((owner c).0, unused c) at c.vacate.ensures.last in
+    sym last
+
+laid_without : (c : After-vacate) → IsLaid (without_place c.args.frame c.unwrap-reservation.result (reserved_in c.self.inside))
+laid_without c = IsLaid-without_place (reserved_in c.self.inside) c.args.frame c.unwrap-reservation.result c.self.invariant.laid (owner c).0 (owner c).1 (rw (← c.self.view_is) at c.requires)
 
 pub page_at-requires-clause-pages : goal.page_at-requires-clause-pages
 page_at-requires-clause-pages c =
@@ -18,75 +40,51 @@ page_at-requires-clause-pages c =
 
 pub remove-requires-clause-mapped : goal.remove-requires-clause-mapped
 remove-requires-clause-mapped c =
-    let found = rw (c.unwrap-reservation.ensures, ← c.self.view_is) at c.reservation_of.ensures.found in
-    let at_place = rw found.0 at c.vacate.ensures.vacated in
-    subst (λ (st : Records). IsMapped c.self.inside.map st.records) (sym at_place) c.self.invariant.mapped
+    subst (λ (st : Records). IsMapped c.self.inside.map st.records) (sym (unused (goal.at.remove-requires-clause-mapped c).After-vacate)) c.self.invariant.mapped
 
 pub enlist-requires-clause-unlisted : goal.enlist-requires-clause-unlisted
 enlist-requires-clause-unlisted c =
     let r = c.unwrap-reservation.result in
-    let found = rw (c.unwrap-reservation.ensures, ← c.self.view_is) at c.reservation_of.ensures.found in
-    rest_unlisted (reserved_in c.self.inside) r.frame r c.self.invariant.laid found.0 c.unlist.new.lists.lists c.unlist.ensures.listed
+    let own = owner (goal.at.enlist-requires-clause-unlisted c).After-vacate in
+    rest_unlisted (reserved_in c.self.inside) r.frame r c.self.invariant.laid own.0 c.unlist.new.lists.lists c.unlist.ensures.listed
 
 pub invariant_of-self : goal.invariant_of-self
 invariant_of-self c =
+    let w = (goal.at.invariant_of-self c).After-vacate in
     let inside = c.self.inside in
-    let r = c.unwrap-reservation.result in
-    let frame = c.args.frame in
     let l = reserved_in inside in
-    let found = rw (c.unwrap-reservation.ensures, ← c.self.view_is) at c.reservation_of.ensures.found in
-    let at_place = rw found.0 at c.vacate.ensures.vacated in
-    let unused : c.vacate.new.self ≡ with_used inside.reservations frame false = at_place ∙ ap (λ f. with_used inside.reservations f false) c.page_at.ensures.joined in
-    let empty = rw (found.0, unused) at c.vacate.ensures.last in
-    let gone : c.dissolve.new.self ≡ with_record (with_used inside.reservations frame false) r.frame None = c.dissolve.ensures ∙ ap (λ st. with_record st r.frame None) unused in
-    let after = vacated l frame r true c.dissolve.new.self (sym empty ∙ c.if-vacate.true) gone in
-    let used = rw (← c.self.view_is) at c.requires in
-    IsInOrder-gone l r.frame r c.self.invariant.laid found.0 inside.frames frame _ inside.lists c.unlist.new.lists inside.map c.remove.new.map c.self.invariant found.1
-    (subst IsLaid (sym after) (IsLaid-without_place l frame r c.self.invariant.laid found.0 found.1 used)) refl refl (ap (λ (st : Records). st.used) gone) (ap (λ (st : Records). st.records) gone)
+    let r = c.unwrap-reservation.result in
+    let gone = c.dissolve.ensures ∙ ap (λ st. with_record st r.frame None) (unused w) in
+    let after = vacated l c.args.frame r true c.dissolve.new.self (tells w ∙ c.if-vacate.true) gone in
+    IsInOrder-gone l r.frame r c.self.invariant.laid (owner w).0 inside.frames c.args.frame _ inside.lists c.unlist.new.lists inside.map c.remove.new.map c.self.invariant (owner w).1
+    (subst IsLaid (sym after) (laid_without w)) refl refl (ap (λ (st : Records). st.used) gone) (ap (λ (st : Records). st.records) gone)
     c.unlist.ensures.room c.unlist.ensures.listed
     (subst (λ (st : Records). IsMapped c.remove.new.map st.records) (sym c.dissolve.ensures) c.remove.ensures)
 
 pub returns-then-vacate : goal.returns-then-vacate
 returns-then-vacate c =
-    let inside = c.self.inside in
+    let w = (goal.at.returns-then-vacate c).After-vacate in
     let r = c.unwrap-reservation.result in
-    let frame = c.args.frame in
-    let l = reserved_in inside in
-    let found = rw (c.unwrap-reservation.ensures, ← c.self.view_is) at c.reservation_of.ensures.found in
-    let at_place = rw found.0 at c.vacate.ensures.vacated in
-    let unused : c.vacate.new.self ≡ with_used inside.reservations frame false = at_place ∙ ap (λ f. with_used inside.reservations f false) c.page_at.ensures.joined in
-    let empty = rw (found.0, unused) at c.vacate.ensures.last in
-    let gone : c.dissolve.new.self ≡ with_record (with_used inside.reservations frame false) r.frame None = c.dissolve.ensures ∙ ap (λ st. with_record st r.frame None) unused in
-    let last = sym empty ∙ c.if-vacate.true in
-    rw (← c.self.view_is) (record { whole = r; stood = found.0; had = found.1; left = vacated l frame r true c.dissolve.new.self last gone; frames = (last, refl) })
+    let gone = c.dissolve.ensures ∙ ap (λ st. with_record st r.frame None) (unused w) in
+    let last = tells w ∙ c.if-vacate.true in
+    rw (← c.self.view_is) (record { whole = r; stood = (owner w).0; had = (owner w).1; left = vacated (reserved_in c.self.inside) c.args.frame r true c.dissolve.new.self last gone; frames = (last, refl) })
 
 pub invariant_of-self-2 : goal.invariant_of-self-2
 invariant_of-self-2 c =
+    let w = (goal.at.invariant_of-self-2 c).After-vacate in
     let inside = c.self.inside in
-    let r = c.unwrap-reservation.result in
-    let frame = c.args.frame in
     let l = reserved_in inside in
-    let found = rw (c.unwrap-reservation.ensures, ← c.self.view_is) at c.reservation_of.ensures.found in
-    let at_place = rw found.0 at c.vacate.ensures.vacated in
-    let unused : c.vacate.new.self ≡ with_used inside.reservations frame false = at_place ∙ ap (λ f. with_used inside.reservations f false) c.page_at.ensures.joined in
-    let some = rw (found.0, unused) at c.vacate.ensures.last in
-    let after = vacated l frame r false c.vacate.new.self (sym some ∙ c.if-vacate.false) unused in
-    let used = rw (← c.self.view_is) at c.requires in
-    IsInOrder-again l r.frame r c.self.invariant.laid found.0 inside.frames frame false (record_at l r.frame) _ inside.lists c.unlist.new.lists c.enlist.new.lists inside.map inside.map c.self.invariant found.1
-    (subst IsLaid (sym after) (IsLaid-without_place l frame r c.self.invariant.laid found.0 found.1 used)) refl refl (ap (λ (st : Records). st.used) unused)
-    (ap (λ (st : Records). st.records) unused ∙ sym (set-get_or inside.reservations.records r.frame None))
+    let r = c.unwrap-reservation.result in
+    let after = vacated l c.args.frame r false c.vacate.new.self (tells w ∙ c.if-vacate.false) (unused w) in
+    IsInOrder-again l r.frame r c.self.invariant.laid (owner w).0 inside.frames c.args.frame false (record_at l r.frame) _ inside.lists c.unlist.new.lists c.enlist.new.lists inside.map inside.map c.self.invariant (owner w).1
+    (subst IsLaid (sym after) (laid_without w)) refl refl (ap (λ (st : Records). st.used) (unused w))
+    (ap (λ (st : Records). st.records) (unused w) ∙ sym (set-get_or inside.reservations.records r.frame None))
     c.unlist.ensures.room c.enlist.ensures.room c.unlist.ensures.listed c.enlist.ensures.listed
-    (subst (λ (st : Records). IsMapped inside.map st.records) (sym unused) c.self.invariant.mapped)
+    (subst (λ (st : Records). IsMapped inside.map st.records) (sym (unused w)) c.self.invariant.mapped)
 
 pub returns : goal.returns
 returns c =
-    let inside = c.self.inside in
+    let w = (goal.at.returns c).After-vacate in
     let r = c.unwrap-reservation.result in
-    let frame = c.args.frame in
-    let l = reserved_in inside in
-    let found = rw (c.unwrap-reservation.ensures, ← c.self.view_is) at c.reservation_of.ensures.found in
-    let at_place = rw found.0 at c.vacate.ensures.vacated in
-    let unused : c.vacate.new.self ≡ with_used inside.reservations frame false = at_place ∙ ap (λ f. with_used inside.reservations f false) c.page_at.ensures.joined in
-    let some = rw (found.0, unused) at c.vacate.ensures.last in
-    let keeps = sym some ∙ c.if-vacate.false in
-    rw (← c.self.view_is) (record { whole = r; stood = found.0; had = found.1; left = vacated l frame r false c.vacate.new.self keeps unused; frames = keeps })
+    let keeps = tells w ∙ c.if-vacate.false in
+    rw (← c.self.view_is) (record { whole = r; stood = (owner w).0; had = (owner w).1; left = vacated (reserved_in c.self.inside) c.args.frame r false c.vacate.new.self keeps (unused w); frames = keeps })
