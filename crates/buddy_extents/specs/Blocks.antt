@@ -3,6 +3,7 @@
 -- the least order. A set of nodes is a list that says of each whether it is in.
 use Rattle.std.specs.Prelude.{ℕ, ◌≡◌, ◌≢◌, ◌+◌, ◌-◌, ◌/◌, ◌^◌, ◌<◌, ◌≤◌, zero, suc, Bool, true, false, ◌||◌, ◌==◌, List, length, map, slice_index_or, count_by}
 use Rattle.std.specs.List.{range_with_len}
+use Rattle.pager_model.specs.Bounds.{most_frames}
 
 -- the node of the first block of an order
 abbrev pub first_node : ℕ → ℕ
@@ -40,29 +41,29 @@ free_with nodes frames order frame = map (λ other. same_block order frame other
 -- What the nodes of free blocks keep. No frame has two blocks, no two buddies are both in, and no block has a frame past the last.
 pub record AreBlocks (nodes : List Bool) (frames : ℕ) : Type 0 where
   pub size : length nodes ≡ 65472
-  pub one_each : (frame m n : ℕ) → frame < 32768 → m ≤ 9 → n ≤ 9
+  pub one_each : (frame m n : ℕ) → frame < most_frames → m ≤ 9 → n ≤ 9
       → is_block nodes m frame ≡ true → is_block nodes n frame ≡ true → m ≡ n
-  pub no_buddies : (frame other n : ℕ) → frame < 32768 → other < 32768 → n < 9 → frame / 2 ^ (n + 1) ≡ other / 2 ^ (n + 1)
+  pub no_buddies : (frame other n : ℕ) → frame < most_frames → other < most_frames → n < 9 → frame / 2 ^ (n + 1) ≡ other / 2 ^ (n + 1)
       → is_block nodes n frame ≡ true → is_block nodes n other ≡ true → frame / 2 ^ n ≡ other / 2 ^ n
-  pub within : (frame n : ℕ) → frame < 32768 → n ≤ 9 → is_block nodes n frame ≡ true → frame < frames
+  pub within : (frame n : ℕ) → frame < most_frames → n ≤ 9 → is_block nodes n frame ≡ true → frame < frames
 
 -- A block in hand: its frames have no block in the set, so that there is none at it, in it or round it. With them the free frames are
 -- those of the list.
 pub record InHand (nodes : List Bool) (frames order frame : ℕ) (free : List Bool) : Type 0 where
   pub order_up_to_9 : order ≤ 9
-  pub known : frame < 32768
+  pub known : frame < most_frames
   pub blocks : AreBlocks nodes frames
-  pub none : (other n : ℕ) → other < 32768 → n ≤ 9 → other / 2 ^ order ≡ frame / 2 ^ order → is_block nodes n other ≡ false
+  pub none : (other n : ℕ) → other < most_frames → n ≤ 9 → other / 2 ^ order ≡ frame / 2 ^ order → is_block nodes n other ≡ false
   pub within : (other : ℕ) → other / 2 ^ order ≡ frame / 2 ^ order → other < frames
   pub free_is : free_with nodes frames order frame ≡ free
 
 -- the other half of the block of the next order, by one of its frames
 abbrev pub IsBuddy : ℕ → ℕ → ℕ → Type 0
 IsBuddy order frame other =
-    (other < 32768) × (other / 2 ^ (order + 1) ≡ frame / 2 ^ (order + 1)) × (other / 2 ^ order ≢ frame / 2 ^ order)
+    (other < most_frames) × (other / 2 ^ (order + 1) ≡ frame / 2 ^ (order + 1)) × (other / 2 ^ order ≢ frame / 2 ^ order)
 
 -- what the set of free frames keeps: the blocks, and how many frames they have
 pub record IsFree (nodes : List Bool) (frames count : ℕ) : Type 0 where
   pub blocks : AreBlocks nodes frames
-  pub most : frames ≤ 32768
+  pub most : frames ≤ most_frames
   pub counted : count_by (λ free. free) (free_in nodes frames) ≡ count

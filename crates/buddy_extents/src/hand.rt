@@ -2,6 +2,7 @@
 
 ghost use Rattle.std.specs.Prelude.{◌≡◌, ℕ, ◌+◌, ◌*◌, ◌%◌, ◌<◌, ◌≤◌, List, Bool, length, replicate, true, false};
 ghost use Rattle.buddy_extents.specs.Blocks.{InHand, AreBlocks, free_in};
+ghost use Rattle.pager_model.specs.Bounds.{most_frames};
 
 use crate::nodes::{LARGEST, buddy, node};
 use bit_set::BitSet;
@@ -16,11 +17,11 @@ pub(crate) fn cut<L: Ledger>(
     part: u32,
     steps: &mut Steps<L>,
 )
-    requires frame { frame < 32768 }
+    requires frame { frame < most_frames }
     requires order { part ≤ whole }
     requires most { whole ≤ 9 }
     requires nodes { length nodes.old ≡ 65472 }
-    ensures in_hand { (frames : ℕ) (free : List Bool) → frames ≤ 32768
+    ensures in_hand { (frames : ℕ) (free : List Bool) → frames ≤ most_frames
         → InHand nodes.old frames whole frame free → InHand nodes.new frames part frame free }
     ensures cost { steps.new + 6 * part ≡ steps.old + 6 * whole }
 {
@@ -33,10 +34,10 @@ pub(crate) fn cut<L: Ledger>(
 
 /// Joins the block of this order round a frame with its buddy, as long as that is in the set, and puts it in.
 pub(crate) fn put_in<L: Ledger>(nodes: &mut BitSet, order: u32, frame: u32, steps: &mut Steps<L>)
-    requires frame { frame < 32768 }
+    requires frame { frame < most_frames }
     requires order { order ≤ 9 }
     requires nodes { length nodes.old ≡ 65472 }
-    ensures put { (frames : ℕ) (free : List Bool) → frames ≤ 32768
+    ensures put { (frames : ℕ) (free : List Bool) → frames ≤ most_frames
         → InHand nodes.old frames order frame free → (AreBlocks nodes.new frames) × (free_in nodes.new frames ≡ free) }
     ensures cost { steps.new + 7 * order ≤ steps.old + 69 }
 {
@@ -57,7 +58,7 @@ pub(crate) fn put_all_in<L: Ledger>(nodes: &mut BitSet, frames: u32, blank: Blan
     requires parts { blank.parts ≡ L.parts }
     requires share { 0 < blank.parts }
     requires whole { frames % 512 ≡ 0 }
-    requires most { frames ≤ 32768 }
+    requires most { frames ≤ most_frames }
     requires empty { nodes.old ≡ replicate 65472 false }
     ensures blocks { AreBlocks nodes.new frames }
     ensures free { free_in nodes.new frames ≡ replicate frames true }

@@ -8,6 +8,7 @@
 ghost use Rattle.std.specs.Prelude.{◌≡◌, ℕ, ◌+◌, ◌*◌, ◌%◌, ◌^◌, ◌<◌, ◌≤◌, true, false, length, replicate, slice_index_or, count_by, IfOk, MatchOption, is_some};
 ghost use Rattle.pager_model.specs.Extents.{IsExtent};
 ghost use Rattle.pager_model.specs.FreeBlocks.{choice, with_range};
+ghost use Rattle.pager_model.specs.Bounds.{most_frames};
 
 mod hand;
 pub mod laws;
@@ -55,7 +56,7 @@ impl Free {
     /// All of this number of frames, a multiple of 512 and at most 32,768.
     pub fn create(alloc: Global, frames: u32) -> Result<Free, NoMemory>
         requires whole { frames % 512 ≡ 0 }
-        requires most { frames ≤ 32768 }
+        requires most { frames ≤ most_frames }
         ensures { IfOk result (λ free. free ≡ replicate frames true) }
     {
         let mut nodes = BitSet::create(alloc, NODES)?;

@@ -2,6 +2,7 @@
 
 ghost use Rattle.std.specs.Prelude.{◌≡◌, ◌≢◌, ◌+◌, ◌-◌, ◌*◌, ◌/◌, ◌^◌, ◌<◌, ◌≤◌};
 ghost use Rattle.buddy_extents.specs.Blocks.{first_node, node, IsBuddy};
+ghost use Rattle.pager_model.specs.Bounds.{most_frames};
 
 /// The largest order: a block of it has 512 frames, and is joined with no other.
 pub(crate) const LARGEST: u32 = 9;
@@ -20,7 +21,7 @@ pub(crate) fn first_node(order: u32) -> u32
 /// The node of the block of this order round a frame.
 pub(crate) fn node(order: u32, frame: u32) -> u32
     requires order { order ≤ 9 }
-    requires frame { frame < 32768 }
+    requires frame { frame < most_frames }
     ensures node { result ≡ node order frame }
     ensures below { result < 65472 }
 {
@@ -43,7 +44,7 @@ pub(crate) fn first_frame(order: u32, node: u32) -> u32
     requires from { first_node order ≤ node }
     requires to { node < first_node (order + 1) }
     ensures first { result ≡ (node - first_node order) * 2 ^ order }
-    ensures known { result < 32768 }
+    ensures known { result < most_frames }
 {
     (node - first_node(order)) << order
 }
@@ -51,7 +52,7 @@ pub(crate) fn first_frame(order: u32, node: u32) -> u32
 /// A frame of the buddy of the block of this order round a frame: of the other half of the block of the next order.
 pub(crate) fn buddy(order: u32, frame: u32) -> u32
     requires order { order ≤ 9 }
-    requires frame { frame < 32768 }
+    requires frame { frame < most_frames }
     ensures { IsBuddy order frame result }
 {
     frame ^ 1 << order

@@ -7,6 +7,7 @@ use Rattle.pager_model.specs.FrameStates.{places_in}
 use Rattle.pager_model.specs.Layouts.{covers}
 use Rattle.pager_model.specs.Records.{Records, is_used, split_records}
 use Rattle.pager_model.specs.RecordPlaces.{IsPlaced}
+use Rattle.pager_model.specs.Bounds.{space_pages}
 
 -- how many places a reservation has, where its space is one of the first so many
 abbrev pub places_below : ℕ → Option Reservation → ℕ
@@ -17,9 +18,9 @@ places_below spaces (Some r) = if nat_lt r.space spaces then 8 ^ r.size else 0
 -- frame is of this size and has the page. There is room to place a page for each frame, and no more pages are placed than the
 -- reservations of these spaces have places.
 pub record IsMapped (m : Populations) (records : List (Option Reservation)) : Type 0 where
-  pub exact : (space page k id : ℕ) → space < space_count m → page < 1048576 → k ≤ 3
+  pub exact : (space page k id : ℕ) → space < space_count m → page < space_pages → k ≤ 3
       → (id_of m k (page_at space page) ≡ Some id) ↔ IsSomeAnd (slice_index_or records id None) (λ r. (r.size ≡ k) × (covers space page r ≡ true))
-  pub pages : (id : ℕ) (r : Reservation) → slice_index_or records id None ≡ Some r → r.first < 1048576
+  pub pages : (id : ℕ) (r : Reservation) → slice_index_or records id None ≡ Some r → r.first < space_pages
   pub room : frame_count m ≡ length records
   pub few : placed_pages m ≤ sum_by (places_below (space_count m)) records
 
@@ -32,7 +33,7 @@ OneCovers records = (id other space page : ℕ) (r q : Reservation) → slice_in
 -- with it they have no more places than there are frames.
 pub record MayEnter (records : List (Option Reservation)) (r : Reservation) : Type 0 where
   pub placed : IsPlaced (length records) r.frame r
-  pub within : r.first < 1048576
+  pub within : r.first < space_pages
   pub none : (frame : ℕ) → has_frame frame (Some r) ≡ true → slice_index_or records frame None ≡ None
   pub apart : (id page : ℕ) (q : Reservation) → slice_index_or records id None ≡ Some q → covers r.space page r ≡ true → covers r.space page q ≡ true → ⊥
   pub few : sum_by places_in records + 8 ^ r.size ≤ length records

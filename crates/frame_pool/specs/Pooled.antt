@@ -4,6 +4,7 @@ use Rattle.pager_model.specs.Frame.{Framed}
 use Rattle.pager_model.specs.FrameStates.{FrameState, used_at}
 use Rattle.pager_model.specs.Layouts.{Layout}
 use Rattle.pager_laws.specs.Laid.{IsSound}
+use Rattle.pager_model.specs.Bounds.{most_frames}
 
 -- the number of the frame that is there, where one is
 abbrev pub number_in : Option Framed → Option ℕ
@@ -15,7 +16,7 @@ number_in (Some frame) = Some frame.number
 pub record IsPool (frames : List (Option Framed)) (layout : Layout) (claimers : ℕ) (st : FrameState) : Type 0 where
   pub sound : IsSound (length st.free) (length st.held) st
   pub same_used : layout.used ≡ map is_some st.used
-  pub few_frames : length st.free ≤ 32768
+  pub few_frames : length st.free ≤ most_frames
   pub few_processors : length st.held ≤ 17
   pub claimers_known : claimers ≡ length st.held
   pub frames_known : length frames ≡ length st.free

@@ -10,6 +10,7 @@ ghost use Rattle.pager_model.specs.RecordPlaces.{IsPlaced};
 ghost use Rattle.reservations.specs.Parts.{told_parts};
 ghost use Rattle.pager_laws.specs.Laid.{IsIn, IsLaid};
 ghost use Rattle.frame_pool.specs.Placed.{CanBreak, extent_there, is_larger, FindsExtent, PlacesPage};
+ghost use Rattle.pager_model.specs.Bounds.{most_frames, space_pages};
 
 use crate::free::{give, take};
 use crate::reserved::Reserved;
@@ -39,7 +40,7 @@ impl Model for Layout {
 
     ghost view = { layout_in };
 
-    ghost invariant = { λ l. IsLaid (layout_in l) × (length l.free ≤ 32768) };
+    ghost invariant = { λ l. IsLaid (layout_in l) × (length l.free ≤ most_frames) };
 }
 
 /// An extent of frames for a new reservation, and how many reservations were broken for it.
@@ -66,7 +67,7 @@ impl Layout {
         sizes: Sizes,
     ) -> Result<Layout, NoMemory>
         requires whole { frames % 512 ≡ 0 }
-        requires most { frames ≤ 32768 }
+        requires most { frames ≤ most_frames }
         ensures { IfOk result (λ l. l ≡ start_layout sizes frames) }
     {
         Ok(Layout {
@@ -88,7 +89,7 @@ impl Layout {
     ///
     /// In an announced space at most four looks find it.
     pub(crate) fn frame_of(&self, space: u32, page: u32) -> Option<u32>
-        requires { page < 1048576 }
+        requires { page < space_pages }
         ensures { result ≡ frame_in self.now space page }
     {
         let reservation = self.reserved.covering(space, page)?;

@@ -8,6 +8,7 @@ ghost use Rattle.pager_model.specs.Extents.{IsExtent};
 ghost use Rattle.population_map.specs.Populations.{page_at, id_of, is_placed, space_count, IsInNone};
 ghost use Rattle.reservations.specs.Kept.{reservation_at};
 ghost use Rattle.frame_pool.specs.Mapped.{IsMapped, MayEnter, WasSplitFrom};
+ghost use Rattle.pager_model.specs.Bounds.{space_pages};
 
 use pager_model::{Extent, Reservation, Steps};
 use population_map::PopulationMap;
@@ -77,7 +78,7 @@ pub(crate) fn find<L: Ledger>(
     requires parts { blank.parts ≡ L.parts }
     requires share { 0 < blank.parts }
     requires space { space < space_count map.now }
-    requires page { page < 1048576 }
+    requires page { page < space_pages }
     ensures { MatchOption result (IsInNone map.now (page_at space page))
         (λ id. (size : ℕ) × (size ≤ 3) × (id_of map.now size (page_at space page) ≡ Some id)) }
 {
@@ -97,7 +98,7 @@ pub(crate) fn meets<L: Ledger>(
     requires share { 0 < blank.parts }
     requires space { space < space_count map.now }
     requires aligned { IsExtent extent.size extent.first }
-    requires within { extent.first < 1048576 }
+    requires within { extent.first < space_pages }
     ensures meets { OnTrue result ((page : ℕ) × (page / 8 ^ extent.size ≡ page_at space extent.first / 8 ^ extent.size)
         × (is_placed map.now page ≡ true)) }
     ensures apart { OnFalse result ((page : ℕ) → page / 8 ^ extent.size ≡ page_at space extent.first / 8 ^ extent.size

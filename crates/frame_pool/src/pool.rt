@@ -5,6 +5,7 @@ ghost use Rattle.pager_model.specs.FrameStates.{FrameState, Taking, start_frames
 ghost use Rattle.pager_model.specs.FrameStates.{take_frame, counted, give_page, claimed, dropped, IsFull, IsVictim, has_evictable};
 ghost use Rattle.pager_model.specs.FrameStates.{free_count, used_count, reserved_count, wired_count, claimed_count, held_count};
 ghost use Rattle.pager_model.specs.PreferredSize.{IsWanted};
+ghost use Rattle.pager_model.specs.Bounds.{most_frames, space_pages};
 
 use crate::layout::Layout;
 use crate::records::page_at;
@@ -84,7 +85,7 @@ impl Pool {
         sizes: Sizes,
     ) -> Result<Pool, NoMemory>
         requires whole { frames % 512 ≡ 0 }
-        requires frames { frames ≤ 32768 }
+        requires frames { frames ≤ most_frames }
         requires processors { processors ≤ 17 }
         ensures { IfOk result (λ pool. pool ≡ start_frames sizes frames processors) }
     {
@@ -100,7 +101,7 @@ impl Pool {
 
     /// The frame of the page's place, where it has one.
     pub fn frame_of(&self, space: u32, page: u32) -> Option<u32>
-        requires { page < 1048576 }
+        requires { page < space_pages }
         ensures { result ≡ frame_of self.now space page }
     {
         self.layout.frame_of(space, page)

@@ -10,6 +10,7 @@ ghost use Rattle.reservations.specs.Kept.{CoversPage};
 ghost use Rattle.reservations.specs.Parts.{told_parts};
 ghost use Rattle.frame_pool.specs.Placed.{first_of, with_reservation};
 ghost use Rattle.frame_pool.specs.ReservedChanges.{Vacates, none_reserved, with_free};
+ghost use Rattle.pager_model.specs.Bounds.{most_frames, space_pages};
 
 use crate::lists::{enlist, enlist_parts, unlist};
 use crate::mapped;
@@ -55,7 +56,7 @@ impl Reserved {
         spaces: u32,
         sizes: Sizes,
     ) -> Result<Reserved, NoMemory>
-        requires { frames ≤ 32768 }
+        requires { frames ≤ most_frames }
         ensures { IfOk result (λ r. r ≡ none_reserved sizes frames) }
     {
         Ok(Reserved {
@@ -100,7 +101,7 @@ impl Reserved {
     /// The reservation that has the page of the space, if one has it: by at most four looks at the map, however many reservations there
     /// are. In a space that the map doesn't know, it is looked for among all.
     pub(crate) fn covering(&self, space: u32, page: u32) -> Option<Reservation>
-        requires { page < 1048576 }
+        requires { page < space_pages }
         ensures { result ≡ covering space page self.now.records }
     {
         if self.map.spaces() <= space {
@@ -114,7 +115,7 @@ impl Reserved {
     /// there are. In a space that the map doesn't know, each is asked.
     fn meets_any(&self, space: u32, extent: &Extent) -> bool
         requires aligned { IsExtent extent.now.size extent.now.first }
-        requires within { extent.now.first < 1048576 }
+        requires within { extent.now.first < space_pages }
         ensures { result ≡ meets_any space self.now.records extent.now.size extent.now.first }
     {
         if self.map.spaces() <= space {
@@ -178,7 +179,7 @@ impl Reserved {
         requires has { CoversPage reservation page }
         requires placed { IsPlaced (length self.old.records) reservation.frame reservation }
         requires apart { (frame id : ℕ) → has_frame frame (Some reservation) ≡ true → has_frame frame (record_at self.old id) ≡ false }
-        requires within { reservation.first < 1048576 }
+        requires within { reservation.first < space_pages }
         requires laid { (free : List Bool) × IsLaid (with_free free (with_reservation reservation page self.old)) }
         ensures put { self.new ≡ with_reservation reservation page self.old }
         ensures frame { result ≡ frame_for page reservation }

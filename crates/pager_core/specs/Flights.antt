@@ -16,11 +16,12 @@ use Rattle.pager_core.specs.declared.flight.Phase.{Phase}
 use Rattle.pager_core.specs.declared.flight.Phase.TheVariants.{Start, Evict, Clear, Gone, Frame, Short, Fill, Unfill, Out, Write, Hand, Unclaim, Back, Drop, Late, Use, Fault, Lack, Ended}
 use Rattle.pager_core.specs.declared.flight.Purpose.{Purpose}
 use Rattle.pager_core.specs.Rows.{call_in, claimed_in, is_of_call, row_of, space_under}
+use Rattle.pager_model.specs.Bounds.{space_pages}
 
 -- a load or a store at this page, which the rights of the page allow
 pub record IsLawfulAt (call : Call) (kept : Kept) (page : ℕ) : Type 0 where
   pub page_is : access_page call ≡ Some page
-  pub in_space : page < 1048576
+  pub in_space : page < space_pages
   pub allowed : is_allowed kept call ≡ true
 
 -- its page isn't resident

@@ -10,6 +10,7 @@ use Rattle.pager_core.specs.declared.flight.Flight.{Flight}
 use Rattle.pager_core.specs.Rows.{call_in, row_of, space_under, Going}
 use Rattle.pager_core.specs.Flights.{Fits, IsReady, IsAtRest}
 use Rattle.pager_core.specs.Running.{Running, calls_at, flight_at, left_at, IsLawful}
+use Rattle.pager_model.specs.Bounds.{most_calls}
 
 -- the call is on one of the spaces, and one that a space can begin
 pub record CanFly (spaces : ℕ) (call : Call) : Type 0 where
@@ -46,7 +47,7 @@ pub record IsMachine (run : Running) (spaces : List Kept) (pool : FrameState) (c
   pub known : length run.flights ≡ length run.calls
   pub frames : pool ≡ frames_at run.given (entries_in run.history)
   -- no processor has more calls than a trace has lines
-  pub few_calls : (c : ℕ) → length (calls_at run.calls c) ≤ 262144
+  pub few_calls : (c : ℕ) → length (calls_at run.calls c) ≤ most_calls
   pub few_spaces : length spaces ≤ 16
   -- every call can be made
   pub calls : (c n : ℕ) (call : Call) → slice_get (calls_at run.calls c) n ≡ Some call → CanFly (length spaces) call

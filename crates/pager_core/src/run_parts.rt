@@ -13,6 +13,7 @@ ghost use Rattle.pager_model.specs.Stored.{Stored, TellsZero};
 ghost use Rattle.space_core.specs.Standing.{Kept};
 ghost use Rattle.pager_core.specs.RunParts.{IsNew, AreNewSpaces, AreAtRest, most_in_history};
 ghost use Rattle.pager_core.specs.Sums.{AreFewer, sum_at, tiles_in, promotions_in, demotions_in};
+ghost use Rattle.pager_model.specs.Bounds.{most_frames};
 
 use frame_pool::Pool;
 use pager_model::{Call, Line, NoMemory, Numbered, Setting, Sizes, Summary, What};
@@ -43,7 +44,7 @@ impl<S: Store + Send + Drop> RunParts<S> {
         requires spaces { (1 ≤ spaces) × (spaces ≤ 16) }
         requires processors { (1 ≤ length marks.now) × (length marks.now ≤ 17) }
         requires whole { frames % 512 ≡ 0 }
-        requires frames { frames ≤ 32768 }
+        requires frames { frames ≤ most_frames }
 
         // Each part is as it is at the start of a run.
         ensures setting { IfOk result (λ p. p.setting ≡ given_over frames marks.now (take spaces (map S.seen (reverse stores.old.items)))) }
@@ -162,7 +163,7 @@ fn spaces_over<S: Store + Send + Drop>(
     stores: &mut Vec<S>,
 ) -> Result<Vec<Space<S>>, NoMemory>
     requires enough { count ≤ length stores.old.items }
-    requires frames { frames ≤ 32768 }
+    requires frames { frames ≤ most_frames }
     ensures count { IfOk result (λ spaces. length spaces.items ≡ count) }
     ensures new { IfOk result (λ spaces. (s : ℕ) (kept : Kept) (told : Bool) → slice_get spaces.items s ≡ Some kept
         → (told ≡ true → TellsZero kept.store) → IsNew frames processors s told kept.store.faults kept) }

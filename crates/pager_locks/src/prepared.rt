@@ -4,6 +4,7 @@ ghost use Rattle.std.specs.Prelude.{◌≡◌, ◌<◌, ◌≤◌, ◌+◌, ◌^
 ghost use Rattle.std.specs.List.{All};
 ghost use Rattle.pager_model.specs.Stores.{given_over, AreCapped};
 ghost use Rattle.journal_core.specs.Journals.{new_passes};
+ghost use Rattle.pager_model.specs.Bounds.{most_frames};
 
 use crate::naming::Named;
 use crate::pager::Pager;
@@ -49,7 +50,7 @@ impl<S: Store + Send + Drop> Prepared<S> {
         stores: Vec<S>,
         rooms: &[usize],
     ) -> Result<Prepared<S>, Vec<S>>
-        requires frames { (frames % 512 ≡ 0) × (frames ≤ 32768) }
+        requires frames { (frames % 512 ≡ 0) × (frames ≤ most_frames) }
         requires stores { (1 ≤ length stores.items) × (length stores.items ≤ 16) }
         requires processors { (1 ≤ length marks.now) × (length marks.now ≤ 17) × (length rooms.now ≡ length marks.now) }
         requires rooms { All (λ r. r ≤ 2 ^ 31) rooms.now }

@@ -33,3 +33,4 @@ pub mod Ages
 pub mod Layouts
 pub mod RecordPlaces
 pub mod Examples
+pub mod Bounds

@@ -3,12 +3,13 @@ use Rattle.std.specs.Prelude.{ℕ, zero, suc, ◌+◌, ◌^◌, ◌<◌, ◌≤�
 use Rattle.pager_model.specs.declared.entry.Want.{Want}
 use Rattle.pager_model.specs.Extents.{extent_start}
 use Rattle.pager_model.specs.SizeSets.{SizeSet, has_size}
+use Rattle.pager_model.specs.Bounds.{space_pages}
 
 -- the want is one for the page, in a space of pages
 pub record IsWanted (want : Want) (page : ℕ) : Type 0 where
   pub low : want.low ≤ page
   pub high : page < want.high
-  pub in_space : want.high ≤ 1048576
+  pub in_space : want.high ≤ space_pages
   pub cap : 1 ≤ want.cap
 
 -- The extent of size k round the page lies from the want's low to before its high, has at most the cap's number of pages, and

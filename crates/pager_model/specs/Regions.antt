@@ -7,6 +7,7 @@ use Rattle.pager_model.specs.declared.region.Kind.TheVariants.{Fixed, Growing, W
 use Rattle.pager_model.specs.declared.entry.Want.{Want}
 use Rattle.pager_model.specs.declared.reply.Reply.{Reply}
 use Rattle.pager_model.specs.declared.reply.Reply.TheVariants.{Done, Unmapped, Overlap, OutOfSpace, NotGrowing, RegionsFull}
+use Rattle.pager_model.specs.Bounds.{space_pages}
 
 -- the page is one of the length pages from first on
 abbrev pub in_range : ℕ → ℕ → ℕ → Bool
@@ -29,7 +30,7 @@ region_at regions page = find (has_page page) regions
 
 -- the first page of the next region above a page, or the space's end
 abbrev pub next_start : List Region → ℕ → ℕ
-next_start [] page = 1048576
+next_start [] page = space_pages
 next_start (r ∷ regions) page = if nat_lt page r.first then r.first else next_start regions page
 
 -- the regions with one more, in its place by first page
@@ -51,7 +52,7 @@ grown_regions page by regions = map (grown_region page by) regions
 -- a map is out of the space, or overlaps a region, or finds 64 regions; else it is done
 abbrev pub map_reply : List Region → ℕ → ℕ → Reply
 map_reply regions page len =
-    if nat_lt 1048576 (page + len) then OutOfSpace
+    if nat_lt space_pages (page + len) then OutOfSpace
     else (if list_any (meets_range page len) regions then Overlap
     else (if nat_le 64 (length regions) then RegionsFull else Done))
 
@@ -65,7 +66,7 @@ abbrev pub grow_reply_at : List Region → ℕ → Option Region → Reply
 grow_reply_at regions by None = Unmapped
 grow_reply_at regions by (Some r) =
     if not (grows r.kind) then NotGrowing
-    else (if nat_lt 1048576 (end_of r + by) then OutOfSpace
+    else (if nat_lt space_pages (end_of r + by) then OutOfSpace
     else (if list_any (meets_range (end_of r) by) regions then Overlap else Done))
 
 -- a growth finds no region, or one that doesn't grow, or is out of the space, or overlaps the next region; else it is done

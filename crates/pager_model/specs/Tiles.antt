@@ -11,6 +11,7 @@ use Rattle.pager_model.specs.Extents.{IsExtent, extent_start}
 use Rattle.pager_model.specs.Flat.{Flat}
 use Rattle.pager_model.specs.Regions.{region_at}
 use Rattle.pager_model.specs.SizeSets.{SizeSet, has_size, size_within}
+use Rattle.pager_model.specs.Bounds.{space_pages}
 
 abbrev pub mapping_with : Option ℕ → Option Region → Rights → Bool → Option Mapping
 mapping_with None region rights dirty = None
@@ -112,7 +113,7 @@ is_promoted before after page = begins_at page (tile_of after page) && nat_lt (s
 
 -- how many pages of a space are so
 unfoldable pub count_pages : (ℕ → Bool) → ℕ
-count_pages test = count_by test (range_with_len 0 1048576)
+count_pages test = count_by test (range_with_len 0 space_pages)
 
 -- promotions by all four sizes: the extents of size 1 or more that are tiles after a change and lay in no tile before it
 abbrev pub promotions_between : (ℕ → Option Mapping) → (ℕ → Option Mapping) → ℕ

@@ -9,6 +9,7 @@ use Rattle.pager_model.specs.declared.region.Kind.TheVariants.{Fixed, Growing, W
 use Rattle.pager_model.specs.declared.region.Rights.{Rights}
 use Rattle.pager_model.specs.declared.region.Rights.TheVariants.{NoAccess, Read, Write}
 use Rattle.pager_model.specs.Plans.{Plan}
+use Rattle.pager_model.specs.Bounds.{most_calls, most_frames, space_bytes, space_pages}
 
 abbrev pub kind_word : Kind → List ℕ
 kind_word Fixed = codes "fixed"
@@ -57,14 +58,14 @@ text_of plan = first_line plan ++ flat_map call_line plan.calls ++ line_of_words
 -- a call that a line may hold, where there are so many spaces: of one of them, at one of its 1,048,576 pages; a range has a page at
 -- least and as many as a space at most, and may lie past the end; an address is that of a word
 abbrev pub IsCall : ℕ → Call → Type 0
-IsCall spaces (Map space page len kind rights) = (space < spaces) × (page < 1048576) × (1 ≤ len) × (len ≤ 1048576)
-IsCall spaces (Grow space page by) = (space < spaces) × (page < 1048576) × (1 ≤ by) × (by ≤ 1048576)
-IsCall spaces (Unmap space page) = (space < spaces) × (page < 1048576)
-IsCall spaces (Protect space page len rights) = (space < spaces) × (page < 1048576) × (1 ≤ len) × (len ≤ 1048576)
-IsCall spaces (Load space address) = (space < spaces) × (address % 8 ≡ 0) × (address < 8589934592)
-IsCall spaces (Store space address word) = (space < spaces) × (address % 8 ≡ 0) × (address < 8589934592) × (word < 2 ^ 64)
-IsCall spaces (Sync space page) = (space < spaces) × (page < 1048576)
-IsCall spaces (Evict space page) = (space < spaces) × (page < 1048576)
+IsCall spaces (Map space page len kind rights) = (space < spaces) × (page < space_pages) × (1 ≤ len) × (len ≤ space_pages)
+IsCall spaces (Grow space page by) = (space < spaces) × (page < space_pages) × (1 ≤ by) × (by ≤ space_pages)
+IsCall spaces (Unmap space page) = (space < spaces) × (page < space_pages)
+IsCall spaces (Protect space page len rights) = (space < spaces) × (page < space_pages) × (1 ≤ len) × (len ≤ space_pages)
+IsCall spaces (Load space address) = (space < spaces) × (address % 8 ≡ 0) × (address < space_bytes)
+IsCall spaces (Store space address word) = (space < spaces) × (address % 8 ≡ 0) × (address < space_bytes) × (word < 2 ^ 64)
+IsCall spaces (Sync space page) = (space < spaces) × (page < space_pages)
+IsCall spaces (Evict space page) = (space < spaces) × (page < space_pages)
 
 -- a line that a trace of so many processors and spaces may hold
 abbrev pub IsLine : ℕ → ℕ → Line → Type 0
@@ -73,13 +74,13 @@ IsLine processors spaces line = (line.processor < processors) × IsCall spaces l
 -- the traces that have a text: a multiple of 512 frames from 512 to 32,768, one to sixteen processors and spaces, no daemon, and at
 -- most 262,144 calls in their ranges
 pub record HasText (plan : Plan) : Type 0 where
-  pub frames_in : (512 ≤ plan.frames) × (plan.frames ≤ 32768)
+  pub frames_in : (512 ≤ plan.frames) × (plan.frames ≤ most_frames)
   pub frames_whole : plan.frames % 512 ≡ 0
   pub processors_in : (1 ≤ plan.processors) × (plan.processors ≤ 16)
   pub spaces_in : (1 ≤ plan.spaces) × (plan.spaces ≤ 16)
   pub no_daemon : plan.daemon ≡ None
   pub lines : All (IsLine plan.processors plan.spaces) plan.calls
-  pub few : length plan.calls ≤ 262144
+  pub few : length plan.calls ≤ most_calls
 
 -- these bytes are the text of this trace
 abbrev pub IsTextOf : List ℕ → Plan → Type 0

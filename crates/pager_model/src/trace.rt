@@ -1,5 +1,6 @@
 ghost use Rattle.std.specs.Prelude.{◌≡◌, ◌≤◌, All, length};
 ghost use Rattle.pager_model.specs.TraceText.{HasText, IsLine};
+ghost use Rattle.pager_model.specs.Bounds.{most_calls};
 
 use crate::call::Line;
 use std::marker::Model;
@@ -91,7 +92,7 @@ impl Trace {
     /// The calls, in the order of their lines.
     pub fn calls(&self) -> &[Line]
         ensures calls { result.now ≡ self.now.calls }
-        ensures few { length result.now ≤ 262144 }
+        ensures few { length result.now ≤ most_calls }
         ensures lines { All (IsLine self.now.processors self.now.spaces) result.now }
         ensures text { HasText self.now }
     {

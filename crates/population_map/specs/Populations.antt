@@ -4,10 +4,11 @@ use Rattle.std.specs.List.{range_with_len}
 use Rattle.std.specs.Int.{bit_at}
 use Rattle.extent_tree.specs.Rows.{Arena, row}
 use Rattle.population_map.specs.declared.mark.Mark.{Mark}
+use Rattle.pager_model.specs.Bounds.{space_pages}
 
 -- the number of a page of a space: the pages of the spaces before it come first
 abbrev pub page_at : ℕ → ℕ → ℕ
-page_at space page = 1048576 * space + page
+page_at space page = space_pages * space + page
 
 -- what contracts see of a population map
 abbrev pub Populations : Type 0

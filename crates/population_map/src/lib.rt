@@ -13,6 +13,7 @@ ghost use Rattle.std.specs.Bool.{OnTrue, OnFalse};
 ghost use Rattle.std.specs.Int.{bit_at};
 ghost use Rattle.pager_model.specs.Extents.{IsExtent};
 ghost use Rattle.population_map.specs.Populations.{page_at, id_of, is_placed, is_populated, placed_pages, space_count, frame_count, IsInNone, SomePopulated, AllPopulated, SameRoom, PlacesOnly, EmptiesOnly, PopulatesOnly};
+ghost use Rattle.pager_model.specs.Bounds.{space_pages};
 
 mod mark;
 mod placing;
@@ -57,7 +58,7 @@ impl Model for PopulationMap {
 /// The number of a page of a space over all spaces.
 fn page_at(space: u32, page: u32) -> u32
     requires space { space < 1024 }
-    requires page { page < 1048576 }
+    requires page { page < space_pages }
     ensures { result ≡ page_at space page }
 {
     PAGES * space + page
@@ -90,7 +91,7 @@ impl PopulationMap {
     pub fn place(&mut self, space: u32, extent: Extent, id: u32)
         requires space { space < space_count self.old }
         requires aligned { IsExtent extent.size extent.first }
-        requires within { extent.first < 1048576 }
+        requires within { extent.first < space_pages }
         requires apart { (page : ℕ) → page / 8 ^ extent.size ≡ page_at space extent.first / 8 ^ extent.size
             → IsInNone self.old page }
         requires room { placed_pages self.old + 8 ^ extent.size ≤ frame_count self.old }
@@ -112,7 +113,7 @@ impl PopulationMap {
     pub fn remove(&mut self, space: u32, extent: Extent)
         requires space { space < space_count self.old }
         requires aligned { IsExtent extent.size extent.first }
-        requires within { extent.first < 1048576 }
+        requires within { extent.first < space_pages }
         requires placed { is_some (id_of self.old extent.size (page_at space extent.first)) ≡ true }
         ensures room { SameRoom self.old self.new }
         ensures placed { PlacesOnly self.old self.new extent.size (page_at space extent.first) None }
@@ -130,7 +131,7 @@ impl PopulationMap {
     /// Populates a page of a placed extent.
     pub fn populate<L: Ledger>(&mut self, space: u32, page: u32, steps: &mut Steps<L>)
         requires space { space < space_count self.old }
-        requires page { page < 1048576 }
+        requires page { page < space_pages }
         requires placed { is_placed self.old (page_at space page) ≡ true }
         requires empty { is_populated self.old (page_at space page) ≡ false }
         ensures room { SameRoom self.old self.new }
@@ -144,7 +145,7 @@ impl PopulationMap {
     /// Evicts a populated page.
     pub fn evict<L: Ledger>(&mut self, space: u32, page: u32, steps: &mut Steps<L>)
         requires space { space < space_count self.old }
-        requires page { page < 1048576 }
+        requires page { page < space_pages }
         requires populated { is_populated self.old (page_at space page) ≡ true }
         ensures room { SameRoom self.old self.new }
         ensures evicted { PopulatesOnly self.old self.new (page_at space page) false }
@@ -157,7 +158,7 @@ impl PopulationMap {
     /// The id of the placed extent that has a page, if one has it.
     pub fn find<L: Ledger>(&self, space: u32, page: u32, steps: &mut Steps<L>) -> Option<u32>
         requires space { space < space_count self.now }
-        requires page { page < 1048576 }
+        requires page { page < space_pages }
         ensures found { MatchOption result (IsInNone self.now (page_at space page))
             (λ id. (size : ℕ) × (size ≤ 3) × (id_of self.now size (page_at space page) ≡ Some id)) }
         ensures cost { steps.new ≤ steps.old + 4 }
@@ -169,7 +170,7 @@ impl PopulationMap {
     pub fn meets<L: Ledger>(&self, space: u32, extent: Extent, steps: &mut Steps<L>) -> bool
         requires space { space < space_count self.now }
         requires aligned { IsExtent extent.size extent.first }
-        requires within { extent.first < 1048576 }
+        requires within { extent.first < space_pages }
         ensures meets { OnTrue result ((page : ℕ) × (page / 8 ^ extent.size ≡ page_at space extent.first / 8 ^ extent.size)
             × (is_placed self.now page ≡ true)) }
         ensures apart { OnFalse result ((page : ℕ) → page / 8 ^ extent.size ≡ page_at space extent.first / 8 ^ extent.size
@@ -184,7 +185,7 @@ impl PopulationMap {
         requires space { space < space_count self.now }
         requires size { 0 < extent.size }
         requires aligned { IsExtent extent.size extent.first }
-        requires within { extent.first < 1048576 }
+        requires within { extent.first < space_pages }
         ensures { (page : ℕ) → page / 8 ^ extent.size ≡ page_at space extent.first / 8 ^ extent.size
             → (bit_at result (page / 8 ^ (extent.size - 1) % 8) ≡ 1) ↔ SomePopulated self.now (extent.size - 1) page }
     {
@@ -202,7 +203,7 @@ impl PopulationMap {
         requires space { space < space_count self.now }
         requires size { 0 < extent.size }
         requires aligned { IsExtent extent.size extent.first }
-        requires within { extent.first < 1048576 }
+        requires within { extent.first < space_pages }
         ensures { (page : ℕ) → page / 8 ^ extent.size ≡ page_at space extent.first / 8 ^ extent.size
             → (bit_at result (page / 8 ^ (extent.size - 1) % 8) ≡ 1) ↔ AllPopulated self.now (extent.size - 1) page }
     {

@@ -4,11 +4,12 @@ use Rattle.pager_model.specs.declared.region.Region.{Region}
 use Rattle.pager_model.specs.declared.region.Kind.{Kind}
 use Rattle.pager_model.specs.declared.region.Rights.{Rights}
 use Rattle.pager_model.specs.Regions.{end_of}
+use Rattle.pager_model.specs.Bounds.{space_pages}
 
 -- one region behind another from a page on: each begins where the one before it ends or later, has a page at least, and
 -- ends within the space
 abbrev pub LieFrom : ℕ → List Region → Type 0
-LieFrom page [] = page ≤ 1048576
+LieFrom page [] = page ≤ space_pages
 LieFrom page (r ∷ regions) = (page ≤ r.first) × (1 ≤ r.length) × LieFrom (end_of r) regions
 
 -- at most 64 regions in the order of their first pages, no two with a common page

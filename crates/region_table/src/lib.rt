@@ -8,6 +8,7 @@ ghost use Rattle.std.specs.Prelude.{◌≡◌, ◌≢◌, ◌+◌, ◌<◌, ◌�
 ghost use Rattle.std.specs.List.{list_any, position, prefix_len};
 ghost use Rattle.pager_model.specs.Regions.{has_page, meets_range, region_at, next_start, with_region, without_region, grown_regions, map_reply, grow_reply, unmap_reply};
 ghost use Rattle.region_table.specs.Table.{IsTable, region_of};
+ghost use Rattle.pager_model.specs.Bounds.{space_pages};
 
 use arrayvec::ArrayVec;
 pub use pager_model::Region;
@@ -51,7 +52,7 @@ impl Regions {
     /// where a region has one of its pages, `RegionsFull` where there are 64 regions.
     pub fn map(&mut self, page: u32, length: u32, kind: Kind, rights: Rights) -> Result<(), Reply>
         requires some { 1 ≤ length }
-        requires in_space { page < 1048576 }
+        requires in_space { page < space_pages }
         ensures reply { MatchResult result (λ _. map_reply self.old page length ≡ Reply.Done)
             (λ e. map_reply self.old page length ≡ e) }
         ensures refusal { IfErr result (λ e. e ≢ Reply.Done) }
@@ -152,7 +153,7 @@ impl Regions {
     /// Whether a region has one of the pages.
     fn meets(&self, page: u32, length: u32) -> bool
         requires some { 1 ≤ length }
-        requires in_space { page + length ≤ 1048576 }
+        requires in_space { page + length ≤ space_pages }
         ensures { result ≡ list_any (meets_range page length) self.now }
     {
         self.find(page).is_some() || self.next_start(page) < page + length

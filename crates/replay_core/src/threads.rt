@@ -6,6 +6,7 @@ ghost use Rattle.pager_model.specs.Showing.{calls_of};
 ghost use Rattle.pager_model.specs.TraceText.{HasText};
 ghost use Rattle.replay_core.specs.Jobs.{calls_in, room_for};
 ghost use Rattle.replay_core.specs.Replays.{IsReplay, AreItsCounts};
+ghost use Rattle.pager_model.specs.Bounds.{most_calls};
 
 use crate::jobs::{Job, run_jobs};
 use pager_core::{Gathered, calls_by_processor};
@@ -96,7 +97,7 @@ fn jobs_of(alloc: Global, calls: Vec<Vec<Call>>) -> Result<Vec<Job>, NoMemory>
 
 /// At most how many entries each processor's calls make.
 fn rooms_for(alloc: Global, calls: &[Vec<Call>]) -> Result<Vec<usize>, NoMemory>
-    requires { All (λ own. length own.items ≤ 262144) calls.now }
+    requires { All (λ own. length own.items ≤ most_calls) calls.now }
     ensures { IfOk result (λ rooms. rooms.items ≡ map (λ own. room_for own.items) calls.now) }
 {
     Ok(

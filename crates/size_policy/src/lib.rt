@@ -8,6 +8,7 @@ ghost use Rattle.pager_model.specs.Extents.{extent_start};
 ghost use Rattle.pager_model.specs.PreferredSize.{fits, preferred_size};
 ghost use Rattle.size_policy.specs.Answers.{AsksAny, AnswersTest};
 ghost use Rattle.size_policy.specs.Suits.{LiesWithin};
+ghost use Rattle.pager_model.specs.Bounds.{space_pages};
 
 pub mod laws;
 
@@ -31,7 +32,7 @@ pub fn extent_round(size: Size, page: u32) -> Extent
 /// nothing.
 fn may_reserve<F: Fn(Extent) -> bool>(size: Size, page: u32, want: &Want, meets: &F) -> bool
     requires level { size ≤ 3 }
-    requires page { page < 1048576 }
+    requires page { page < space_pages }
     requires callable { AsksAny (F.pre meets.now) }
     ensures exact { (test : ℕ → ℕ → Bool) → AnswersTest (F.post meets.now) test
         → result ≡ fits test page want.now size }
@@ -50,7 +51,7 @@ fn may_reserve<F: Fn(Extent) -> bool>(size: Size, page: u32, want: &Want, meets:
 /// Where no larger extent does, it is the page alone. `meets` is not asked of that one: a page that gets a reservation is in none.
 pub fn preferred<F: Fn(Extent) -> bool>(page: u32, want: &Want, meets: F) -> Size
     requires inside { (want.now.low ≤ page) × (page < want.now.high) }
-    requires space { want.now.high ≤ 1048576 }
+    requires space { want.now.high ≤ space_pages }
     requires cap { 1 ≤ want.now.cap }
     requires callable { AsksAny (F.pre meets) }
     ensures exact { (test : ℕ → ℕ → Bool) → AnswersTest (F.post meets) test

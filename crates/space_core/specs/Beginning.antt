@@ -18,6 +18,7 @@ use Rattle.space_core.specs.declared.space.Begun.TheVariants.{Answered as HasAns
 use Rattle.space_core.specs.Standing.{Kept, StandsFor, StandsBut, IsResting, MustWrite, range_of, frame_at, rights_at, dirty_at, is_allowed, is_unwired, copied_page}
 use Rattle.pager_model.specs.CallEntries.{answer_entry, evict_entry, take_entry, give_entry, clear_entry, out_entry, failed_entry}
 use Rattle.pager_model.specs.Stored.{keeps_at}
+use Rattle.pager_model.specs.Bounds.{space_pages}
 
 -- The space allows the answer to this processor's call, whatever its number, and then stands for one entry more.
 pub record Answers (old new : Kept) (c : ℕ) (call : Call) (a : Answered) : Type 0 where
@@ -55,7 +56,7 @@ pub record BeginsAnswered (old new : Kept) (c : ℕ) (call : Call) (a : Answered
 -- The call is a lawful load or store at a page that isn't resident, with its region's want.
 pub record NeedsItsFrame (kept : Kept) (call : Call) (page : ℕ) (want : Want) : Type 0 where
   pub page_is : access_page call ≡ Some page
-  pub in_space : page < 1048576
+  pub in_space : page < space_pages
   pub allowed : is_allowed kept call ≡ true
   pub absent : frame_at kept page ≡ None
   pub wanted : wanted kept.regions page ≡ Some want
@@ -82,7 +83,7 @@ pub record IsUnmapping (kept : Kept) (call : Call) (first len : ℕ) : Type 0 wh
   pub at_first : region_at kept.regions first ≡ Some region
   pub first_is : region.first ≡ first
   pub length_is : region.length ≡ len
-  pub in_space : first + len ≤ 1048576
+  pub in_space : first + len ≤ space_pages
 
 -- The call is an unmap of a region that is there. Nothing changed.
 pub record BeginsClearing (old new : Kept) (call : Call) (first len : ℕ) : Type 0 where
@@ -91,7 +92,7 @@ pub record BeginsClearing (old new : Kept) (call : Call) (first len : ℕ) : Typ
 
 -- The page is being evicted: it has a region that isn't wired, and a frame.
 pub record IsEvicting (kept : Kept) (page : ℕ) : Type 0 where
-  pub in_space : page < 1048576
+  pub in_space : page < space_pages
   pub paged : kept.paged ≡ Some page
   pub unwired : is_unwired (region_at kept.regions page) ≡ true
   pub resident : frame_at kept page ≢ None

@@ -8,6 +8,7 @@ use Rattle.pager_model.specs.Regions.{region_at}
 use Rattle.region_table.specs.Table.{IsTable}
 use Rattle.space_core.specs.Standing.{rights_by}
 use Rattle.space_core.specs.Tables.{Table, mapping_in, frame_in, own_in, dirty_in}
+use Rattle.pager_model.specs.Bounds.{space_pages}
 
 -- None of the pages before the scan of the range that is being cleared is resident.
 pub record IsClearing (table : Table) (scan : ℕ) (r : PageRange) : Type 0 where
@@ -26,7 +27,7 @@ pub record IsKept (regions : List Region) (table : Table) (pending : Option ℕ)
   -- only a region's pages have rights of their own, so a new region's pages begin with its first rights
   pub own : (p : ℕ) → region_at regions p ≡ None → own_in table p ≡ None
   pub mapped : (p : ℕ) (m : Mapping) → mapping_in table p ≡ Some m → IsMapped regions table p m
-  pub pending_in : ForSome pending (λ p. p < 1048576)
+  pub pending_in : ForSome pending (λ p. p < space_pages)
   -- a page that was placed and not yet read in wasn't stored to
   pub pending_clean : ForSome pending (λ p. dirty_in table p ≡ false)
   -- no page is placed while a range is being cleared

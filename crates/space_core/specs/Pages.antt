@@ -9,6 +9,7 @@ use Rattle.pager_model.specs.Frame.{Framed}
 use Rattle.pager_model.specs.Regions.{in_range}
 use Rattle.space_core.specs.Tables.{Table, mapping_in, frame_in, word_in, own_in}
 use Rattle.tiles.specs.Resident.{frames_in, with_rights, with_flag}
+use Rattle.pager_model.specs.Bounds.{most_frames, space_pages}
 
 -- the frame of this number is kept at it
 pub record IsFrameAt (table : Table) (number : ℕ) : Type 0 where
@@ -18,9 +19,9 @@ pub record IsFrameAt (table : Table) (number : ℕ) : Type 0 where
 
 -- There are rights for each of the 1,048,576 pages, the number of a page names a frame that is there, and no two pages have one number.
 pub record IsPaged (table : Table) : Type 0 where
-  pub own : length table.own ≡ 1048576
+  pub own : length table.own ≡ space_pages
   pub count : frames_in table.pages ≡ length table.frames
-  pub few : length table.frames ≤ 32768
+  pub few : length table.frames ≤ most_frames
   pub found : (page number : ℕ) → frame_in table page ≡ Some number → IsFrameAt table number
   pub apart : (p q number : ℕ) → frame_in table p ≡ Some number → frame_in table q ≡ Some number → p ≡ q
 

@@ -7,6 +7,7 @@ ghost use Rattle.pager_model.specs.Regions.{is_wired, want_end};
 ghost use Rattle.pager_model.specs.SpaceStates.{access_page};
 ghost use Rattle.space_core.specs.Pages.{permits};
 ghost use Rattle.space_core.specs.Standing.{CanBegin};
+ghost use Rattle.pager_model.specs.Bounds.{space_bytes, space_pages};
 
 use pager_model::{Answered, Call, Kind, Region, Reply, Rights, Want};
 
@@ -18,9 +19,9 @@ const WORD_BYTES: u64 = 8;
 
 /// The page of an address.
 pub fn page_of(address: u64) -> u32
-    requires { address < 8589934592 }
+    requires { address < space_bytes }
     ensures page { result ≡ page_of address }
-    ensures in_space { result < 1048576 }
+    ensures in_space { result < space_pages }
 {
     (address / PAGE_BYTES) as u32
 }
@@ -29,7 +30,7 @@ pub fn page_of(address: u64) -> u32
 pub fn accessed_page(call: &Call) -> Option<u32>
     requires can { CanBegin call.now }
     ensures page { result ≡ access_page call.now }
-    ensures in_space { IfSome result (λ page. page < 1048576) }
+    ensures in_space { IfSome result (λ page. page < space_pages) }
 {
     match *call {
         Call::Load { address, .. } | Call::Store { address, .. } => Some(page_of(address)),
@@ -60,9 +61,9 @@ pub fn permits(rights: Rights, call: &Call) -> bool
 pub fn want_in(region: &Region, page: u32, next: u32) -> Want
     requires has_first { region.now.first ≤ page }
     requires has_last { page < region.now.first + region.now.length }
-    requires in_space { region.now.first + region.now.length ≤ 1048576 }
+    requires in_space { region.now.first + region.now.length ≤ space_pages }
     requires above { page < next }
-    requires next_in_space { next ≤ 1048576 }
+    requires next_in_space { next ≤ space_pages }
     ensures want { result ≡ record {
       low = region.now.first;
       high = want_end region.now.kind region.now next;

@@ -15,6 +15,7 @@ ghost use Rattle.space_core.specs.Saving.{Saves, FailsToSave, LacksRoom, unwritt
 ghost use Rattle.space_core.specs.Standing.{StandsFor, IsResting, range_of, frame_at, dirty_at, image_at, rights_by, is_allowed, CanBegin};
 ghost use Rattle.space_core.specs.Tables.{mapping_in, own_in};
 ghost use Rattle.space_core.specs.Translating.{counted_up, Retouches, ChangesPages, CleansPage, Touches, BeginsClear};
+ghost use Rattle.pager_model.specs.Bounds.{most_frames, space_bytes, space_pages};
 
 use crate::access::{accessed_page, answered, page_of, permits, want_in, word_of};
 use crate::table::PageTable;
@@ -110,7 +111,7 @@ impl<S: Store + Send + Drop> Space<S> {
         processors: u32,
         store: S,
     ) -> Result<Space<S>, S>
-        requires { frames ≤ 32768 }
+        requires { frames ≤ most_frames }
         ensures made { IfOk result (λ s. (s.number ≡ space) × (s.frames ≡ frames) × (length s.images ≡ processors) × (s.store ≡ S.seen store) × IsResting s) }
         ensures stands { IfOk result (λ s. (told : Bool) → (told ≡ true → TellsZero s.store) → StandsFor s (empty_state all_sizes told s.store.faults)) }
         ensures back { IfErr result (λ back. S.seen back ≡ S.seen store) }
@@ -183,7 +184,7 @@ impl<S: Store + Send + Drop> Space<S> {
 
     /// Puts a frame under a page that isn't resident. No other page has a frame of this number.
     pub fn place(&mut self, page: u32, frame: Frame)
-        requires page { page < 1048576 }
+        requires page { page < space_pages }
         requires region { IsSome (region_at self.old.regions page) }
         requires absent { frame_at self.old page ≡ None }
         requires resting { IsResting self.old }
@@ -272,7 +273,7 @@ impl<S: Store + Send + Drop> Space<S> {
     /// The lowest resident page of a range, with its frame, which it gives up. `None` exactly where no page of the range is resident; where
     /// a region has that range, the space then waits for its unmap.
     pub fn clear_next(&mut self, range: PageRange) -> Option<(u32, Frame)>
-        requires in_space { range.first + range.length ≤ 1048576 }
+        requires in_space { range.first + range.length ≤ space_pages }
         requires none_pending { self.old.pending ≡ None }
         ensures some { IfSome result (λ given. ClearsOne self.old self.new range.first range.length given.0 given.1.number) }
         ensures none { IfNone result (ClearsNone self.old self.new range.first range.length) }
@@ -310,7 +311,7 @@ impl<S: Store + Send + Drop> Space<S> {
     /// Goes on with the clearing of a range, or begins it, where the large tiles that meet it are counted first. None of its pages before the
     /// result is resident.
     fn begin_clearing(&mut self, range: PageRange) -> u32
-        requires in_space { range.first + range.length ≤ 1048576 }
+        requires in_space { range.first + range.length ≤ space_pages }
         requires none_pending { self.old.pending ≡ None }
         ensures begun { range.first ≤ result }
         ensures done { (p : ℕ) → range.first ≤ p → p < result → frame_at self.old p ≡ None }
@@ -480,7 +481,7 @@ impl<S: Store + Send + Drop> Space<S> {
 
     /// The rights of a page of a region: its own, or else the region's first.
     fn rights(&self, page: u32, region: Region) -> Rights
-        requires { page < 1048576 }
+        requires { page < space_pages }
         ensures { result ≡ rights_by (own_in self.now.table page) (Some region) }
     {
         self.table.own(page).unwrap_or(region.rights)
@@ -490,7 +491,7 @@ impl<S: Store + Send + Drop> Space<S> {
     fn load(&mut self, processor: u32, address: u64) -> Answered
         requires processor { processor < length self.old.images }
         requires resting { IsResting self.old }
-        requires in_space { address < 8589934592 }
+        requires in_space { address < space_bytes }
         requires allowed { is_allowed self.old (Call.Load self.old.number address) ≡ true }
         requires resident { frame_at self.old (page_of address) ≢ None }
         ensures { Finishes self.old self.new processor (Call.Load self.old.number address) result }
@@ -505,7 +506,7 @@ impl<S: Store + Send + Drop> Space<S> {
     fn store(&mut self, processor: u32, address: u64, word: u64) -> Answered
         requires processor { processor < length self.old.images }
         requires resting { IsResting self.old }
-        requires in_space { address < 8589934592 }
+        requires in_space { address < space_bytes }
         requires allowed { is_allowed self.old (Call.Store self.old.number address word) ≡ true }
         requires resident { frame_at self.old (page_of address) ≢ None }
         ensures { Finishes self.old self.new processor (Call.Store self.old.number address word) result }
@@ -643,7 +644,7 @@ fn parts_of(
     frames: u32,
     processors: u32,
 ) -> Result<(PageTable, Vec<Image>), NoMemory>
-    requires { frames ≤ 32768 }
+    requires { frames ≤ most_frames }
     ensures { IfOk result (λ parts. IsFresh frames parts.0 × (parts.1.items ≡ replicate processors [])) }
 {
     let table = PageTable::create(alloc, frames)?;

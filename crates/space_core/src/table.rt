@@ -7,6 +7,7 @@ ghost use Rattle.pager_model.specs.Stored.{copy_at, keeps_at, SameCopies, SetsCo
 ghost use Rattle.tiles.specs.Resident.{AreMoves, large_tiles_meeting};
 ghost use Rattle.space_core.specs.Tables.{mapping_in, frame_in, word_in, own_in, dirty_in};
 ghost use Rattle.space_core.specs.Pages.{IsFresh, Maps, Refills, HasWords, Writes, Cleans, OwnsRights, Protects, Forgets, IsFirstResident, NoneFrom};
+ghost use Rattle.pager_model.specs.Bounds.{most_frames, space_pages};
 
 use crate::frames::{set_word, set_words, word};
 use pager_model::{Frame, Mapping, NoMemory, PAGES, Rights, Tile, WORDS};
@@ -48,7 +49,7 @@ impl Model for PageTable {
 impl PageTable {
     /// Room for the pages of a space and for so many frames: no page is resident, and none has rights of its own.
     pub fn create(alloc: Global, frames: u32) -> Result<PageTable, NoMemory>
-        requires { frames ≤ 32768 }
+        requires { frames ≤ most_frames }
         ensures { IfOk result (IsFresh frames) }
     {
         Ok(PageTable {
@@ -61,7 +62,7 @@ impl PageTable {
     /// The number of a page's frame, where it is resident.
     pub fn number(&self, page: u32) -> Option<u32>
         ensures number { result ≡ frame_in self.now page }
-        ensures in_space { IfSome result (λ _. page < 1048576) }
+        ensures in_space { IfSome result (λ _. page < space_pages) }
     {
         Some(self.pages.mapping(page)?.frame)
     }
@@ -82,7 +83,7 @@ impl PageTable {
 
     /// How many tiles of size 1 or more have a page of the range.
     pub fn tiles_meeting(&self, first: u32, length: u32) -> u32
-        requires { first + length ≤ 1048576 }
+        requires { first + length ≤ space_pages }
         ensures { result ≡ large_tiles_meeting first length (mapping_in self.now) }
     {
         self.pages.tiles_meeting(first, length)
@@ -97,7 +98,7 @@ impl PageTable {
 
     /// The rights that a protect gave a page.
     pub fn own(&self, page: u32) -> Option<Rights>
-        requires { page < 1048576 }
+        requires { page < space_pages }
         ensures { result ≡ own_in self.now page }
     {
         self.own[page as usize]
@@ -105,7 +106,7 @@ impl PageTable {
 
     /// A word of a page, which is zero where the page isn't resident.
     pub fn word(&self, page: u32, index: usize) -> u64
-        requires page { page < 1048576 }
+        requires page { page < space_pages }
         requires index { index < 1024 }
         ensures { result ≡ word_in self.now page index }
     {
@@ -120,7 +121,7 @@ impl PageTable {
 
     /// The lowest resident page from `from` on and before `end`.
     pub fn first_resident(&self, from: u32, end: u32) -> Option<u32>
-        requires { end ≤ 1048576 }
+        requires { end ≤ space_pages }
         ensures some { IfSome result (IsFirstResident self.now from end) }
         ensures none { IfNone result (NoneFrom self.now from end) }
     {
@@ -134,7 +135,7 @@ impl PageTable {
 
     /// Puts a frame under a page that isn't resident, of the region that begins at this page and with these rights.
     pub fn put(&mut self, page: u32, frame: Frame, region: u32, rights: Rights) -> Moves
-        requires page { page < 1048576 }
+        requires page { page < space_pages }
         requires absent { frame_in self.old page ≡ None }
         requires known { frame.number < length self.old.frames }
         requires other { (p : ℕ) → frame_in self.old p ≢ Some frame.number }
@@ -229,7 +230,7 @@ impl PageTable {
 
     /// Writes a word of a resident page, which is dirty then.
     pub fn set_word(&mut self, page: u32, index: usize, word: u64) -> Moves
-        requires page { page < 1048576 }
+        requires page { page < space_pages }
         requires index { index < 1024 }
         requires resident { frame_in self.old page ≢ None }
         ensures writes { Writes page index word self.old self.new }
@@ -246,7 +247,7 @@ impl PageTable {
 
     /// Gives the pages of a range these rights of their own.
     pub fn protect(&mut self, first: u32, length: u32, rights: Rights) -> Moves
-        requires { first + length ≤ 1048576 }
+        requires { first + length ≤ space_pages }
         ensures protects { Protects first length rights self.old self.new }
         ensures moves { AreMoves self.old.pages self.new.pages result }
     {
@@ -256,7 +257,7 @@ impl PageTable {
 
     /// Takes the rights of their own from the pages of a range, none of which is resident.
     pub fn forget_rights(&mut self, first: u32, length: u32)
-        requires { first + length ≤ 1048576 }
+        requires { first + length ≤ space_pages }
         ensures { Forgets first length self.old self.new }
     {
         self.set_own(first, length, None);
@@ -264,7 +265,7 @@ impl PageTable {
 
     /// Gives the pages of a range these rights of their own, or none.
     fn set_own(&mut self, first: u32, length: u32, rights: Option<Rights>)
-        requires { first + length ≤ 1048576 }
+        requires { first + length ≤ space_pages }
         ensures { OwnsRights first length rights self.old self.new }
     {
         fill(

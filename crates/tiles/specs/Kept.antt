@@ -5,6 +5,7 @@ use Rattle.pager_model.specs.declared.tile.Mapping.{Mapping}
 use Rattle.pager_model.specs.Tiles.{size_at}
 use Rattle.tiles.specs.declared.pages.Place.{Place}
 use Rattle.tiles.specs.Resident.{Resident, number_at, mapping_at}
+use Rattle.pager_model.specs.Bounds.{most_frames}
 
 abbrev pub size_in_place : Option Place → ℕ
 size_in_place None = 0
@@ -34,7 +35,7 @@ pub record ArePages (pages : Resident) : Type 0 where
   pub of_pages : (size page : ℕ) → 0 < size → size ≤ 3 → row pages.numbers size page ≡ None
   pub roots : pages.numbers.roots ≡ 2048
   pub room : pages.numbers.room ≡ 3 * length pages.places
-  pub few : length pages.places ≤ 32768
+  pub few : length pages.places ≤ most_frames
   pub found : (p number : ℕ) → number_at pages p ≡ Some number → slice_index_or pages.places number None ≢ None
   pub apart : (p q number : ℕ) → number_at pages p ≡ Some number → number_at pages q ≡ Some number → p ≡ q
 

@@ -5,6 +5,7 @@ ghost use Rattle.pager_model.specs.Tiles.{tile_of, is_tile, size_at, tiles_of_si
 ghost use Rattle.pager_model.specs.declared.tile.Mapping.{Mapping};
 ghost use Rattle.tiles.specs.Resident.{mapping_at, frames_in, frame_of_page, Maps, Protects, AreMoves, with_flag, with_rights, begins_large, begins_before, large_tiles_begun, large_tiles_meeting};
 ghost use Rattle.tiles.specs.Blocks.{KeepsRights, ProtectsTo, ProtectsInBlock, AreSizesOfBlock, OutsideSame, AreMovesOf, begun_at};
+ghost use Rattle.pager_model.specs.Bounds.{most_frames, space_pages};
 
 use crate::moves::Moves;
 use crate::pages::Pages;
@@ -35,7 +36,7 @@ impl Model for Base {
 impl Base {
     /// Room for the pages of a space in so many frames; none is resident.
     pub fn create(alloc: Global, frames: u32) -> Result<Base, NoMemory>
-        requires { frames ≤ 32768 }
+        requires { frames ≤ most_frames }
         ensures frames { IfOk result (λ b. frames_in b ≡ frames) }
         ensures none { IfOk result (λ b. (p : ℕ) → mapping_at b p ≡ None) }
     {
@@ -46,7 +47,7 @@ impl Base {
     /// What is said of a page, where it is resident.
     pub fn mapping(&self, page: u32) -> Option<Mapping>
         ensures mapping { result ≡ mapping_at self.now page }
-        ensures in_space { IfSome result (λ m. (page < 1048576) × (m.frame < frames_in self.now)) }
+        ensures in_space { IfSome result (λ m. (page < space_pages) × (m.frame < frames_in self.now)) }
     {
         self.pages.mapping(page)
     }
@@ -84,7 +85,7 @@ impl Base {
 
     /// A page that isn't resident is, with this mapping; no other page has its frame.
     pub fn after_fill(&mut self, page: u32, mapping: Mapping) -> Moves
-        requires page { page < 1048576 }
+        requires page { page < space_pages }
         requires absent { mapping_at self.old page ≡ None }
         requires known { mapping.frame < frames_in self.old }
         requires other { (p : ℕ) → frame_of_page self.old p ≢ Some mapping.frame }
@@ -124,7 +125,7 @@ impl Base {
 
     /// The size of a page's tile, where the page is resident with another dirty flag.
     fn size_of_other_flag(&self, page: u32, dirty: bool) -> Option<Size>
-        ensures in_space { IfSome result (λ _. page < 1048576) }
+        ensures in_space { IfSome result (λ _. page < space_pages) }
         ensures size { IfSome result (λ size. size ≡ size_at (mapping_at self.now) page) }
         ensures keeps { IfNone result (option_map (with_flag dirty) (mapping_at self.now page) ≡ mapping_at self.now page) }
     {
@@ -134,7 +135,7 @@ impl Base {
 
     /// Whether a page is resident with other rights.
     fn has_other_rights(&self, page: u32, rights: Rights) -> bool
-        ensures in_space { result ≡ true → page < 1048576 }
+        ensures in_space { result ≡ true → page < space_pages }
         ensures keeps { result ≡ false → option_map (with_rights rights) (mapping_at self.now page) ≡ mapping_at self.now page }
     {
         match self.pages.mapping(page) {
@@ -215,7 +216,7 @@ impl Base {
         length: u32,
         rights: Rights,
     ) -> Moves
-        requires range { first + length ≤ 1048576 }
+        requires range { first + length ≤ space_pages }
         requires block { block < 2048 }
         requires from { first ≤ block * 512 + 512 }
         requires to { block * 512 ≤ first + length }
@@ -234,7 +235,7 @@ impl Base {
 
     /// The resident pages of a range have these rights. Moves are those of the whole change.
     pub fn after_rights(&mut self, first: u32, length: u32, rights: Rights) -> Moves
-        requires { first + length ≤ 1048576 }
+        requires { first + length ≤ space_pages }
         ensures protects { Protects first length rights self.old self.new }
         ensures moves { AreMoves self.old self.new result }
     {
@@ -260,7 +261,7 @@ impl Base {
 
     /// How many tiles of size 1 or more have a page of the range.
     pub fn tiles_meeting(&self, first: u32, length: u32) -> u32
-        requires { first + length ≤ 1048576 }
+        requires { first + length ≤ space_pages }
         ensures { result ≡ large_tiles_meeting first length (mapping_at self.now) }
     {
         let crossing = length > 0 && self.begins_before(first);
@@ -276,7 +277,7 @@ impl Base {
 
     /// How many tiles of size 1 or more begin in the range.
     fn tiles_begun(&self, first: u32, length: u32) -> u32
-        requires { first + length ≤ 1048576 }
+        requires { first + length ≤ space_pages }
         ensures { result ≡ large_tiles_begun first length (mapping_at self.now) }
     {
         let mut count = 0;

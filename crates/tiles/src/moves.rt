@@ -2,6 +2,7 @@
 
 ghost use Rattle.std.specs.Prelude.{◌≡◌, ◌+◌, ◌<◌, ◌≤◌, nat_lt, if◌then◌else◌};
 ghost use Rattle.tiles.specs.Blocks.{is_grown_at};
+ghost use Rattle.pager_model.specs.Bounds.{space_pages};
 
 use pager_model::Size;
 
@@ -45,8 +46,8 @@ impl Moves {
 
     /// The moves of two changes, neither of which undoes a part of the other.
     pub(crate) fn and(self, other: Moves) -> Moves
-        requires promotions { self.promotions + other.promotions ≤ 1048576 }
-        requires demotions { self.demotions + other.demotions ≤ 1048576 }
+        requires promotions { self.promotions + other.promotions ≤ space_pages }
+        requires demotions { self.demotions + other.demotions ≤ space_pages }
         ensures promotions { result.promotions ≡ self.promotions + other.promotions }
         ensures demotions { result.demotions ≡ self.demotions + other.demotions }
     {

@@ -4,6 +4,7 @@ ghost use Rattle.std.specs.Prelude.{◌≡◌, ◌≢◌, ◌/◌, ◌<◌, ◌�
 ghost use Rattle.tiles.specs.Resident.{number_at, mapping_at, frames_in, frame_of_page, Maps, with_flag, with_rights};
 ghost use Rattle.tiles.specs.Kept.{size_kept, Sizes, SizesBut, SameSizes};
 ghost use Rattle.tiles.specs.Beside.{SamePages};
+ghost use Rattle.pager_model.specs.Bounds.{most_frames, space_pages};
 
 use crate::numbers;
 use extent_tree::ExtentTree;
@@ -52,7 +53,7 @@ impl Model for Pages {
 impl Pages {
     /// Room for the pages of a space in so many frames; none is resident.
     pub(crate) fn create(alloc: Global, frames: u32) -> Result<Pages, NoMemory>
-        requires { frames ≤ 32768 }
+        requires { frames ≤ most_frames }
         ensures frames { IfOk result (λ pages. frames_in pages ≡ frames) }
         ensures none { IfOk result (λ pages. (p : ℕ) → mapping_at pages p ≡ None) }
         ensures sizes { IfOk result (λ pages. (p : ℕ) → size_kept pages p ≡ 0) }
@@ -66,8 +67,8 @@ impl Pages {
     /// The number of a page's frame, where it is resident.
     fn number(&self, page: u32) -> Option<u16>
         ensures number { result ≡ number_at self.now page }
-        ensures known { IfSome result (λ number. (page < 1048576) × (number < frames_in self.now)) }
-        ensures small { IfSome result (λ number. number < 32768) }
+        ensures known { IfSome result (λ number. (page < space_pages) × (number < frames_in self.now)) }
+        ensures small { IfSome result (λ number. number < most_frames) }
     {
         numbers::find::<Brand>(&self.numbers, page, Blank::new(1))
     }
@@ -84,8 +85,8 @@ impl Pages {
         ensures number { IfSome result (λ found. number_at self.now page ≡ Some found.0) }
         ensures place { IfSome result (λ found. slice_index_or self.now.places found.0 None ≡ Some found.1) }
         ensures absent { IfNone result (number_at self.now page ≡ None) }
-        ensures known { IfSome result (λ found. (page < 1048576) × (found.0 < frames_in self.now)) }
-        ensures small { IfSome result (λ found. found.0 < 32768) }
+        ensures known { IfSome result (λ found. (page < space_pages) × (found.0 < frames_in self.now)) }
+        ensures small { IfSome result (λ found. found.0 < most_frames) }
     {
         let number = self.number(page)?;
         let place = self.places[number as usize]?;
@@ -97,8 +98,8 @@ impl Pages {
         ensures mapping { IfSome result (λ found. mapping_at self.now page ≡ Some found.0) }
         ensures size { IfSome result (λ found. found.1 ≡ size_kept self.now page) }
         ensures absent { IfNone result (mapping_at self.now page ≡ None) }
-        ensures in_space { IfSome result (λ found. (page < 1048576) × (found.0.frame < frames_in self.now)) }
-        ensures small { IfSome result (λ found. found.0.frame < 32768) }
+        ensures in_space { IfSome result (λ found. (page < space_pages) × (found.0.frame < frames_in self.now)) }
+        ensures small { IfSome result (λ found. found.0.frame < most_frames) }
     {
         let (number, place) = self.found(page)?;
         let mapping = Mapping {
@@ -113,8 +114,8 @@ impl Pages {
     /// What is said of a page, where it is resident.
     pub(crate) fn mapping(&self, page: u32) -> Option<Mapping>
         ensures mapping { result ≡ mapping_at self.now page }
-        ensures in_space { IfSome result (λ m. (page < 1048576) × (m.frame < frames_in self.now)) }
-        ensures small { IfSome result (λ m. m.frame < 32768) }
+        ensures in_space { IfSome result (λ m. (page < space_pages) × (m.frame < frames_in self.now)) }
+        ensures small { IfSome result (λ m. m.frame < most_frames) }
     {
         let (mapping, _) = self.mapping_and_size(page)?;
         Some(mapping)
@@ -132,7 +133,7 @@ impl Pages {
 
     /// A page that isn't resident is, with this mapping; no other page has its frame.
     pub(crate) fn put(&mut self, page: u32, mapping: Mapping)
-        requires page { page < 1048576 }
+        requires page { page < space_pages }
         requires absent { mapping_at self.old page ≡ None }
         requires known { mapping.frame < frames_in self.old }
         requires other { (p : ℕ) → frame_of_page self.old p ≢ Some mapping.frame }

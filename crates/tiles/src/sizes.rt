@@ -6,6 +6,7 @@ ghost use Rattle.pager_model.specs.Tiles.{size_at};
 ghost use Rattle.tiles.specs.Beside.{whole, size_beside, GoesOnAt, AreKeptBut, SamePages, Spreads};
 ghost use Rattle.tiles.specs.Kept.{AreSizes};
 ghost use Rattle.tiles.specs.Resident.{mapping_at};
+ghost use Rattle.pager_model.specs.Bounds.{space_pages};
 
 use crate::pages::Pages;
 use pager_model::{Mapping, Size};
@@ -83,7 +84,7 @@ impl Pages {
 
     /// Keeps the size of a page's tile, and those of the tiles that its tile before broke into.
     fn spread(&mut self, page: u32, over: Size, size: Size)
-        requires page { page < 1048576 }
+        requires page { page < space_pages }
         requires over { over ≤ 3 }
         ensures same { SamePages self.old self.new }
         ensures sizes { Spreads page over size self.old self.new }
@@ -97,7 +98,7 @@ impl Pages {
 
     /// A page changed whose tile had this size before. Keeps the sizes of the tiles of all pages, and answers its tile's.
     pub(crate) fn settle(&mut self, page: u32, before: Size) -> Size
-        requires { page < 1048576 }
+        requires { page < space_pages }
         ensures same { SamePages self.old self.new }
         ensures sizes { (old : ℕ → Option Mapping) → AreKeptBut page old self.old → before ≡ size_at old page → AreSizes self.new }
         ensures size { (old : ℕ → Option Mapping) → AreKeptBut page old self.old → result ≡ size_at (mapping_at self.old) page }

@@ -11,6 +11,7 @@ use Rattle.pager_model.specs.declared.region.Rights.TheVariants.{NoAccess, Read,
 use Rattle.pager_model.specs.TraceText.{kind_word, rights_word}
 use Rattle.trace_reader.specs.declared.fault.LineCause.{LineCause}
 use Rattle.trace_reader.specs.declared.fault.LineCause.TheVariants as causes
+use Rattle.pager_model.specs.Bounds.{space_bytes, space_pages}
 
 -- what stands at a place of a form: one word, one of several, or a number that is a multiple of the first number here, at least the
 -- second and less than the third
@@ -66,13 +67,13 @@ any_rights = OneOf (rights_word NoAccess ∷ rights_word Read ∷ rights_word Wr
 
 -- a page of a space, a number of pages, and the address of a word
 abbrev pub page : Place
-page = Number 1 0 1048576
+page = Number 1 0 space_pages
 
 abbrev pub pages : Place
 pages = Number 1 1 1048577
 
 abbrev pub address : Place
-address = Number 8 0 8589934592
+address = Number 8 0 space_bytes
 
 -- the call of this name, with these places, in a trace of so many processors and spaces
 abbrev pub call_form : List ℕ → List Place → ℕ → ℕ → List Place

@@ -9,6 +9,7 @@ use Rattle.trace_reader.specs.declared.fault.LineCause.TheVariants as causes
 use Rattle.trace_reader.specs.declared.fault.TraceFault.{TraceFault}
 use Rattle.trace_reader.specs.declared.fault.TraceFault.TheVariants.{ReadFault, TooLong, Line, NoEnd, TooManyCalls, TooFewStores, NoMemory}
 use Rattle.trace_reader.specs.Forms.{Place, first_form, call_forms, line_fault}
+use Rattle.pager_model.specs.Bounds.{most_calls}
 
 -- the lines of a text, and at the end what stands behind the last line feed
 abbrev pub lines_of : List ℕ → List (List ℕ)
@@ -32,7 +33,7 @@ abbrev pub calls_refusal : List (List Place) → ℕ → ℕ → List (List ℕ)
 calls_refusal forms number calls (line ∷ next ∷ lines) =
     if bytes_eq line (codes "end") then end_refusal number (next ∷ lines) else
     option_or (at_line number (line_fault forms (words_of line)))
-    (if calls == 262144 then Some TooManyCalls else calls_refusal forms (number + 1) (calls + 1) (next ∷ lines))
+    (if calls == most_calls then Some TooManyCalls else calls_refusal forms (number + 1) (calls + 1) (next ∷ lines))
 calls_refusal forms number calls lines = Some NoEnd
 
 -- the forms of calls behind a first line of these words
