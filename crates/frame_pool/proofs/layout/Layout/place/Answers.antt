@@ -1,9 +1,12 @@
 use Rattle.std.proofs.Common.{option_map, refl, sym, ap, ◌∙◌, arith}
 use Rattle.pager_model.specs.Layouts.{populated, placing_in, reserved, largest_extent}
+use Rattle.pager_laws.specs.Laid.{IsLaid}
 use Rattle.frame_pool.specs.LayoutState.{layout_in}
+use Rattle.frame_pool.specs.Placed.{FindsExtent, with_reservation}
 use Rattle.frame_pool.proofs.LayoutInOrder.{IsLaid-populated}
 use Rattle.frame_pool.proofs.PlacingResult.{PlacesPage-from, placing-covered, record_at-covered, HasPage-covered, unused_covered, round_page, IsLaid-added, PlacesPage-added}
 use Rattle.frame_pool.proofs.layout.Layout.place.Goals as goal
+use Rattle.frame_pool.proofs.layout.Layout.place.Goals.{After-extent_round-pages}
 
 pub populate-frame-requires-clause-there : goal.populate-frame-requires-clause-there
 populate-frame-requires-clause-there c =
@@ -39,35 +42,27 @@ pub put-frame-requires-clause-has : goal.put-frame-requires-clause-has
 put-frame-requires-clause-has c =
     round_page c.in_ok-found.found.size c.args.page c.extent_round-pages.result.first c.extent_round-pages.ensures.first
 
+-- the extent that was found is one of the layout
+finds : (c : After-extent_round-pages) → FindsExtent c.largest_extent.new.self (largest_extent c.preferred-size.result (layout_in c.self.inside)) c.in_ok-found.found.size c.in_ok-found.found.first c.in_ok-found.found.broken
+finds c = rw (← c.self.view_is) at c.in_ok-found.ensures.found
+
+-- which is sound with the new reservation
+laid_with : (c : After-extent_round-pages) → IsLaid (with_reservation (record { space = c.args.space; first = c.extent_round-pages.result.first; size = c.in_ok-found.found.size; frame = c.in_ok-found.found.first; stamp = c.args.stamp }) c.args.page c.largest_extent.new.self)
+laid_with c = IsLaid-added (layout_in c.self.inside) c.largest_extent.new.self c.args.stamp c.args.space c.args.page c.args.want.now c.preferred-size.result _ _ _ c.extent_round-pages.result.first (sym c.in_default.ensures) c.preferred-size.ensures (finds c) c.extent_round-pages.ensures.first c.self.invariant.0 (rw (← c.self.view_is) at c.requires.unplaced)
+
 pub put-frame-requires-clause-laid : goal.put-frame-requires-clause-laid
-put-frame-requires-clause-laid c =
-    let l = layout_in c.self.inside in
-    let found = c.in_ok-found.found in
-    let unplaced = rw (← c.self.view_is) at c.requires.unplaced in
-    let finds = rw (← c.self.view_is) at c.in_ok-found.ensures.found in (
-      c.self-2.inside.free,
-      IsLaid-added l (layout_in c.self-2.inside) c.args.stamp c.args.space c.args.page c.args.want.now c.preferred-size.result found.size found.first found.broken c.extent_round-pages.result.first (sym c.in_default.ensures) c.preferred-size.ensures (rw (← c.self-2.view_is) at finds) c.extent_round-pages.ensures.first c.self.invariant.0 unplaced,
-    )
+put-frame-requires-clause-laid c = (c.self-2.inside.free, rw (← c.self-2.view_is) at (laid_with (goal.at.put-frame-requires-clause-laid c).After-extent_round-pages))
 
 pub invariant_of-self-2 : goal.invariant_of-self-2
 invariant_of-self-2 c =
-    let l = layout_in c.self.inside in
-    let found = c.in_ok-found.found in
-    let unplaced = rw (← c.self.view_is) at c.requires.unplaced in
-    let finds = rw (← c.self.view_is) at c.in_ok-found.ensures.found in
-    rw c.put-frame.ensures.put (
-      IsLaid-added l (layout_in c.self-2.inside) c.args.stamp c.args.space c.args.page c.args.want.now c.preferred-size.result found.size found.first found.broken c.extent_round-pages.result.first (sym c.in_default.ensures) c.preferred-size.ensures (rw (← c.self-2.view_is) at finds) c.extent_round-pages.ensures.first c.self.invariant.0 unplaced,
-      c.self-2.invariant.1,
-    )
+    let laid = rw (← c.self-2.view_is) at (laid_with (goal.at.invariant_of-self-2 c).After-extent_round-pages) in
+    rw c.put-frame.ensures.put (laid, c.self-2.invariant.1)
 
 pub returns-clause-placed : goal.returns-clause-placed
 returns-clause-placed c =
-    let l = layout_in c.self.inside in
-    let found = c.in_ok-found.found in
-    let unplaced = rw (← c.self.view_is) at c.requires.unplaced in
-    let finds = rw (← c.self.view_is) at c.in_ok-found.ensures.found in
+    let found = rw (← c.self-2.view_is) at (finds (goal.at.returns-clause-placed c).After-extent_round-pages) in
     rw (c.put-frame.ensures.put, c.put-frame.ensures.frame, ← c.self.view_is)
-    (PlacesPage-added l (layout_in c.self-2.inside) c.args.stamp c.args.space c.args.page c.args.want.now c.preferred-size.result found.size found.first found.broken c.extent_round-pages.result.first (sym c.in_default.ensures) c.preferred-size.ensures (rw (← c.self-2.view_is) at finds) c.extent_round-pages.ensures.first c.self.invariant.0 unplaced)
+    (PlacesPage-added (layout_in c.self.inside) (layout_in c.self-2.inside) c.args.stamp c.args.space c.args.page c.args.want.now c.preferred-size.result _ _ _ c.extent_round-pages.result.first (sym c.in_default.ensures) c.preferred-size.ensures found c.extent_round-pages.ensures.first c.self.invariant.0 (rw (← c.self.view_is) at c.requires.unplaced))
 
 pub returns-in_err-found-clause-none : goal.returns-in_err-found-clause-none
 returns-in_err-found-clause-none c =
