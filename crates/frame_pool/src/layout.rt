@@ -32,6 +32,7 @@ pub(crate) struct Layout {
 
 impl Model for Layout {
     ghost use Rattle.std.specs.Prelude.{◌≤◌, length};
+    ghost use Rattle.pager_model.specs.Bounds.{most_frames};
     ghost use Rattle.pager_model.specs.Layouts.{Layout};
     ghost use Rattle.pager_laws.specs.Laid.{IsLaid};
     ghost use Rattle.frame_pool.specs.LayoutState.{layout_in};
