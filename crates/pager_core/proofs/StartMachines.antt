@@ -135,9 +135,9 @@ marks-start plan trace = sym (append-nil (replicate plan.processors 0)) ∙ ap (
 length-used : {X : Type 0} (f : Stored → X) (n : ℕ) (stores : List Stored) → n ≤ length stores → length (map f (take n stores)) ≡ n
 length-used f n stores enough = length-map (take n stores) f ∙ length-take-le n stores enough
 
--- there are as many new spaces as the trace has
-pub length-spaces : (plan : Plan) (stores : List Stored) → plan.spaces ≤ length stores → (given : Given) (spaces : List Kept) → given ≡ setting_over plan stores → AreNewSpaces given spaces → length spaces ≡ plan.spaces
-length-spaces plan stores enough given spaces is new = new.count ∙ ap (λ (g : Given). length g.told) is ∙ length-used (λ (s : Stored). s.told) plan.spaces stores enough
+-- a setting has as many spaces as its trace
+pub length-told : (plan : Plan) (stores : List Stored) → plan.spaces ≤ length stores → (given : Given) → given ≡ setting_over plan stores → length given.told ≡ plan.spaces
+length-told plan stores enough given is = ap (λ (g : Given). length g.told) is ∙ length-used (λ (s : Stored). s.told) plan.spaces stores enough
 
 -- A trace over stores, of which the spaces use the first.
 module _ (plan : Plan) (trace : HasText plan) (stores : List Stored) (enough : plan.spaces ≤ length stores) (unused : List Stored) (calls : List (List Call)) (are : calls ≡ map (λ c. calls_of c plan.calls) (range_with_len 0 plan.processors)) (spaces : List Kept) (new : AreNewSpaces (setting_over plan stores) spaces) where
@@ -151,7 +151,7 @@ module _ (plan : Plan) (trace : HasText plan) (stores : List Stored) (enough : p
   marks = sym (marks-start plan trace) ∙ ap (λ n. replicate n 0) (sym processors)
 
   count : length spaces ≡ plan.spaces
-  count = length-spaces plan stores enough (setting_over plan stores) spaces refl new
+  count = new.count ∙ length-told plan stores enough (setting_over plan stores) refl
 
   calls_in : (c : ℕ) → c < plan.processors → calls_at calls c ≡ calls_of c plan.calls
   calls_in c below = ap (λ l. calls_at l c) are ∙ get_or-map-range_with_len (λ k. calls_of k plan.calls) 0 plan.processors c c [] below (omega arith)

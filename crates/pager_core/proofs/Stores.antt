@@ -1,9 +1,11 @@
 -- The stores of the spaces of a run: their order, what was told of them at the start, and what holds of them when the run ended.
-use Rattle.std.proofs.Common.{◌≡◌, ℕ, zero, suc, ◌+◌, ◌<◌, ◌≤◌, Bool, true, false, List, [], ◌∷◌, ◌++◌, length, map, reverse, drop, take, get_or, slice_get, fold, Some, IsSomeAnd, refl, ap, sym, subst, ◌∙◌, inl, inr, option_map, arith}
+use Rattle.std.proofs.Common.{◌≡◌, ℕ, zero, suc, ◌+◌, ◌<◌, ◌≤◌, Bool, true, false, List, [], ◌∷◌, ◌++◌, length, map, reverse, drop, take, replicate, get_or, slice_get, fold, Some, IsSomeAnd, refl, ap, sym, subst, ◌∙◌, inl, inr, option_map, arith}
+use Rattle.std.specs.List.{All}
 use Rattle.std.proofs.lemmas.Grind.{reverse_onto}
 use Rattle.std.proofs.lemmas.List.{append_assoc, length-append, length-drop, length-reverse, reverse-reverse, reverse-append, map_push}
-use Rattle.std.proofs.lemmas.Option.{slice_get_within}
-use Rattle.std.proofs.Math.ListN.{length-map}
+use Rattle.std.proofs.lemmas.List.Elements.{All-replicate}
+use Rattle.std.proofs.lemmas.Option.{slice_get-map, get_or_from_slice_get}
+use Rattle.std.proofs.Math.ListN.{length-map, length-replicate}
 use Rattle.std.proofs.Math.Seq.{take-append_seam, drop-append_seam}
 use Rattle.pager_model.specs.Options.{is_that}
 use Rattle.pager_model.specs.declared.entry.Entry.{Entry}
@@ -15,8 +17,9 @@ use Rattle.pager_model.specs.Settings.{Given, is_told, faults_at_entry}
 use Rattle.pager_model.specs.SpaceStates.{SpaceState, empty_state, space_after}
 use Rattle.pager_model.specs.Stored.{Stored, TellsZero}
 use Rattle.pager_model.specs.Stores.{given_over, EndsWith, StoresEnd}
+use Rattle.space_core.specs.Rooms.{Capacity}
 use Rattle.space_core.specs.Standing.{Kept, is_in}
-use Rattle.pager_core.specs.RunParts.{IsNew, AreNewSpaces, AreAtRest}
+use Rattle.pager_core.specs.RunParts.{AreRoomsOver, IsNew, AreNewSpaces, AreAtRest}
 use Rattle.pager_core.proofs.Lists.{slice_get-push}
 
 -- Their order.
@@ -58,9 +61,6 @@ in_order-more seen all left fewer store spaces more space behind last pushed is 
     behind ∙ ap (λ l. map seen l ++ own) last ∙ ap (λ l. l ++ own) (map_push seen fewer store)
     ∙ append_assoc (map seen fewer) (seen store ∷ []) own ∙ ap (λ l. map seen fewer ++ l) (sym turned)
 
-pub same_reversed : {P : Type 0} (seen : P → Stored) (xs ys : List P) → map seen xs ≡ map seen ys → map seen (reverse xs) ≡ map seen (reverse ys)
-same_reversed seen xs ys same = map-reverse seen xs ∙ ap reverse same ∙ sym (map-reverse seen ys)
-
 pub turned_back : {P : Type 0} (seen : P → Stored) (xs ys : List P) → ys ≡ reverse xs → map seen (reverse ys) ≡ map seen xs
 turned_back seen xs ys turned = ap (λ l. map seen (reverse l)) turned ∙ ap (map seen) (reverse-reverse xs)
 
@@ -86,17 +86,6 @@ of_first : {X Y : Type 0} (f : X → Y) (xs : List X) (ys : List Y) (i : ℕ) (P
 of_first f [] ys i P below all = absurd (omega (arith, below))
 of_first f (x ∷ xs) ys zero P below all = all x refl
 of_first f (x ∷ xs) ys (suc i) P below all = of_first f xs ys i P (omega (arith, below)) all
-
--- and each of those there is one of its first
-at_one : {X Y : Type 0} (f : X → Y) (xs : List X) (ys : List Y) (i : ℕ) (x : X) → slice_get xs i ≡ Some x → slice_get (map f xs ++ ys) i ≡ Some (f x)
-at_one f [] ys i x at = cc
-at_one f (y ∷ xs) ys zero x at = (let e : Some y ≡ Some x = at in ap (λ o. option_map f o) e)
-at_one f (y ∷ xs) ys (suc i) x at = at_one f xs ys i x at
-
-read_one : {X Y Z : Type 0} (f : X → Y) (g : Y → Z) (d : Z) (xs : List X) (i : ℕ) (x : X) → slice_get xs i ≡ Some x → get_or (map g (map f xs)) i d ≡ g (f x)
-read_one f g d [] i x at = cc
-read_one f g d (y ∷ xs) zero x at = (let e : Some y ≡ Some x = at in let same : y ≡ x = cc in ap (λ z. g (f z)) same)
-read_one f g d (y ∷ xs) (suc i) x at = read_one f g d xs i x at
 
 -- the stores that no space uses are the last
 pub left_over : (spaces : List Kept) (others all : List Stored) (n : ℕ) → all ≡ map (λ (k : Kept). k.store) spaces ++ others → length spaces ≡ n → drop n all ≡ others
@@ -130,26 +119,51 @@ IsZeroIfTold store = store.told ≡ true → TellsZero store
 abbrev pub AreNew : ℕ → ℕ → List Kept → Type 0
 AreNew frames processors spaces = (s : ℕ) (kept : Kept) (told : Bool) → slice_get spaces s ≡ Some kept → (told ≡ true → TellsZero kept.store) → IsNew frames processors s told kept.store.faults kept
 
--- The start: each space is over the store of its number, and what the setting says of its copies and faults is what that store said.
-pub are_new : (frames : ℕ) (marks : List ℕ) (n : ℕ) (spaces : List Kept) (others all : List Stored) → all ≡ map (λ (k : Kept). k.store) spaces ++ others → length spaces ≡ n
-    → ((s : ℕ) (store : Stored) → s < n → slice_get all s ≡ Some store → store.told ≡ true → TellsZero store)
-    → AreNew frames (length marks) spaces
-    → AreNewSpaces (given_over frames marks (take n all)) spaces
-are_new frames marks n spaces others all are count zeros each =
-    let given = given_over frames marks (take n all) in
+-- what is read off the store of this number
+read_at : {X Y : Type 0} (f : X → Y) (d : Y) (xs : List X) (i : ℕ) (x : X) → slice_get xs i ≡ Some x → get_or (map f xs) i d ≡ f x
+read_at f d xs i x at = get_or_from_slice_get (map f xs) i (f x) d (slice_get-map f xs i ∙ ap (option_map f) at)
+
+-- rooms for the stores that the setting is over
+pub AreRoomsOver-made : (frames : ℕ) (marks : List ℕ) (stores : List Stored) (given : Given) (rooms : List Capacity) (n processors : ℕ) → given ≡ given_over frames marks stores → n ≡ length stores → processors ≡ length marks → rooms ≡ replicate n (record { frames = frames; processors = processors }) → Each IsZeroIfTold stores → AreRoomsOver given stores rooms
+AreRoomsOver-made frames marks stores given rooms n processors is count many are zeros =
+    let told_count = length-map stores (λ (s : Stored). s.told) in
+    subst (λ (g : Given). AreRoomsOver g stores rooms) (sym is) (record {
+      rooms_are = are ∙ (λ i. replicate ((count ∙ sym told_count) i) (record { frames = frames; processors = many i }));
+      told = λ s store at told. zeros s store at (sym (read_at (λ (x : Stored). x.told) false stores s store at) ∙ told);
+      faults = λ s store at. read_at (λ (x : Stored). x.faults) 0 stores s store at;
+    })
+
+-- The start: each space is in one of the rooms and over the store of its number, and what the setting says of the store is so.
+pub are_new : (given : Given) (rooms : List Capacity) (spaces : List Kept) (others all : List Stored) → all ≡ map (λ (k : Kept). k.store) spaces ++ others → length spaces ≡ length rooms
+    → ((room : Capacity) → All (λ r. r ≡ room) rooms → AreNew room.frames room.processors spaces)
+    → AreRoomsOver given (take (length rooms) all) rooms → AreNewSpaces given spaces
+are_new given rooms spaces others all are count each over =
     let own : List Stored = map (λ (k : Kept). k.store) spaces in
-    let first : take n all ≡ own = ap (take n) are ∙ ap (λ m. take m (own ++ others)) (sym (length-map spaces (λ (k : Kept). k.store) ∙ count)) ∙ take-append_seam own others in
+    let first : take (length rooms) all ≡ own = ap (take (length rooms)) are ∙ ap (λ m. take m (own ++ others)) (sym (length-map spaces (λ (k : Kept). k.store) ∙ count)) ∙ take-append_seam own others in
+    let room : Capacity = record { frames = given.frames; processors = length given.marks } in
+    let alike : All (λ r. r ≡ room) rooms = subst (All (λ r. r ≡ room)) (sym over.rooms_are) (All-replicate (λ r. r ≡ room) (length given.told) room refl) in
     record {
-      count = sym (ap (λ l. length (map (λ (x : Stored). x.told) l)) first ∙ length-map own (λ (x : Stored). x.told) ∙ length-map spaces (λ (k : Kept). k.store));
+      count = count ∙ ap length over.rooms_are ∙ length-replicate (length given.told) room;
       new = λ s kept at.
-          let told : is_told given s ≡ kept.store.told =
-          ap (λ l. get_or (map (λ (x : Stored). x.told) l) s false) first ∙ read_one (λ (k : Kept). k.store) (λ (x : Stored). x.told) false spaces s kept at in
-          let faults : faults_at_entry given s ≡ kept.store.faults =
-          ap (λ l. get_or (map (λ (x : Stored). x.faults) l) s 0) first ∙ read_one (λ (k : Kept). k.store) (λ (x : Stored). x.faults) 0 spaces s kept at in
-          let below = slice_get_within spaces s kept at in
-          subst (λ f. IsNew frames (length marks) s (is_told given s) f kept) (sym faults)
-          (each s kept (is_told given s) at
-          (λ is. zeros s kept.store (omega (arith, below, count)) (ap (λ l. slice_get l s) are ∙ at_one (λ (k : Kept). k.store) spaces others s kept at) (sym told ∙ is)));
+          let store : slice_get (take (length rooms) all) s ≡ Some kept.store = ap (λ l. slice_get l s) first ∙ slice_get-map (λ (k : Kept). k.store) spaces s ∙ ap (option_map (λ (k : Kept). k.store)) at in
+          subst (λ f. IsNew given.frames (length given.marks) s (is_told given s) f kept) (sym (over.faults s kept.store store))
+          (each room alike s kept (is_told given s) at (over.told s kept.store store));
+    }
+
+-- Rooms for so many of the stores, the first, as they are once all of them are turned round.
+pub record AreRoomsTurned {P : Type 0} (seen : P → Stored) (turned : List P) (given : Given) (rooms : List Capacity) (n : ℕ) : Type 0 where
+  pub count : length rooms ≡ n
+  pub enough : length rooms ≤ length turned
+  pub over : AreRoomsOver given (take (length rooms) (map seen (reverse turned))) rooms
+
+pub turned_rooms : {P : Type 0} (seen : P → Stored) (stores turned : List P) (given : Given) (rooms : List Capacity) (n : ℕ) → turned ≡ reverse stores → n ≤ length stores → length given.told ≡ n → AreRoomsOver given (take n (map seen stores)) rooms → AreRoomsTurned seen turned given rooms n
+turned_rooms seen stores turned given rooms n round within told over =
+    let many : length rooms ≡ n = ap length over.rooms_are ∙ length-replicate (length given.told) (record { frames = given.frames; processors = length given.marks }) ∙ told in
+    let long : length turned ≡ length stores = ap length round ∙ length-reverse stores in
+    record {
+      count = many;
+      enough = omega (arith, many, long, within);
+      over = subst (λ l. AreRoomsOver given l rooms) (ap (take n) (sym (turned_back seen stores turned round)) ∙ ap (λ m. take m (map seen (reverse turned))) (sym many)) over;
     }
 
 pub AreNew-push : (frames processors : ℕ) (spaces more : List Kept) (space : Kept) → AreNew frames processors spaces → more ≡ spaces ++ space ∷ [] → ((told : Bool) → (told ≡ true → TellsZero space.store) → IsNew frames processors (length spaces) told space.store.faults space) → AreNew frames processors more

@@ -1,11 +1,13 @@
 -- What a run begins with and what it leaves: its setting, its spaces and its frames.
-use Rattle.std.specs.Prelude.{ℕ, ◌≡◌, Bool, List, length, slice_get, Some}
+use Rattle.std.specs.Prelude.{ℕ, ◌≡◌, Bool, true, List, length, replicate, slice_get, Some}
 use Rattle.pager_model.specs.declared.entry.Entry.{Entry}
 use Rattle.pager_model.specs.FrameStates.{FrameState}
 use Rattle.pager_model.specs.Legal.{space_at, frames_at}
 use Rattle.pager_model.specs.Settings.{Given, is_told, faults_at_entry}
 use Rattle.pager_model.specs.SizeSets.{all_sizes}
 use Rattle.pager_model.specs.SpaceStates.{empty_state}
+use Rattle.pager_model.specs.Stored.{Stored, TellsZero}
+use Rattle.space_core.specs.Rooms.{Capacity}
 use Rattle.space_core.specs.Standing.{Kept, IsResting, StandsFor}
 use Rattle.pager_core.specs.Flights.{IsAtRest}
 
@@ -17,6 +19,12 @@ pub record IsNew (frames processors number : ℕ) (told : Bool) (faults : ℕ) (
   pub processors_are : length kept.images ≡ processors
   pub resting : IsResting kept
   pub stands : StandsFor kept (empty_state all_sizes told faults)
+
+-- Room for the spaces of a setting over these stores, of which what it says is so: each room is for the frames and the processors of the setting.
+pub record AreRoomsOver (given : Given) (stores : List Stored) (rooms : List Capacity) : Type 0 where
+  pub rooms_are : rooms ≡ replicate (length given.told) (record { frames = given.frames; processors = length given.marks })
+  pub told : (s : ℕ) (store : Stored) → slice_get stores s ≡ Some store → is_told given s ≡ true → TellsZero store
+  pub faults : (s : ℕ) (store : Stored) → slice_get stores s ≡ Some store → faults_at_entry given s ≡ store.faults
 
 -- The new spaces of a setting, in their order.
 pub record AreNewSpaces (given : Given) (spaces : List Kept) : Type 0 where

@@ -11,4 +11,4 @@ mod run_parts;
 
 pub use flight::{Flight, Needs, Phase, Purpose};
 pub use machine::{Machine, Turn};
-pub use run_parts::{Gathered, RunParts, calls_by_processor, give_back};
+pub use run_parts::{Gathered, RunRoom, SpaceRooms, calls_by_processor};

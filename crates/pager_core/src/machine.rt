@@ -1,4 +1,4 @@
-ghost use Rattle.std.specs.Prelude.{◌≡◌, ◌≢◌, ℕ, ◌+◌, ◌*◌, ◌^◌, ◌<◌, ◌≤◌, ◌↔◌, Bool, [], ◌∷◌, ◌++◌, Some, None, IfOk, IfErr, IfSome, IfNone, IsTrue, length, map, drop, reverse, true, slice_get, vec_capacity, vec_len};
+ghost use Rattle.std.specs.Prelude.{◌≡◌, ◌≢◌, ℕ, ◌+◌, ◌*◌, ◌^◌, ◌<◌, ◌≤◌, ◌↔◌, Bool, [], ◌∷◌, ◌++◌, Some, None, IfOk, IfErr, IfSome, IfNone, IsTrue, length, map, drop, take, true, slice_get, vec_capacity, vec_len};
 ghost use Rattle.std.specs.List.{range_with_len};
 ghost use Rattle.pager_model.specs.Agreement.{OwnsBy};
 ghost use Rattle.pager_model.specs.Counts.{counts};
@@ -12,12 +12,12 @@ ghost use Rattle.pager_model.specs.TraceText.{HasText};
 ghost use Rattle.pager_model.specs.Stores.{setting_over, StoresEnd, AreCapped};
 ghost use Rattle.pager_core.specs.Flights.{IsReady};
 ghost use Rattle.pager_core.specs.Rows.{Going, reply_in, row_of};
-ghost use Rattle.pager_core.specs.RunParts.{AreNewSpaces};
+ghost use Rattle.pager_core.specs.RunParts.{AreRoomsOver};
 ghost use Rattle.pager_core.specs.Running.{Running, progress_of_actor, flight_at, flight_of, first_flights, kept_by, HasEnded, IsKeptByOther, MustWait, OneMore, IsLawful, IsWholeRun};
 ghost use Rattle.pager_core.specs.Steps.{AreAgreed, Makes, Passes};
 
 use crate::flight::{Flight, Needs};
-use crate::run_parts::{Gathered, RunParts, calls_by_processor};
+use crate::run_parts::{Gathered, RunRoom, calls_by_processor};
 use frame_pool::Pool;
 use pager_model::{Call, Entry, NoMemory, Numbered, Setting, Trace};
 use space_core::Space;
@@ -91,26 +91,22 @@ impl<S: Store + Send + Drop> Machine<S> {
         ensures capped { IfOk result (λ _. AreCapped trace.now.spaces (map S.seen stores.items)) }
         ensures back { IfErr result (λ back. map S.seen back.items ≡ map S.seen stores.items) }
     {
+        let Ok(parts) = parts_of(alloc, trace, stores.as_slice()) else {
+            return Err(stores);
+        };
         let mut stores = stores;
         stores.reverse();
-        match parts_of(alloc, trace, &mut stores) {
-            Ok(parts) => {
-                let start = parts.start;
-                Ok(Machine {
-                    setting: start.setting,
-                    calls: parts.calls,
-                    flights: parts.flights,
-                    spaces: start.spaces,
-                    stores,
-                    pool: start.pool,
-                    history: parts.history,
-                })
-            }
-            Err(NoMemory) => {
-                stores.reverse();
-                Err(stores)
-            }
-        }
+        let room = parts.room;
+        let spaces = room.spaces.over(&mut stores);
+        Ok(Machine {
+            setting: room.setting,
+            calls: parts.calls,
+            flights: parts.flights,
+            spaces,
+            stores,
+            pool: room.pool,
+            history: parts.history,
+        })
     }
 
     /// Does the actor's steps until one has made an entry.
@@ -198,55 +194,45 @@ impl<S: Store + Send + Drop> Machine<S> {
 /// At most how many entries a call makes.
 const ENTRIES_OF_CALL: usize = 8;
 
-/// What a machine is made of, beside the stores that no space uses.
+/// What a machine is made of, beside its stores.
 #[derive(Drop)]
 struct Parts<S: Store + Send + Drop> {
     calls: Vec<Vec<Call>>,
     flights: Vec<Option<Flight>>,
     history: Vec<Numbered>,
-    start: RunParts<S>,
+    room: RunRoom<S>,
 }
 
-/// The parts of a machine. The stores, last first, lose those of the spaces, unless there is no memory.
+/// The parts of a machine over stores, of which those of its spaces are looked at.
 fn parts_of<S: Store + Send + Drop>(
     alloc: Global,
     trace: &Trace,
-    stores: &mut Vec<S>,
+    stores: &[S],
 ) -> Result<Parts<S>, NoMemory>
-    requires enough { trace.now.spaces ≤ length stores.old.items }
+    requires enough { trace.now.spaces ≤ length stores.now }
 
     // Each part is as it is at the start of the trace.
     ensures text { IfOk result (λ _. HasText trace.now) }
     ensures calls { IfOk result (λ p. map (λ v. v.items) p.calls.items ≡ map (λ c. calls_of c trace.now.calls) (range_with_len 0 trace.now.processors)) }
     ensures flights { IfOk result (λ p. p.flights.items ≡ first_flights (map (λ v. v.items) p.calls.items)) }
     ensures history { IfOk result (λ p. (p.history.items ≡ []) × (8 * length trace.now.calls ≤ vec_capacity p.history)) }
-    ensures setting { IfOk result (λ p. p.start.setting ≡ setting_over trace.now (map S.seen (reverse stores.old.items))) }
-    ensures spaces { IfOk result (λ p. AreNewSpaces p.start.setting p.start.spaces.items) }
-    ensures pool { IfOk result (λ p. p.start.pool ≡ start_frames all_sizes trace.now.frames trace.now.processors) }
-    ensures capped { IfOk result (λ _. AreCapped trace.now.spaces (map S.seen (reverse stores.old.items))) }
-
-    // The stores that no space uses are left, and for want of memory all are.
-    ensures left { IfOk result (λ _. map S.seen (reverse stores.new.items) ≡ drop trace.now.spaces (map S.seen (reverse stores.old.items))) }
-    ensures back { IfErr result (λ _. map S.seen stores.new.items ≡ map S.seen stores.old.items) }
-    ensures capacity { vec_capacity stores.new ≡ vec_capacity stores.old }
+    ensures setting { IfOk result (λ p. p.room.setting ≡ setting_over trace.now (map S.seen stores.now)) }
+    ensures spaces { IfOk result (λ p. AreRoomsOver p.room.setting (take trace.now.spaces (map S.seen stores.now)) p.room.spaces) }
+    ensures pool { IfOk result (λ p. p.room.pool ≡ start_frames all_sizes trace.now.frames trace.now.processors) }
+    ensures capped { IfOk result (λ _. AreCapped trace.now.spaces (map S.seen stores.now)) }
 {
     let processors = trace.processors();
     let history = Vec::with_capacity(alloc, ENTRIES_OF_CALL * trace.calls().len())?;
     let calls = calls_by_processor(alloc, processors, trace.calls())?;
     let flights = first_of_each(alloc, calls.as_slice())?;
     let marks = vec![in alloc; 0; processors as usize]?;
-    let start = RunParts::create(
-        alloc,
-        trace.frames(),
-        marks.as_slice(),
-        trace.spaces(),
-        stores,
-    )?;
+    let own = &stores[..trace.spaces() as usize];
+    let room = RunRoom::create(alloc, trace.frames(), marks.as_slice(), own)?;
     Ok(Parts {
         calls,
         flights,
         history,
-        start,
+        room,
     })
 }
 

@@ -1,6 +1,6 @@
 //! What a run begins with and what it leaves, whoever makes its entries.
 
-ghost use Rattle.std.specs.Prelude.{◌≡◌, ℕ, ◌+◌, ◌^◌, ◌<◌, ◌≤◌, ◌%◌, Bool, [], ◌∷◌, ◌++◌, Some, IfOk, IfErr, length, map, drop, take, reverse, true, slice_get, vec_capacity};
+ghost use Rattle.std.specs.Prelude.{◌≡◌, ℕ, ◌+◌, ◌^◌, ◌<◌, ◌≤◌, ◌%◌, [], ◌∷◌, ◌++◌, Some, IfOk, length, map, drop, take, reverse, replicate, true, slice_get, vec_capacity};
 ghost use Rattle.std.specs.List.{range_with_len};
 ghost use Rattle.pager_model.specs.Counts.{counts, hits_in, misses_in, is_hit_in, is_miss_in};
 ghost use Rattle.pager_model.specs.FrameStates.{start_frames};
@@ -11,65 +11,121 @@ ghost use Rattle.pager_model.specs.SizeSets.{all_sizes};
 ghost use Rattle.pager_model.specs.Stores.{given_over, StoresEnd, AreCapped};
 ghost use Rattle.pager_model.specs.Stored.{Stored, TellsZero};
 ghost use Rattle.space_core.specs.Standing.{Kept};
-ghost use Rattle.pager_core.specs.RunParts.{IsNew, AreNewSpaces, AreAtRest, most_in_history};
+ghost use Rattle.pager_core.specs.RunParts.{AreRoomsOver, AreNewSpaces, AreAtRest, most_in_history};
 ghost use Rattle.pager_core.specs.Sums.{AreFewer, sum_at, tiles_in, promotions_in, demotions_in};
 ghost use Rattle.pager_model.specs.Bounds.{most_frames};
 
 use frame_pool::Pool;
 use pager_model::{Call, Line, NoMemory, Numbered, Setting, Sizes, Summary, What};
-use space_core::Space;
+use space_core::{Space, SpaceRoom};
 use std::alloc::Global;
+use std::marker::Model;
 use store_core::Store;
 
-/// What a run begins with: its setting, its spaces, each without regions, over the stores of their numbers, and its pool, of which every
-/// frame is free.
+/// All that a run takes of memory, but for that of its stores' writes: its setting, room for its spaces, and its pool, of which every frame is
+/// free.
 #[derive(Drop)]
-pub struct RunParts<S: Store + Send + Drop> {
+pub struct RunRoom<S: Store + Send + Drop> {
     pub setting: Setting,
-    pub spaces: Vec<Space<S>>,
+    pub spaces: SpaceRooms<S>,
     pub pool: Pool,
 }
 
-impl<S: Store + Send + Drop> RunParts<S> {
-    /// The parts of a run of so many spaces over the last of the stores, which stand last first; the others are left. `frames` is a
-    /// multiple of 512, and `marks` has one mark a processor. For want of memory all the stores are left as they were.
+impl<S: Store + Send + Drop> RunRoom<S> {
+    /// Room for a run of a space for each of these stores, which are only looked at. `frames` is a multiple of 512, and `marks` has one mark a
+    /// processor.
     pub fn create(
         alloc: Global,
         frames: u32,
         marks: &[u32],
-        spaces: u32,
-        stores: &mut Vec<S>,
-    ) -> Result<RunParts<S>, NoMemory>
-        requires enough { spaces ≤ length stores.old.items }
-        requires spaces { (1 ≤ spaces) × (spaces ≤ 16) }
+        stores: &[S],
+    ) -> Result<RunRoom<S>, NoMemory>
+        requires spaces { (1 ≤ length stores.now) × (length stores.now ≤ 16) }
         requires processors { (1 ≤ length marks.now) × (length marks.now ≤ 17) }
         requires whole { frames % 512 ≡ 0 }
         requires frames { frames ≤ most_frames }
+        ensures setting { IfOk result (λ room. room.setting ≡ given_over frames marks.now (map S.seen stores.now)) }
+        ensures spaces { IfOk result (λ room. AreRoomsOver room.setting (map S.seen stores.now) room.spaces) }
+        ensures pool { IfOk result (λ room. room.pool ≡ start_frames all_sizes frames (length marks.now)) }
 
-        // Each part is as it is at the start of a run.
-        ensures setting { IfOk result (λ p. p.setting ≡ given_over frames marks.now (take spaces (map S.seen (reverse stores.old.items)))) }
-        ensures spaces { IfOk result (λ p. AreNewSpaces p.setting p.spaces.items) }
-        ensures pool { IfOk result (λ p. p.pool ≡ start_frames all_sizes frames (length marks.now)) }
-
-        // Each store that a space uses was asked for its count of faults.
-        ensures capped { IfOk result (λ _. AreCapped spaces (map S.seen (reverse stores.old.items))) }
-
-        // In their order, the stores are those of the spaces and those that are left, which no space uses. For want of memory all are left.
-        ensures stores { IfOk result (λ p. map S.seen (reverse stores.old.items) ≡ map (λ (k : Kept). k.store) p.spaces.items ++ map S.seen (reverse stores.new.items)) }
-        ensures left { IfOk result (λ _. map S.seen (reverse stores.new.items) ≡ drop spaces (map S.seen (reverse stores.old.items))) }
-        ensures back { IfErr result (λ _. map S.seen stores.new.items ≡ map S.seen stores.old.items) }
-        ensures capacity { vec_capacity stores.new ≡ vec_capacity stores.old }
+        // Each store was asked for its count of faults.
+        ensures capped { IfOk result (λ _. AreCapped (length stores.now) (map S.seen stores.now)) }
     {
         let processors = marks.len() as u32;
+        let spaces = stores.len() as u32;
         let all_sizes = Sizes::of(true, true, true);
         let pool = Pool::create(alloc, frames, spaces, processors, all_sizes)?;
-        let setting = setting_of(alloc, frames, marks, spaces, stores.as_slice())?;
-        let spaces = spaces_over(alloc, frames, processors, spaces, stores)?;
-        Ok(RunParts {
+        let setting = setting_of(alloc, frames, marks, stores)?;
+        let spaces = SpaceRooms::create(alloc, frames, processors, spaces)?;
+        Ok(RunRoom {
             setting,
             spaces,
             pool,
         })
+    }
+}
+
+/// Room for the spaces of a run.
+#[derive(Drop)]
+pub struct SpaceRooms<S: Store + Send + Drop> {
+    rooms: Vec<SpaceRoom>,
+    // Empty, with room for as many spaces.
+    spaces: Vec<Space<S>>,
+}
+
+impl<S: Store + Send + Drop> Model for SpaceRooms<S> {
+    ghost use Rattle.std.specs.Prelude.{◌≡◌, ◌≤◌, List, [], length, vec_capacity};
+    ghost use Rattle.space_core.specs.Rooms.{Capacity};
+
+    ghost Value = { List Capacity };
+
+    ghost view = { λ r. r.rooms.items };
+
+    ghost invariant = { λ r. (length r.rooms.items ≤ 16) × (r.spaces.items ≡ []) × (length r.rooms.items ≤ vec_capacity r.spaces) };
+}
+
+impl<S: Store + Send + Drop> SpaceRooms<S> {
+    /// Room for so many spaces, each for so many frames and processors.
+    fn create(
+        alloc: Global,
+        frames: u32,
+        processors: u32,
+        count: u32,
+    ) -> Result<SpaceRooms<S>, NoMemory>
+        requires frames { frames ≤ most_frames }
+        requires few { count ≤ 16 }
+        ensures { IfOk result (λ rooms. rooms ≡ replicate count (record { frames = frames; processors = processors })) }
+    {
+        let mut rooms = Vec::with_capacity(alloc, count as usize)?;
+        for _ in 0..count {
+            rooms.push(SpaceRoom::create(alloc, frames, processors)?)?;
+        }
+        let spaces = Vec::with_capacity(alloc, count as usize)?;
+        Ok(SpaceRooms { rooms, spaces })
+    }
+
+    /// The spaces, each without regions, over the last of the stores, which stand last first; the others are left. It takes no memory.
+    pub fn over(self, stores: &mut Vec<S>) -> Vec<Space<S>>
+        requires enough { length self ≤ length stores.old.items }
+        ensures new { (given : Given) → AreRoomsOver given (take (length self) (map S.seen (reverse stores.old.items))) self → AreNewSpaces given result.items }
+
+        // In their order, the stores are those of the spaces and those that are left.
+        ensures stores { map S.seen (reverse stores.old.items) ≡ map (λ (k : Kept). k.store) result.items ++ map S.seen (reverse stores.new.items) }
+        ensures left { map S.seen (reverse stores.new.items) ≡ drop (length self) (map S.seen (reverse stores.old.items)) }
+        ensures capacity { vec_capacity stores.new ≡ vec_capacity stores.old }
+    {
+        let SpaceRooms {
+            mut rooms,
+            mut spaces,
+        } = self;
+        while let Some(room) = rooms.pop() {
+            let number = spaces.len() as u32;
+            let Some(store) = stores.pop() else {
+                unreachable!()
+            };
+            spaces.push_reserved(Space::over(number, room, store));
+        }
+        spaces
     }
 }
 
@@ -128,70 +184,31 @@ impl<S: Store + Send + Drop> Gathered<S> {
     }
 }
 
-/// The setting over stores, last first: what each that a space uses says of its copies, and its count of faults.
+/// The setting over stores: what each says of its copies, and its count of faults.
 fn setting_of<S: Store + Send + Drop>(
     alloc: Global,
     frames: u32,
     marks: &[u32],
-    count: u32,
     stores: &[S],
 ) -> Result<Setting, NoMemory>
-    requires enough { count ≤ length stores.now }
-    requires spaces { (1 ≤ count) × (count ≤ 16) }
+    requires spaces { (1 ≤ length stores.now) × (length stores.now ≤ 16) }
     requires processors { (1 ≤ length marks.now) × (length marks.now ≤ 17) }
-    ensures given { IfOk result (λ g. g ≡ given_over frames marks.now (take count (map S.seen (reverse stores.now)))) }
-    ensures told { IfOk result (λ g. (s : ℕ) (store : Stored) → s < count → slice_get (map S.seen (reverse stores.now)) s ≡ Some store
-        → store.told ≡ true → TellsZero store) }
-    ensures capped { IfOk result (λ _. AreCapped count (map S.seen (reverse stores.now))) }
+    ensures given { IfOk result (λ g. g ≡ given_over frames marks.now (map S.seen stores.now)) }
+    ensures told { IfOk result (λ g. (s : ℕ) (store : Stored) → slice_get (map S.seen stores.now) s ≡ Some store → store.told ≡ true → TellsZero store) }
+    ensures capped { IfOk result (λ _. AreCapped (length stores.now) (map S.seen stores.now)) }
 {
     let marks = marks.to_vec(alloc)?;
-    let mut told = Vec::with_capacity(alloc, count as usize)?;
-    let mut faults = Vec::with_capacity(alloc, count as usize)?;
-    for store in stores.iter().rev().take(count as usize) {
+    let mut told = Vec::with_capacity(alloc, stores.len())?;
+    let mut faults = Vec::with_capacity(alloc, stores.len())?;
+    for store in stores {
         told.push(store.told())?;
         faults.push(store.faults())?;
     }
     Ok(Setting::of(frames, marks, told, faults))
 }
 
-/// So many spaces, each without regions, over the last of the stores, which come back for want of memory.
-fn spaces_over<S: Store + Send + Drop>(
-    alloc: Global,
-    frames: u32,
-    processors: u32,
-    count: u32,
-    stores: &mut Vec<S>,
-) -> Result<Vec<Space<S>>, NoMemory>
-    requires enough { count ≤ length stores.old.items }
-    requires frames { frames ≤ most_frames }
-    ensures count { IfOk result (λ spaces. length spaces.items ≡ count) }
-    ensures new { IfOk result (λ spaces. (s : ℕ) (kept : Kept) (told : Bool) → slice_get spaces.items s ≡ Some kept
-        → (told ≡ true → TellsZero kept.store) → IsNew frames processors s told kept.store.faults kept) }
-
-    // In their order, the stores are those of the spaces and those that are left.
-    ensures stores { IfOk result (λ spaces. map S.seen (reverse stores.old.items) ≡ map (λ (k : Kept). k.store) spaces.items ++ map S.seen (reverse stores.new.items)) }
-    ensures back { IfErr result (λ _. map S.seen stores.new.items ≡ map S.seen stores.old.items) }
-    ensures capacity { vec_capacity stores.new ≡ vec_capacity stores.old }
-{
-    let mut spaces = Vec::with_capacity(alloc, count as usize)?;
-    for number in 0..count {
-        let Some(store) = stores.pop() else {
-            unreachable!()
-        };
-        match Space::create(alloc, number, frames, processors, store) {
-            Ok(space) => spaces.push_reserved(space),
-            Err(store) => {
-                stores.push_reserved(store);
-                give_back(spaces, stores);
-                return Err(NoMemory);
-            }
-        }
-    }
-    Ok(spaces)
-}
-
 /// Puts the stores of the spaces behind these, the first space's last.
-pub fn give_back<S: Store + Send + Drop>(spaces: Vec<Space<S>>, stores: &mut Vec<S>)
+fn give_back<S: Store + Send + Drop>(spaces: Vec<Space<S>>, stores: &mut Vec<S>)
     requires room { length stores.old.items + length spaces.items ≤ vec_capacity stores.old }
     ensures stores { map S.seen stores.new.items ≡ map S.seen stores.old.items ++ reverse (map (λ (k : Kept). k.store) spaces.items) }
     ensures capacity { vec_capacity stores.new ≡ vec_capacity stores.old }

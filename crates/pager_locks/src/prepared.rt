@@ -10,7 +10,7 @@ use crate::naming::Named;
 use crate::pager::Pager;
 use frame_pool::Pool;
 use journal_core::{Author, Journal, Pass, create};
-use pager_core::{RunParts, give_back};
+use pager_core::RunRoom;
 use space_core::Space;
 use std::alloc::Global;
 use std::marker::Model;
@@ -62,24 +62,21 @@ impl<S: Store + Send + Drop> Prepared<S> {
         ensures capped { IfOk result (λ _. AreCapped (length stores.items) (map S.seen stores.items)) }
         ensures back { IfErr result (λ back. map S.seen back.items ≡ map S.seen stores.items) }
     {
+        let Ok(room) = RunRoom::create(alloc, frames, marks, stores.as_slice()) else {
+            return Err(stores);
+        };
+        let Ok(opened) = create(alloc, room.setting, rooms) else {
+            return Err(stores);
+        };
         let mut stores = stores;
         stores.reverse();
-        let count = stores.len() as u32;
-        let Ok(parts) = RunParts::create(alloc, frames, marks, count, &mut stores) else {
-            stores.reverse();
-            return Err(stores);
-        };
-        let Ok(opened) = create(alloc, parts.setting, rooms) else {
-            give_back(parts.spaces, &mut stores);
-            stores.reverse();
-            return Err(stores);
-        };
+        let spaces = room.spaces.over(&mut stores);
         Ok(Prepared {
             journal: opened.journal,
             authors: opened.authors,
             passes: opened.passes,
-            spaces: parts.spaces,
-            pool: parts.pool,
+            spaces,
+            pool: room.pool,
             stores,
         })
     }

@@ -1,5 +1,6 @@
 pub mod Tables
 pub mod Pages
+pub mod Rooms
 pub mod Standing
 pub mod Beginning
 pub mod Saving

@@ -3,7 +3,9 @@
 
 mod access;
 mod frames;
+mod room;
 mod space;
 mod table;
 
+pub use room::SpaceRoom;
 pub use space::{Begun, OutFault, Space};

@@ -1,4 +1,4 @@
-ghost use Rattle.std.specs.Prelude.{◌≡◌, ◌≢◌, ◌∷◌, [], length, map, replicate, slice_set, slice_index_or, option_map, ℕ, ◌+◌, ◌<◌, ◌≤◌, ◌⊎◌, Bool, true, false, Some, None, IfOk, IfErr, IfSome, IfNone, IsSome};
+ghost use Rattle.std.specs.Prelude.{◌≡◌, ◌≢◌, ◌∷◌, [], length, map, slice_set, slice_index_or, option_map, ℕ, ◌+◌, ◌<◌, ◌≤◌, ◌⊎◌, Bool, true, false, Some, None, IfOk, IfErr, IfSome, IfNone, IsSome};
 ghost use Rattle.pager_model.specs.declared.region.Region.{Region as Item};
 ghost use Rattle.pager_model.specs.Flat.{page_of, space_of_call};
 ghost use Rattle.pager_model.specs.Order.{is_access};
@@ -10,20 +10,18 @@ ghost use Rattle.pager_model.specs.SpaceStates.{empty_state, access_page};
 ghost use Rattle.pager_model.specs.Stored.{TellsZero};
 ghost use Rattle.space_core.specs.Beginning.{Begins, NeedsItsFrame, NeedsNoFrame, Places, ReadsIn, FailsToRead, Finishes, WritesOut, FailsToWrite, LeavesUnwritten, Removes, IsEvicting, Evicts, copied_reply};
 ghost use Rattle.space_core.specs.Beginning.{NoneResident, ClearsOne, ClearsNone, Unmapped};
-ghost use Rattle.space_core.specs.Pages.{IsFresh, Maps};
+ghost use Rattle.space_core.specs.Pages.{Maps};
 ghost use Rattle.space_core.specs.Saving.{Saves, FailsToSave, LacksRoom, unwritten_by};
 ghost use Rattle.space_core.specs.Standing.{StandsFor, IsResting, range_of, frame_at, dirty_at, image_at, rights_by, is_allowed, CanBegin};
 ghost use Rattle.space_core.specs.Tables.{mapping_in, own_in};
 ghost use Rattle.space_core.specs.Translating.{counted_up, Retouches, ChangesPages, CleansPage, Touches, BeginsClear};
-ghost use Rattle.pager_model.specs.Bounds.{most_frames, space_bytes, space_pages};
+ghost use Rattle.pager_model.specs.Bounds.{space_bytes, space_pages};
 
 use crate::access::{accessed_page, answered, page_of, permits, want_in, word_of};
+use crate::room::SpaceRoom;
 use crate::table::PageTable;
-use pager_model::{
-    Answered, Call, Frame, Kind, NoMemory, PageRange, Region, Reply, Rights, Tile, Want,
-};
+use pager_model::{Answered, Call, Frame, Kind, PageRange, Region, Reply, Rights, Tile, Want};
 use region_table::Regions;
-use std::alloc::Global;
 use std::marker::Model;
 use store_core::{Store, StoreFailed, WriteRefused};
 use tiles::Moves;
@@ -102,36 +100,25 @@ impl<S: Store + Send + Drop> Model for Space<S> {
 }
 
 impl<S: Store + Send + Drop> Space<S> {
-    /// A space without regions, over this store, which comes back for want of memory. All the memory that it ever takes is taken here, but
-    /// for that of the store's writes. Each processor has an image of the tiles that it used last.
-    pub fn create(
-        alloc: Global,
-        space: u32,
-        frames: u32,
-        processors: u32,
-        store: S,
-    ) -> Result<Space<S>, S>
-        requires { frames ≤ most_frames }
-        ensures made { IfOk result (λ s. (s.number ≡ space) × (s.frames ≡ frames) × (length s.images ≡ processors) × (s.store ≡ S.seen store) × IsResting s) }
-        ensures stands { IfOk result (λ s. (told : Bool) → (told ≡ true → TellsZero s.store) → StandsFor s (empty_state all_sizes told s.store.faults)) }
-        ensures back { IfErr result (λ back. S.seen back ≡ S.seen store) }
+    /// A space without regions, in this room and over this store. It takes no memory.
+    pub fn over(number: u32, room: SpaceRoom, store: S) -> Space<S>
+        ensures made { (result.number ≡ number) × (result.frames ≡ room.frames) × (length result.images ≡ room.processors) × (result.store ≡ S.seen store) × IsResting result }
+        ensures stands { (told : Bool) → (told ≡ true → TellsZero result.store) → StandsFor result (empty_state all_sizes told result.store.faults) }
     {
-        match parts_of(alloc, frames, processors) {
-            Ok((table, images)) => Ok(Space {
-                number: space,
-                regions: Regions::create(),
-                table,
-                pending: None,
-                clearing: None,
-                scan: 0,
-                paged: None,
-                store,
-                images,
-                promotions: 0,
-                demotions: 0,
-                broken: 0,
-            }),
-            Err(NoMemory) => Err(store),
+        let (table, images) = room.into_parts();
+        Space {
+            number,
+            regions: Regions::create(),
+            table,
+            pending: None,
+            clearing: None,
+            scan: 0,
+            paged: None,
+            store,
+            images,
+            promotions: 0,
+            demotions: 0,
+            broken: 0,
         }
     }
 
@@ -636,23 +623,6 @@ fn keep_tiles(images: &mut [Image], table: &PageTable)
     for image in images.iter_mut() {
         image.retain(|tile| table.is_tile(tile));
     }
-}
-
-/// Room for the pages of a space, and an image for each processor.
-fn parts_of(
-    alloc: Global,
-    frames: u32,
-    processors: u32,
-) -> Result<(PageTable, Vec<Image>), NoMemory>
-    requires { frames ≤ most_frames }
-    ensures { IfOk result (λ parts. IsFresh frames parts.0 × (parts.1.items ≡ replicate processors [])) }
-{
-    let table = PageTable::create(alloc, frames)?;
-    let mut images = Vec::with_capacity(alloc, processors as usize)?;
-    for _ in 0..processors {
-        images.push(Image::create())?;
-    }
-    Ok((table, images))
 }
 
 /// Written where the page was dirty, and else clean.

@@ -7,7 +7,7 @@ ghost use Rattle.space_tests.specs.Spares.{HasSpare};
 ghost use Rattle.space_core.specs.Standing.{IsResting, CanBegin};
 
 use pager_model::{Call, Frame, Kind, PageRange, Reply, Rights, frames_of};
-use space_core::{Begun, Space};
+use space_core::{Begun, Space, SpaceRoom};
 use std::alloc::Global;
 use std::process::Abort;
 use std::test::Fail;
@@ -105,11 +105,9 @@ fn space_of(alloc: Global, number: u32, frames: u32) -> Result<Space<MemoryStore
     requires { frames ≤ 32768 }
     ensures { IfOk result (λ s. (s.number ≡ number) × (0 < length s.images) × IsResting s) }
 {
+    let room = SpaceRoom::create(alloc, frames, 1)?;
     let store = MemoryStore::of(alloc, Vec::new(alloc), Vec::new(alloc));
-    match Space::create(alloc, number, frames, 1, store) {
-        Ok(space) => Ok(space),
-        Err(_) => Err(Fail::from("no memory for a space")),
-    }
+    Ok(Space::over(number, room, store))
 }
 
 /// A space and its frames, which are all spare, over a store in memory that fails at these reads and writes.
@@ -124,11 +122,9 @@ fn begun(
     ensures spare { IfOk result (λ made. HasSpare made.0 made.1.items) }
 {
     let spare = frames_of(alloc, frames)?;
+    let room = SpaceRoom::create(alloc, frames, 1)?;
     let store = MemoryStore::of(alloc, reads.to_vec(alloc)?, writes.to_vec(alloc)?);
-    match Space::create(alloc, SPACE, frames, 1, store) {
-        Ok(space) => Ok((space, spare)),
-        Err(_) => Err(Fail::from("no memory for a space")),
-    }
+    Ok((Space::over(SPACE, room, store), spare))
 }
 
 /// The reply to a call that needs no frame and no clearing, and `None` where it needs one or its store fails.

@@ -1,10 +1,14 @@
-use Rattle.std.proofs.Common.{◌≡◌, ◌++◌, length, map, replicate, reverse, take, subst, ap, ◌∙◌, arith}
+use Rattle.std.proofs.Common.{◌≡◌, ℕ, List, ◌++◌, length, map, replicate, take, slice_get, subst, ap, sym, ◌∙◌, arith}
 use Rattle.std.specs.List.{range_with_len}
+use Rattle.std.proofs.lemmas.List.{length-take-le, take-map}
 use Rattle.std.proofs.lemmas.List.FromFn.{length-map-range_with_len}
 use Rattle.std.proofs.Math.ListN.{length-map}
 use Rattle.pager_model.specs.Showing.{calls_of, daemon_marks}
-use Rattle.pager_model.specs.Stores.{given_over, AreCapped}
+use Rattle.pager_model.specs.Stored.{Stored}
+use Rattle.pager_model.specs.Stores.{given_over}
+use Rattle.pager_core.specs.RunParts.{AreRoomsOver}
 use Rattle.pager_core.proofs.StartMachines.{marks-start}
+use Rattle.pager_core.proofs.Stores.{slice_get-take}
 use Rattle.pager_core.proofs.machine.parts_of.Goals as goal
 
 pub first_of_each-requires : goal.first_of_each-requires
@@ -22,6 +26,10 @@ returns-clause-calls g c =
     ∙ ap (λ l. map (λ k. calls_of k l) (range_with_len 0 c.processors-processors.result)) c.calls-2.ensures.calls
     ∙ ap (λ n. map (λ k. calls_of k c.args.trace.now.calls) (range_with_len 0 n)) c.processors-processors.ensures.processors
 
+-- the stores of the spaces are the first
+first : {P : Type 0} (seen : P → Stored) (stores : List P) (n m : ℕ) → n ≡ m → map seen (take n stores) ≡ take m (map seen stores)
+first seen stores n m same = sym (take-map seen n stores) ∙ ap (λ k. take k (map seen stores)) same
+
 pub returns-clause-setting : goal.returns-clause-setting
 returns-clause-setting g c =
     let plan = c.args.trace.now in
@@ -30,8 +38,18 @@ returns-clause-setting g c =
     ∙ c.in_ok-marks.ensures.items_if_clones_equal (λ y same. same)
     ∙ ap (λ n. replicate n 0) c.processors-processors.ensures.processors
     ∙ marks-start plan c.frames.ensures.text in
-    c.in_ok-start.ensures.setting
-    ∙ (λ i. given_over (c.frames.ensures.frames i) (marks i) (take (c.spaces.ensures.spaces i) (map g.S.Store.seen (reverse c.args.stores.now.items))))
+    let own = first g.S.Store.seen c.args.stores.now c.spaces.result plan.spaces c.spaces.ensures.spaces in
+    c.in_ok-room.ensures.setting
+    ∙ (λ i. given_over (c.frames.ensures.frames i) (marks i) (own i))
+
+pub returns-clause-spaces : goal.returns-clause-spaces
+returns-clause-spaces g c =
+    subst (λ l. AreRoomsOver c.in_ok-room.room.setting l c.in_ok-room.room.spaces)
+    (first g.S.Store.seen c.args.stores.now c.spaces.result c.args.trace.now.spaces c.spaces.ensures.spaces) c.in_ok-room.ensures.spaces
 
 pub returns-clause-capped : goal.returns-clause-capped
-returns-clause-capped g c = subst (λ n. AreCapped n (map g.S.Store.seen (reverse c.args.stores.now.items))) c.spaces.ensures.spaces c.in_ok-start.ensures.capped
+returns-clause-capped g c = λ s store below at.
+    let same = c.spaces.ensures.spaces in
+    let long = length-take-le c.spaces.result c.args.stores.now (omega (arith, same, c.requires.enough)) in
+    c.in_ok-room.ensures.capped s store (omega (arith, long, same, below))
+    (ap (λ l. slice_get l s) (first g.S.Store.seen c.args.stores.now c.spaces.result c.args.trace.now.spaces same) ∙ slice_get-take c.args.trace.now.spaces (map g.S.Store.seen c.args.stores.now) s below ∙ at)

@@ -1,8 +1,10 @@
-use Rattle.std.proofs.Common.{false, arith}
+use Rattle.std.proofs.Common.{false, ap, ◌∙◌, arith}
+use Rattle.space_core.specs.Rooms.{Capacity}
 use Rattle.space_tests.proofs.SpareFrames.{all_spare}
 use Rattle.space_tests.proofs.tests.begun.Goals as goal
 
-pub returns-in-Ok-clause-spare : goal.returns-in-Ok-clause-spare
-returns-in-Ok-clause-spare c =
-    let made = c.in-Ok.ensures.made in
-    all_spare c.in-Ok.space c.in_ok-spare.spare.items c.args.frames c.in_ok-spare.ensures made.1 (omega (arith, made.2)) made.4 (c.in-Ok.ensures.stands false (λ e. cc))
+pub returns-clause-spare : goal.returns-clause-spare
+returns-clause-spare c =
+    let made = c.over.ensures.made in
+    let room = c.in_ok-room.ensures in
+    all_spare c.over.result c.in_ok-spare.spare.items c.args.frames c.in_ok-spare.ensures (made.1 ∙ ap (λ (r : Capacity). r.frames) room) (omega (arith, made.2, ap (λ (r : Capacity). r.processors) room)) made.4 (c.over.ensures.stands false (λ e. cc))

@@ -1,53 +1,65 @@
-use Rattle.std.proofs.Common.{◌≡◌, length, map, reverse, drop, ap, subst, ◌∙◌, arith}
-use Rattle.std.proofs.lemmas.List.{length-reverse}
+use Rattle.std.proofs.Common.{◌≡◌, ◌≤◌, List, length, map, reverse, drop, take, ap, subst, ◌∙◌, arith}
 use Rattle.std.proofs.Math.ListN.{length-map}
+use Rattle.pager_model.specs.Plans.{Plan}
+use Rattle.pager_model.specs.Settings.{Given}
+use Rattle.pager_model.specs.Stored.{Stored}
 use Rattle.pager_model.specs.Stores.{setting_over, AreCapped}
-use Rattle.pager_core.specs.Machines.{IsMachine}
 use Rattle.pager_laws.proofs.KeptLaws.{KeepsLaws-legal}
-use Rattle.pager_core.proofs.StartMachines.{IsMachine-started, length-spaces}
-use Rattle.pager_core.proofs.Stores.{as_long, same_reversed, turned_back}
+use Rattle.space_core.specs.Rooms.{Capacity}
+use Rattle.pager_core.specs.Machines.{IsMachine}
+use Rattle.pager_core.specs.RunParts.{AreRoomsOver}
+use Rattle.pager_core.proofs.StartMachines.{IsMachine-started, length-told}
+use Rattle.pager_core.proofs.Stores.{AreRoomsTurned, turned_rooms, as_long, turned_back}
 use Rattle.pager_core.proofs.machine.Machine.create.Given.{Over}
 use Rattle.pager_core.proofs.machine.Machine.create.Goals as goal
 
-given : (g : Over) (c : goal.In-Ok g) → c.in-Ok.parts.start.setting ≡ setting_over c.args.trace.now (map g.S.Store.seen c.args.stores.items)
-given g c = c.in-Ok.ensures.setting ∙ ap (setting_over c.args.trace.now) (turned_back g.S.Store.seen c.args.stores.items c.reverse.new.self.items c.reverse.ensures.items)
+known : {P : Type 0} (seen : P → Stored) (plan : Plan) (stores : List P) → plan.spaces ≤ length stores → plan.spaces ≤ length (map seen stores)
+known seen plan stores enough = (let many = length-map stores seen in omega (arith, many, enough))
 
-started : (g : Over) (c : goal.In-Ok g) → IsMachine (record { given = c.in-Ok.parts.start.setting; calls = map (λ v. v.items) c.in-Ok.parts.calls.items; flights = c.in-Ok.parts.flights.items; history = c.in-Ok.parts.history.items; unused = map g.S.Store.seen (reverse c.parts_of.new.stores.items) }) c.in-Ok.parts.start.spaces.items c.in-Ok.parts.start.pool c.in-Ok.parts.history.cap
+-- the rooms of a machine, once its stores are turned round
+rooms_turned : {P : Type 0} (seen : P → Stored) (plan : Plan) (stores slice turned : List P) (given : Given) (rooms : List Capacity) → plan.spaces ≤ length stores → slice ≡ stores → turned ≡ reverse stores → given ≡ setting_over plan (map seen slice) → AreRoomsOver given (take plan.spaces (map seen slice)) rooms → AreRoomsTurned seen turned given rooms plan.spaces
+rooms_turned seen plan stores slice turned given rooms enough same round is over =
+    turned_rooms seen stores turned given rooms plan.spaces round enough
+    (length-told plan (map seen stores) (known seen plan stores enough) given (is ∙ ap (λ l. setting_over plan (map seen l)) same))
+    (subst (λ l. AreRoomsOver given (take plan.spaces (map seen l)) rooms) same over)
+
+pub over-spaces-requires : goal.over-spaces-requires
+over-spaces-requires g c =
+    (c.type_bounds.send-S, (rooms_turned g.S.Store.seen c.args.trace.now c.args.stores.items _ c.reverse.new.self.items _ _ c.requires.enough c.as_slice.ensures.value c.reverse.ensures.items c.in-Ok.ensures.setting c.in-Ok.ensures.spaces).enough)
+
+turned : (g : Over) (c : goal.After-over-spaces g) → AreRoomsTurned g.S.Store.seen c.reverse.new.self.items c.in-Ok.parts.room.setting c.in-Ok.parts.room.spaces c.args.trace.now.spaces
+turned g c = rooms_turned g.S.Store.seen c.args.trace.now c.args.stores.items _ c.reverse.new.self.items _ _ c.requires.enough c.as_slice.ensures.value c.reverse.ensures.items c.in-Ok.ensures.setting c.in-Ok.ensures.spaces
+
+given : (g : Over) (c : goal.After-over-spaces g) → c.in-Ok.parts.room.setting ≡ setting_over c.args.trace.now (map g.S.Store.seen c.args.stores.items)
+given g c = c.in-Ok.ensures.setting ∙ ap (λ l. setting_over c.args.trace.now (map g.S.Store.seen l)) c.as_slice.ensures.value
+
+started : (g : Over) (c : goal.After-over-spaces g) → IsMachine (record { given = c.in-Ok.parts.room.setting; calls = map (λ v. v.items) c.in-Ok.parts.calls.items; flights = c.in-Ok.parts.flights.items; history = c.in-Ok.parts.history.items; unused = map g.S.Store.seen (reverse c.over-spaces.new.stores.items) }) c.over-spaces.result.items c.in-Ok.parts.room.pool c.in-Ok.parts.history.cap
 started g c =
     let parts = c.in-Ok.ensures in
-    let many = length-map c.args.stores.items g.S.Store.seen in
-    IsMachine-started c.args.trace.now parts.text (map g.S.Store.seen c.args.stores.items) (omega (arith, many, c.requires.enough))
-    _ c.in-Ok.parts.start.spaces.items c.in-Ok.parts.start.pool _
-    (given g c) parts.calls parts.flights parts.history.0 parts.spaces parts.pool parts.history.1
+    IsMachine-started c.args.trace.now parts.text (map g.S.Store.seen c.args.stores.items) (known g.S.Store.seen c.args.trace.now c.args.stores.items c.requires.enough)
+    _ c.over-spaces.result.items c.in-Ok.parts.room.pool _
+    (given g c) parts.calls parts.flights parts.history.0 (c.over-spaces.ensures.new c.in-Ok.parts.room.setting (turned g c).over) parts.pool parts.history.1
 
 pub invariant_of-result : goal.invariant_of-result
 invariant_of-result g c =
-    let parts = c.in-Ok.ensures in
-    let old = ap length c.reverse.ensures.items in
-    let all = length-reverse c.args.stores.items in
-    let long = as_long g.S.Store.seen c.reverse.new.self.items c.parts_of.new.stores.items c.args.trace.now.spaces parts.left (omega (arith, old, all, c.requires.enough)) in
-    let many = length-map c.args.stores.items g.S.Store.seen in
-    let count = length-spaces c.args.trace.now (map g.S.Store.seen c.args.stores.items) (omega (arith, many, c.requires.enough)) c.in-Ok.parts.start.setting c.in-Ok.parts.start.spaces.items (given g c) parts.spaces in
-    (started g c, omega (arith, long, count, c.parts_of.ensures.capacity, c.parts_of.new.stores.ok.0, c.reverse.new.self.ok.0, c.reverse.new.self.ok.1))
+    let room = turned g c in
+    let long = as_long g.S.Store.seen c.reverse.new.self.items c.over-spaces.new.stores.items (length c.in-Ok.parts.room.spaces) c.over-spaces.ensures.left room.enough in
+    let count = (c.over-spaces.ensures.new c.in-Ok.parts.room.setting room.over).count in
+    let told = length-told c.args.trace.now (map g.S.Store.seen c.args.stores.items) (known g.S.Store.seen c.args.trace.now c.args.stores.items c.requires.enough) c.in-Ok.parts.room.setting (given g c) in
+    (started g c, omega (arith, long, count, told, room.count, c.over-spaces.ensures.capacity, c.over-spaces.new.stores.ok.0, c.reverse.new.self.ok.0, c.reverse.new.self.ok.1))
 
-pub returns-in-Ok-clause-made : goal.returns-in-Ok-clause-made
-returns-in-Ok-clause-made g c =
+pub returns-clause-made : goal.returns-clause-made
+returns-clause-made g c =
     let parts = c.in-Ok.ensures in
     (given g c, parts.history.0, parts.calls, parts.flights, (started g c).lawful)
 
-pub returns-in-Ok-clause-laws : goal.returns-in-Ok-clause-laws
-returns-in-Ok-clause-laws g c = KeepsLaws-legal _ _ (started g c).lawful.legal
+pub returns-clause-laws : goal.returns-clause-laws
+returns-clause-laws g c = KeepsLaws-legal _ _ (started g c).lawful.legal
 
-pub returns-in-Ok-clause-unused : goal.returns-in-Ok-clause-unused
-returns-in-Ok-clause-unused g c =
-    c.in-Ok.ensures.left ∙ ap (drop c.args.trace.now.spaces) (turned_back g.S.Store.seen c.args.stores.items c.reverse.new.self.items c.reverse.ensures.items)
+pub returns-clause-unused : goal.returns-clause-unused
+returns-clause-unused g c =
+    c.over-spaces.ensures.left ∙ ap (λ n. drop n (map g.S.Store.seen (reverse c.reverse.new.self.items))) (turned g c).count
+    ∙ ap (drop c.args.trace.now.spaces) (turned_back g.S.Store.seen c.args.stores.items c.reverse.new.self.items c.reverse.ensures.items)
 
-pub returns-in-Ok-clause-capped : goal.returns-in-Ok-clause-capped
-returns-in-Ok-clause-capped g c =
-    subst (AreCapped c.args.trace.now.spaces) (turned_back g.S.Store.seen c.args.stores.items c.reverse.new.self.items c.reverse.ensures.items) c.in-Ok.ensures.capped
-
-pub returns-in-Err-clause-back : goal.returns-in-Err-clause-back
-returns-in-Err-clause-back g c =
-    ap (map g.S.Store.seen) c.reverse-in-Err.ensures.items
-    ∙ same_reversed g.S.Store.seen c.parts_of.new.stores.items c.reverse.new.self.items c.in-Err.ensures.back
-    ∙ turned_back g.S.Store.seen c.args.stores.items c.reverse.new.self.items c.reverse.ensures.items
+pub returns-clause-capped : goal.returns-clause-capped
+returns-clause-capped g c = subst (λ l. AreCapped c.args.trace.now.spaces (map g.S.Store.seen l)) c.as_slice.ensures.value c.in-Ok.ensures.capped

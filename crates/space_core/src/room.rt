@@ -1,0 +1,55 @@
+//! What a space takes of memory.
+
+ghost use Rattle.std.specs.Prelude.{◌≡◌, ◌≤◌, [], replicate, IfOk};
+ghost use Rattle.space_core.specs.Pages.{IsFresh};
+ghost use Rattle.pager_model.specs.Bounds.{most_frames};
+
+use crate::table::PageTable;
+use pager_model::NoMemory;
+use std::alloc::Global;
+use std::marker::Model;
+use tlb_images::Image;
+
+/// All the memory that a space ever takes, but for that of its store's writes.
+#[derive(Drop)]
+pub struct SpaceRoom {
+    /// No page is resident, and none has rights of its own.
+    table: PageTable,
+    /// For each processor an image without tiles.
+    images: Vec<Image>,
+}
+
+impl Model for SpaceRoom {
+    ghost use Rattle.std.specs.Prelude.{◌≡◌, [], length, replicate};
+    ghost use Rattle.space_core.specs.Pages.{IsFresh};
+    ghost use Rattle.space_core.specs.Rooms.{Capacity};
+
+    ghost Value = { Capacity };
+
+    ghost view = { λ r. record { frames = length r.table.frames; processors = length r.images.items } };
+
+    ghost invariant = { λ r. IsFresh (length r.table.frames) r.table × (r.images.items ≡ replicate (length r.images.items) []) };
+}
+
+impl SpaceRoom {
+    /// Room for a space whose pages have so many frames, with an image for each of so many processors.
+    pub fn create(alloc: Global, frames: u32, processors: u32) -> Result<SpaceRoom, NoMemory>
+        requires { frames ≤ most_frames }
+        ensures { IfOk result (λ room. room ≡ record { frames = frames; processors = processors }) }
+    {
+        let table = PageTable::create(alloc, frames)?;
+        let mut images = Vec::with_capacity(alloc, processors as usize)?;
+        for _ in 0..processors {
+            images.push(Image::create())?;
+        }
+        Ok(SpaceRoom { table, images })
+    }
+
+    /// The table of its pages, and the images.
+    pub fn into_parts(self) -> (PageTable, Vec<Image>)
+        ensures table { IsFresh self.frames result.0 }
+        ensures images { result.1.items ≡ replicate self.processors [] }
+    {
+        (self.table, self.images)
+    }
+}
