@@ -3,8 +3,7 @@ ghost use Rattle.std.specs.Prelude.{◌<◌};
 
 use io_core::{MemorySource, ReadFailed, Source};
 use pager_model::{Call, Kind, Line, Rights, Trace};
-use std::alloc::Global;
-use std::test::*;
+use std::process::Abort;
 use trace_reader::LineCause::{After, Form, Number, Range};
 use trace_reader::{LineCause, MAX_BYTES, MAX_CALLS, TraceFault, parse, read_trace};
 
@@ -14,7 +13,7 @@ const FIRST: &[u8] = b"trace 1 512 2 3\n";
 const END: &[u8] = b"end\n";
 
 /// Lines of calls with each form, and with each range at its ends.
-const LAWFUL: [(&[u8], u32, Call); 14] = [
+static LAWFUL: [(&[u8], u32, Call); 14] = [
     (
         b"0 map 0 0 1 fixed none",
         0,
@@ -138,7 +137,7 @@ const LAWFUL: [(&[u8], u32, Call); 14] = [
 ];
 
 /// First lines, each with what is wrong with it.
-const FIRST_LINES: [(&[u8], LineCause); 36] = [
+static FIRST_LINES: [(&[u8], LineCause); 36] = [
     (b"", Form),
     (b"end", Form),
     (b"daemon 8 4", Form),
@@ -179,7 +178,7 @@ const FIRST_LINES: [(&[u8], LineCause); 36] = [
 ];
 
 /// Second lines, each with what is wrong with it.
-const CALL_LINES: [(&[u8], LineCause); 99] = [
+static CALL_LINES: [(&[u8], LineCause); 99] = [
     // Each place of each form.
     (b"x map 0 0 1 fixed read", Number),
     (b"2 map 0 0 1 fixed read", Range),
@@ -286,7 +285,7 @@ const CALL_LINES: [(&[u8], LineCause); 99] = [
 ];
 
 /// Texts without an end.
-const ENDLESS: [&[u8]; 7] = [
+static ENDLESS: [&[u8]; 7] = [
     b"",
     b"x",
     b"trace 1 500 1 1",
@@ -297,7 +296,7 @@ const ENDLESS: [&[u8]; 7] = [
 ];
 
 /// Texts, each with the number of the line at fault and what is wrong with it.
-const TEXTS: [(&[u8], u64, LineCause); 13] = [
+static TEXTS: [(&[u8], u64, LineCause); 13] = [
     (b"\n", 1, Form),
     (b"\ntrace 1 512 1 1\nend\n", 1, Form),
     (b"trace 1 512 1 1\n\nend\n", 2, Form),
@@ -318,7 +317,7 @@ const TEXTS: [(&[u8], u64, LineCause); 13] = [
     (b"trace 1 512 1 1\nend\n\x00\xff", 3, After),
 ];
 
-const MESSAGES: [(TraceFault, &str); 10] = [
+static MESSAGES: [(TraceFault, &str); 10] = [
     (TraceFault::ReadFault, "read fault"),
     (TraceFault::TooLong, "trace too long"),
     (
@@ -361,6 +360,10 @@ const MESSAGES: [(TraceFault, &str); 10] = [
     (TraceFault::NoMemory, "memory"),
 ];
 
+/// A text whose last line alone is its end.
+const WHOLE: &[u8] =
+    b"trace 1 512 1 1\n0 map 0 0 16 fixed read\n0 map 0 8 8 fixed write\n0 map 0 1048575 2 fixed write\n0 grow 0 0 1\n0 unmap 0 16\n0 store 0 0 1\n0 protect 0 8 9 write\n0 evict 0 15\nend\n";
+
 /// Gives the byte `x` without end, one at a time.
 #[derive(Drop)]
 struct Endless {
@@ -388,135 +391,191 @@ fn line(number: u64, cause: LineCause) -> TraceFault {
     TraceFault::Line { number, cause }
 }
 
-/// What is read of a text in pieces of so many bytes.
-fn read_in_pieces(
-    alloc: Global,
+/// What is said where there is no memory for a test.
+const NO_MEMORY: &str = "no memory";
+
+/// A source of a text that gives at most so many bytes a read, and fails at one read; none is read 0.
+fn source_of<R: Abort + AllocGlobal>(
+    rt: &R,
     text: &[u8],
     piece: usize,
-) -> Result<Result<Trace, TraceFault>, Fail>
+    failing: u64,
+) -> MemorySource
     requires { 0 < piece }
 {
-    let bytes = Vec::from_slice(alloc, text)?;
-    let mut source = MemorySource::of(bytes, piece, Vec::new(alloc));
-    Ok(read_trace(alloc, &mut source))
+    let bytes = text.to_vec(rt.alloc()).expect(rt, NO_MEMORY);
+    let failing = [failing].to_vec(rt.alloc()).expect(rt, NO_MEMORY);
+    MemorySource::of(bytes, piece, failing)
+}
+
+/// What is wrong with a text that is read in pieces of so many bytes.
+fn fault_in<R: Abort + AllocGlobal>(rt: &R, text: &[u8], piece: usize) -> Option<TraceFault>
+    requires { 0 < piece }
+{
+    let mut source = source_of(rt, text, piece, 0);
+    read_trace(rt.alloc(), &mut source).err()
+}
+
+fn push<R: Abort + AllocGlobal>(rt: &R, text: &mut Vec<u8>, bytes: &[u8]) {
+    text.extend_from_slice(bytes).expect(rt, NO_MEMORY)
 }
 
 /// A text of this line between two others.
-fn between(alloc: Global, first: &[u8], line: &[u8], last: &[u8]) -> Result<Vec<u8>, Fail> {
-    let mut text = Vec::from_slice(alloc, first)?;
-    text.extend_from_slice(line)?;
-    text.push(b'\n')?;
-    text.extend_from_slice(last)?;
-    Ok(text)
+fn between<R: Abort + AllocGlobal>(rt: &R, first: &[u8], line: &[u8], last: &[u8]) -> Vec<u8> {
+    let mut text = first.to_vec(rt.alloc()).expect(rt, NO_MEMORY);
+    push(rt, &mut text, line);
+    push(rt, &mut text, b"\n");
+    push(rt, &mut text, last);
+    text
+}
+
+/// The trace of one call whose line, behind the first, has these words.
+fn trace_of<R: Abort + AllocGlobal>(rt: &R, words: &[u8]) -> Trace {
+    let mut source = source_of(rt, &between(rt, FIRST, words, END), 1, 0);
+    read_trace(rt.alloc(), &mut source)
+        .ok()
+        .expect(rt, "refused")
+}
+
+/// A trace of two processors and three spaces has this line alone.
+fn assert_has<R: Abort + AllocGlobal>(rt: &R, trace: &Trace, line: Line) {
+    let numbers = (trace.frames(), trace.processors(), trace.spaces());
+    assert_eq!(rt; numbers, (512, 2, 3));
+    assert_eq!(rt; trace.daemon(), None);
+    assert_eq!(rt; trace.calls(), [line].as_slice());
+}
+
+/// What is wrong with a text that is there as a whole.
+fn fault_of<R: Abort + AllocGlobal>(rt: &R, text: &[u8]) -> Option<TraceFault> {
+    parse(rt.alloc(), text).err()
 }
 
 #[test]
-fn reads_each_form_to_the_ends_of_its_ranges(rt: HostRuntime) -> Result<(), Fail> {
-    for (words, processor, call) in LAWFUL {
-        let text = between(rt.alloc(), FIRST, words, END)?;
-        let trace = read_in_pieces(rt.alloc(), &text, 1)?.ok().ok_or("refused")?;
-        assert_eq!(rt; trace.frames(), 512);
-        assert_eq!(rt; trace.processors(), 2);
-        assert_eq!(rt; trace.spaces(), 3);
-        assert_eq!(rt; trace.daemon(), None);
-        assert_eq!(rt; trace.calls(), [Line { processor, call }].as_slice());
+fn reads_each_form_to_the_ends_of_its_ranges(rt: HostRuntime) {
+    for (words, processor, call) in &LAWFUL {
+        let (processor, call) = (*processor, *call);
+        assert_has(&rt, &trace_of(&rt, words), Line { processor, call });
     }
-    for first in [
-        b"trace 1 512 1 1".as_slice(),
-        b"trace 1 32768 16 16".as_slice(),
-    ] {
-        let text = between(rt.alloc(), b"", first, END)?;
-        assert!(rt; parse(rt.alloc(), &text).is_ok());
+    assert_eq!(rt; fault_of(&rt, b"trace 1 512 1 1\nend\n"), None);
+    assert_eq!(rt; fault_of(&rt, b"trace 1 32768 16 16\nend\n"), None);
+}
+
+/// Each of these lines is at fault behind the first ones, which make it the line of this number.
+fn assert_lines_at_fault<R: Abort + AllocGlobal>(
+    rt: &R,
+    first: &[u8],
+    number: u64,
+    lines: &[(&[u8], LineCause)],
+) {
+    for (words, cause) in lines {
+        let fault = fault_in(rt, &between(rt, first, words, END), 4096);
+        assert_eq!(rt; fault, Some(line(number, *cause)), "{words:?}");
     }
-    Ok(())
+}
+
+fn assert_texts_at_fault<R: Abort + AllocGlobal>(rt: &R) {
+    for (text, number, cause) in &TEXTS {
+        let fault = fault_in(rt, text, 1);
+        assert_eq!(rt; fault, Some(line(*number, *cause)), "{text:?}");
+    }
+}
+
+fn assert_texts_without_an_end<R: Abort + AllocGlobal>(rt: &R) {
+    for text in &ENDLESS {
+        let fault = fault_in(rt, text, 1);
+        assert_eq!(rt; fault, Some(TraceFault::NoEnd), "{text:?}");
+    }
 }
 
 #[test]
-fn tells_the_first_line_at_fault_and_its_leftmost_place(rt: HostRuntime) -> Result<(), Fail> {
-    for (i, (words, cause)) in FIRST_LINES.iter().enumerate() {
-        let text = between(rt.alloc(), b"", words, END)?;
-        let fault = read_in_pieces(rt.alloc(), &text, 4096)?.err();
-        assert_eq!(rt; fault, Some(line(1, *cause)), "first line {i}");
-    }
-    for (i, (words, cause)) in CALL_LINES.iter().enumerate() {
-        let text = between(rt.alloc(), FIRST, words, END)?;
-        let fault = read_in_pieces(rt.alloc(), &text, 4096)?.err();
-        assert_eq!(rt; fault, Some(line(2, *cause)), "call line {i}");
-    }
-    for (i, (text, number, cause)) in TEXTS.iter().enumerate() {
-        let fault = read_in_pieces(rt.alloc(), text, 1)?.err();
-        assert_eq!(rt; fault, Some(line(*number, *cause)), "text {i}");
-    }
-    for (i, text) in ENDLESS.iter().enumerate() {
-        let fault = read_in_pieces(rt.alloc(), text, 1)?.err();
-        assert_eq!(rt; fault, Some(TraceFault::NoEnd), "text {i} without an end");
-    }
-    Ok(())
+fn tells_the_first_line_at_fault_and_its_leftmost_place(rt: HostRuntime) {
+    assert_lines_at_fault(&rt, b"", 1, &FIRST_LINES);
+    assert_lines_at_fault(&rt, FIRST, 2, &CALL_LINES);
+    assert_texts_at_fault(&rt);
+    assert_texts_without_an_end(&rt);
 }
 
 #[test]
 fn misses_the_end_of_a_text_cut_anywhere(rt: HostRuntime) {
-    let text =
-        b"trace 1 512 1 1\n0 map 0 0 16 fixed read\n0 map 0 8 8 fixed write\n0 map 0 1048575 2 fixed write\n0 grow 0 0 1\n0 unmap 0 16\n0 store 0 0 1\n0 protect 0 8 9 write\n0 evict 0 15\nend\n".as_slice();
-    assert!(rt; parse(rt.alloc(), text).is_ok());
-    for end in 0..text.len() {
-        let fault = parse(rt.alloc(), &text[..end]).err();
+    assert_eq!(rt; fault_of(&rt, WHOLE), None);
+    for end in 0..WHOLE.len() {
+        let fault = fault_of(&rt, &WHOLE[..end]);
         assert_eq!(rt; fault, Some(TraceFault::NoEnd), "at {end}");
     }
 }
 
+/// A text of as many bytes as one may have, which goes on in its second line.
+fn longest_text<R: Abort + AllocGlobal>(rt: &R) -> Vec<u8> {
+    let mut text = b"trace 1 512 1 1\nbad\n"
+        .to_vec(rt.alloc())
+        .expect(rt, NO_MEMORY);
+    text.resize(MAX_BYTES, b'x').expect(rt, NO_MEMORY);
+    text
+}
+
 #[test]
-fn takes_as_many_bytes_as_a_text_may_have(rt: HostRuntime) -> Result<(), Fail> {
-    let mut text = Vec::from_slice(rt.alloc(), b"trace 1 512 1 1\nbad\n")?;
-    text.resize(MAX_BYTES, b'x')?;
-    let fault = read_in_pieces(rt.alloc(), &text, 4096)?.err();
-    assert_eq!(rt; fault, Some(line(2, Form)));
-    text.push(b'\n')?;
-    let fault = read_in_pieces(rt.alloc(), &text, 4096)?.err();
-    assert_eq!(rt; fault, Some(TraceFault::TooLong));
-    // A byte a read takes the most reads.
+fn takes_as_many_bytes_as_a_text_may_have(rt: HostRuntime) {
+    let mut text = longest_text(&rt);
+    assert_eq!(rt; fault_in(&rt, &text, 4096), Some(line(2, Form)));
+    push(&rt, &mut text, b"\n");
+    assert_eq!(rt; fault_in(&rt, &text, 4096), Some(TraceFault::TooLong));
+}
+
+#[test]
+fn makes_as_many_reads_as_a_text_may_have_bytes_and_one_more(rt: HostRuntime) {
     let mut endless = Endless { reads: 0 };
     let fault = read_trace(rt.alloc(), &mut endless).err();
     assert_eq!(rt; fault, Some(TraceFault::TooLong));
     assert_eq!(rt; endless.reads, 16_777_217);
-    Ok(())
 }
 
-#[test]
-fn takes_as_many_calls_as_a_trace_may_have(rt: HostRuntime) -> Result<(), Fail> {
-    let mut text = Vec::from_slice(rt.alloc(), b"trace 1 512 1 1\n")?;
+/// A first line and as many calls as a trace may have.
+fn full_text<R: Abort + AllocGlobal>(rt: &R) -> Vec<u8> {
+    let mut text = b"trace 1 512 1 1\n"
+        .to_vec(rt.alloc())
+        .expect(rt, NO_MEMORY);
     for _ in 0..MAX_CALLS {
-        text.extend_from_slice(b"0 store 0 0 1\n")?;
+        push(rt, &mut text, b"0 store 0 0 1\n");
     }
-    let all = between(rt.alloc(), &text, b"end", b"")?;
-    let trace = parse(rt.alloc(), &all).ok().ok_or("refused")?;
-    assert_eq!(rt; trace.calls().len(), MAX_CALLS);
-    let more = between(rt.alloc(), &text, b"0 load 0 0", b"bad\n")?;
-    assert_eq!(rt;
-        parse(rt.alloc(), &more).err(),
-        Some(TraceFault::TooManyCalls)
-    );
-    let bad = between(rt.alloc(), &text, b"0 load 0 1", b"0 load 0 0\n")?;
-    assert_eq!(rt; parse(rt.alloc(), &bad).err(), Some(line(262_146, Range)));
-    Ok(())
+    text
+}
+
+/// How many calls the trace of a text has.
+fn calls_in<R: Abort + AllocGlobal>(rt: &R, text: &[u8]) -> Option<usize> {
+    let trace = parse(rt.alloc(), text).ok()?;
+    Some(trace.calls().len())
 }
 
 #[test]
-fn passes_a_failed_read_on(rt: HostRuntime) -> Result<(), Fail> {
+fn takes_as_many_calls_as_a_trace_may_have(rt: HostRuntime) {
+    let full = full_text(&rt);
+    let all = calls_in(&rt, &between(&rt, &full, b"end", b""));
+    assert_eq!(rt; all, Some(MAX_CALLS));
+    let more = fault_of(&rt, &between(&rt, &full, b"0 load 0 0", b"bad\n"));
+    assert_eq!(rt; more, Some(TraceFault::TooManyCalls));
+    let bad = fault_of(&rt, &between(&rt, &full, b"0 load 0 1", b"0 load 0 0\n"));
+    assert_eq!(rt; bad, Some(line(262_146, Range)));
+}
+
+/// What is told where one read of a text with a bad line fails.
+fn fault_where_fails<R: Abort + AllocGlobal>(rt: &R, failing: u64) -> Option<TraceFault> {
     let text = b"trace 1 512 1 1\nbad\n0 load 0 8\nend\n";
+    let mut source = source_of(rt, text, 8, failing);
+    read_trace(rt.alloc(), &mut source).err()
+}
+
+#[test]
+fn passes_a_failed_read_on(rt: HostRuntime) {
     for failing in 1..=6 {
-        let bytes = Vec::from_slice(rt.alloc(), text)?;
-        let mut source = MemorySource::of(bytes, 8, [failing].to_vec(rt.alloc())?);
-        let fault = read_trace(rt.alloc(), &mut source).err();
+        let fault = fault_where_fails(&rt, failing);
         assert_eq!(rt; fault, Some(TraceFault::ReadFault), "at read {failing}");
     }
-    Ok(())
 }
 
 #[test]
-fn says_what_is_wrong(rt: HostRuntime) -> Result<(), Fail> {
-    for (fault, message) in MESSAGES {
-        assert_eq!(rt; format!(in rt.alloc(); "{fault}")?.as_str(), message);
+fn says_what_is_wrong(rt: HostRuntime) {
+    for (fault, message) in &MESSAGES {
+        let said = format!(in rt.alloc(); "{fault}").expect(&rt, NO_MEMORY);
+        assert_eq!(rt; said.as_str(), *message);
     }
-    Ok(())
 }

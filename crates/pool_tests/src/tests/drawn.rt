@@ -7,7 +7,6 @@ use super::{ALL_SIZES, FRAMES, PLAIN, PROCESSORS};
 use pager_model::{Victim, Want};
 use std::alloc::Global;
 use std::process::Abort;
-use std::test::Fail;
 
 /// A region of 100 pages that may grow.
 const GROWING: Want = Want {
@@ -94,7 +93,7 @@ impl Tally {
         }
     }
 
-    fn note(&mut self, answer: &Answer) {
+    fn note(&mut self, answer: Answer) {
         if let Some(count) = self.answers.get_mut(answer.kind()) {
             *count = count.saturating_add(1);
         }
@@ -129,7 +128,7 @@ fn first_without(plain: &Plain, space: u32, first: u32, end: u32) -> Option<u32>
 }
 
 /// The first page of the space from a drawn one on that has no frame.
-fn page_in(plain: &Plain, space: u32, want: &Want, drawn: u32) -> Option<u32> {
+fn page_in(plain: &Plain, space: u32, want: Want, drawn: u32) -> Option<u32> {
     let drawn = want.low.max(drawn % want.high.max(1));
     let page = first_without(plain, space, drawn, want.high);
     if page.is_some() {
@@ -143,7 +142,7 @@ fn page_without(plain: &Plain, draws: &Draws, space: u32, drawn: u32) -> Option<
     for step in 0..3 {
         let space = (space % 3 + step) % 3;
         let want = draws.spaces[space as usize];
-        if let Some(page) = page_in(plain, space, &want, drawn) {
+        if let Some(page) = page_in(plain, space, want, drawn) {
             return Some(Page { space, page, want });
         }
     }
@@ -163,7 +162,8 @@ fn used_frame(plain: &Plain, drawn: u32) -> Option<u32> {
 
 /// A page that has no frame takes one.
 fn take_call(plain: &Plain, draws: &Draws, space: u32, drawn: u32) -> Option<Call> {
-    Some(Call::Take(page_without(plain, draws, space, drawn)?))
+    let page = page_without(plain, draws, space, drawn)?;
+    Some(Call::Take(page))
 }
 
 /// The page that has the frame gives it up.
@@ -172,20 +172,31 @@ fn give_call(plain: &Plain, frame: u32) -> Option<Call> {
     Some(Call::Give { space, page, frame })
 }
 
-/// The processor goes on: it claims a frame; the page of one that it claims gives it up, or it is claimed no more; one that it
-/// holds it uses or drops.
+/// The processor uses the frame that it holds for a page, or drops it.
+fn held_call(plain: &Plain, draws: &Draws, processor: u32, space: u32, drawn: u32) -> Option<Call> {
+    if drawn % 3 == 0 {
+        return Some(Call::DropHeld(processor));
+    }
+    let page = page_without(plain, draws, space, drawn)?;
+    Some(Call::UseHeld(processor, page))
+}
+
+/// The page of the frame that the processor claims gives it up, or the frame is claimed no more.
+fn claimed_call(plain: &Plain, processor: u32, frame: u32, drawn: u32) -> Option<Call> {
+    if drawn % 3 == 0 {
+        return Some(Call::Unclaim(processor));
+    }
+    give_call(plain, frame)
+}
+
+/// The processor goes on with the frame that it holds or claims, or else claims one.
 fn next_call(plain: &Plain, draws: &Draws, processor: u32, space: u32, drawn: u32) -> Option<Call> {
-    let turns_back = drawn % 3 == 0;
     if plain.held_by(processor).is_some() {
-        if turns_back {
-            return Some(Call::DropHeld(processor));
-        }
-        return Some(Call::UseHeld(processor, page_without(plain, draws, space, drawn)?));
+        return held_call(plain, draws, processor, space, drawn);
     }
     match plain.claimed_by(processor) {
+        Some(frame) => claimed_call(plain, processor, frame, drawn),
         None => Some(Call::Claim(processor)),
-        Some(_) if turns_back => Some(Call::Unclaim(processor)),
-        Some(frame) => give_call(plain, frame),
     }
 }
 
@@ -206,32 +217,36 @@ fn draw_call(plain: &Plain, draws: &Draws, calls: u32, drawn: u32) -> Option<Cal
 /// Makes the call of both pools that was drawn, behind so many. There always is one.
 fn make_drawn(rt: &impl Abort, both: &mut Both, draws: &Draws, calls: u32, drawn: u32) -> Answer {
     let call = draw_call(&both.plain, draws, calls, drawn).expect(rt, "no call can be made");
-    both.make(rt, &call)
+    both.make(rt, call)
 }
 
 /// Makes drawn calls of both pools, which are answered alike.
+fn draw_calls_of(rt: &impl Abort, both: &mut Both, draws: &Draws, tally: &mut Tally) {
+    let mut random = 5u64;
+    for calls in 0..draws.calls {
+        let answer = make_drawn(rt, both, draws, calls, draw(&mut random));
+        tally.note(answer);
+    }
+    tally.broken = tally.broken.saturating_add(both.plain.broken);
+}
+
+/// Makes drawn calls of new pools.
 fn draw_calls(
     rt: &impl Abort,
     alloc: Global,
     draws: &Draws,
     sizes: &'static [u32],
     tally: &mut Tally,
-) -> Result<(), Fail> {
-    let mut both = Both::create(rt, alloc, draws.announced, sizes)?;
-    let mut random = 5u64;
-    for calls in 0..draws.calls {
-        let answer = make_drawn(rt, &mut both, draws, calls, draw(&mut random));
-        tally.note(&answer);
-    }
-    tally.broken = tally.broken.saturating_add(both.plain.broken());
-    Ok(())
+) {
+    let mut both = Both::create(rt, alloc, draws.announced, sizes);
+    draw_calls_of(rt, &mut both, draws, tally);
 }
 
 /// Makes drawn calls over tight spaces, and over wide ones with more and more frames in use when the first reservation is broken.
 /// There are answers of each kind. Answers how many reservations were broken.
-fn draw_over_all(rt: &impl Abort, alloc: Global, sizes: &'static [u32]) -> Result<u64, Fail> {
+fn draw_over_all(rt: &impl Abort, alloc: Global, sizes: &'static [u32]) -> u64 {
     let mut tally = Tally::new();
-    draw_calls(rt, alloc, &TIGHT, sizes, &mut tally)?;
+    draw_calls(rt, alloc, &TIGHT, sizes, &mut tally);
     for first in [5u32, 20, 60, 200] {
         let calls = first.saturating_add(150);
         let draws = Draws {
@@ -239,47 +254,43 @@ fn draw_over_all(rt: &impl Abort, alloc: Global, sizes: &'static [u32]) -> Resul
             calls,
             ..WIDE
         };
-        draw_calls(rt, alloc, &draws, sizes, &mut tally)?;
+        draw_calls(rt, alloc, &draws, sizes, &mut tally);
     }
     assert!(rt; 20 <= tally.least(), "{:?}", tally.answers);
-    Ok(tally.broken)
+    tally.broken
 }
 
 #[test]
-fn does_as_the_plain_pool(rt: HostRuntime) -> Result<(), Fail> {
+fn does_as_the_plain_pool(rt: HostRuntime) {
     let mut tally = Tally::new();
-    draw_calls(&rt, rt.alloc(), &LOOSE, ALL_SIZES, &mut tally)?;
+    draw_calls(&rt, rt.alloc(), &LOOSE, ALL_SIZES, &mut tally);
     let broken = tally.broken;
-    draw_calls(&rt, rt.alloc(), &TIGHT, ALL_SIZES, &mut tally)?;
+    draw_calls(&rt, rt.alloc(), &TIGHT, ALL_SIZES, &mut tally);
     assert!(rt; 0 < broken && broken < tally.broken);
     assert!(rt; 50 <= tally.least(), "{:?}", tally.answers);
-    Ok(())
 }
 
 /// Some reservation is broken by drawn calls.
-fn breaks_some(rt: &impl Abort, alloc: Global, draws: &Draws) -> Result<(), Fail> {
+fn breaks_some(rt: &impl Abort, alloc: Global, draws: &Draws) {
     let mut tally = Tally::new();
-    draw_calls(rt, alloc, draws, ALL_SIZES, &mut tally)?;
+    draw_calls(rt, alloc, draws, ALL_SIZES, &mut tally);
     assert!(rt; 0 < tally.broken);
-    Ok(())
 }
 
 #[test]
-fn does_as_the_plain_pool_however_many_spaces_were_announced(rt: HostRuntime) -> Result<(), Fail> {
+fn does_as_the_plain_pool_however_many_spaces_were_announced(rt: HostRuntime) {
     for announced in 0..3 {
-        breaks_some(&rt, rt.alloc(), &Draws { announced, ..LOOSE })?;
-        breaks_some(&rt, rt.alloc(), &Draws { announced, ..WIDE })?;
+        breaks_some(&rt, rt.alloc(), &Draws { announced, ..LOOSE });
+        breaks_some(&rt, rt.alloc(), &Draws { announced, ..WIDE });
     }
-    Ok(())
 }
 
 /// Drawn calls with each of these sets of sizes.
-fn draw_with(rt: &impl Abort, alloc: Global, sets: &[&'static [u32]]) -> Result<(), Fail> {
+fn draw_with(rt: &impl Abort, alloc: Global, sets: &[&'static [u32]]) {
     for sizes in sets {
-        let broken = draw_over_all(rt, alloc, sizes)?;
+        let broken = draw_over_all(rt, alloc, sizes);
         assert!(rt; 4 <= broken, "{sizes:?}");
     }
-    Ok(())
 }
 
 const FOUR_SIZES: [&[u32]; 1] = [ALL_SIZES];
@@ -289,24 +300,21 @@ const THREE_SIZES: [&[u32]; 3] = [&[64, 8, 1], &[512, 8, 1], &[512, 64, 1]];
 const TWO_SIZES: [&[u32]; 3] = [&[8, 1], &[64, 1], &[512, 1]];
 
 #[test]
-fn with_all_sizes_does_as_the_plain_pool(rt: HostRuntime) -> Result<(), Fail> {
+fn with_all_sizes_does_as_the_plain_pool(rt: HostRuntime) {
     draw_with(&rt, rt.alloc(), &FOUR_SIZES)
 }
 
 #[test]
-fn with_three_sizes_does_as_the_plain_pool(rt: HostRuntime) -> Result<(), Fail> {
+fn with_three_sizes_does_as_the_plain_pool(rt: HostRuntime) {
     draw_with(&rt, rt.alloc(), &THREE_SIZES)
 }
 
 #[test]
-fn with_two_sizes_does_as_the_plain_pool(rt: HostRuntime) -> Result<(), Fail> {
+fn with_two_sizes_does_as_the_plain_pool(rt: HostRuntime) {
     draw_with(&rt, rt.alloc(), &TWO_SIZES)
 }
 
 #[test]
-fn with_base_pages_alone_does_as_the_plain_pool_and_breaks_nothing(
-    rt: HostRuntime,
-) -> Result<(), Fail> {
-    assert_eq!(rt; draw_over_all(&rt, rt.alloc(), &[1])?, 0);
-    Ok(())
+fn with_base_pages_alone_does_as_the_plain_pool_and_breaks_nothing(rt: HostRuntime) {
+    assert_eq!(rt; draw_over_all(&rt, rt.alloc(), &[1]), 0);
 }

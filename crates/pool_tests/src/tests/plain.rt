@@ -1,84 +1,50 @@
-//! The pool over plain lists, as the definitions say it: slow, and without the frames themselves.
+//! The pool over a plain list of roles, as the definitions say it: slow, and without the frames themselves.
 
+use super::FRAMES;
 use super::calls::{Answer, Call, Page};
-use super::{FRAMES, PROCESSORS};
 use frame_pool::{Counts, NoneLeft};
 use pager_model::{Used, Victim};
-use std::alloc::{AllocError, Global};
 
-/// What a frame is.
-#[derive(Clone, Copy)]
-enum Role {
-    Free,
-    /// An unused place of a reservation.
-    Unused,
-    Used(Used),
-    Held,
-}
-
-/// Which frame a processor claims or holds.
-#[derive(Clone, Copy)]
-enum Seat {
-    Empty,
-    Claims(u32),
-    Holds(u32),
-}
-
-/// A reservation: the pages of a space from `first` on, and the frames from `frame` on.
+/// A reservation, by its frames: the first one and how many there are, and when a page took one of them last.
 #[derive(Clone, Copy)]
 struct Run {
-    space: u32,
-    first: u32,
     frame: u32,
     pages: u32,
     stamp: u64,
 }
 
 impl Run {
-    /// The part of so many pages from this place on.
-    fn part(&self, place: u32, pages: u32) -> Run {
-        Run {
-            first: self.first.saturating_add(place),
-            frame: self.frame.saturating_add(place),
-            pages,
-            ..*self
-        }
-    }
-
-    /// Whether it has one of these pages of the space.
-    fn meets(&self, space: u32, first: u32, end: u32) -> bool {
-        self.space == space && self.first < end && first < self.first.saturating_add(self.pages)
-    }
-
-    /// Whether it has the frame.
-    fn has_frame(&self, frame: u32) -> bool {
-        self.frame <= frame && frame < self.frame.saturating_add(self.pages)
-    }
-
-    /// The frame of its page.
-    fn frame_of(&self, page: u32) -> u32 {
-        self.frame.saturating_add(page.saturating_sub(self.first))
+    fn end(&self) -> u32 {
+        self.frame.saturating_add(self.pages)
     }
 }
 
-/// The size of the parts of a reservation of so many pages.
-fn part_size(sizes: &[u32], pages: u32) -> u32 {
-    for size in sizes {
-        if *size < pages {
-            return *size;
-        }
-    }
-    1
+/// A place of a reservation: the page that may have the frame, and the frame's use where the page has it.
+#[derive(Clone, Copy)]
+struct Place {
+    space: u32,
+    page: u32,
+    run: Run,
+    used: Option<Used>,
 }
 
-/// Whether the reservation has a lesser stamp than the other, if there is one, or an equal one and a lower frame.
-fn is_older(run: &Run, other: Option<Run>) -> bool {
-    match other {
-        Some(other) => {
-            run.stamp < other.stamp || (run.stamp == other.stamp && run.frame < other.frame)
-        }
-        None => true,
-    }
+/// What a frame is.
+#[derive(Clone, Copy)]
+enum Role {
+    Free,
+    Reserved(Place),
+    /// Held by this processor.
+    Held(u32),
+}
+
+/// The page size of this level: how many base pages it has.
+fn size_at(level: u32) -> u32 {
+    8u32.saturating_pow(level)
+}
+
+/// The first of the extent of so many pages or frames, a power of two, round this one.
+fn first_of(number: u32, pages: u32) -> u32 {
+    number & !pages.saturating_sub(1)
 }
 
 /// The pool without its frames.
@@ -86,32 +52,28 @@ fn is_older(run: &Run, other: Option<Run>) -> bool {
 pub struct Plain {
     sizes: &'static [u32],
     /// What each frame is.
-    roles: Vec<Role>,
-    runs: Vec<Run>,
-    /// What each processor has.
-    seats: Vec<Seat>,
+    roles: [Role; FRAMES as usize],
     entries: u64,
-    broken: u64,
+    /// How many reservations were broken.
+    pub broken: u64,
 }
 
 impl Plain {
     /// All frames are free.
-    pub fn create(alloc: Global, sizes: &'static [u32]) -> Result<Plain, AllocError> {
-        Ok(Plain {
+    pub fn new(sizes: &'static [u32]) -> Plain {
+        Plain {
             sizes,
-            roles: vec![in alloc; Role::Free; FRAMES as usize]?,
-            runs: Vec::with_capacity(alloc, FRAMES as usize)?,
-            seats: vec![in alloc; Seat::Empty; PROCESSORS as usize]?,
+            roles: [Role::Free; FRAMES as usize],
             entries: 0,
             broken: 0,
-        })
+        }
     }
 
     fn role(&self, frame: u32) -> Role {
-        self.roles
-            .get(frame as usize)
-            .copied()
-            .unwrap_or(Role::Unused)
+        match self.roles.get(frame as usize) {
+            Some(role) => *role,
+            None => Role::Free,
+        }
     }
 
     fn set_role(&mut self, frame: u32, role: Role) {
@@ -120,77 +82,67 @@ impl Plain {
         }
     }
 
-    fn set_roles(&mut self, first: u32, count: u32, role: Role) {
-        for frame in first..first.saturating_add(count) {
-            self.set_role(frame, role);
+    fn place(&self, frame: u32) -> Option<Place> {
+        match self.role(frame) {
+            Role::Reserved(place) => Some(place),
+            _ => None,
         }
     }
 
-    fn seat(&self, processor: u32) -> Seat {
-        self.seats
-            .get(processor as usize)
-            .copied()
-            .unwrap_or(Seat::Empty)
+    fn used(&self, frame: u32) -> Option<Used> {
+        self.place(frame)?.used
     }
 
-    fn set_seat(&mut self, processor: u32, seat: Seat) {
-        if let Some(place) = self.seats.get_mut(processor as usize) {
-            *place = seat;
+    /// Who claims the frame.
+    fn claim_of(&self, frame: u32) -> Option<u32> {
+        self.used(frame)?.claim
+    }
+
+    /// Who holds the frame.
+    fn holder(&self, frame: u32) -> Option<u32> {
+        match self.role(frame) {
+            Role::Held(processor) => Some(processor),
+            _ => None,
         }
     }
 
-    fn add(&mut self, run: Run) {
-        // There is room for one at each frame.
-        let _ = self.runs.push(run);
-    }
-
-    /// Removes the reservation that begins at the frame.
-    fn remove(&mut self, frame: u32) {
-        for at in 0..self.runs.len() {
-            if self.runs[at].frame == frame {
-                self.runs.swap_remove(at);
-                return;
-            }
+    /// The place's frame is used so, or unused.
+    fn set_used(&mut self, frame: u32, used: Option<Used>) {
+        if let Some(place) = self.place(frame) {
+            self.set_role(frame, Role::Reserved(Place { used, ..place }));
         }
     }
 
-    /// The reservation that has one of these pages of the space.
-    fn run_with(&self, space: u32, first: u32, end: u32) -> Option<Run> {
-        for run in &self.runs {
-            if run.meets(space, first, end) {
-                return Some(*run);
-            }
+    /// Whether the frame's place is of one of these pages of the space.
+    fn is_for(&self, frame: u32, space: u32, first: u32, end: u32) -> bool {
+        match self.place(frame) {
+            Some(place) => place.space == space && first <= place.page && place.page < end,
+            None => false,
         }
-        None
     }
 
-    /// The reservation that has the page.
-    fn run_of_page(&self, space: u32, page: u32) -> Option<Run> {
-        self.run_with(space, page, page.saturating_add(1))
-    }
-
-    /// The reservation that has the frame.
-    fn run_of_frame(&self, frame: u32) -> Option<Run> {
-        for run in &self.runs {
-            if run.has_frame(frame) {
-                return Some(*run);
+    /// The first frame whose place is of one of these pages of the space.
+    fn frame_for(&self, space: u32, first: u32, end: u32) -> Option<u32> {
+        for frame in 0..FRAMES {
+            if self.is_for(frame, space, first, end) {
+                return Some(frame);
             }
         }
         None
     }
 
-    /// What these frames are.
-    fn block(&self, first: u32, count: u32) -> &[Role] {
-        let end = first.saturating_add(count);
-        self.roles
-            .as_slice()
-            .get(first as usize..end as usize)
-            .unwrap_or(&[])
+    /// The frame whose place is of this page.
+    fn frame_of(&self, space: u32, page: u32) -> Option<u32> {
+        self.frame_for(space, page, page.saturating_add(1))
+    }
+
+    fn is_free(&self, frame: u32) -> bool {
+        matches!(self.roles.get(frame as usize), Some(Role::Free))
     }
 
     fn all_free(&self, first: u32, count: u32) -> bool {
-        for role in self.block(first, count) {
-            if !matches!(role, Role::Free) {
+        for frame in first..first.saturating_add(count) {
+            if !self.is_free(frame) {
                 return false;
             }
         }
@@ -198,8 +150,8 @@ impl Plain {
     }
 
     fn none_used(&self, first: u32, count: u32) -> bool {
-        for role in self.block(first, count) {
-            if matches!(role, Role::Used(_)) {
+        for frame in first..first.saturating_add(count) {
+            if self.is_used(frame) {
                 return false;
             }
         }
@@ -214,7 +166,7 @@ impl Plain {
     /// The lowest free block of this length.
     fn lowest_block(&self, length: u32) -> Option<u32> {
         for first in 0..FRAMES {
-            if first.is_multiple_of(length) && self.is_block(first, length) {
+            if first == first_of(first, length) && self.is_block(first, length) {
                 return Some(first);
             }
         }
@@ -223,7 +175,8 @@ impl Plain {
 
     /// The lowest of the smallest free blocks that hold an extent of so many pages.
     fn choice(&self, pages: u32) -> Option<u32> {
-        for length in [1, 2, 4, 8, 16, 32, 64, 128, 256, 512] {
+        for order in 0..10 {
+            let length = 2u32.saturating_pow(order);
             if pages <= length {
                 let lowest = self.lowest_block(length);
                 if lowest.is_some() {
@@ -234,12 +187,26 @@ impl Plain {
         None
     }
 
+    fn has_size(&self, size: u32) -> bool {
+        self.sizes.contains(&size)
+    }
+
+    /// The size of the parts of a reservation of so many pages: the next smaller one.
+    fn part_size(&self, pages: u32) -> u32 {
+        let mut next = 1;
+        for level in 0..4 {
+            let size = size_at(level);
+            if size < pages && self.has_size(size) {
+                next = size;
+            }
+        }
+        next
+    }
+
     /// Whether an extent of so many pages inside the reservation is without a used place.
-    fn has_empty(&self, run: &Run, pages: u32) -> bool {
-        for place in 0..run.pages {
-            if place.is_multiple_of(pages)
-                && self.none_used(run.frame.saturating_add(place), pages)
-            {
+    fn has_empty(&self, run: Run, pages: u32) -> bool {
+        for first in run.frame..run.end() {
+            if first == first_of(first, pages) && self.none_used(first, pages) {
                 return true;
             }
         }
@@ -247,21 +214,31 @@ impl Plain {
     }
 
     /// The largest size of such an extent, and 0 where there is none.
-    fn yields(&self, run: &Run) -> u32 {
-        for pages in self.sizes {
-            if *pages <= run.pages && self.has_empty(run, *pages) {
-                return *pages;
+    fn yields(&self, run: Run) -> u32 {
+        let mut largest = 0;
+        for level in 0..4 {
+            let size = size_at(level);
+            if size <= run.pages && self.has_size(size) && self.has_empty(run, size) {
+                largest = size;
             }
         }
-        0
+        largest
+    }
+
+    /// The reservation that begins with the frame.
+    fn run_at(&self, frame: u32) -> Option<Run> {
+        let run = self.place(frame)?.run;
+        (run.frame == frame).then_some(run)
     }
 
     /// The reservation of this yield with the least stamp, and of those the lowest.
     fn oldest(&self, pages: u32) -> Option<Run> {
-        let mut oldest = None;
-        for run in &self.runs {
-            if is_older(run, oldest) && self.yields(run) == pages {
-                oldest = Some(*run);
+        let (mut oldest, mut least) = (None, u64::MAX);
+        for frame in 0..FRAMES {
+            if let Some(run) = self.run_at(frame) {
+                if run.stamp < least && self.yields(run) == pages {
+                    (oldest, least) = (Some(run), run.stamp);
+                }
             }
         }
         oldest
@@ -269,7 +246,8 @@ impl Plain {
 
     /// The reservation to break for an extent of so many pages: the oldest of the least yield that serves.
     fn breakable(&self, pages: u32) -> Option<Run> {
-        for width in [1, 8, 64] {
+        for level in 0..3 {
+            let width = size_at(level);
             if pages <= width {
                 let oldest = self.oldest(width);
                 if oldest.is_some() {
@@ -280,36 +258,42 @@ impl Plain {
         None
     }
 
-    /// A part of a reservation is one itself where it has a used place, and else free.
-    fn split_off(&mut self, part: &Run) {
-        if self.none_used(part.frame, part.pages) {
-            self.set_roles(part.frame, part.pages, Role::Free);
-        } else {
-            self.add(*part);
+    /// The frame's place is one of the part of so many pages of this reservation, or free where the part has no used place.
+    fn set_part(&mut self, frame: u32, run: Run, pages: u32) {
+        let first = first_of(frame, pages);
+        if self.none_used(first, pages) {
+            self.set_role(frame, Role::Free);
+        }
+        if let Some(place) = self.place(frame) {
+            let run = Run {
+                frame: first,
+                pages,
+                ..run
+            };
+            self.set_role(frame, Role::Reserved(Place { run, ..place }));
         }
     }
 
-    /// The reservation is split into its parts.
-    fn split(&mut self, run: &Run) {
-        self.remove(run.frame);
-        let pages = part_size(self.sizes, run.pages);
-        for place in 0..run.pages {
-            if place.is_multiple_of(pages) {
-                self.split_off(&run.part(place, pages));
-            }
+    /// The reservation is split into parts of so many pages, which may be all of it. Those without a used place are free.
+    fn split(&mut self, run: Run, pages: u32) {
+        for frame in run.frame..run.end() {
+            self.set_part(frame, run, pages);
         }
     }
 
     /// The part at which a breaking goes on, where each has a used place: the lowest that yields what the whole does.
-    fn goes_on_at(&self, run: &Run) -> Option<Run> {
-        let pages = part_size(self.sizes, run.pages);
+    fn goes_on_at(&self, run: Run, pages: u32) -> Option<Run> {
         if self.has_empty(run, pages) {
             return None;
         }
         let width = self.yields(run);
-        for place in 0..run.pages {
-            let part = run.part(place, pages);
-            if place.is_multiple_of(pages) && self.yields(&part) == width {
+        for frame in run.frame..run.end() {
+            let part = Run {
+                frame,
+                pages,
+                ..run
+            };
+            if frame == first_of(frame, pages) && self.yields(part) == width {
                 return Some(part);
             }
         }
@@ -320,8 +304,9 @@ impl Plain {
         let mut next = Some(run);
         for _ in 0..3 {
             if let Some(run) = next {
-                next = self.goes_on_at(&run);
-                self.split(&run);
+                let pages = self.part_size(run.pages);
+                next = self.goes_on_at(run, pages);
+                self.split(run, pages);
             }
         }
         self.broken = self.broken.saturating_add(1);
@@ -333,129 +318,148 @@ impl Plain {
         if chosen.is_some() {
             return chosen;
         }
-        let broken = self.breakable(pages)?;
-        self.break_up(broken);
+        let oldest = self.breakable(pages)?;
+        self.break_up(oldest);
         self.choice(pages)
     }
 
-    /// The extent of so many pages, a power of two, round the page.
-    fn extent_round(&self, at: &Page, pages: u32) -> Run {
-        Run {
-            space: at.space,
-            first: at.page & !pages.saturating_sub(1),
-            frame: 0,
-            pages,
-            stamp: self.entries,
-        }
-    }
-
-    /// Whether that extent lies in the page's region and meets no reservation.
-    fn fits(&self, at: &Page, pages: u32) -> bool {
-        let first = self.extent_round(at, pages).first;
+    /// Whether the extent of so many pages round the page lies in its region and meets no reservation.
+    fn fits(&self, at: Page, pages: u32) -> bool {
+        let first = first_of(at.page, pages);
         let end = first.saturating_add(pages);
         at.want.low <= first
             && end <= at.want.high
             && pages <= at.want.cap
-            && self.run_with(at.space, first, end).is_none()
+            && self.frame_for(at.space, first, end).is_none()
     }
 
     /// The preferred size of a reservation for the page.
-    fn preferred(&self, at: &Page) -> u32 {
-        for pages in self.sizes {
-            if self.fits(at, *pages) {
-                return *pages;
+    fn preferred(&self, at: Page) -> u32 {
+        let mut largest = 1;
+        for level in 0..4 {
+            let size = size_at(level);
+            if self.has_size(size) && self.fits(at, size) {
+                largest = size;
             }
         }
-        1
+        largest
+    }
+
+    /// The reservation gets the extent of pages round this one.
+    fn add(&mut self, at: Page, run: Run) {
+        let first = first_of(at.page, run.pages);
+        for step in 0..run.pages {
+            let place = Place {
+                space: at.space,
+                page: first.saturating_add(step),
+                run,
+                used: None,
+            };
+            self.set_role(run.frame.saturating_add(step), Role::Reserved(place));
+        }
+    }
+
+    /// A new reservation of so many pages for the page, where an extent can be had. Answers whether there is one.
+    fn reserve(&mut self, at: Page, pages: u32) -> bool {
+        let Some(frame) = self.extent(pages) else {
+            return false;
+        };
+        let stamp = self.entries;
+        self.add(
+            at,
+            Run {
+                frame,
+                pages,
+                stamp,
+            },
+        );
+        true
     }
 
     /// A new reservation for the page, of the largest size up to the preferred one for which an extent can be had.
-    fn reserve(&mut self, at: &Page) -> Option<Run> {
+    fn reserve_largest(&mut self, at: Page) {
         let preferred = self.preferred(at);
-        for pages in self.sizes {
-            if *pages <= preferred {
-                if let Some(frame) = self.extent(*pages) {
-                    self.set_roles(frame, *pages, Role::Unused);
-                    let run = self.extent_round(at, *pages);
-                    return Some(Run { frame, ..run });
-                }
+        for level in 0..4 {
+            let size = size_at(3 - level);
+            if size <= preferred && self.has_size(size) && self.reserve(at, size) {
+                return;
             }
         }
-        None
     }
 
     fn end_entry(&mut self) {
         self.entries = self.entries.saturating_add(1);
     }
 
-    fn take(&mut self, at: &Page) -> Option<u32> {
-        let run = match self.run_of_page(at.space, at.page) {
-            Some(run) => run,
-            None => self.reserve(at)?,
-        };
-        let stamp = self.entries;
-        self.remove(run.frame);
-        self.add(Run { stamp, ..run });
-        let frame = run.frame_of(at.page);
-        let used = Used {
-            age: stamp,
-            wired: at.want.wired,
-            claim: None,
-        };
-        self.set_role(frame, Role::Used(used));
+    /// The page of this place takes its frame, and the reservation is as young as this entry.
+    fn fill(&mut self, frame: u32, wired: bool) {
+        let (age, stamp) = (self.entries, self.entries);
+        let claim = None;
+        self.set_used(frame, Some(Used { age, wired, claim }));
+        if let Some(place) = self.place(frame) {
+            let run = Run { stamp, ..place.run };
+            self.split(run, run.pages);
+        }
         self.end_entry();
+    }
+
+    fn take(&mut self, at: Page) -> Option<u32> {
+        if self.frame_of(at.space, at.page).is_none() {
+            self.reserve_largest(at);
+        }
+        let frame = self.frame_of(at.space, at.page)?;
+        self.fill(frame, at.want.wired);
         Some(frame)
     }
 
     /// Whether a page has the frame.
     pub fn is_used(&self, frame: u32) -> bool {
-        matches!(self.role(frame), Role::Used(_))
+        match self.roles.get(frame as usize) {
+            Some(Role::Reserved(place)) => place.used.is_some(),
+            _ => false,
+        }
     }
 
     /// Whether the page has a frame.
     pub fn has_frame(&self, space: u32, page: u32) -> bool {
-        match self.run_of_page(space, page) {
-            Some(run) => self.is_used(run.frame_of(page)),
+        match self.frame_of(space, page) {
+            Some(frame) => self.is_used(frame),
             None => false,
         }
     }
 
     /// The page of a place of a reservation, by its frame.
     pub fn page_of(&self, frame: u32) -> Option<Victim> {
-        let run = self.run_of_frame(frame)?;
-        Some(Victim {
-            space: run.space,
-            page: run.first.saturating_add(frame.saturating_sub(run.frame)),
-            frame,
-        })
+        let Place { space, page, .. } = self.place(frame)?;
+        Some(Victim { space, page, frame })
     }
 
     /// The frame of least age that is neither wired nor claimed.
     fn oldest_used(&self) -> Option<u32> {
-        let mut victim = None;
-        let mut least = u64::MAX;
+        let (mut oldest, mut least) = (None, u64::MAX);
         for frame in 0..FRAMES {
-            if let Role::Used(used) = self.role(frame) {
+            if let Some(used) = self.used(frame) {
                 if !used.wired && used.claim.is_none() && used.age < least {
-                    victim = Some(frame);
-                    least = used.age;
+                    (oldest, least) = (Some(frame), used.age);
                 }
             }
         }
-        victim
-    }
-
-    /// That frame and its page.
-    fn victim(&self) -> Option<Victim> {
-        self.page_of(self.oldest_used()?)
+        oldest
     }
 
     /// The frame is claimed by this processor, or by none.
     fn set_claim(&mut self, frame: u32, claim: Option<u32>) {
-        if let Role::Used(used) = self.role(frame) {
-            self.set_role(frame, Role::Used(Used { claim, ..used }));
+        if let Some(used) = self.used(frame) {
+            self.set_used(frame, Some(Used { claim, ..used }));
         }
         self.end_entry();
+    }
+
+    /// The oldest frame is claimed; answers it and its page.
+    fn claim(&mut self, processor: u32) -> Option<Victim> {
+        let frame = self.oldest_used()?;
+        self.set_claim(frame, Some(processor));
+        self.page_of(frame)
     }
 
     fn none_left(&self) -> NoneLeft {
@@ -467,74 +471,58 @@ impl Plain {
         }
     }
 
-    fn claim(&mut self, processor: u32) -> Answer {
-        let Some(victim) = self.victim() else {
-            return Answer::NoneLeft(self.none_left());
-        };
-        self.set_claim(victim.frame, Some(processor));
-        self.set_seat(processor, Seat::Claims(victim.frame));
-        Answer::Claimed(victim)
-    }
-
-    /// A reservation without a used place is free.
-    fn release(&mut self, run: &Run) {
-        if self.none_used(run.frame, run.pages) {
-            self.remove(run.frame);
-            self.set_roles(run.frame, run.pages, Role::Free);
-        }
-    }
-
-    /// The frame's reservation is split until the frame is alone, and then in none.
-    fn carve(&mut self, frame: u32) {
+    /// The frame's reservation is split until the frame is alone, and then in none: the processor holds it.
+    fn hand_over(&mut self, frame: u32, processor: u32) {
         for _ in 0..3 {
-            if let Some(run) = self.run_of_frame(frame) {
-                if run.pages > 1 {
-                    self.split(&run);
-                }
+            if let Some(place) = self.place(frame) {
+                let pages = self.part_size(place.run.pages);
+                self.split(place.run, pages);
             }
         }
-        self.remove(frame);
+        self.set_role(frame, Role::Held(processor));
+    }
+
+    /// The place is unused, and a reservation without a used place is free.
+    fn vacate(&mut self, frame: u32) {
+        self.set_used(frame, None);
+        if let Some(place) = self.place(frame) {
+            self.split(place.run, place.run.pages);
+        }
     }
 
     /// The frame's page gives it up; answers who holds it then.
     fn give(&mut self, frame: u32) -> Option<u32> {
-        let (Role::Used(used), Some(run)) = (self.role(frame), self.run_of_frame(frame)) else {
-            return None;
-        };
-        match used.claim {
-            Some(processor) => {
-                self.carve(frame);
-                self.set_role(frame, Role::Held);
-                self.set_seat(processor, Seat::Holds(frame));
-            }
-            None => {
-                self.set_role(frame, Role::Unused);
-                self.release(&run);
-            }
+        let claim = self.claim_of(frame);
+        match claim {
+            Some(processor) => self.hand_over(frame, processor),
+            None => self.vacate(frame),
         }
-        used.claim
+        claim
     }
 
     /// The frame that the processor claims.
     pub fn claimed_by(&self, processor: u32) -> Option<u32> {
-        match self.seat(processor) {
-            Seat::Claims(frame) => Some(frame),
-            _ => None,
+        for frame in 0..FRAMES {
+            if self.claim_of(frame) == Some(processor) {
+                return Some(frame);
+            }
         }
+        None
     }
 
     /// The frame that the processor holds.
     pub fn held_by(&self, processor: u32) -> Option<u32> {
-        match self.seat(processor) {
-            Seat::Holds(frame) => Some(frame),
-            _ => None,
+        for frame in 0..FRAMES {
+            if self.holder(frame) == Some(processor) {
+                return Some(frame);
+            }
         }
+        None
     }
 
     fn unclaim(&mut self, processor: u32) -> Option<u32> {
         let frame = self.claimed_by(processor)?;
         self.set_claim(frame, None);
-        self.set_seat(processor, Seat::Empty);
         Some(frame)
     }
 
@@ -542,40 +530,50 @@ impl Plain {
     fn put_back(&mut self, processor: u32) -> Option<u32> {
         let frame = self.held_by(processor)?;
         self.set_role(frame, Role::Free);
-        self.set_seat(processor, Seat::Empty);
         Some(frame)
     }
 
-    fn answer_take(&mut self, at: &Page) -> Answer {
+    fn drop_held(&mut self, processor: u32) -> Option<u32> {
+        let frame = self.put_back(processor);
+        self.end_entry();
+        frame
+    }
+
+    fn use_held(&mut self, processor: u32, at: Page) -> Option<u32> {
+        self.put_back(processor)?;
+        self.take(at)
+    }
+
+    fn answer_take(&mut self, at: Page) -> Answer {
         match self.take(at) {
             Some(frame) => Answer::Took(frame),
             None => Answer::Full,
         }
     }
 
-    fn use_held(&mut self, processor: u32, at: &Page) -> Answer {
-        let _ = self.put_back(processor);
-        match self.take(at) {
+    fn answer_use(&mut self, processor: u32, at: Page) -> Answer {
+        match self.use_held(processor, at) {
             Some(frame) => Answer::Used(frame),
             None => Answer::Full,
         }
     }
 
-    fn drop_held(&mut self, processor: u32) -> Answer {
-        let frame = self.put_back(processor);
-        self.end_entry();
-        Answer::Dropped(frame)
+    fn answer_claim(&mut self, processor: u32) -> Answer {
+        match self.claim(processor) {
+            Some(victim) => Answer::Claimed(victim),
+            None => Answer::NoneLeft(self.none_left()),
+        }
     }
 
     /// Makes a call.
-    pub fn answer(&mut self, call: &Call) -> Answer {
-        match *call {
-            Call::Take(at) => self.answer_take(&at),
+    pub fn answer(&mut self, call: Call) -> Answer {
+        match call {
+            Call::Take(at) => self.answer_take(at),
             Call::Give { frame, .. } => Answer::Gave(self.give(frame)),
-            Call::Claim(processor) => self.claim(processor),
+            Call::Claim(processor) => self.answer_claim(processor),
             Call::Unclaim(processor) => Answer::Unclaimed(self.unclaim(processor)),
-            Call::DropHeld(processor) => self.drop_held(processor),
-            Call::UseHeld(processor, at) => self.use_held(processor, &at),
+            Call::DropHeld(processor) => Answer::Dropped(self.drop_held(processor)),
+            Call::UseHeld(processor, at) => self.answer_use(processor, at),
             Call::EndEntry => {
                 self.end_entry();
                 Answer::Ended
@@ -593,30 +591,30 @@ impl Plain {
             claimed: 0,
             held: 0,
         };
-        for role in &self.roles {
-            add_role(&mut counts, role);
+        for frame in 0..FRAMES {
+            add_role(&mut counts, self.role(frame));
         }
         counts
-    }
-
-    /// How many reservations were broken.
-    pub fn broken(&self) -> u64 {
-        self.broken
     }
 }
 
 /// Counts a frame of this role.
-fn add_role(counts: &mut Counts, role: &Role) {
+fn add_role(counts: &mut Counts, role: Role) {
     match role {
         Role::Free => counts.free = counts.free.saturating_add(1),
-        Role::Unused => counts.reserved = counts.reserved.saturating_add(1),
-        Role::Used(used) => {
-            counts.used = counts.used.saturating_add(1);
-            counts.wired = counts.wired.saturating_add(u32::from(used.wired));
-            counts.claimed = counts
-                .claimed
-                .saturating_add(u32::from(used.claim.is_some()));
-        }
-        Role::Held => counts.held = counts.held.saturating_add(1),
+        Role::Reserved(place) => add_place(counts, place),
+        Role::Held(_) => counts.held = counts.held.saturating_add(1),
     }
+}
+
+/// Counts the frame of a place.
+fn add_place(counts: &mut Counts, place: Place) {
+    let Some(used) = place.used else {
+        counts.reserved = counts.reserved.saturating_add(1);
+        return;
+    };
+    let (wired, claimed) = (u32::from(used.wired), u32::from(used.claim.is_some()));
+    counts.used = counts.used.saturating_add(1);
+    counts.wired = counts.wired.saturating_add(wired);
+    counts.claimed = counts.claimed.saturating_add(claimed);
 }

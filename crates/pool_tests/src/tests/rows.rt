@@ -4,7 +4,6 @@ use super::ALL_SIZES;
 use super::tested::Tested;
 use std::alloc::Global;
 use std::process::Abort;
-use std::test::Fail;
 
 /// A page that takes a frame: its space, the page, the cap of a reservation for it, and the frame that the rules say.
 type Told = (u32, u32, u32, u32);
@@ -20,7 +19,7 @@ struct Row {
 }
 
 /// Rows with all four sizes.
-const OF_ALL_SIZES: [Row; 5] = [
+static OF_ALL_SIZES: [Row; 5] = [
     // Of two reservations the one that was allocated from least recently is broken.
     Row {
         frames: 1024,
@@ -95,7 +94,7 @@ const OF_ALL_SIZES: [Row; 5] = [
 ];
 
 /// Rows with some sizes.
-const OF_SOME_SIZES: [Row; 6] = [
+static OF_SOME_SIZES: [Row; 6] = [
     // The fourth page is in no reservation, and eight of the 496 frames that were given back are for it.
     Row {
         frames: 512,
@@ -192,36 +191,39 @@ const OF_SOME_SIZES: [Row; 6] = [
     },
 ];
 
-/// The pages of a row, where so many spaces are announced, get the frames that the rules say.
-fn assert_told(rt: &impl Abort, alloc: Global, announced: u32, row: &Row) -> Result<(), Fail> {
-    let mut tested = Tested::create(rt, alloc, row.frames, announced, 1, row.sizes)?;
+/// Each page of the row takes the frame that the rules say.
+fn take_all(rt: &impl Abort, tested: &mut Tested, row: &Row) {
     for (space, page, cap, frame) in row.pages {
         tested.assert_takes(rt, *space, *page, *cap, *frame);
     }
     assert_eq!(rt; tested.broken(), row.broken);
-    Ok(())
+}
+
+/// The pages of a row, where so many spaces are announced, get the frames that the rules say.
+fn assert_told(rt: &impl Abort, alloc: Global, announced: u32, row: &Row) {
+    let mut tested = Tested::create(rt, alloc, row.frames, announced, 1, row.sizes);
+    take_all(rt, &mut tested, row);
 }
 
 /// The pages of each row get the frames that the rules say.
-fn assert_all_told(rt: &impl Abort, alloc: Global, rows: &[Row]) -> Result<(), Fail> {
+fn assert_all_told(rt: &impl Abort, alloc: Global, rows: &[Row]) {
     for row in rows {
-        assert_told(rt, alloc, 3, row)?;
+        assert_told(rt, alloc, 3, row);
     }
-    Ok(())
 }
 
 #[test]
-fn pages_get_the_frames_that_the_rules_say(rt: HostRuntime) -> Result<(), Fail> {
+fn pages_get_the_frames_that_the_rules_say(rt: HostRuntime) {
     assert_all_told(&rt, rt.alloc(), &OF_ALL_SIZES)
 }
 
 #[test]
-fn with_fewer_sizes_pages_get_the_frames_that_the_rules_say(rt: HostRuntime) -> Result<(), Fail> {
+fn with_fewer_sizes_pages_get_the_frames_that_the_rules_say(rt: HostRuntime) {
     assert_all_told(&rt, rt.alloc(), &OF_SOME_SIZES)
 }
 
 /// Pages of three spaces, of which the first alone is announced.
-const UNANNOUNCED: Row = Row {
+static UNANNOUNCED: Row = Row {
     frames: 1024,
     sizes: ALL_SIZES,
     broken: 1,
@@ -238,8 +240,6 @@ const UNANNOUNCED: Row = Row {
 };
 
 #[test]
-fn pages_of_spaces_that_were_not_announced_get_the_frames_that_the_rules_say(
-    rt: HostRuntime,
-) -> Result<(), Fail> {
+fn pages_of_spaces_that_were_not_announced_get_the_frames_that_the_rules_say(rt: HostRuntime) {
     assert_told(&rt, rt.alloc(), 1, &UNANNOUNCED)
 }

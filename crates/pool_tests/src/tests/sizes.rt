@@ -1,15 +1,13 @@
 //! What becomes of reservations where there are few page sizes, frame by frame.
 
 use super::FRAMES;
-use super::calls::{Answer, Call};
 use super::tested::Tested;
 use std::alloc::Global;
 use std::process::Abort;
-use std::test::Fail;
 
 /// A pool of 512 frames for two spaces, with these sizes.
-fn pool_of(rt: &impl Abort, alloc: Global, sizes: &[u32]) -> Result<Tested, Fail> {
-    Ok(Tested::create(rt, alloc, FRAMES, 2, 1, sizes)?)
+fn pool_of(rt: &impl Abort, alloc: Global, sizes: &[u32]) -> Tested {
+    Tested::create(rt, alloc, FRAMES, 2, 1, sizes)
 }
 
 /// How many pages a reservation may have.
@@ -17,12 +15,7 @@ const CAP: u32 = 1024;
 
 /// A page of the first space gives up the frame of its number, which nobody claims.
 fn assert_gives(rt: &impl Abort, tested: &mut Tested, page: u32) {
-    let call = Call::Give {
-        space: 0,
-        page,
-        frame: page,
-    };
-    assert_eq!(rt; tested.answer(rt, &call), Answer::Gave(None));
+    assert_eq!(rt; tested.give(rt, 0, page, page), None);
 }
 
 /// So many frames are unused places of reservations.
@@ -104,18 +97,20 @@ fn assert_single(rt: &impl Abort, tested: &mut Tested, pages: &[u32], page: u32)
     }
 }
 
-#[test]
-fn with_no_size_between_a_reservation_of_512_frames_is_broken_into_single_ones(
-    rt: HostRuntime,
-) -> Result<(), Fail> {
-    let mut tested = pool_of(&rt, rt.alloc(), &[512, 1])?;
-    take_own(&rt, &mut tested, &STAYS);
-    assert_reserved(&rt, &tested, 509);
-    let page = take_blocks(&rt, &mut tested, &BLOCKS);
+/// A reservation of 512 frames is broken when a page of the second space takes a frame.
+fn take_by_blocks(rt: &impl Abort, tested: &mut Tested) {
+    take_own(rt, tested, &STAYS);
+    assert_reserved(rt, tested, 509);
+    let page = take_blocks(rt, tested, &BLOCKS);
     assert_eq!(rt; page, 509);
-    assert_single(&rt, &mut tested, &STAYS, page);
+    assert_single(rt, tested, &STAYS, page);
     assert_eq!(rt; tested.broken(), 1);
-    Ok(())
+}
+
+#[test]
+fn with_no_size_between_a_reservation_of_512_frames_is_broken_into_single_ones(rt: HostRuntime) {
+    let mut tested = pool_of(&rt, rt.alloc(), &[512, 1]);
+    take_by_blocks(&rt, &mut tested);
 }
 
 /// The pages of the first space take all frames in order, each alone.
@@ -139,17 +134,19 @@ const GIVEN: [u32; 8] = [5, 6, 7, 100, 256, 257, 258, 259];
 /// These frames in the order in which they are taken again.
 const TAKEN: [(u32, u32); 4] = [(5, 6), (100, 101), (6, 8), (256, 260)];
 
-#[test]
-fn with_base_pages_alone_a_page_takes_the_first_frame_of_the_smallest_free_block(
-    rt: HostRuntime,
-) -> Result<(), Fail> {
-    let mut tested = pool_of(&rt, rt.alloc(), &[1])?;
-    take_all(&rt, &mut tested);
-    give_own(&rt, &mut tested, &GIVEN);
-    assert_free(&rt, &tested, 8);
-    let taken = take_blocks(&rt, &mut tested, &TAKEN);
+/// All frames are taken, and some are given up and taken again.
+fn take_again(rt: &impl Abort, tested: &mut Tested) {
+    take_all(rt, tested);
+    give_own(rt, tested, &GIVEN);
+    assert_free(rt, tested, 8);
+    let taken = take_blocks(rt, tested, &TAKEN);
     assert_eq!(rt; taken, 8);
-    assert_free(&rt, &tested, 0);
+    assert_free(rt, tested, 0);
     assert_eq!(rt; tested.broken(), 0);
-    Ok(())
+}
+
+#[test]
+fn with_base_pages_alone_a_page_takes_the_first_frame_of_the_smallest_free_block(rt: HostRuntime) {
+    let mut tested = pool_of(&rt, rt.alloc(), &[1]);
+    take_again(&rt, &mut tested);
 }

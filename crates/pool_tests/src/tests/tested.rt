@@ -5,7 +5,7 @@ ghost use Rattle.pager_model.specs.PreferredSize.{IsWanted};
 use super::PLAIN;
 use super::calls::{Answer, Call, Page};
 use frame_pool::{Collected, Counts, Full, Pool};
-use pager_model::{Frame, NoMemory, Sizes, Want};
+use pager_model::{Frame, Sizes, Want};
 use std::alloc::Global;
 use std::process::Abort;
 
@@ -16,6 +16,9 @@ pub struct Tested {
     frames: Vec<Option<Frame>>,
 }
 
+/// What is said where there is no memory for a test.
+const NO_MEMORY: &str = "no memory";
+
 /// The set of these sizes.
 fn set_of(sizes: &[u32]) -> Sizes {
     Sizes::of(
@@ -25,11 +28,26 @@ fn set_of(sizes: &[u32]) -> Sizes {
     )
 }
 
+/// A pool of which all frames are free.
+fn pool_of(
+    rt: &impl Abort,
+    alloc: Global,
+    frames: u32,
+    announced: u32,
+    processors: u32,
+    sizes: &[u32],
+) -> Pool {
+    assert!(rt; frames % 512 == 0 && frames <= 32768 && processors <= 17);
+    let made = Pool::create(alloc, frames, announced, processors, set_of(sizes));
+    made.expect(rt, NO_MEMORY)
+}
+
 /// Asserts that the page lies in its region.
-fn assert_wanted(rt: &impl Abort, page: u32, want: &Want)
-    ensures { IsWanted want.now page }
+fn assert_wanted(rt: &impl Abort, page: u32, want: Want)
+    ensures { IsWanted want page }
 {
-    assert!(rt; want.low <= page && page < want.high && want.high <= 1 << 20 && 1 <= want.cap);
+    assert!(rt; want.low <= page && page < want.high);
+    assert!(rt; want.high <= 1 << 20 && 1 <= want.cap);
 }
 
 impl Tested {
@@ -41,12 +59,10 @@ impl Tested {
         announced: u32,
         processors: u32,
         sizes: &[u32],
-    ) -> Result<Tested, NoMemory> {
-        assert!(rt; frames % 512 == 0 && frames <= 32768 && processors <= 17);
-        Ok(Tested {
-            pool: Pool::create(alloc, frames, announced, processors, set_of(sizes))?,
-            frames: no_frames(alloc, frames)?,
-        })
+    ) -> Tested {
+        let kept = no_frames(rt, alloc, frames);
+        let pool = pool_of(rt, alloc, frames, announced, processors, sizes);
+        Tested { pool, frames: kept }
     }
 
     /// Keeps the frame of a page. Answers its number.
@@ -58,8 +74,8 @@ impl Tested {
         number
     }
 
-    fn take(&mut self, rt: &impl Abort, at: &Page) -> Answer {
-        assert_wanted(rt, at.page, &at.want);
+    fn take(&mut self, rt: &impl Abort, at: Page) -> Answer {
+        assert_wanted(rt, at.page, at.want);
         assert!(rt; self.pool.has_room());
         assert!(rt; self.pool.frame_of(at.space, at.page).is_none());
         match self.pool.take(at.space, at.page, &at.want) {
@@ -68,15 +84,21 @@ impl Tested {
         }
     }
 
-    fn give(&mut self, rt: &impl Abort, space: u32, page: u32, frame: u32) -> Answer {
+    /// The frame of a page. None has it any more then.
+    fn taken_out(&mut self, rt: &impl Abort, frame: u32) -> Frame {
         let place = self
             .frames
             .get_mut(frame as usize)
             .expect(rt, "no such frame");
-        let frame = place.take().expect(rt, "no page has the frame");
+        place.take().expect(rt, "no page has the frame")
+    }
+
+    /// The page gives up the frame; answers who holds it then.
+    pub fn give(&mut self, rt: &impl Abort, space: u32, page: u32, frame: u32) -> Option<u32> {
+        let frame = self.taken_out(rt, frame);
         assert!(rt; page < 1 << 20);
         assert_eq!(rt; self.pool.frame_of(space, page), Some(frame.number()));
-        Answer::Gave(self.pool.give(space, page, frame))
+        self.pool.give(space, page, frame)
     }
 
     fn claim(&mut self, rt: &impl Abort, processor: u32) -> Answer {
@@ -103,8 +125,8 @@ impl Tested {
         Answer::Dropped(Some(self.pool.drop_held(processor)))
     }
 
-    fn use_held(&mut self, rt: &impl Abort, processor: u32, at: &Page) -> Answer {
-        assert_wanted(rt, at.page, &at.want);
+    fn use_held(&mut self, rt: &impl Abort, processor: u32, at: Page) -> Answer {
+        assert_wanted(rt, at.page, at.want);
         assert!(rt; self.pool.has_room());
         assert!(rt; self.pool.held_by(processor).is_some());
         assert!(rt; self.pool.frame_of(at.space, at.page).is_none());
@@ -119,14 +141,14 @@ impl Tested {
     }
 
     /// Makes a call.
-    pub fn answer(&mut self, rt: &impl Abort, call: &Call) -> Answer {
-        match *call {
-            Call::Take(at) => self.take(rt, &at),
-            Call::Give { space, page, frame } => self.give(rt, space, page, frame),
+    pub fn answer(&mut self, rt: &impl Abort, call: Call) -> Answer {
+        match call {
+            Call::Take(at) => self.take(rt, at),
+            Call::Give { space, page, frame } => Answer::Gave(self.give(rt, space, page, frame)),
             Call::Claim(processor) => self.claim(rt, processor),
             Call::Unclaim(processor) => self.unclaim(rt, processor),
             Call::DropHeld(processor) => self.drop_held(rt, processor),
-            Call::UseHeld(processor, at) => self.use_held(rt, processor, &at),
+            Call::UseHeld(processor, at) => self.use_held(rt, processor, at),
             Call::EndEntry => self.end_entry(rt),
         }
     }
@@ -134,7 +156,7 @@ impl Tested {
     /// The page of a region that may have so many pages takes this frame.
     pub fn assert_takes(&mut self, rt: &impl Abort, space: u32, page: u32, cap: u32, frame: u32) {
         let want = Want { cap, ..PLAIN };
-        let answer = self.take(rt, &Page { space, page, want });
+        let answer = self.take(rt, Page { space, page, want });
         assert_eq!(rt; answer, Answer::Took(frame));
     }
 
@@ -157,10 +179,9 @@ impl Tested {
 }
 
 /// No page has one of so many frames.
-fn no_frames(alloc: Global, count: u32) -> Result<Vec<Option<Frame>>, NoMemory> {
-    let mut frames = Vec::with_capacity(alloc, count as usize)?;
-    for _ in 0..count {
-        frames.push(None)?;
-    }
-    Ok(frames)
+fn no_frames(rt: &impl Abort, alloc: Global, count: u32) -> Vec<Option<Frame>> {
+    let mut frames = Vec::new(alloc);
+    let made = frames.resize_with(count as usize, || None);
+    made.expect(rt, NO_MEMORY);
+    frames
 }
