@@ -1,5 +1,5 @@
 -- What is left of the spare frames when the last of them is taken, and when a region is unmapped.
-use Rattle.std.proofs.Common.{◌≡◌, ℕ, Bool, true, false, if◌then◌else◌, Option, None, Some, ◌+◌, ◌<◌, List, [], ◌∷◌, ◌++◌, length, map, get_or, refl, sym, ap, ◌∙◌, inl, inr, arith}
+use Rattle.std.proofs.Common.{◌≡◌, ℕ, Bool, true, false, if◌then◌else◌, Option, None, Some, ◌+◌, ◌<◌, ◌≤◌, List, [], ◌∷◌, ◌++◌, length, map, get_or, refl, sym, ap, ◌∙◌, inl, inr, arith}
 use Rattle.std.specs.List.{range_with_len}
 use Rattle.std.proofs.lemmas.Bool.{cases_eq}
 use Rattle.std.proofs.lemmas.Option.{none-some}
@@ -34,16 +34,16 @@ popped spare rest frame lowest ends =
       count = count;
     }
 
--- all frames are spare for a space that has begun
-pub all_spare : (s : Kept) (spare : List Framed) (n : ℕ) → spare ≡ map zero_frame (range_with_len 0 n) → s.frames ≡ n → 0 < length s.images → IsResting s → StandsFor s (empty_state all_sizes false s.store.faults) → HasSpare s spare
-all_spare s spare n frames count processor resting stands =
-    let few : length spare ≡ n = ap length frames ∙ length-map-range_with_len zero_frame 0 n in
+-- the lowest frames are spare for a space that has begun
+pub lowest_spare : (s : Kept) (spare : List Framed) (n : ℕ) → spare ≡ map zero_frame (range_with_len 0 n) → n ≤ s.frames → 0 < length s.images → IsResting s → StandsFor s (empty_state all_sizes false s.store.faults) → HasSpare s spare
+lowest_spare s spare n lowest count processor resting stands =
+    let few : length spare ≡ n = ap length lowest ∙ length-map-range_with_len zero_frame 0 n in
     record {
       resting = resting;
       processor = processor;
       state = empty_state all_sizes false s.store.faults;
       stands = stands;
-      lowest = frames ∙ ap (λ (k : ℕ). map zero_frame (range_with_len 0 k)) (sym few);
+      lowest = lowest ∙ ap (λ (k : ℕ). map zero_frame (range_with_len 0 k)) (sym few);
       few = omega (arith, few, count);
       apart = λ p number has. absurd (none-some number (stands.base p ∙ has));
     }

@@ -1,4 +1,4 @@
-ghost use Rattle.std.specs.Prelude.{◌≡◌, ◌<◌, ◌≤◌, ◌*◌, ◌^◌, ◌%◌, List, length, true, IfOk, OnOk};
+ghost use Rattle.std.specs.Prelude.{◌≡◌, ◌<◌, ◌≤◌, ◌^◌, ◌%◌, List, true, IfOk, OnOk};
 ghost use Rattle.pager_model.specs.Flat.{space_of_call};
 ghost use Rattle.pager_model.specs.Frame.{Framed};
 ghost use Rattle.pager_model.specs.TraceText.{IsCall};
@@ -15,141 +15,94 @@ use store_core::MemoryStore;
 
 const SPACE: u32 = 3;
 
-const PAGE: u64 = 8192;
+/// How many frames are spare at first. The last one is taken first.
+const SPARE: u32 = 8;
 
-fn map(page: u32, length: u32, kind: Kind, rights: Rights) -> Call
-    requires page { page < 1048576 }
-    requires length { (1 ≤ length) × (length ≤ 1048576) }
-    ensures call { result ≡ Call.Map SPACE page length kind rights }
-    ensures can { CanBegin result }
-{
-    Call::Map {
-        space: SPACE,
-        page,
-        length,
-        kind,
-        rights,
-    }
+macro_rules! map {
+    ($page:literal, $length:literal, $kind:ident, $rights:ident) => {
+        Call::Map {
+            space: SPACE,
+            page: $page,
+            length: $length,
+            kind: Kind::$kind,
+            rights: Rights::$rights,
+        }
+    };
 }
 
-fn grow(page: u32, by: u32) -> Call
-    requires page { page < 1048576 }
-    requires by { (1 ≤ by) × (by ≤ 1048576) }
-    ensures call { result ≡ Call.Grow SPACE page by }
-    ensures can { CanBegin result }
-{
-    Call::Grow {
-        space: SPACE,
-        page,
-        by,
-    }
+macro_rules! grow {
+    ($page:literal, $by:literal) => {
+        Call::Grow { space: SPACE, page: $page, by: $by }
+    };
 }
 
-fn unmap(page: u32) -> Call
-    requires { page < 1048576 }
-    ensures call { result ≡ Call.Unmap SPACE page }
-    ensures can { CanBegin result }
-{
-    Call::Unmap { space: SPACE, page }
+macro_rules! unmap {
+    ($page:literal) => {
+        Call::Unmap { space: SPACE, page: $page }
+    };
 }
 
-fn protect(page: u32, length: u32, rights: Rights) -> Call
-    requires page { page < 1048576 }
-    requires length { (1 ≤ length) × (length ≤ 1048576) }
-    ensures call { result ≡ Call.Protect SPACE page length rights }
-    ensures can { CanBegin result }
-{
-    Call::Protect {
-        space: SPACE,
-        page,
-        length,
-        rights,
-    }
+macro_rules! protect {
+    ($page:literal, $length:literal, $rights:ident) => {
+        Call::Protect {
+            space: SPACE,
+            page: $page,
+            length: $length,
+            rights: Rights::$rights,
+        }
+    };
 }
 
-fn load(page: u16) -> Call
-    ensures call { result ≡ Call.Load SPACE (page * 8192) }
-    ensures can { CanBegin result }
-{
-    Call::Load {
-        space: SPACE,
-        address: u64::from(page) * PAGE,
-    }
+macro_rules! load {
+    ($page:literal) => {
+        Call::Load { space: SPACE, address: $page * 8192 }
+    };
 }
 
-fn store(page: u16, word: u64) -> Call
-    ensures call { result ≡ Call.Store SPACE (page * 8192) word }
-    ensures can { CanBegin result }
-{
-    Call::Store {
-        space: SPACE,
-        address: u64::from(page) * PAGE,
-        word,
-    }
+macro_rules! store {
+    ($page:literal, $word:literal) => {
+        Call::Store { space: SPACE, address: $page * 8192, word: $word }
+    };
 }
 
-fn sync(page: u32) -> Call
-    ensures { result ≡ Call.Sync SPACE page }
-{
-    Call::Sync { space: SPACE, page }
+macro_rules! sync {
+    ($page:literal) => {
+        Call::Sync { space: SPACE, page: $page }
+    };
 }
 
-fn evict(page: u32) -> Call
-    ensures { result ≡ Call.Evict SPACE page }
-{
-    Call::Evict { space: SPACE, page }
+macro_rules! evict {
+    ($page:literal) => {
+        Call::Evict { space: SPACE, page: $page }
+    };
 }
 
-/// A space over a store in memory that fails at no read and no write.
-fn space_of(alloc: Global, number: u32, frames: u32) -> Result<Space<MemoryStore>, Fail>
-    requires { frames ≤ 32768 }
-    ensures { IfOk result (λ s. (s.number ≡ number) × (0 < length s.images) × IsResting s) }
-{
-    let room = SpaceRoom::create(alloc, frames, 1)?;
-    let store = MemoryStore::of(alloc, Vec::new(alloc), Vec::new(alloc));
-    Ok(Space::over(number, room, store))
+/// The reply where the store failed.
+macro_rules! fault {
+    ($count:expr) => {
+        Reply::StoreFault { space: SPACE, count: $count }
+    };
 }
 
-/// A space and its frames, which are all spare, over a store in memory that fails at these reads and writes.
+/// A call, what it is answered, the frame that its page gives up, and the frame of page 17 behind it.
+type Step = (Call, Reply, Option<u32>, Option<u32>);
+
+/// A space and spare frames for it, over a store in memory that fails at these reads and writes.
 fn begun(
     alloc: Global,
+    number: u32,
     frames: u32,
     reads: &[u64],
     writes: &[u64],
 ) -> Result<(Space<MemoryStore>, Vec<Frame>), Fail>
-    requires { frames ≤ 32768 }
-    ensures number { IfOk result (λ made. made.0.number ≡ SPACE) }
+    requires { (SPARE ≤ frames) × (frames ≤ 32768) }
+    ensures number { IfOk result (λ made. made.0.number ≡ number) }
     ensures spare { IfOk result (λ made. HasSpare made.0 made.1.items) }
 {
-    let spare = frames_of(alloc, frames)?;
+    let spare = frames_of(alloc, SPARE)?;
     let room = SpaceRoom::create(alloc, frames, 1)?;
     let store = MemoryStore::of(alloc, reads.to_vec(alloc)?, writes.to_vec(alloc)?);
-    Ok((Space::over(SPACE, room, store), spare))
-}
-
-/// The reply to a call that needs no frame and no clearing, and `None` where it needs one or its store fails.
-fn ask(space: &mut Space<MemoryStore>, call: &Call) -> Option<Reply>
-    requires space { space_of_call call.now ≡ space.old.number }
-    requires processor { 0 < length space.old.images }
-    requires resting { IsResting space.old }
-    requires can { CanBegin call.now }
-    ensures number { space.new.number ≡ space.old.number }
-    ensures processor { 0 < length space.new.images }
-    ensures resting { IsResting space.new }
-{
-    match space.begin(0, call) {
-        Begun::Answered(answered) => Some(answered.reply),
-        Begun::NeedsEvict { page, .. } => Some(space.evict(page).1.reply),
-        Begun::NeedsFrame { .. } | Begun::NeedsClear { .. } | Begun::Failed { .. } => None,
-    }
-}
-
-/// The reply where the store failed.
-fn fault(count: u64) -> Reply {
-    Reply::StoreFault {
-        space: SPACE,
-        count,
-    }
+    Ok((Space::over(number, room, store), spare))
 }
 
 /// The reply to a call, where a page that needs a frame gets the last of the spare ones, with the frame that its page gave up, if the
@@ -174,7 +127,7 @@ fn serve(
             space.place(page, frame);
             match space.read_in(page) {
                 Ok(()) => Ok((space.finish(0, call).reply, None)),
-                Err(count) => Ok((fault(count), Some(space.remove(page).number()))),
+                Err(count) => Ok((fault!(count), Some(space.remove(page).number()))),
             }
         }
         Begun::NeedsClear { first, length } => Ok((clear(space, first, length)?, None)),
@@ -182,7 +135,7 @@ fn serve(
             let (frame, answered) = space.evict(page);
             Ok((answered.reply, Some(frame.number())))
         }
-        Begun::Failed { count, .. } => Ok((fault(count), None)),
+        Begun::Failed { count, .. } => Ok((fault!(count), None)),
     }
 }
 
@@ -242,9 +195,6 @@ fn is_ours(call: &Call) -> bool
     }
 }
 
-/// A call, what it is answered, and the frame that its page gives up.
-type Step = (Call, Reply, Option<u32>);
-
 /// Asserts that the calls are answered so, one after another.
 fn serves(
     rt: &impl Abort,
@@ -254,248 +204,237 @@ fn serves(
 ) -> Result<(), Fail>
     requires space { space.old.number ≡ SPACE }
     requires spare { HasSpare space.old spare.old.items }
-    ensures number { OnOk result (space.new.number ≡ SPACE) }
-    ensures spare { OnOk result (HasSpare space.new spare.new.items) }
 {
-    for (call, reply, gave) in steps {
+    for (call, reply, gave, resident) in steps {
         assert!(rt; is_ours(call));
         let served = serve(space, spare, call)?;
-        assert_eq!(rt; served, (*reply, *gave), "{call:?}");
-    }
-    Ok(())
-}
-
-#[test]
-fn a_protect_splits_the_rights_of_a_region(rt: HostRuntime) -> Result<(), Fail> {
-    let mut space = space_of(rt.alloc(), SPACE, 8)?;
-    let done = ask(&mut space, &map(16, 8, Kind::Fixed, Rights::Write));
-    assert_eq!(rt; done, Some(Reply::Done));
-    let done = ask(&mut space, &protect(18, 4, Rights::NoAccess));
-    assert_eq!(rt; done, Some(Reply::Done));
-    let done = ask(&mut space, &protect(19, 2, Rights::Read));
-    assert_eq!(rt; done, Some(Reply::Done));
-    let denied = Some(Reply::Denied);
-    let unmapped = Some(Reply::Unmapped);
-    for (page, loaded, stored) in [
-        (15u16, unmapped, unmapped),
-        (17, None, None),
-        (18, denied, denied),
-        (19, None, denied),
-        (20, None, denied),
-        (21, denied, denied),
-        (22, None, None),
-        (24, unmapped, unmapped),
-    ] {
-        assert_eq!(rt; ask(&mut space, &load(page)), loaded, "a load at {page}");
         assert_eq!(rt;
-            ask(&mut space, &store(page, 5)),
-            stored,
-            "a store at {page}"
+            (served, space.resident(17)),
+            ((*reply, *gave), *resident),
+            "{call:?}"
         );
     }
     Ok(())
 }
 
-#[test]
-fn the_new_pages_of_a_growth_have_the_regions_first_rights(rt: HostRuntime) -> Result<(), Fail> {
-    let mut space = space_of(rt.alloc(), SPACE, 8)?;
-    ask(&mut space, &map(16, 2, Kind::Growing, Rights::Read));
-    ask(&mut space, &protect(16, 2, Rights::Write));
-    let grown = ask(&mut space, &grow(17, 2));
-    assert_eq!(rt; grown, Some(Reply::Done));
-    assert_eq!(rt; ask(&mut space, &store(17, 5)), None);
-    assert_eq!(rt; ask(&mut space, &load(18)), None);
-    assert_eq!(rt; ask(&mut space, &store(18, 5)), Some(Reply::Denied));
-    assert_eq!(rt; ask(&mut space, &store(19, 5)), Some(Reply::Denied));
-    assert_eq!(rt; ask(&mut space, &load(20)), Some(Reply::Unmapped));
-    Ok(())
+/// Asserts that a space whose store fails at these reads and writes answers the calls so.
+fn answers(
+    rt: &impl Abort,
+    alloc: Global,
+    reads: &[u64],
+    writes: &[u64],
+    steps: &[Step],
+) -> Result<(), Fail> {
+    let (mut space, mut spare) = begun(alloc, SPACE, SPARE, reads, writes)?;
+    serves(rt, &mut space, &mut spare, steps)
 }
 
-#[test]
-fn the_first_cause_refuses_a_map_and_a_growth(rt: HostRuntime) -> Result<(), Fail> {
-    let mut space = space_of(rt.alloc(), SPACE, 8)?;
-    ask(&mut space, &map(16, 8, Kind::Fixed, Rights::Read));
-    ask(&mut space, &map(1_048_568, 4, Kind::Growing, Rights::Read));
-    ask(&mut space, &map(1_048_574, 1, Kind::Wired, Rights::Read));
-    let mapped = ask(&mut space, &map(23, 1_048_576, Kind::Fixed, Rights::Read));
-    assert_eq!(rt; mapped, Some(Reply::OutOfSpace));
-    let mapped = ask(&mut space, &map(23, 4, Kind::Fixed, Rights::Read));
-    assert_eq!(rt; mapped, Some(Reply::Overlap));
-    assert_eq!(rt;
-        ask(&mut space, &grow(24, 1_048_576)),
-        Some(Reply::Unmapped)
-    );
-    assert_eq!(rt;
-        ask(&mut space, &grow(16, 1_048_576)),
-        Some(Reply::NotGrowing)
-    );
-    assert_eq!(rt;
-        ask(&mut space, &grow(1_048_574, 1)),
-        Some(Reply::NotGrowing)
-    );
-    assert_eq!(rt;
-        ask(&mut space, &grow(1_048_568, 5)),
-        Some(Reply::OutOfSpace)
-    );
-    assert_eq!(rt; ask(&mut space, &grow(1_048_568, 3)), Some(Reply::Overlap));
-    Ok(())
-}
-
-#[test]
-fn a_page_without_a_region_is_unmapped_whatever_else_is_wrong(rt: HostRuntime) -> Result<(), Fail> {
-    let mut space = space_of(rt.alloc(), SPACE, 8)?;
-    ask(&mut space, &map(16, 8, Kind::Fixed, Rights::Read));
-    let unmapped = Some(Reply::Unmapped);
-    assert_eq!(rt; ask(&mut space, &unmap(24)), unmapped);
-    assert_eq!(rt; ask(&mut space, &protect(15, 1, Rights::Write)), unmapped);
-    assert_eq!(rt; ask(&mut space, &protect(20, 5, Rights::Write)), unmapped);
-    assert_eq!(rt; ask(&mut space, &load(15)), unmapped);
-    assert_eq!(rt; ask(&mut space, &store(24, 1)), unmapped);
-    assert_eq!(rt; ask(&mut space, &store(16, 1)), Some(Reply::Denied));
-    Ok(())
+/// What a space answers to its first call, which is a load. No region has its page.
+fn first_reply(alloc: Global, number: u32) -> Result<(Reply, Option<u32>), Fail> {
+    let (mut space, mut spare) = begun(alloc, number, 32_768, &[], &[])?;
+    let call = Call::Load {
+        space: number,
+        address: 0,
+    };
+    serve(&mut space, &mut spare, &call)
 }
 
 #[test]
 fn sixteen_spaces_are_made_at_once(rt: HostRuntime) -> Result<(), Fail> {
     for number in 0..16 {
-        let mut space = space_of(rt.alloc(), number, 32_768)?;
-        let call = Call::Load {
-            space: number,
-            address: 0,
-        };
-        assert_eq!(rt; ask(&mut space, &call), Some(Reply::Unmapped));
+        let served = first_reply(rt.alloc(), number)?;
+        assert_eq!(rt; served, (Reply::Unmapped, None));
     }
     Ok(())
 }
 
+static RIGHTS: [Step; 19] = [
+    (map!(16, 8, Fixed, Write), Reply::Done, None, None),
+    (protect!(18, 4, NoAccess), Reply::Done, None, None),
+    (protect!(19, 2, Read), Reply::Done, None, None),
+    (load!(15), Reply::Unmapped, None, None),
+    (store!(15, 5), Reply::Unmapped, None, None),
+    (load!(17), Reply::Value(0), None, Some(7)),
+    (store!(17, 5), Reply::Done, None, Some(7)),
+    (load!(18), Reply::Denied, None, Some(7)),
+    (store!(18, 5), Reply::Denied, None, Some(7)),
+    (load!(19), Reply::Value(0), None, Some(7)),
+    (store!(19, 5), Reply::Denied, None, Some(7)),
+    (load!(20), Reply::Value(0), None, Some(7)),
+    (store!(20, 5), Reply::Denied, None, Some(7)),
+    (load!(21), Reply::Denied, None, Some(7)),
+    (store!(21, 5), Reply::Denied, None, Some(7)),
+    (load!(22), Reply::Value(0), None, Some(7)),
+    (store!(22, 5), Reply::Done, None, Some(7)),
+    (load!(24), Reply::Unmapped, None, Some(7)),
+    (store!(24, 5), Reply::Unmapped, None, Some(7)),
+];
+
+#[test]
+fn a_protect_splits_the_rights_of_a_region(rt: HostRuntime) -> Result<(), Fail> {
+    answers(&rt, rt.alloc(), &[], &[], &RIGHTS)
+}
+
+static GROWTH: [Step; 8] = [
+    (map!(16, 2, Growing, Read), Reply::Done, None, None),
+    (protect!(16, 2, Write), Reply::Done, None, None),
+    (grow!(17, 2), Reply::Done, None, None),
+    (store!(17, 5), Reply::Done, None, Some(7)),
+    (load!(18), Reply::Value(0), None, Some(7)),
+    (store!(18, 5), Reply::Denied, None, Some(7)),
+    (store!(19, 5), Reply::Denied, None, Some(7)),
+    (load!(20), Reply::Unmapped, None, Some(7)),
+];
+
+#[test]
+fn the_new_pages_of_a_growth_have_the_regions_first_rights(rt: HostRuntime) -> Result<(), Fail> {
+    answers(&rt, rt.alloc(), &[], &[], &GROWTH)
+}
+
+static CAUSES: [Step; 10] = [
+    (map!(16, 8, Fixed, Read), Reply::Done, None, None),
+    (map!(1_048_568, 4, Growing, Read), Reply::Done, None, None),
+    (map!(1_048_574, 1, Wired, Read), Reply::Done, None, None),
+    (
+        map!(23, 1_048_576, Fixed, Read),
+        Reply::OutOfSpace,
+        None,
+        None,
+    ),
+    (map!(23, 4, Fixed, Read), Reply::Overlap, None, None),
+    (grow!(24, 1_048_576), Reply::Unmapped, None, None),
+    (grow!(16, 1_048_576), Reply::NotGrowing, None, None),
+    (grow!(1_048_574, 1), Reply::NotGrowing, None, None),
+    (grow!(1_048_568, 5), Reply::OutOfSpace, None, None),
+    (grow!(1_048_568, 3), Reply::Overlap, None, None),
+];
+
+#[test]
+fn the_first_cause_refuses_a_map_and_a_growth(rt: HostRuntime) -> Result<(), Fail> {
+    answers(&rt, rt.alloc(), &[], &[], &CAUSES)
+}
+
+static NO_REGION: [Step; 7] = [
+    (map!(16, 8, Fixed, Read), Reply::Done, None, None),
+    (unmap!(24), Reply::Unmapped, None, None),
+    (protect!(15, 1, Write), Reply::Unmapped, None, None),
+    (protect!(20, 5, Write), Reply::Unmapped, None, None),
+    (load!(15), Reply::Unmapped, None, None),
+    (store!(24, 1), Reply::Unmapped, None, None),
+    (store!(16, 1), Reply::Denied, None, None),
+];
+
+#[test]
+fn a_page_without_a_region_is_unmapped_whatever_else_is_wrong(rt: HostRuntime) -> Result<(), Fail> {
+    answers(&rt, rt.alloc(), &[], &[], &NO_REGION)
+}
+
+static UNMAP: [Step; 9] = [
+    (map!(16, 8, Fixed, Write), Reply::Done, None, None),
+    (store!(22, 7), Reply::Done, None, None),
+    (store!(17, 5), Reply::Done, None, Some(6)),
+    (load!(22), Reply::Value(7), None, Some(6)),
+    (load!(16), Reply::Value(0), None, Some(6)),
+    (unmap!(20), Reply::Done, None, None),
+    (map!(16, 8, Fixed, Read), Reply::Done, None, None),
+    (store!(17, 1), Reply::Denied, None, None),
+    (load!(17), Reply::Value(0), None, Some(4)),
+];
+
 #[test]
 fn an_unmap_gives_the_frames_up_in_order(rt: HostRuntime) -> Result<(), Fail> {
-    let (mut space, mut spare) = begun(rt.alloc(), 4, &[], &[])?;
-    let region = map(16, 8, Kind::Fixed, Rights::Write);
-    let again = map(16, 8, Kind::Fixed, Rights::Read);
-    let steps = [
-        (region, Reply::Done, None),
-        (store(22, 7), Reply::Done, None),
-        (store(17, 5), Reply::Done, None),
-        (load(22), Reply::Value(7), None),
-        (load(16), Reply::Value(0), None),
-        (unmap(20), Reply::Done, None),
-        (again, Reply::Done, None),
-        (store(17, 1), Reply::Denied, None),
-        (load(17), Reply::Value(0), None),
-    ];
-    serves(&rt, &mut space, &mut spare, &steps)
+    answers(&rt, rt.alloc(), &[], &[], &UNMAP)
 }
+
+static SYNC: [Step; 10] = [
+    (map!(16, 8, Wired, Write), Reply::Done, None, None),
+    (sync!(17), Reply::Clean, None, None),
+    (load!(17), Reply::Value(0), None, Some(7)),
+    (sync!(17), Reply::Clean, None, Some(7)),
+    (store!(17, 5), Reply::Done, None, Some(7)),
+    (sync!(17), Reply::Written, None, Some(7)),
+    (sync!(17), Reply::Clean, None, Some(7)),
+    (store!(17, 5), Reply::Done, None, Some(7)),
+    (sync!(17), Reply::Written, None, Some(7)),
+    (sync!(24), Reply::Unmapped, None, Some(7)),
+];
 
 #[test]
 fn a_sync_writes_a_dirty_page_once(rt: HostRuntime) -> Result<(), Fail> {
-    let (mut space, mut spare) = begun(rt.alloc(), 4, &[], &[])?;
-    let region = map(16, 8, Kind::Wired, Rights::Write);
-    let steps = [
-        (region, Reply::Done, None),
-        (sync(17), Reply::Clean, None),
-        (load(17), Reply::Value(0), None),
-        (sync(17), Reply::Clean, None),
-        (store(17, 5), Reply::Done, None),
-        (sync(17), Reply::Written, None),
-        (sync(17), Reply::Clean, None),
-        (store(17, 5), Reply::Done, None),
-        (sync(17), Reply::Written, None),
-        (sync(24), Reply::Unmapped, None),
-    ];
-    serves(&rt, &mut space, &mut spare, &steps)
+    answers(&rt, rt.alloc(), &[], &[], &SYNC)
 }
+
+static EVICT: [Step; 6] = [
+    (map!(16, 8, Fixed, Write), Reply::Done, None, None),
+    (store!(17, 5), Reply::Done, None, Some(7)),
+    (evict!(17), Reply::Written, Some(7), None),
+    (evict!(17), Reply::Clean, None, None),
+    (load!(17), Reply::Value(5), None, Some(6)),
+    (evict!(17), Reply::Clean, Some(6), None),
+];
 
 #[test]
 fn an_evict_gives_the_frame_up_and_a_fill_reads_the_word_back(rt: HostRuntime) -> Result<(), Fail> {
-    let (mut space, mut spare) = begun(rt.alloc(), 4, &[], &[])?;
-    let region = map(16, 8, Kind::Fixed, Rights::Write);
-    let steps = [
-        (region, Reply::Done, None),
-        (store(17, 5), Reply::Done, None),
-        (evict(17), Reply::Written, Some(3)),
-        (evict(17), Reply::Clean, None),
-    ];
-    serves(&rt, &mut space, &mut spare, &steps)?;
-    assert_eq!(rt; space.resident(17), None);
-    let steps = [(load(17), Reply::Value(5), None)];
-    serves(&rt, &mut space, &mut spare, &steps)?;
-    assert_eq!(rt; space.resident(17), Some(2));
-    let steps = [(evict(17), Reply::Clean, Some(2))];
-    serves(&rt, &mut space, &mut spare, &steps)
+    answers(&rt, rt.alloc(), &[], &[], &EVICT)
 }
+
+static WIRED: [Step; 5] = [
+    (map!(16, 8, Wired, Write), Reply::Done, None, None),
+    (store!(17, 5), Reply::Done, None, Some(7)),
+    (evict!(17), Reply::Denied, None, Some(7)),
+    (evict!(24), Reply::Unmapped, None, Some(7)),
+    (sync!(17), Reply::Written, None, Some(7)),
+];
 
 #[test]
 fn a_wired_page_is_not_evicted(rt: HostRuntime) -> Result<(), Fail> {
-    let (mut space, mut spare) = begun(rt.alloc(), 4, &[], &[])?;
-    let region = map(16, 8, Kind::Wired, Rights::Write);
-    let steps = [
-        (region, Reply::Done, None),
-        (store(17, 5), Reply::Done, None),
-        (evict(17), Reply::Denied, None),
-        (evict(24), Reply::Unmapped, None),
-        (sync(17), Reply::Written, None),
-    ];
-    serves(&rt, &mut space, &mut spare, &steps)?;
-    assert_eq!(rt; space.resident(17), Some(3));
-    Ok(())
+    answers(&rt, rt.alloc(), &[], &[], &WIRED)
 }
+
+static FAILED_WRITES: [Step; 9] = [
+    (map!(16, 8, Fixed, Write), Reply::Done, None, None),
+    (store!(17, 5), Reply::Done, None, Some(7)),
+    (sync!(17), fault!(1), None, Some(7)),
+    (evict!(17), fault!(2), None, Some(7)),
+    (load!(17), Reply::Value(5), None, Some(7)),
+    (sync!(17), Reply::Written, None, Some(7)),
+    (sync!(17), Reply::Clean, None, Some(7)),
+    (evict!(17), Reply::Clean, Some(7), None),
+    (load!(17), Reply::Value(5), None, Some(6)),
+];
 
 #[test]
 fn a_failed_write_leaves_the_page_dirty_and_resident(rt: HostRuntime) -> Result<(), Fail> {
-    let (mut space, mut spare) = begun(rt.alloc(), 4, &[], &[1, 2])?;
-    let region = map(16, 8, Kind::Fixed, Rights::Write);
-    let steps = [
-        (region, Reply::Done, None),
-        (store(17, 5), Reply::Done, None),
-        (sync(17), fault(1), None),
-        (evict(17), fault(2), None),
-    ];
-    serves(&rt, &mut space, &mut spare, &steps)?;
-    assert_eq!(rt; space.resident(17), Some(3));
-    let steps = [
-        (load(17), Reply::Value(5), None),
-        (sync(17), Reply::Written, None),
-        (sync(17), Reply::Clean, None),
-        (evict(17), Reply::Clean, Some(3)),
-        (load(17), Reply::Value(5), None),
-    ];
-    serves(&rt, &mut space, &mut spare, &steps)
+    answers(&rt, rt.alloc(), &[], &[1, 2], &FAILED_WRITES)
 }
+
+static FAILED_READS: [Step; 5] = [
+    (map!(16, 8, Fixed, Write), Reply::Done, None, None),
+    (load!(17), fault!(1), Some(7), None),
+    (store!(17, 5), fault!(2), Some(6), None),
+    (sync!(17), Reply::Clean, None, None),
+    (load!(17), Reply::Value(0), None, Some(5)),
+];
 
 #[test]
 fn a_failed_read_gives_the_frame_back(rt: HostRuntime) -> Result<(), Fail> {
-    let (mut space, mut spare) = begun(rt.alloc(), 4, &[1, 2], &[])?;
-    let region = map(16, 8, Kind::Fixed, Rights::Write);
-    let steps = [(region, Reply::Done, None), (load(17), fault(1), Some(3))];
-    serves(&rt, &mut space, &mut spare, &steps)?;
-    assert_eq!(rt; space.resident(17), None);
-    let steps = [
-        (store(17, 5), fault(2), Some(2)),
-        (sync(17), Reply::Clean, None),
-        (load(17), Reply::Value(0), None),
-    ];
-    serves(&rt, &mut space, &mut spare, &steps)?;
-    assert_eq!(rt; space.resident(17), Some(1));
-    Ok(())
+    answers(&rt, rt.alloc(), &[1, 2], &[], &FAILED_READS)
 }
+
+static DROPPED: [Step; 10] = [
+    (map!(16, 8, Fixed, Write), Reply::Done, None, None),
+    (map!(24, 8, Fixed, Write), Reply::Done, None, None),
+    (store!(23, 5), Reply::Done, None, None),
+    (store!(24, 6), Reply::Done, None, None),
+    (evict!(23), Reply::Written, Some(7), None),
+    (evict!(24), Reply::Written, Some(6), None),
+    (unmap!(20), Reply::Done, None, None),
+    (map!(16, 8, Fixed, Write), Reply::Done, None, None),
+    (load!(23), Reply::Value(0), None, None),
+    (load!(24), Reply::Value(6), None, None),
+];
 
 #[test]
 fn an_unmap_drops_the_copies_of_its_pages(rt: HostRuntime) -> Result<(), Fail> {
-    let (mut space, mut spare) = begun(rt.alloc(), 8, &[], &[])?;
-    let region = map(16, 8, Kind::Fixed, Rights::Write);
-    let beside = map(24, 8, Kind::Fixed, Rights::Write);
-    let steps = [
-        (region, Reply::Done, None),
-        (beside, Reply::Done, None),
-        (store(23, 5), Reply::Done, None),
-        (store(24, 6), Reply::Done, None),
-        (evict(23), Reply::Written, Some(7)),
-        (evict(24), Reply::Written, Some(6)),
-        (unmap(20), Reply::Done, None),
-        (region, Reply::Done, None),
-        (load(23), Reply::Value(0), None),
-        (load(24), Reply::Value(6), None),
-    ];
-    serves(&rt, &mut space, &mut spare, &steps)
+    answers(&rt, rt.alloc(), &[], &[], &DROPPED)
 }
