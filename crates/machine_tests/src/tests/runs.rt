@@ -3,48 +3,106 @@ ghost use Rattle.std.specs.Prelude.{◌<◌, IfOk};
 ghost use Rattle.std.specs.List.{All};
 
 use super::drawn::{FIRST, FOURTH, SECOND, THIRD};
+use super::fills::FILLS;
 use super::full::Full;
-use super::lines::{assert_recorded, counts_of, hash_of};
+use super::lines::{assert_recorded, hash_of, report_of};
 use super::named::NAMED;
 use super::{put_lines, read_text};
-use pager_model::{Numbered, Summary, Trace};
+use pager_model::Trace;
 use replay_core::replay_schedule;
 use std::alloc::{AllocError, Global};
 use std::process::Abort;
+use std::str::Lines;
 use std::test::Fail;
 use store_core::{MemoryStore, Store};
 
 /// Calls of processor 0 that use frames.
-pub struct Fill {
-    /// The first calls, the last of which is an access to page 0 of space 0.
-    pub calls: &'static str,
+#[derive(Clone, Copy)]
+pub(super) struct Fill<'a> {
+    name: &'a str,
     /// How many pages of space 0 are accessed, those behind the first one by a load of each.
-    pub pages: u32,
+    pages: u32,
     /// How many entries all these calls make, and the hash of their lines, as the checker made them.
-    pub entries: usize,
-    pub hash: u64,
+    entries: usize,
+    hash: u64,
+    /// The first calls, the last of which is an access to page 0 of space 0.
+    calls: &'a str,
 }
 
 /// A run: its trace, its turns, where its stores fail, its history, and its counts.
-pub struct Run {
-    pub name: &'static str,
+#[derive(Clone, Copy)]
+pub(super) struct Run<'a> {
+    name: &'a str,
     /// The first line of the trace.
-    pub head: &'static str,
-    pub fill: &'static Fill,
-    /// The calls behind those that use frames.
-    pub calls: &'static str,
+    head: &'a str,
+    /// The name of the calls that use frames.
+    fill: &'a str,
+    /// The calls behind these.
+    calls: &'a str,
     /// Whose turns come behind those that use frames, a digit a turn. After them it is always that of the lowest processor that can
     /// step.
-    pub turns: &'static str,
-    /// The reads and the writes at which each store fails. Those of the first are counted behind the reads that use frames.
-    pub reads: &'static [u64],
-    pub writes: &'static [u64],
-    /// Whether no store finds memory for a write.
-    pub full: bool,
+    turns: &'a str,
+    /// The reads and the writes at which each store fails. Those of the first are counted behind the reads that use frames. Where the
+    /// writes are `full`, no store finds memory for a write.
+    reads: &'a str,
+    writes: &'a str,
     /// The history's lines behind those of the calls that use frames.
-    pub history: &'static str,
+    pub(super) history: &'a str,
     /// The lines of the counts.
-    pub counts: &'static str,
+    counts: &'a str,
+}
+
+/// What stands in the next line behind its name.
+fn field<'a>(lines: &mut Lines<'a>) -> &'a str {
+    let line = lines.next().unwrap_or("");
+    match line.split_once(": ") {
+        Some((_, field)) => field,
+        None => "",
+    }
+}
+
+/// The number of a word.
+fn number(word: &str) -> u64 {
+    word.parse::<u64>().unwrap_or(0)
+}
+
+/// The calls that use frames of a text.
+fn read_fill(text: &str) -> Fill<'_> {
+    let mut lines = text.lines();
+    Fill {
+        name: field(&mut lines),
+        pages: field(&mut lines).parse::<u32>().unwrap_or(0),
+        entries: number(field(&mut lines)) as usize,
+        hash: number(field(&mut lines)),
+        calls: field(&mut lines),
+    }
+}
+
+/// The calls that use frames of this name.
+fn fill_of(name: &str) -> Result<Fill<'static>, Fail> {
+    for text in FILLS.split("\n\n") {
+        let fill = read_fill(text);
+        if fill.name == name {
+            return Ok(fill);
+        }
+    }
+    Err(Fail::from("no such fill"))
+}
+
+/// The run of a text.
+pub(super) fn read_run(text: &str) -> Run<'_> {
+    let mut lines = text.lines();
+    Run {
+        name: field(&mut lines),
+        head: field(&mut lines),
+        fill: field(&mut lines),
+        calls: field(&mut lines),
+        turns: field(&mut lines),
+        reads: field(&mut lines),
+        writes: field(&mut lines),
+        history: field(&mut lines),
+        counts: field(&mut lines),
+    }
 }
 
 /// Adds a load of each page behind the first one.
@@ -57,129 +115,157 @@ fn put_loads(alloc: Global, text: &mut String, pages: u32) -> Result<(), AllocEr
 }
 
 /// The text of a run's trace.
-fn text_of(alloc: Global, run: &Run) -> Result<String, AllocError> {
+fn text_of(alloc: Global, run: &Run<'_>, fill: &Fill<'_>) -> Result<String, AllocError> {
     let mut text = String::new(alloc);
     put_lines(&mut text, run.head)?;
-    put_lines(&mut text, run.fill.calls)?;
-    put_loads(alloc, &mut text, run.fill.pages)?;
+    put_lines(&mut text, fill.calls)?;
+    put_loads(alloc, &mut text, fill.pages)?;
     put_lines(&mut text, run.calls)?;
     put_lines(&mut text, "end")?;
     Ok(text)
 }
 
-/// The run's turns: those of processor 0 that use frames, and those that the digits name.
-fn turns_of(alloc: Global, run: &Run, processors: u32) -> Result<Vec<u32>, AllocError>
+/// The turns of a run: so many of processor 0, and those that the digits name.
+fn turns_of(
+    alloc: Global,
+    before: usize,
+    digits: &str,
+    processors: u32,
+) -> Result<Vec<u32>, AllocError>
     requires some { 0 < processors }
     ensures known { IfOk result (λ turns. All (λ c. c < processors) turns.items) }
 {
-    let mut turns = vec![in alloc; 0; run.fill.entries]?;
-    for digit in run.turns.bytes() {
+    let mut turns = vec![in alloc; 0; before]?;
+    for digit in digits.bytes() {
         // The digit 0 is byte 48, a multiple of 16.
         turns.push(u32::from(digit) % 16 % processors)?;
     }
     Ok(turns)
 }
 
-/// The numbers, each so much greater.
-fn moved(alloc: Global, numbers: &[u64], by: u64) -> Result<Vec<u64>, AllocError> {
-    let mut all = Vec::new(alloc);
-    for number in numbers {
-        all.push(number.saturating_add(by))?;
-    }
-    Ok(all)
+/// The numbers of these words, each so much greater.
+fn numbers_of(alloc: Global, words: &str, more: u32) -> Result<Vec<u64>, AllocError> {
+    words
+        .split_whitespace()
+        .map(|word| number(word).saturating_add(u64::from(more)))
+        .collect(alloc)
 }
 
-/// A store for each space.
-fn stores_of(alloc: Global, run: &Run, spaces: u32) -> Result<Vec<MemoryStore>, AllocError> {
-    let mut stores = Vec::new(alloc);
-    for space in 0..spaces {
-        let before = if space == 0 { run.fill.pages } else { 0 };
-        let reads = moved(alloc, run.reads, u64::from(before))?;
-        stores.push(MemoryStore::of(alloc, reads, run.writes.to_vec(alloc)?))?;
-    }
-    Ok(stores)
+/// A store that fails at these reads, counted behind so many, and at these writes.
+fn store_of(
+    alloc: Global,
+    reads: &str,
+    before: u32,
+    writes: &str,
+) -> Result<MemoryStore, AllocError> {
+    let reads = numbers_of(alloc, reads, before)?;
+    let writes = numbers_of(alloc, writes, 0)?;
+    Ok(MemoryStore::of(alloc, reads, writes))
+}
+
+/// A store for each space. So many reads of the first one use frames.
+fn stores_of(
+    alloc: Global,
+    run: &Run<'_>,
+    before: u32,
+    spaces: u32,
+) -> Result<Vec<MemoryStore>, AllocError> {
+    (0..spaces)
+        .map(|space| {
+            let before = if space == 0 { before } else { 0 };
+            store_of(alloc, run.reads, before, run.writes)
+        })
+        .try_collect(alloc)
 }
 
 /// A store for each space, none of which finds memory for a copy.
 fn full_stores(alloc: Global, spaces: u32) -> Result<Vec<Full>, AllocError> {
     let mut stores = Vec::new(alloc);
-    for _ in 0..spaces {
-        stores.push(Full)?;
-    }
+    stores.resize_with(spaces as usize, || Full)?;
     Ok(stores)
 }
 
-/// The history of a run over these stores, and its counts.
-fn history_over<S: Store + Send + Drop>(
+/// The report of a run over these stores.
+fn report_over<S: Store + Send + Drop>(
     alloc: Global,
     trace: &Trace,
     stores: Vec<S>,
     turns: &[u32],
-) -> Result<(Vec<Numbered>, Summary), Fail>
+) -> Result<String, Fail>
     requires known { All (λ c. c < trace.now.processors) turns.now }
 {
     if stores.len() < trace.spaces() as usize {
         return Err(Fail::from("too few stores"));
     }
     match replay_schedule(alloc, trace, stores, turns) {
-        Ok(gathered) => Ok((gathered.history, gathered.summary)),
+        Ok(gathered) => report_of(alloc, &gathered.history, &gathered.summary),
         Err(_) => Err(Fail::from("no memory for the machine")),
     }
 }
 
-/// The history of a run, and its counts.
-fn history_of(alloc: Global, run: &Run) -> Result<(Vec<Numbered>, Summary), Fail> {
-    let text = text_of(alloc, run)?;
+/// The report of a run.
+fn report_of_run(alloc: Global, run: &Run<'_>, fill: &Fill<'_>) -> Result<String, Fail> {
+    let text = text_of(alloc, run, fill)?;
     let trace = read_text(alloc, text.as_str())?;
     let spaces = trace.spaces();
-    let turns = turns_of(alloc, run, trace.processors())?;
-    if run.full {
-        history_over(alloc, &trace, full_stores(alloc, spaces)?, &turns)
+    let turns = turns_of(alloc, fill.entries, run.turns, trace.processors())?;
+    if run.writes == "full" {
+        report_over(alloc, &trace, full_stores(alloc, spaces)?, &turns)
     } else {
-        history_over(alloc, &trace, stores_of(alloc, run, spaces)?, &turns)
+        let stores = stores_of(alloc, run, fill.pages, spaces)?;
+        report_over(alloc, &trace, stores, &turns)
     }
 }
 
-/// Asserts that the runs' histories and counts are the recorded ones.
-fn assert_runs(rt: &impl Abort, alloc: Global, runs: &[Run]) -> Result<(), Fail> {
-    for run in runs {
-        let (history, summary) = history_of(alloc, run)?;
-        let Some((first, rest)) = history.split_at_checked(run.fill.entries) else {
-            return Err(Fail::from("too few entries"));
-        };
-        assert_eq!(rt; hash_of(alloc, first)?, run.fill.hash, "{}", run.name);
-        assert_recorded(rt, alloc, rest, run.history)?;
-        assert_eq!(rt;
-            counts_of(alloc, &summary)?.as_str(),
-            run.counts,
-            "{}",
-            run.name
-        );
+/// Asserts that a run's report has the recorded history and counts.
+fn assert_report(rt: &impl Abort, run: &Run<'_>, fill: &Fill<'_>, report: &str) {
+    let mut lines = report.lines();
+    assert_eq!(rt;
+        hash_of(&mut lines, fill.entries),
+        fill.hash,
+        "{}",
+        run.name
+    );
+    assert_recorded(rt, lines, run.history, run.counts);
+}
+
+/// Runs a run, and asserts that.
+fn assert_run(rt: &impl Abort, alloc: Global, run: &Run<'_>) -> Result<(), Fail> {
+    let fill = fill_of(run.fill)?;
+    let report = report_of_run(alloc, run, &fill)?;
+    assert_report(rt, run, &fill, report.as_str());
+    Ok(())
+}
+
+/// Runs the runs of a text, and asserts that of each.
+fn assert_runs(rt: &impl Abort, alloc: Global, runs: &str) -> Result<(), Fail> {
+    for text in runs.split("\n\n") {
+        assert_run(rt, alloc, &read_run(text))?;
     }
     Ok(())
 }
 
 #[test]
 fn runs_show_what_their_names_say(rt: HostRuntime) -> Result<(), Fail> {
-    assert_runs(&rt, rt.alloc(), &NAMED)
+    assert_runs(&rt, rt.alloc(), NAMED)
 }
 
 #[test]
 fn the_first_drawn_runs_make_the_recorded_histories(rt: HostRuntime) -> Result<(), Fail> {
-    assert_runs(&rt, rt.alloc(), &FIRST)
+    assert_runs(&rt, rt.alloc(), FIRST)
 }
 
 #[test]
 fn the_second_drawn_runs_make_the_recorded_histories(rt: HostRuntime) -> Result<(), Fail> {
-    assert_runs(&rt, rt.alloc(), &SECOND)
+    assert_runs(&rt, rt.alloc(), SECOND)
 }
 
 #[test]
 fn the_third_drawn_runs_make_the_recorded_histories(rt: HostRuntime) -> Result<(), Fail> {
-    assert_runs(&rt, rt.alloc(), &THIRD)
+    assert_runs(&rt, rt.alloc(), THIRD)
 }
 
 #[test]
 fn the_fourth_drawn_runs_make_the_recorded_histories(rt: HostRuntime) -> Result<(), Fail> {
-    assert_runs(&rt, rt.alloc(), &FOURTH)
+    assert_runs(&rt, rt.alloc(), FOURTH)
 }

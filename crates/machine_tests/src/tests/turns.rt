@@ -2,7 +2,7 @@
 //! recorded.
 ghost use Rattle.std.specs.Prelude.{◌≡◌, ◌<◌, IfOk, length};
 
-use super::lines::{assert_recorded, counts_of};
+use super::lines::{assert_recorded, report_of};
 use super::recorded::{COUNTS, HISTORY, TRACE};
 use super::trace_of;
 use pager_core::{Machine, Turn};
@@ -28,14 +28,10 @@ struct Counts {
 fn machine_of(alloc: Global, trace: &Trace) -> Result<Machine<MemoryStore>, Fail>
     ensures { IfOk result (λ m. length m.calls ≡ trace.now.processors) }
 {
-    let spaces = trace.spaces();
     let mut stores = Vec::new(alloc);
-    for _ in 0..spaces {
-        stores.push(MemoryStore::of(alloc, Vec::new(alloc), Vec::new(alloc)))?;
-    }
-    if stores.len() < spaces as usize {
-        return Err(Fail::from("too few stores"));
-    }
+    stores.resize_with(trace.spaces() as usize, || {
+        MemoryStore::of(alloc, Vec::new(alloc), Vec::new(alloc))
+    })?;
     match Machine::create(alloc, trace, stores) {
         Ok(machine) => Ok(machine),
         Err(_) => Err(Fail::from("no memory for the machine")),
@@ -90,7 +86,7 @@ fn turns_in_any_order_make_the_recorded_history(rt: HostRuntime) -> Result<(), F
     assert_eq!(rt; counts, wanted);
     assert!(rt; machine.ended());
     let gathered = machine.finish();
-    assert_recorded(&rt, alloc, &gathered.history, HISTORY)?;
-    assert_eq!(rt; counts_of(alloc, &gathered.summary)?.as_str(), COUNTS);
+    let report = report_of(alloc, &gathered.history, &gathered.summary)?;
+    assert_recorded(&rt, report.lines(), HISTORY, COUNTS);
     Ok(())
 }
