@@ -120,6 +120,3 @@ impl Free {
         self.count
     }
 }
-
-#[cfg(test)]
-mod tests;

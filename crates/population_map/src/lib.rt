@@ -208,6 +208,3 @@ impl PopulationMap {
         .full
     }
 }
-
-#[cfg(test)]
-mod tests;

@@ -182,6 +182,3 @@ impl Regions {
         self.items.partition_point(|region| region.first <= page)
     }
 }
-
-#[cfg(test)]
-mod tests;
