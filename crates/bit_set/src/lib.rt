@@ -125,6 +125,3 @@ fn first_word_from<L: Ledger>(
     let group = groups.next_in_word(word / 64 + 1, steps)?;
     words.next_in_word(group * 64, steps)
 }
-
-#[cfg(test)]
-mod tests;

@@ -121,6 +121,3 @@ impl Free {
         self.count
     }
 }
-
-#[cfg(test)]
-mod tests;

@@ -122,6 +122,3 @@ impl<V: Copy> ExtentTree<V> {
         walk::trim(&mut self.store, height, place, steps);
     }
 }
-
-#[cfg(test)]
-mod tests;

@@ -92,6 +92,3 @@ impl<W: Write> Sink for RealSink<W> {
         }
     }
 }
-
-#[cfg(test)]
-mod tests;

@@ -8,4 +8,3 @@ pub mod JoinedViews
 pub mod DealtSeats
 pub mod MergedEntries
 pub mod WholeHistory
-pub mod SampleAnswers

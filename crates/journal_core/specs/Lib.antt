@@ -4,4 +4,3 @@ pub mod Views
 pub mod Journals
 pub mod Seats
 pub mod Clauses
-pub mod Samples

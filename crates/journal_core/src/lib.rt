@@ -23,6 +23,3 @@ mod view;
 pub use author::Author;
 pub use journal::{Journal, Opened, close, commit, commit_two, create, meet, meet_two};
 pub use pass::Pass;
-
-#[cfg(test)]
-mod tests;

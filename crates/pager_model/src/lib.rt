@@ -39,6 +39,3 @@ pub use steps::Steps;
 pub use summary::Summary;
 pub use tile::{Mapping, Tile};
 pub use trace::{Daemon, Trace};
-
-#[cfg(test)]
-mod tests;

@@ -216,6 +216,3 @@ impl PopulationMap {
         .full
     }
 }
-
-#[cfg(test)]
-mod tests;

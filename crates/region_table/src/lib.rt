@@ -183,6 +183,3 @@ impl Regions {
         self.items.partition_point(|region| region.first <= page)
     }
 }
-
-#[cfg(test)]
-mod tests;

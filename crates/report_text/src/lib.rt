@@ -8,6 +8,3 @@ mod summary_lines;
 mod writing;
 
 pub use report::{Parts, write_report};
-
-#[cfg(test)]
-mod tests;

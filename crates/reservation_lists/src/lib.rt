@@ -162,6 +162,3 @@ impl Lists {
         list.first().map(|m| m.frame)
     }
 }
-
-#[cfg(test)]
-mod tests;

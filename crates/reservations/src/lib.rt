@@ -250,6 +250,3 @@ fn write_parts(
         write(records, ids, first, size, kept_part(used, whole, i));
     }
 }
-
-#[cfg(test)]
-mod tests;

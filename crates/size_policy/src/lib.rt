@@ -66,6 +66,3 @@ pub fn preferred<F: Fn(Extent) -> bool>(page: u32, want: &Want, meets: F) -> Siz
     }
     Size::at_level(0)
 }
-
-#[cfg(test)]
-mod tests;

@@ -9,6 +9,3 @@ mod store;
 
 pub use memory::MemoryStore;
 pub use store::{Store, StoreFailed, WriteRefused};
-
-#[cfg(test)]
-mod tests;

@@ -14,6 +14,3 @@ mod sizes;
 
 pub use base::Base;
 pub use moves::Moves;
-
-#[cfg(test)]
-mod tests;

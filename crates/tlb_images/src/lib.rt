@@ -147,6 +147,3 @@ impl Image {
             .position(|place| is_same(tile, &place.tile))
     }
 }
-
-#[cfg(test)]
-mod tests;

@@ -159,6 +159,3 @@ impl UsedFrames {
         self.notes.claimed()
     }
 }
-
-#[cfg(test)]
-mod tests;

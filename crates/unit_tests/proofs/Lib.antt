@@ -1,0 +1,2 @@
+pub mod MarkedMembers
+pub mod SampleAnswers

@@ -1,0 +1,243 @@
+//! The free frames beside plain flags that say the same.
+ghost use Rattle.std.specs.Prelude.{◌≡◌, ℕ, ◌+◌, ◌%◌, ◌^◌, ◌<◌, ◌≤◌, false, length, slice_index_or};
+ghost use Rattle.std.specs.Bool.{OnTrue};
+
+mod plain;
+
+use super::size;
+use buddy_extents::{Free, laws};
+use pager_model::{Extent, Generator, NoMemory, Size, Steps};
+use std::alloc::Global;
+use std::marker::Brand;
+use std::process::Abort;
+use std::sync::ledger::{Blank, Ledger};
+use std::test::Fail;
+
+/// The set beside a plain list of flags that says the same.
+#[derive(Drop)]
+struct Beside {
+    free: Free,
+    flags: Vec<bool>,
+    ghost same: { free ≡ flags.items },
+    ghost most: { length flags.items ≤ 32768 },
+}
+
+/// Whether none of the `count` frames from `first` on is free.
+fn none_free(flags: &[bool], first: u32, count: u32) -> bool
+    requires { first + count < 2 ^ 32 }
+    ensures { OnTrue result ((frame : ℕ) → first ≤ frame → frame < first + count
+        → slice_index_or flags.now frame false ≡ false) }
+{
+    for frame in first..first + count {
+        if flags.get(frame as usize).copied().unwrap_or(false) {
+            return false;
+        }
+    }
+    true
+}
+
+/// Takes an extent, in both.
+fn take_in<L: Ledger>(both: &mut Beside, size: Size, blank: Blank) -> Option<u32>
+    requires name { blank.name ≡ L.name }
+    requires parts { blank.parts ≡ L.parts }
+    requires share { 0 < blank.parts }
+{
+    laws::choice_is_a_free_extent();
+    let (book, share) = blank.open::<L>();
+    let first = both.free.take(size, &mut Steps::begin(book, share))?;
+    plain::set_range(both.flags.as_mut_slice(), first, size.pages(), false);
+    Some(first)
+}
+
+fn has_in<L: Ledger>(free: &Free, size: Size, blank: Blank) -> bool
+    requires name { blank.name ≡ L.name }
+    requires parts { blank.parts ≡ L.parts }
+    requires share { 0 < blank.parts }
+{
+    let (book, share) = blank.open::<L>();
+    free.has(size, &mut Steps::begin(book, share))
+}
+
+/// Gives an extent back in both, where none of its frames is free.
+fn give_in<L: Ledger>(both: &mut Beside, extent: Extent, blank: Blank) -> bool
+    requires name { blank.name ≡ L.name }
+    requires parts { blank.parts ≡ L.parts }
+    requires share { 0 < blank.parts }
+{
+    let pages = extent.size.pages();
+    let first = extent.first;
+    if pages == 0 || pages > 512 || first % pages != 0 || first > 32_768 {
+        return false;
+    }
+    if (first + pages) as usize > both.flags.len()
+        || !none_free(both.flags.as_slice(), first, pages)
+    {
+        return false;
+    }
+    let (book, share) = blank.open::<L>();
+    both.free.give(extent, &mut Steps::begin(book, share));
+    plain::set_range(both.flags.as_mut_slice(), first, pages, true);
+    true
+}
+
+impl Beside {
+    fn create(alloc: Global, frames: u32) -> Result<Beside, NoMemory>
+        requires whole { frames % 512 ≡ 0 }
+        requires most { frames ≤ 32768 }
+    {
+        Ok(Beside {
+            free: Free::create(alloc, frames)?,
+            flags: vec![in alloc; true; frames as usize]?,
+        })
+    }
+
+    fn take(&mut self, size: Size) -> Option<u32> {
+        take_in::<Brand>(self, size, Blank::new(1))
+    }
+
+    fn has(&self, size: Size) -> bool {
+        has_in::<Brand>(&self.free, size, Blank::new(1))
+    }
+
+    fn give(&mut self, size: Size, first: u32) -> bool {
+        give_in::<Brand>(self, Extent { size, first }, Blank::new(1))
+    }
+
+    /// Whether it has an extent of a size where the flags say so, and takes the one that they choose.
+    fn takes_the_choice(&mut self, size: Size) -> bool {
+        let chosen = plain::choice(self.flags.as_slice(), size);
+        self.has(size) == chosen.is_some() && self.take(size) == chosen
+    }
+
+    /// Whether it has as many free frames as the flags say.
+    fn counts_alike(&self) -> bool {
+        let free = self.flags.iter().filter(|free| **free).count();
+        self.free.count() as usize == free
+    }
+
+    /// Whether so many takings of a size give the extents from frame 0 on in order.
+    fn takes_in_order(&mut self, size: Size, count: u32) -> bool {
+        for i in 0..count {
+            if self.take(size) != Some(i.wrapping_mul(size.pages())) {
+                return false;
+            }
+        }
+        true
+    }
+
+    /// Whether all 32,768 single frames can be given back, each fifth one first.
+    fn gives_frames(&mut self) -> bool {
+        for i in 0..32_768u32 {
+            if !self.give(size(0), 5 * i % 32_768) {
+                return false;
+            }
+        }
+        true
+    }
+}
+
+/// A step of a table, with what it answers: sizes by their levels, extents by their first frames.
+#[derive(Clone, Copy)]
+enum Step {
+    Take(u8, Option<u32>),
+    Give(u8, u32),
+    Has(u8, bool),
+    Count(u32),
+}
+
+static STEPS: [Step; 29] = [
+    Step::Take(3, Some(0)),
+    Step::Take(3, Some(512)),
+    Step::Has(0, false),
+    // A single frame above a block of eight.
+    Step::Give(1, 0),
+    Step::Give(0, 17),
+    Step::Count(9),
+    Step::Take(0, Some(17)),
+    Step::Take(0, Some(0)),
+    Step::Has(1, false),
+    Step::Take(0, Some(1)),
+    Step::Take(0, Some(2)),
+    Step::Take(0, Some(3)),
+    Step::Take(0, Some(4)),
+    Step::Count(3),
+    // Two blocks of eight that make one of sixteen, below a block of eight.
+    Step::Give(1, 16),
+    Step::Give(1, 24),
+    Step::Give(1, 40),
+    Step::Take(1, Some(40)),
+    Step::Take(1, Some(16)),
+    Step::Has(1, true),
+    Step::Has(2, false),
+    // Blocks of 64 and of 512 beside that of eight.
+    Step::Give(2, 128),
+    Step::Give(3, 512),
+    Step::Take(0, Some(5)),
+    Step::Take(1, Some(24)),
+    Step::Take(1, Some(128)),
+    Step::Take(2, Some(512)),
+    Step::Take(3, None),
+    Step::Count(506),
+];
+
+impl Beside {
+    /// Whether a step answers what the table says.
+    fn goes(&mut self, step: Step) -> bool {
+        match step {
+            Step::Take(level, first) => self.take(size(level)) == first,
+            Step::Give(level, first) => self.give(size(level), first),
+            Step::Has(level, has) => self.has(size(level)) == has,
+            Step::Count(count) => self.free.count() == count,
+        }
+    }
+}
+
+#[test]
+fn takes_from_the_least_block_that_holds_the_size(rt: HostRuntime) -> Result<(), Fail> {
+    let mut both = Beside::create(rt.alloc(), 1024)?;
+    for (i, &step) in STEPS.iter().enumerate() {
+        assert!(rt; both.goes(step), "step {i}");
+    }
+    Ok(())
+}
+
+/// Takes an extent of a drawn size, or gives a drawn one back where that may be done. Answers whether a taking is as chosen by the flags.
+fn goes_alike(both: &mut Beside, frames: u32, random: &mut Generator) -> bool
+    requires { 0 < frames }
+{
+    let size = size(random.draw(4) as u8);
+    if random.draw(2) == 0 {
+        return both.takes_the_choice(size);
+    }
+    let pages = size.pages().max(1);
+    both.give(size, random.draw(frames) / pages * pages);
+    true
+}
+
+fn chooses_alike(rt: &impl Abort, both: &mut Beside, frames: u32, steps: u32)
+    requires { 0 < frames }
+{
+    let mut random = Generator::of(5);
+    for step in 0..steps {
+        assert!(rt; goes_alike(both, frames, &mut random), "step {step}");
+    }
+    assert!(rt; both.counts_alike());
+}
+
+#[test]
+fn chooses_as_plain_flags_do(rt: HostRuntime) -> Result<(), Fail> {
+    chooses_alike(&rt, &mut Beside::create(rt.alloc(), 512)?, 512, 2_000);
+    chooses_alike(&rt, &mut Beside::create(rt.alloc(), 32_768)?, 32_768, 60);
+    Ok(())
+}
+
+#[test]
+fn hands_out_and_joins_32_768_single_frames(rt: HostRuntime) -> Result<(), Fail> {
+    let mut both = Beside::create(rt.alloc(), 32_768)?;
+    assert!(rt; both.takes_in_order(size(0), 32_768));
+    assert_eq!(rt; both.take(size(0)), None);
+    assert!(rt; both.gives_frames());
+    assert_eq!(rt; both.free.count(), 32_768);
+    assert!(rt; both.takes_in_order(size(3), 64));
+    Ok(())
+}

@@ -1,0 +1,36 @@
+//! A store whose writes find no memory.
+
+ghost use Rattle.std.specs.Prelude.{true, List, [], Some};
+
+use store_core::{Store, StoreFailed, WriteRefused};
+
+/// Refuses each write, so its copies stay zero.
+#[derive(Drop)]
+pub(super) struct Full;
+
+impl Store for Full {
+    ghost seen = { λ _. record { tells = true; told = true; copies = []; kept = Some []; faults = 0 } };
+
+    #[tactic(auto, unfolding(pager_model::specs::Stored::copy_at))]
+    fn read(&mut self, _page: u32, words: &mut [u64]) -> Result<(), StoreFailed> {
+        words.fill(0);
+        Ok(())
+    }
+
+    #[tactic(auto, unfolding(pager_model::specs::Stored::keeps_at))]
+    fn write(&mut self, _page: u32, _words: &[u64]) -> Result<(), WriteRefused> {
+        Err(WriteRefused::NoMemory)
+    }
+
+    #[tactic(auto, unfolding(pager_model::specs::Stored::copy_at))]
+    fn drop_pages(&mut self, _first: u32, _length: u32) {}
+
+    #[tactic(auto, unfolding(pager_model::specs::Stored::copy_at))]
+    fn told(&self) -> bool {
+        true
+    }
+
+    fn faults(&self) -> u64 {
+        0
+    }
+}

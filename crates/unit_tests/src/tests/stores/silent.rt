@@ -1,0 +1,51 @@
+//! A store that tells nothing of its copies.
+
+ghost use Rattle.std.specs.Prelude.{◌-◌, ◌^◌, ◌≤◌, false, List, [], None};
+
+use store_core::{Store, StoreFailed, WriteRefused};
+
+/// Forgets what is written, and fails always or never. It keeps every page, as a store of files does, and tells nothing.
+#[derive(Drop)]
+pub(super) struct Silent {
+    fails: bool,
+    faults: u64,
+    ghost most: { faults ≤ 2 ^ 64 - 1 },
+}
+
+impl Silent {
+    pub(super) fn of(fails: bool) -> Silent {
+        Silent { fails, faults: 0 }
+    }
+}
+
+impl Store for Silent {
+    ghost seen = { λ s. record { tells = false; told = false; copies = []; kept = None; faults = s.faults } };
+
+    #[tactic(auto, unfolding(pager_model::specs::Stored::keeps_at))]
+    fn read(&mut self, _page: u32, _words: &mut [u64]) -> Result<(), StoreFailed> {
+        if self.fails {
+            self.faults = self.faults.saturating_add(1);
+            return Err(StoreFailed);
+        }
+        Ok(())
+    }
+
+    #[tactic(auto, unfolding(pager_model::specs::Stored::keeps_at))]
+    fn write(&mut self, _page: u32, _words: &[u64]) -> Result<(), WriteRefused> {
+        if self.fails {
+            self.faults = self.faults.saturating_add(1);
+            return Err(WriteRefused::Failed);
+        }
+        Ok(())
+    }
+
+    fn drop_pages(&mut self, _first: u32, _length: u32) {}
+
+    fn told(&self) -> bool {
+        false
+    }
+
+    fn faults(&self) -> u64 {
+        self.faults
+    }
+}

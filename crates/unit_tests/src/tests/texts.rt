@@ -1,0 +1,428 @@
+//! Texts of small runs, and a line of each kind.
+use super::streams::sink_of;
+use super::streams::slow::Slow;
+use io_core::{MemorySink, Sink, WriteFailed};
+use pager_model::{
+    Answered, Call, Entry, Kind, Need, Numbered, Reply, Rights, Size, Summary, Want, What,
+};
+use report_text::{Parts, write_report};
+use std::alloc::{AllocError, Global};
+use std::test::Fail;
+
+const MAP: Call = Call::Map {
+    space: 0,
+    page: 0,
+    length: 8,
+    kind: Kind::Fixed,
+    rights: Rights::Read,
+};
+
+const LOAD: Call = Call::Load {
+    space: 0,
+    address: 0,
+};
+
+const WANT: Want = Want {
+    low: 0,
+    high: 8,
+    cap: 8,
+    wired: false,
+};
+
+const SUMMARY: Summary = Summary {
+    tiles: [1, 0, 0, 0],
+    promotions: 0,
+    demotions: 0,
+    preemptions: 0,
+    hits: 0,
+    misses: 1,
+    free: 504,
+    reserved: 7,
+    used: 1,
+};
+
+const ANSWERS: &[u8] = b"0 0 done\n0 1 value 0 miss 0\n";
+
+const HISTORY: &[u8] =
+    b"0 0 s0 answer 0 done\n1 0 s0+f take 0 0 0 8 8 0\n2 0 s0 answer 1 value 0 miss 0\n";
+
+const COUNTS: &[u8] =
+    b"tiles 1 0 0 0\npromotions 0\ndemotions 0\npreemptions 0\nimages 0 1\nframes 504 7 1\nend\n";
+
+/// An entry of processor 0 that names space 0, and the frames where it says so.
+fn entry_at(number: u64, frames: bool, what: What) -> Numbered {
+    Numbered {
+        number,
+        entry: Entry {
+            processor: 0,
+            space: Some(0),
+            frames,
+            what,
+        },
+    }
+}
+
+/// A call's answer, with the size of a level.
+fn answer(number: u32, call: Call, reply: Reply, hit: bool, level: Option<u8>) -> What {
+    let answered = Answered {
+        reply,
+        hit,
+        size: level.and_then(Size::of),
+    };
+    What::Answer {
+        number,
+        call,
+        answered,
+    }
+}
+
+const TAKE: What = What::Take {
+    page: 0,
+    frame: 0,
+    want: WANT,
+};
+
+/// The history of a run of a map and a load of one processor.
+fn small_history() -> [Numbered; 3] {
+    let mapped = answer(0, MAP, Reply::Done, false, None);
+    let loaded = answer(1, LOAD, Reply::Value(0), false, Some(0));
+    [
+        entry_at(0, false, mapped),
+        entry_at(1, true, TAKE),
+        entry_at(2, false, loaded),
+    ]
+}
+
+/// Writes the small run.
+fn write_small<K: Sink>(sink: &mut K, parts: Parts) -> Result<(), WriteFailed> {
+    write_report(sink, 1, &small_history(), &SUMMARY, parts)
+}
+
+/// The text of the small run.
+fn small_text(alloc: Global, parts: Parts) -> Result<Vec<u8>, AllocError> {
+    let mut text = ANSWERS.to_vec(alloc)?;
+    if parts == Parts::AnswersAndHistory {
+        text.extend_from_slice(HISTORY)?;
+    }
+    text.extend_from_slice(COUNTS)?;
+    Ok(text)
+}
+
+/// Writes the small run to a sink of at most `limit` bytes.
+fn small_within(
+    alloc: Global,
+    limit: usize,
+    parts: Parts,
+) -> Result<(bool, MemorySink), AllocError> {
+    let mut sink = sink_of(alloc, limit, 0)?;
+    let wrote = write_small(&mut sink, parts).is_ok();
+    Ok((wrote, sink))
+}
+
+#[test]
+fn a_run_has_its_answers_the_history_where_it_is_asked_for_and_the_counts(
+    rt: HostRuntime,
+) -> Result<(), Fail> {
+    for parts in [Parts::Answers, Parts::AnswersAndHistory] {
+        let (wrote, sink) = small_within(rt.alloc(), 300, parts)?;
+        assert!(rt; wrote);
+        assert_eq!(rt; sink.bytes(), small_text(rt.alloc(), parts)?.as_slice());
+    }
+    Ok(())
+}
+
+/// Writes the small run with its history, 16 bytes a write, of which one fails. Answers whether all was written, and how many bytes of
+/// the text are there, where it begins with them.
+fn small_failing(
+    alloc: Global,
+    failing: u64,
+    text: &[u8],
+) -> Result<(bool, Option<usize>), AllocError> {
+    let mut sink = Slow::of(sink_of(alloc, 300, failing)?, 16);
+    let wrote = write_small(&mut sink, Parts::AnswersAndHistory).is_ok();
+    let bytes = sink.bytes();
+    Ok((wrote, text.starts_with(bytes).then_some(bytes.len())))
+}
+
+#[test]
+fn each_write_that_fails_leaves_what_went_before(rt: HostRuntime) -> Result<(), Fail> {
+    let text = small_text(rt.alloc(), Parts::AnswersAndHistory)?;
+    let writes = text.len().div_ceil(16);
+    for gone in 0..=writes {
+        let failing = gone as u64 + 1;
+        let bytes = text.len().min(gone.saturating_mul(16));
+        let told = small_failing(rt.alloc(), failing, text.as_slice())?;
+        assert_eq!(rt; told, (gone == writes, Some(bytes)), "at write {failing}");
+    }
+    Ok(())
+}
+
+#[test]
+fn a_full_sink_has_the_first_bytes_of_the_text(rt: HostRuntime) -> Result<(), Fail> {
+    let text = small_text(rt.alloc(), Parts::Answers)?;
+    for limit in [0, 1, ANSWERS.len(), ANSWERS.len() + COUNTS.len() - 1] {
+        let (wrote, sink) = small_within(rt.alloc(), limit, Parts::Answers)?;
+        assert!(rt; !wrote, "after {limit} bytes");
+        assert_eq!(rt; Some(sink.bytes()), text.get(..limit));
+    }
+    Ok(())
+}
+
+const GOT: What = What::Got { frame: 7 };
+
+/// Writes a run with 400 entries, whose lines have 13 bytes, and answers whether all was written and how many bytes there are.
+fn write_many(alloc: Global, failing: u64) -> Result<(bool, usize), AllocError> {
+    let history = vec![in alloc; of_the_frames(GOT); 400]?;
+    let mut sink = sink_of(alloc, 10_000, failing)?;
+    let wrote = write_report(
+        &mut sink,
+        1,
+        history.as_slice(),
+        &SUMMARY,
+        Parts::AnswersAndHistory,
+    );
+    Ok((wrote.is_ok(), sink.bytes().len()))
+}
+
+#[test]
+fn a_long_text_goes_out_in_pieces(rt: HostRuntime) -> Result<(), Fail> {
+    // The write that fails, and how many bytes went out: the first piece ends at a line's end.
+    for (failing, gone) in [(1, 0), (2, 4096 / 13 * 13), (3, 400 * 13 + COUNTS.len())] {
+        let wrote = write_many(rt.alloc(), failing)?;
+        assert_eq!(rt; wrote, (failing == 3, gone), "at write {failing}");
+    }
+    Ok(())
+}
+
+/// Whether the answers and the history of some entries, and the counts, are these lines and the counts.
+fn has_lines(
+    alloc: Global,
+    processors: u32,
+    history: &[Numbered],
+    parts: Parts,
+    lines: &[u8],
+) -> Result<bool, AllocError> {
+    let mut sink = sink_of(alloc, 1_000, 0)?;
+    let wrote = write_report(&mut sink, processors, history, &SUMMARY, parts);
+    let rest = sink.bytes().strip_prefix(lines);
+    Ok(wrote.is_ok() && rest == Some(COUNTS))
+}
+
+/// A reply, and the level of the size that it names.
+static REPLIES: [(Reply, Option<u8>); 14] = [
+    (Reply::Done, None),
+    (Reply::Done, Some(0)),
+    (Reply::Value(5), Some(3)),
+    (Reply::Clean, None),
+    (Reply::Written, None),
+    (Reply::Unmapped, None),
+    (Reply::Denied, None),
+    (Reply::Overlap, None),
+    (Reply::OutOfSpace, None),
+    (Reply::NotGrowing, None),
+    (Reply::RegionsFull, None),
+    (
+        Reply::NoFrames {
+            wired: 500,
+            claimed: 10,
+            held: 2,
+        },
+        None,
+    ),
+    (
+        Reply::StoreFault {
+            space: 15,
+            count: u64::MAX,
+        },
+        None,
+    ),
+    (Reply::NoMemory, None),
+];
+
+const REPLY_LINES: &[u8] =
+    b"15 7 done\n15 7 done hit 0\n15 7 value 5 hit 3\n15 7 clean\n15 7 written\n15 7 unmapped\n15 7 denied\n15 7 overlap\n15 7 outofspace\n15 7 notgrowing\n15 7 regionsfull\n15 7 noframes 500 10 2\n15 7 storefault 15 18446744073709551615\n15 7 nomemory\n";
+
+/// Processor 15's answer to its call number 7.
+fn answer_of_15(reply: Reply, level: Option<u8>) -> Numbered {
+    Numbered {
+        number: 0,
+        entry: Entry {
+            processor: 15,
+            space: Some(0),
+            frames: false,
+            what: answer(7, LOAD, reply, true, level),
+        },
+    }
+}
+
+#[test]
+fn each_reply_has_its_line(rt: HostRuntime) -> Result<(), Fail> {
+    let answers = REPLIES
+        .iter()
+        .map(|(reply, level)| answer_of_15(*reply, *level));
+    let history: Vec<Numbered> = answers.collect(rt.alloc())?;
+    let parts = Parts::Answers;
+    assert!(rt; has_lines(rt.alloc(), 16, history.as_slice(), parts, REPLY_LINES)?);
+    Ok(())
+}
+
+/// Entry 12, of processor 3.
+fn entry_of_3(space: Option<u32>, frames: bool, what: What) -> Numbered {
+    let entry = Entry {
+        processor: 3,
+        space,
+        frames,
+        what,
+    };
+    Numbered { number: 12, entry }
+}
+
+fn of_the_frames(what: What) -> Numbered {
+    entry_of_3(None, true, what)
+}
+
+#[test]
+fn each_answer_in_a_history_has_its_line(rt: HostRuntime) -> Result<(), Fail> {
+    let what = answer(7, LOAD, Reply::Value(5), true, Some(3));
+    let history = [
+        entry_of_3(Some(2), false, what),
+        entry_of_3(Some(2), true, what),
+    ];
+    let lines = b"12 3 s2 answer 7 value 5 hit 3\n12 3 s2+f answer 7 value 5 hit 3\n";
+    assert!(rt; has_lines(rt.alloc(), 3, &history, Parts::AnswersAndHistory, lines)?);
+    Ok(())
+}
+
+/// Entries that name space 2: whether the frames are named, and what happened.
+const IN_A_SPACE: [(bool, What); 11] = [
+    (
+        false,
+        What::Out {
+            page: 6,
+            written: true,
+        },
+    ),
+    (
+        false,
+        What::Out {
+            page: 6,
+            written: false,
+        },
+    ),
+    (
+        false,
+        What::Failed {
+            page: 6,
+            writing: false,
+            count: 1,
+        },
+    ),
+    (
+        false,
+        What::Failed {
+            page: 6,
+            writing: true,
+            count: 2,
+        },
+    ),
+    (
+        true,
+        What::Take {
+            page: 6,
+            frame: 7,
+            want: WANT,
+        },
+    ),
+    (
+        true,
+        What::UseHeld {
+            page: 6,
+            frame: 7,
+            want: WIDE,
+        },
+    ),
+    (true, What::Give { page: 6, frame: 7 }),
+    (
+        true,
+        What::Clear {
+            first: 6,
+            length: 8,
+        },
+    ),
+    (
+        true,
+        What::Claim {
+            space: 1,
+            page: 4,
+            frame: 5,
+            need: Some(Need {
+                page: 9,
+                writing: false,
+            }),
+        },
+    ),
+    (
+        true,
+        What::Claim {
+            space: 1,
+            page: 4,
+            frame: 5,
+            need: Some(Need {
+                page: 9,
+                writing: true,
+            }),
+        },
+    ),
+    (true, What::Unclaim { frame: 7 }),
+];
+
+const WIDE: Want = Want {
+    low: 6,
+    high: 518,
+    cap: 64,
+    wired: true,
+};
+
+const SPACE_LINES: &[u8] =
+    b"12 3 s2 out 6 written\n12 3 s2 out 6 clean\n12 3 s2 failed 6 read 1\n12 3 s2 failed 6 write 2\n12 3 s2+f take 6 7 0 8 8 0\n12 3 s2+f use 6 7 6 518 64 1\n12 3 s2+f give 6 7\n12 3 s2+f clear 6 8\n12 3 s2+f claim 1 4 5 for 9 read\n12 3 s2+f claim 1 4 5 for 9 write\n12 3 s2+f unclaim 7\n";
+
+#[test]
+fn each_entry_that_names_a_space_has_its_line(rt: HostRuntime) -> Result<(), Fail> {
+    let entries = IN_A_SPACE
+        .iter()
+        .map(|(frames, what)| entry_of_3(Some(2), *frames, *what));
+    let history: Vec<Numbered> = entries.collect(rt.alloc())?;
+    let parts = Parts::AnswersAndHistory;
+    assert!(rt; has_lines(rt.alloc(), 1, history.as_slice(), parts, SPACE_LINES)?);
+    Ok(())
+}
+
+const OF_THE_FRAMES: [What; 6] = [
+    What::Claim {
+        space: 1,
+        page: 4,
+        frame: 5,
+        need: None,
+    },
+    What::DropHeld { frame: 7 },
+    What::Got { frame: 7 },
+    What::Refused {
+        wired: 500,
+        claimed: 10,
+        held: 2,
+    },
+    What::Rest { short: false },
+    What::Rest { short: true },
+];
+
+const FRAMES_LINES: &[u8] =
+    b"12 3 f claim 1 4 5\n12 3 f drop 7\n12 3 f got 7\n12 3 f refused 500 10 2\n12 3 f rest 0\n12 3 f rest 1\n";
+
+#[test]
+fn each_entry_that_names_the_frames_alone_has_its_line(rt: HostRuntime) -> Result<(), Fail> {
+    let entries = OF_THE_FRAMES.iter().map(|what| of_the_frames(*what));
+    let history: Vec<Numbered> = entries.collect(rt.alloc())?;
+    let parts = Parts::AnswersAndHistory;
+    assert!(rt; has_lines(rt.alloc(), 1, history.as_slice(), parts, FRAMES_LINES)?);
+    Ok(())
+}

@@ -1,0 +1,313 @@
+//! The tiles beside a slow scan by what a tile is.
+
+ghost use Rattle.std.specs.Prelude.{◌≡◌, ◌≢◌, ◌<◌, ◌≤◌, ℕ, true, None, Some};
+ghost use Rattle.tiles.specs.Resident.{mapping_at, frames_in, frame_of_page};
+
+use super::size;
+use pager_model::{Extent, Generator, Mapping, NoMemory, Rights, Size, Tile};
+use std::alloc::{AllocGlobal, Global};
+use std::process::Abort;
+use std::test::Fail;
+use tiles::{Base, Moves};
+
+/// The pages that the tests use, and the frames.
+const PAGES: u32 = 1024;
+
+const FRAMES: u32 = 1536;
+
+const NO_MOVES: Moves = Moves {
+    promotions: 0,
+    demotions: 0,
+};
+
+/// The base beside a plain list of mappings.
+#[derive(Drop)]
+struct Beside {
+    base: Base,
+    pages: Vec<Option<Mapping>>,
+    ghost frames: { frames_in base ≡ 1536 },
+    ghost absent: { (p : ℕ) → 1024 ≤ p → mapping_at base p ≡ None },
+}
+
+/// Whether none of the pages that the tests use has a frame.
+fn is_free(base: &Base, frame: u32) -> bool
+    requires { (p : ℕ) → 1024 ≤ p → mapping_at base.now p ≡ None }
+    ensures { result ≡ true → (p : ℕ) → frame_of_page base.now p ≢ Some frame }
+{
+    for page in 0..PAGES {
+        if let Some(mapping) = base.mapping(page) {
+            if mapping.frame == frame {
+                return false;
+            }
+        }
+    }
+    true
+}
+
+/// The extent of a size round a page as a tile, where it is eligible.
+fn eligible(pages: &[Option<Mapping>], size: Size, page: u32) -> Option<Tile> {
+    let length = size.pages().max(1);
+    let first = page / length * length;
+    let head = (*pages.get(first as usize)?)?;
+    if head.frame % length != 0 {
+        return None;
+    }
+    let continues = |i: u32| pages.get(first.wrapping_add(i) as usize)
+        == Some(&Some(after(head, i)));
+    (0..length).all(continues).then_some(Tile {
+        extent: Extent { size, first },
+        frame: head.frame,
+        rights: head.rights,
+        dirty: head.dirty,
+    })
+}
+
+/// The mapping so many pages behind another that continues it.
+fn after(head: Mapping, pages: u32) -> Mapping {
+    Mapping {
+        frame: head.frame.wrapping_add(pages),
+        ..head
+    }
+}
+
+/// The tile of a page by a scan.
+fn tile_of(pages: &[Option<Mapping>], page: u32) -> Option<Tile> {
+    (0..4u8)
+        .rev()
+        .find_map(|level| eligible(pages, size(level), page))
+}
+
+/// The tiles of all pages by a scan, which skips the pages of a tile that was found.
+fn tiles(alloc: Global, pages: &[Option<Mapping>]) -> Result<Vec<Option<Tile>>, NoMemory> {
+    let mut tiles = Vec::new(alloc);
+    for page in 0..PAGES {
+        let tile = tile_after(pages, &tiles, page);
+        tiles.push(tile)?;
+    }
+    Ok(tiles)
+}
+
+/// The tile of a page after those of the pages before it.
+fn tile_after(pages: &[Option<Mapping>], tiles: &[Option<Tile>], page: u32) -> Option<Tile> {
+    if let Some(Some(tile)) = tiles.last() {
+        if page.wrapping_sub(tile.extent.first) < tile.extent.size.pages() {
+            return Some(*tile);
+        }
+    }
+    tile_of(pages, page)
+}
+
+/// The level of a tile, and 0 for none.
+fn level(tile: &Option<Tile>) -> u8 {
+    tile.map_or(0, |tile| tile.extent.size.level())
+}
+
+/// Whether a page is the first one of its tile.
+fn begins(tile: &Option<Tile>, page: usize) -> bool {
+    tile.is_some_and(|tile| tile.extent.first as usize == page)
+}
+
+/// How many tiles of the second list lay in no tile of the first one.
+fn came(before: &[Option<Tile>], after: &[Option<Tile>]) -> usize {
+    let tiles = before.iter().zip(after).enumerate();
+    let new = tiles.filter(|(page, (old, new))| begins(new, *page) && level(old) < level(new));
+    new.count()
+}
+
+impl Beside {
+    fn create(alloc: Global) -> Result<Beside, NoMemory> {
+        Ok(Beside {
+            base: Base::create(alloc, FRAMES)?,
+            pages: vec![in alloc; None; PAGES as usize]?,
+        })
+    }
+
+    /// Fills a page that has no frame with one that no page has.
+    fn fill(&mut self, page: u32, mapping: Mapping) -> Moves {
+        if page >= PAGES || mapping.frame >= FRAMES || self.base.mapping(page).is_some() {
+            return NO_MOVES;
+        }
+        if !is_free(&self.base, mapping.frame) {
+            return NO_MOVES;
+        }
+        if let Some(at) = self.pages.get_mut(page as usize) {
+            *at = Some(mapping);
+        }
+        self.base.after_fill(page, mapping)
+    }
+
+    fn remove(&mut self, page: u32) -> Moves {
+        if let Some(at) = self.pages.get_mut(page as usize) {
+            *at = None;
+        }
+        self.base.after_remove(page)
+    }
+
+    fn set_dirty(&mut self, page: u32, dirty: bool) -> Moves {
+        if let Some(Some(mapping)) = self.pages.get_mut(page as usize) {
+            mapping.dirty = dirty;
+        }
+        self.base.after_dirty(page, dirty)
+    }
+
+    fn protect(&mut self, first: u32, length: u32, rights: Rights) -> Moves {
+        if first > PAGES || length > PAGES {
+            return NO_MOVES;
+        }
+        for page in first..first + length {
+            if let Some(Some(mapping)) = self.pages.get_mut(page as usize) {
+                mapping.rights = rights;
+            }
+        }
+        self.base.after_rights(first, length, rights)
+    }
+
+    /// Sets rights in a block of 64 pages and behind it.
+    fn protect_round(&mut self, page: u32, is_read: bool) -> Moves {
+        let rights = if is_read { Rights::Read } else { Rights::Write };
+        self.protect(page / 64 * 64, 640, rights)
+    }
+
+    /// A drawn change.
+    fn change(&mut self, random: &mut Generator) -> Moves {
+        let page = random.draw(PAGES);
+        let is_odd = random.draw(2) == 1;
+        match random.draw(16) {
+            0 => self.remove(page),
+            1..=3 => self.set_dirty(page, is_odd),
+            4 => self.protect(page, random.draw(8), Rights::Read),
+            5 => self.protect_round(page, is_odd),
+            6 => self.protect(0, PAGES, Rights::Write),
+            7 => self.fill(page, mapping(page ^ 1)),
+            _ => self.fill(page, mapping(page)),
+        }
+    }
+
+    /// Whether a page has this tile in the base.
+    fn has(&self, page: u32, tile: Option<Tile>) -> bool {
+        self.base.tile_of(page) == tile && tile.is_none_or(|tile| self.base.is_tile(&tile))
+    }
+
+    /// Whether the base and the list have the same tiles.
+    fn is_alike(&self, tiles: &[Option<Tile>]) -> bool {
+        (0..).zip(tiles).all(|(page, tile)| self.has(page, *tile))
+    }
+}
+
+/// How many tiles there are of each size.
+fn counts(tiles: &[Option<Tile>]) -> [usize; 4] {
+    [0, 1, 2, 3].map(|level| count_of(tiles, level))
+}
+
+/// How many tiles there are of a level.
+fn count_of(tiles: &[Option<Tile>], of: u8) -> usize {
+    let pages = tiles.iter().enumerate();
+    let of_level = pages.filter(|(page, tile)| begins(tile, *page) && level(tile) == of);
+    of_level.count()
+}
+
+/// Whether a tile has a page from this one on.
+fn reaches(tile: &Option<Tile>, page: usize) -> bool {
+    tile.is_some_and(|tile| tile.extent.first.wrapping_add(tile.extent.size.pages()) as usize > page)
+}
+
+/// How many tiles above size 0 have a page from the first on and before the end.
+fn large_meeting(tiles: &[Option<Tile>], first: usize, end: usize) -> usize {
+    let pages = tiles.iter().enumerate().take(end);
+    let large = pages.filter(|(page, tile)| begins(tile, *page) && level(tile) > 0);
+    let meeting = large.filter(|(_, tile)| reaches(tile, first));
+    meeting.count()
+}
+
+/// The mapping of a page in the frame of its number, after the first 512 pages in those from 1,024 on.
+fn mapping(page: u32) -> Mapping {
+    Mapping {
+        frame: if page < 512 { 1024 + page } else { page - 512 },
+        region: if page < 900 { 0 } else { 900 },
+        rights: Rights::Write,
+        dirty: false,
+    }
+}
+
+/// The base with all pages filled.
+fn filled(alloc: Global) -> Result<Beside, NoMemory> {
+    let mut both = Beside::create(alloc)?;
+    for page in 0..PAGES {
+        both.fill(page, mapping(page));
+    }
+    Ok(both)
+}
+
+/// Whether these are the moves from the first tiles to the second.
+fn are_moves(moves: &Moves, before: &[Option<Tile>], after: &[Option<Tile>]) -> bool {
+    moves.promotions as usize == came(before, after)
+        && moves.demotions as usize == came(after, before)
+}
+
+/// Makes a drawn change. Answers whether the tiles after it and the moves are those of a scan.
+fn goes_alike(both: &mut Beside, alloc: Global, random: &mut Generator) -> Result<bool, NoMemory> {
+    let before = tiles(alloc, &both.pages)?;
+    let moves = both.change(random);
+    let after = tiles(alloc, &both.pages)?;
+    Ok(both.is_alike(&after) && are_moves(&moves, &before, &after))
+}
+
+/// Whether the base has as many tiles as a scan finds, of each size and below page 900.
+fn counts_alike(both: &Beside, alloc: Global) -> Result<bool, NoMemory> {
+    let tiles = tiles(alloc, &both.pages)?;
+    let told = both.base.counts().map(|count| count as usize);
+    let large = both.base.tiles_meeting(100, 600) as usize;
+    Ok(told == counts(&tiles) && large == large_meeting(&tiles, 100, 700))
+}
+
+/// Whether the base has the tiles that a scan finds.
+fn has_tiles(both: &Beside, alloc: Global) -> Result<bool, NoMemory> {
+    Ok(both.is_alike(&tiles(alloc, &both.pages)?))
+}
+
+#[test]
+fn drawn_changes_leave_the_tiles_of_a_scan(rt: HostRuntime) -> Result<(), Fail> {
+    let mut both = filled(rt.alloc())?;
+    assert!(rt; has_tiles(&both, rt.alloc())?);
+    let mut random = Generator::of(7);
+    for change in 0..100 {
+        assert!(rt;
+            goes_alike(&mut both, rt.alloc(), &mut random)?,
+            "change {change}"
+        );
+    }
+    assert!(rt; counts_alike(&both, rt.alloc())?);
+    Ok(())
+}
+
+/// The promotions and demotions of a fill.
+fn moves_of_fill(both: &mut Beside, page: u32) -> (u32, u32) {
+    let moves = both.fill(page, mapping(page));
+    (moves.promotions, moves.demotions)
+}
+
+/// The first 512 pages, filled one by one.
+fn first_half(rt: &(impl Abort + AllocGlobal)) -> Result<Beside, Fail> {
+    let mut both = Beside::create(rt.alloc())?;
+    for page in 0..512 {
+        let promotions = u32::from(page % 8 == 7);
+        assert_eq!(rt; moves_of_fill(&mut both, page), (promotions, 0), "{page}");
+    }
+    Ok(both)
+}
+
+#[test]
+fn the_last_page_of_an_extent_makes_it_a_tile(rt: HostRuntime) -> Result<(), Fail> {
+    let mut both = first_half(&rt)?;
+    assert_eq!(rt; both.base.counts(), [0, 0, 0, 1]);
+    assert_eq!(rt; both.set_dirty(100, true).demotions, 1);
+    assert_eq!(rt; both.base.counts(), [8, 7, 7, 0]);
+    assert_eq!(rt; both.base.tiles_meeting(0, 512), 14);
+    assert_eq!(rt; both.base.tiles_meeting(60, 8), 2);
+    assert_eq!(rt; both.base.tiles_meeting(300, 1), 1);
+    assert_eq!(rt; both.base.tiles_meeting(300, 0), 0);
+    assert_eq!(rt; both.protect(64, 192, Rights::Read).demotions, 0);
+    both.set_dirty(100, false);
+    assert_eq!(rt; both.protect(0, 512, Rights::Read).promotions, 1);
+    Ok(())
+}

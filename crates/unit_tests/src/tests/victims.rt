@@ -1,0 +1,329 @@
+//! Each answer beside that of a walk through a plain list of what is noted.
+
+ghost use Rattle.std.specs.Prelude.{◌≡◌, ℕ, ◌<◌, Some, None, slice_index_or};
+ghost use Rattle.std.specs.Bool.{OnTrue};
+ghost use Rattle.pager_model.specs.declared.reservation.Used.{Used};
+ghost use Rattle.unit_tests.specs.declared.tests.victims.TheConstants.{PROCESSORS};
+
+use pager_model::{Generator, NoMemory, Used};
+use std::alloc::Global;
+use std::process::Abort;
+use std::test::Fail;
+use used_frames::UsedFrames;
+
+const FRAMES: u32 = 64;
+
+const PROCESSORS: u32 = 5;
+
+/// The frames beside a plain list of their notes.
+#[derive(Drop)]
+struct Beside {
+    used: UsedFrames,
+    plain: Vec<Option<Used>>,
+    ghost same: { used.frames ≡ plain.items },
+    ghost known: { used.processors ≡ PROCESSORS },
+}
+
+/// Whether all used frames are of a lesser age than this.
+fn are_older(plain: &[Option<Used>], age: u64) -> bool
+    ensures { OnTrue result ((frame : ℕ) (u : Used)
+        → slice_index_or plain.now frame None ≡ Some u → u.age < age) }
+{
+    for note in plain {
+        if let Some(used) = note {
+            if used.age >= age {
+                return false;
+            }
+        }
+    }
+    true
+}
+
+/// The frame of least age among those that aren't wired, without the claimed ones or with them.
+fn oldest(plain: &[Option<Used>], with_claimed: bool) -> Option<u32> {
+    let mut oldest: Option<(u32, u64)> = None;
+    for (frame, note) in (0..).zip(plain) {
+        if let Some(used) = note {
+            let counts = !used.wired && (with_claimed || used.claim.is_none());
+            if counts && oldest.is_none_or(|(_, least)| used.age < least) {
+                oldest = Some((frame, used.age));
+            }
+        }
+    }
+    oldest.map(|(frame, _)| frame)
+}
+
+/// What is noted of the frame.
+fn note_of(plain: &[Option<Used>], frame: u32) -> Option<Used>
+    ensures { result ≡ slice_index_or plain.now frame None }
+{
+    plain.get(frame as usize).copied().flatten()
+}
+
+/// The frame that the processor claims.
+fn claimed_by(plain: &[Option<Used>], processor: u32) -> Option<u32> {
+    let claims = |note: &Option<Used>| note.is_some_and(|used| used.claim == Some(processor));
+    let frame = plain.iter().position(claims)?;
+    u32::try_from(frame).ok()
+}
+
+/// How many frames are used, how many of them are wired, and how many claimed.
+fn counts(plain: &[Option<Used>]) -> (u32, u32, u32) {
+    let (mut used, mut wired, mut claimed) = (0u32, 0u32, 0u32);
+    for note in plain.iter().flatten() {
+        used = used.wrapping_add(1);
+        wired = wired.wrapping_add(u32::from(note.wired));
+        claimed = claimed.wrapping_add(u32::from(note.claim.is_some()));
+    }
+    (used, wired, claimed)
+}
+
+impl Beside {
+    fn create(alloc: Global) -> Result<Beside, NoMemory> {
+        Ok(Beside {
+            used: UsedFrames::create(alloc, FRAMES, PROCESSORS)?,
+            plain: vec![in alloc; None; FRAMES as usize]?,
+        })
+    }
+
+    /// Adds the frame where that may be done.
+    fn add(&mut self, frame: u32, age: u64, wired: bool) -> bool {
+        let plain = self.plain.as_slice();
+        let unused = (frame as usize) < plain.len() && note_of(plain, frame).is_none();
+        if !unused || !are_older(plain, age) {
+            return false;
+        }
+        self.used.add(frame, age, wired);
+        self.plain[frame as usize] = Some(Used {
+            age,
+            wired,
+            claim: None,
+        });
+        true
+    }
+
+    /// Removes the frame where it is used.
+    fn remove(&mut self, rt: &impl Abort, frame: u32) -> bool {
+        let Some(note) = note_of(self.plain.as_slice(), frame) else {
+            return false;
+        };
+        let claimer = self.used.remove(frame);
+        self.plain[frame as usize] = None;
+        assert_eq!(rt; claimer, note.claim);
+        true
+    }
+
+    /// Claims the frame where that may be done.
+    fn claim(&mut self, frame: u32, processor: u32) -> bool {
+        let Some(note) = note_of(self.plain.as_slice(), frame) else {
+            return false;
+        };
+        let busy = processor >= PROCESSORS || self.used.claimed_by(processor).is_some();
+        if busy || note.claim.is_some() {
+            return false;
+        }
+        self.used.claim(frame, processor);
+        self.plain[frame as usize] = Some(Used {
+            claim: Some(processor),
+            ..note
+        });
+        true
+    }
+
+    /// Claims the victim, where there is one and that may be done.
+    fn claim_victim(&mut self, processor: u32) -> bool {
+        match self.used.victim() {
+            Some(victim) => self.claim(victim, processor),
+            None => false,
+        }
+    }
+
+    /// Gives up what the processor claims, where it claims a frame.
+    fn unclaim(&mut self, rt: &impl Abort, processor: u32) -> bool {
+        let Some(claimed) = self.used.claimed_by(processor) else {
+            return false;
+        };
+        let frame = self.used.unclaim(processor);
+        let note = note_of(self.plain.as_slice(), frame);
+        self.plain[frame as usize] = note.map(|used| Used {
+            claim: None,
+            ..used
+        });
+        assert_eq!(rt; frame, claimed);
+        true
+    }
+
+    /// Whether the victim and what the processor claims are as a walk through the list says.
+    fn is_alike(&self, processor: u32) -> bool {
+        let plain = self.plain.as_slice();
+        self.used.victim() == oldest(plain, false)
+            && self.used.claimed_by(processor) == claimed_by(plain, processor)
+    }
+
+    /// Whether the counts are those of the list.
+    fn counts_alike(&self) -> bool {
+        let told = (self.used.count(), self.used.wired(), self.used.claimed());
+        told == counts(self.plain.as_slice())
+    }
+
+    /// Whether a claimed frame stands before the victim.
+    fn steps_over(&self) -> bool {
+        let plain = self.plain.as_slice();
+        oldest(plain, true) != oldest(plain, false)
+    }
+}
+
+/// A call that changes what is noted.
+#[derive(Clone, Copy)]
+enum Change {
+    Add,
+    AddWired,
+    Remove,
+    Claim,
+    ClaimVictim,
+    Unclaim,
+}
+
+static CHANGES: [Change; 6] = [
+    Change::Add,
+    Change::AddWired,
+    Change::Remove,
+    Change::Claim,
+    Change::ClaimVictim,
+    Change::Unclaim,
+];
+
+impl Beside {
+    /// Makes a change where it may be made.
+    fn change(
+        &mut self,
+        rt: &impl Abort,
+        change: Change,
+        frame: u32,
+        processor: u32,
+        age: u64,
+    ) -> bool {
+        match change {
+            Change::Add => self.add(frame, age, false),
+            Change::AddWired => self.add(frame, age, true),
+            Change::Remove => self.remove(rt, frame),
+            Change::Claim => self.claim(frame, processor),
+            Change::ClaimVictim => self.claim_victim(processor),
+            Change::Unclaim => self.unclaim(rt, processor),
+        }
+    }
+}
+
+/// How often each change was made, and after how many changes a claimed frame stood before the victim.
+#[derive(Drop)]
+struct Tally {
+    made: [u32; CHANGES.len()],
+    stepped_over: u32,
+}
+
+impl Tally {
+    fn count(&mut self, kind: usize, stepped_over: bool) {
+        if let Some(times) = self.made.get_mut(kind) {
+            *times = times.wrapping_add(1);
+        }
+        self.stepped_over = self.stepped_over.wrapping_add(u32::from(stepped_over));
+    }
+}
+
+/// Makes a drawn change where it may be made, and compares. Answers which change was made.
+fn goes_alike(
+    rt: &impl Abort,
+    both: &mut Beside,
+    random: &mut Generator,
+    step: u64,
+) -> Option<usize> {
+    let kind = random.draw(6) as usize;
+    let frame = random.draw(FRAMES);
+    let processor = random.draw(PROCESSORS);
+    let age = step.wrapping_mul(3).wrapping_add(u64::from(random.draw(3)));
+    let made = both.change(rt, CHANGES[kind], frame, processor, age);
+    assert!(rt; both.is_alike(processor), "step {step}");
+    assert!(rt; both.counts_alike(), "step {step}");
+    made.then_some(kind)
+}
+
+#[test]
+fn drawn_calls_answer_as_a_plain_list_does(rt: HostRuntime) -> Result<(), Fail> {
+    let mut both = Beside::create(rt.alloc())?;
+    let mut random = Generator::of(7);
+    let mut tally = Tally {
+        made: [0; CHANGES.len()],
+        stepped_over: 0,
+    };
+    for step in 0..6_000 {
+        let kind = goes_alike(&rt, &mut both, &mut random, step);
+        tally.count(kind.unwrap_or(CHANGES.len()), both.steps_over());
+    }
+    assert!(rt;
+        tally.made.iter().all(|times| *times > 100),
+        "{:?}",
+        tally.made
+    );
+    assert!(rt; tally.stepped_over > 100);
+    Ok(())
+}
+
+/// Adds frames that aren't wired, each at an age.
+fn add_all(rt: &impl Abort, both: &mut Beside, frames: &[(u32, u64)]) {
+    for &(frame, age) in frames {
+        assert!(rt; both.add(frame, age, false), "frame {frame}");
+    }
+}
+
+#[test]
+fn the_first_in_is_the_victim(rt: HostRuntime) -> Result<(), Fail> {
+    let mut both = Beside::create(rt.alloc())?;
+    assert!(rt; both.used.victim() == None);
+    add_all(&rt, &mut both, &[(3, 10), (0, 11), (63, 40)]);
+    assert!(rt; both.used.victim() == Some(3));
+    assert!(rt; both.remove(&rt, 3));
+    assert!(rt; both.used.victim() == Some(0));
+    Ok(())
+}
+
+/// Gives up what a processor claims, and says the victim then.
+fn victim_without(rt: &impl Abort, both: &mut Beside, processor: u32) -> Option<u32> {
+    assert!(rt; both.unclaim(rt, processor));
+    both.used.victim()
+}
+
+#[test]
+fn claimed_frames_are_stepped_over_and_keep_their_ages(rt: HostRuntime) -> Result<(), Fail> {
+    let mut both = Beside::create(rt.alloc())?;
+    add_all(&rt, &mut both, &[(0, 0), (1, 1), (2, 2), (3, 3)]);
+    assert!(rt; both.claim(0, 4) && both.claim(1, 2));
+    assert!(rt; both.used.victim() == Some(2));
+    assert_eq!(rt; victim_without(&rt, &mut both, 2), Some(1));
+    assert_eq!(rt; victim_without(&rt, &mut both, 4), Some(0));
+    Ok(())
+}
+
+#[test]
+fn wired_frames_are_no_victims(rt: HostRuntime) -> Result<(), Fail> {
+    let mut both = Beside::create(rt.alloc())?;
+    assert!(rt; both.add(1, 0, true));
+    assert!(rt; both.used.victim() == None);
+    assert!(rt; both.add(2, 1, false) && both.add(3, 2, true));
+    assert!(rt; both.used.victim() == Some(2));
+    assert!(rt; both.remove(&rt, 2));
+    assert!(rt; both.used.victim() == None);
+    assert_eq!(rt; both.used.wired(), 2);
+    Ok(())
+}
+
+#[test]
+fn a_removed_frame_is_claimed_no_more(rt: HostRuntime) -> Result<(), Fail> {
+    let mut both = Beside::create(rt.alloc())?;
+    assert!(rt; both.add(9, 0, false) && both.claim(9, 1));
+    assert_eq!(rt; both.used.claimed_by(1), Some(9));
+    assert!(rt; both.remove(&rt, 9));
+    assert_eq!(rt; both.used.claimed_by(1), None);
+    assert!(rt; both.add(9, 5, false));
+    assert_eq!(rt; (both.used.claimed(), both.used.victim()), (0, Some(9)));
+    Ok(())
+}
