@@ -1,12 +1,8 @@
 //! Replays a trace of memory calls and prints each answer, and the counts of the run.
 #![tactic(auto)]
 
-mod form;
-mod run;
-
 use io_core::{RealSink, RealSource, Sink, Source};
-pub use run::{Outcome, run};
-use run::{DONE, MEMORY, READ_FAULT, REFUSED, USAGE, WRITE_FAULT};
+use pager_command::{DONE, message_of, run, unread_words};
 use std::alloc::{AllocError, Global};
 use std::process::ExitCode;
 use std::rt::Env;
@@ -15,9 +11,6 @@ use std::thread::Threads;
 use std::{env, io};
 use store_core::MemoryStore;
 use trace_reader::TraceFault;
-
-#[cfg(test)]
-mod tests;
 
 /// The most spaces of a trace.
 const MOST_SPACES: usize = 16;
@@ -51,19 +44,11 @@ fn run_words<R: AllocGlobal + Env + Threads + Wait + Sync, T: Source, K: Sink>(
 
 /// A store in memory for each space that a trace may have, with no copy yet. None of them is to fail.
 fn empty_stores(alloc: Global) -> Result<Vec<MemoryStore>, AllocError> {
-    let mut stores = Vec::with_capacity(alloc, MOST_SPACES)?;
-    for _ in 0..MOST_SPACES {
-        stores.push(MemoryStore::of(alloc, Vec::new(alloc), Vec::new(alloc)))?;
-    }
+    let mut stores = Vec::new(alloc);
+    stores.resize_with(MOST_SPACES, || {
+        MemoryStore::of(alloc, Vec::new(alloc), Vec::new(alloc))
+    })?;
     Ok(stores)
-}
-
-/// The status where no run began: the words were no text, or there was no memory for them or for the stores.
-fn unread_words(error: &io::Error) -> u8 {
-    match error.kind() {
-        io::ErrorKind::InvalidData => USAGE,
-        _ => MEMORY,
-    }
 }
 
 /// Says on standard error why the program ends with this status.
@@ -73,16 +58,4 @@ fn tell(rt: &HostRuntime, status: u8, refusal: Option<TraceFault>) -> io::Result
     }
     let message = message_of(status);
     eprintln!(rt; "superpager: {message}")
-}
-
-/// What is said of a status where no fault is told.
-fn message_of(status: u8) -> &'static str {
-    match status {
-        DONE => "done",
-        USAGE => "usage",
-        REFUSED => "refused",
-        READ_FAULT => "read fault",
-        WRITE_FAULT => "write fault",
-        _ => "memory",
-    }
 }

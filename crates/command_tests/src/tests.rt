@@ -1,0 +1,10 @@
+//! Whole runs: what is printed, and the status where nothing is, over stores that fail where a test says so. The program's own stores
+//! never fail. The examples of the folder `examples/` are run by the script there.
+mod failing;
+mod frames;
+mod large;
+mod runs;
+mod statuses;
+mod takings;
+mod texts;
+mod words;

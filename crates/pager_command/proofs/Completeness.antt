@@ -1,0 +1,67 @@
+-- The text of a trace for whose spaces there are stores enough is run: it isn't refused.
+use Rattle.std.proofs.Common.{◌≡◌, ℕ, ◌<◌, ◌⊎◌, inl, inr, List, [], Option, Some, None, IfSome, IsSomeAnd, refl, sym, ap, subst, ◌∙◌, arith}
+use Rattle.std.proofs.lemmas.Option.{none-some}
+use Rattle.pager_model.specs.Plans.{Plan}
+use Rattle.pager_model.specs.TraceText.{IsTextOf}
+use Rattle.pager_command.specs.declared.status.TheConstants.{REFUSED, READ_FAULT, MEMORY}
+use Rattle.pager_command.specs.Runs.{IsRunnable, IsRefused, status_of}
+use Rattle.trace_reader.specs.declared.fault.TraceFault.{TraceFault}
+use Rattle.trace_reader.specs.declared.fault.TraceFault.TheVariants.{ReadFault, TooLong, Line, NoEnd, TooManyCalls, TooFewStores, NoMemory}
+use Rattle.trace_reader.specs.Refusals.{refusal_of, IsCause}
+use Rattle.trace_reader.proofs.CutTexts.{not_refused}
+use Rattle.trace_reader.proofs.UniqueTexts.{one_plan}
+
+-- a trace that was read and has more spaces than there are stores is refused so
+pub refused_stores : (left after : Option (List ℕ)) (trace : Plan) (stores : ℕ) (refusal : Option TraceFault) → IfSome left (λ bytes. IsTextOf bytes trace × (after ≡ Some [])) → (stores < trace.spaces) × (refusal ≡ Some (TooFewStores stores trace.spaces)) → IfSome left (λ bytes. IsSomeAnd refusal (IsRefused stores bytes))
+refused_stores None after trace stores refusal read few = tt
+refused_stores (Some bytes) after trace stores refusal read few =
+    subst (λ refusal. IsSomeAnd refusal (IsRefused stores bytes)) (sym few.1) (inr (trace, read.0, few.0, refl))
+
+-- a trace whose text runs has stores enough
+pub enough_stores : (left after : Option (List ℕ)) (trace : Plan) (stores : ℕ) → IsSomeAnd left (IsRunnable stores) → IfSome left (λ bytes. IsTextOf bytes trace × (after ≡ Some [])) → stores < trace.spaces → ⊥
+enough_stores None after trace stores runs read few = runs
+enough_stores (Some bytes) after trace stores runs read few =
+    let same : runs.0 ≡ trace = one_plan runs.0 trace runs.1.0 read.0.0 (sym runs.1.1 ∙ read.0.1) in
+    let spaces : (runs.0).spaces ≡ trace.spaces = ap (λ (plan : Plan). plan.spaces) same in
+    omega (arith, few, spaces, runs.2)
+
+-- a trace's text is refused for a failed read or for want of memory alone
+pub not_refused_text : (left : Option (List ℕ)) (fault : TraceFault) (stores status : ℕ) → IsSomeAnd left (IsRunnable stores) → IfSome left (λ bytes. IsCause (refusal_of bytes) fault) → status ≡ status_of fault → (fault ≡ ReadFault → ⊥) → status ≡ MEMORY
+not_refused_text None fault stores status runs cause is read = absurd runs
+not_refused_text (Some bytes) fault stores status runs cause is read =
+    let none : refusal_of bytes ≡ None = ap refusal_of runs.1.1 ∙ not_refused runs.0 runs.1.0 in
+    by_fault fault none cause is read
+  where
+    by_fault : (fault : TraceFault) → refusal_of bytes ≡ None → IsCause (refusal_of bytes) fault → status ≡ status_of fault → (fault ≡ ReadFault → ⊥) → status ≡ MEMORY
+    by_fault ReadFault none cause is read = absurd (read refl)
+    by_fault NoMemory none cause is read = is
+    by_fault TooLong none cause is read = absurd (none-some _ (sym none ∙ cause))
+    by_fault (Line number c) none cause is read = absurd (none-some _ (sym none ∙ cause))
+    by_fault NoEnd none cause is read = absurd (none-some _ (sym none ∙ cause))
+    by_fault TooManyCalls none cause is read = absurd (none-some _ (sym none ∙ cause))
+    by_fault (TooFewStores stores spaces) none cause is read = absurd cause
+
+-- and what is refused of a text is what the text is refused for
+pub refused_text : (left : Option (List ℕ)) (fault : TraceFault) (stores status : ℕ) (refusal : Option TraceFault) → IfSome left (λ bytes. IsCause (refusal_of bytes) fault) → status ≡ status_of fault → refusal ≡ Some fault → status ≡ REFUSED → IfSome left (λ bytes. IsSomeAnd refusal (IsRefused stores bytes))
+refused_text None fault stores status refusal cause is told refused = tt
+refused_text (Some bytes) fault stores status refusal cause is told refused =
+    subst (λ refusal. IsSomeAnd refusal (IsRefused stores bytes)) (sym told) (inl (by_fault fault cause (sym is ∙ refused)))
+  where
+    by_fault : (fault : TraceFault) → IsCause (refusal_of bytes) fault → status_of fault ≡ REFUSED → refusal_of bytes ≡ Some fault
+    by_fault ReadFault cause refused = absurd (omega (arith, refused))
+    by_fault NoMemory cause refused = absurd (omega (arith, refused))
+    by_fault TooLong cause refused = cause
+    by_fault (Line number c) cause refused = cause
+    by_fault NoEnd cause refused = cause
+    by_fault TooManyCalls cause refused = cause
+    by_fault (TooFewStores stores spaces) cause refused = absurd cause
+
+-- the status of a refusal is one of three
+pub status_told : (fault : TraceFault) → (status_of fault ≡ REFUSED) ⊎ ((status_of fault ≡ READ_FAULT) ⊎ (status_of fault ≡ MEMORY))
+status_told ReadFault = inr (inl refl)
+status_told NoMemory = inr (inr refl)
+status_told TooLong = inl refl
+status_told (Line number c) = inl refl
+status_told NoEnd = inl refl
+status_told TooManyCalls = inl refl
+status_told (TooFewStores stores spaces) = inl refl

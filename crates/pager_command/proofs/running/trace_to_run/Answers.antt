@@ -1,0 +1,33 @@
+use Rattle.std.proofs.Common.{◌≡◌, ◌<◌, ◌⊎◌, Err, Some, inl, ap, sym, subst, ◌∙◌, arith, rules}
+use Rattle.trace_reader.specs.declared.fault.TraceFault.TheVariants.{TooFewStores}
+use Rattle.pager_command.specs.declared.status.TheConstants.{REFUSED, READ_FAULT, MEMORY}
+use Rattle.pager_command.proofs.Completeness.{refused_stores, enough_stores, not_refused_text, refused_text, status_told}
+use Rattle.pager_command.proofs.running.trace_to_run.Goals as goal
+
+pub returns-in-Err-clause-stopped : goal.returns-in-Err-clause-stopped
+returns-in-Err-clause-stopped g c =
+    let left = g.T.Source.left c.args.source.now in
+    let told = c.refused.ensures in
+    let status = c.refused.result.status in
+    record {
+      statuses = subst (λ n. (n ≡ REFUSED) ⊎ ((n ≡ READ_FAULT) ⊎ (n ≡ MEMORY))) (sym told.status) (status_told c.in-Err.fault);
+      told = search rules;
+      refused = λ is. refused_text left c.in-Err.fault c.args.stores status c.refused.result.refusal c.in-Err.ensures.refused told.status told.refusal is;
+      read_fault = search rules;
+      memory = search rules;
+      complete = λ text no_read. not_refused_text left c.in-Err.fault c.args.stores status text c.in-Err.ensures.refused told.status (λ is. no_read (c.in-Err.ensures.fault (ap Err is)));
+    }
+
+pub returns-then-stores-from-clause-stopped : goal.returns-then-stores-from-clause-stopped
+returns-then-stores-from-clause-stopped g c =
+    let left = g.T.Source.left c.args.source.now in
+    let told = c.refused-then-stores-from.ensures in
+    let few : c.args.stores < c.in-Ok.trace.spaces = omega (arith, c.from.ensures, c.spaces-spaces.ensures.spaces) in
+    record {
+      statuses = inl told.status;
+      told = search rules;
+      refused = λ is. refused_stores left _ c.in-Ok.trace c.args.stores c.refused-then-stores-from.result.refusal c.in-Ok.ensures.ok (few, told.refusal ∙ ap (λ k. Some (TooFewStores c.args.stores k)) c.spaces-spaces.ensures.spaces);
+      read_fault = search rules;
+      memory = search rules;
+      complete = λ text no_read. absurd (enough_stores left _ c.in-Ok.trace c.args.stores text c.in-Ok.ensures.ok few);
+    }

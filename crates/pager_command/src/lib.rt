@@ -1,0 +1,9 @@
+//! A run of the program, by its words, over a source, a sink and stores.
+#![tactic(auto)]
+
+mod form;
+mod running;
+mod status;
+
+pub use running::{Outcome, run};
+pub use status::{DONE, MEMORY, READ_FAULT, REFUSED, USAGE, WRITE_FAULT, message_of, unread_words};

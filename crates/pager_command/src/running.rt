@@ -1,0 +1,266 @@
+//! A run of the program, from the bytes read to the bytes written.
+
+ghost use Rattle.std.specs.Prelude.{◌≡◌, ◌≢◌, ◌<◌, ◌≤◌, ◌⊎◌, [], None, Some, IfOk, IfErr, IfSome, IsSomeAnd, length, map};
+ghost use Rattle.io_core.specs.Faults.{Rose};
+ghost use Rattle.pager_model.specs.Legal.{entries_in};
+ghost use Rattle.pager_model.specs.PrintedText.{out_text};
+ghost use Rattle.replay_core.specs.Replays.{IsReplay, AreItsCounts};
+ghost use Rattle.report_text.specs.Parts.{has_history};
+ghost use Rattle.report_text.specs.Written.{WroteAll, WrotePart};
+ghost use Rattle.pager_command.specs.declared.form.Form.{Form as Asked};
+ghost use Rattle.pager_command.specs.Forms.{AreWords, IsForm, IsInTurns, ComesBy};
+ghost use Rattle.pager_command.specs.Runs.{IsRunnable, IsRefused, IsStatus, IsStopped, IsTold, RunsBy, WasText, WasRead, run_text, status_of};
+
+use crate::form::{Form, form_of};
+use crate::status::{DONE, MEMORY, READ_FAULT, REFUSED, USAGE, WRITE_FAULT};
+use io_core::{Sink, Source, WriteFailed};
+use pager_model::{Numbered, Trace};
+use replay_core::{Gathered, replay, replay_file_order, replay_turns};
+use report_text::{Parts, write_report};
+use std::alloc::Global;
+use std::sync::Wait;
+use std::thread::Threads;
+use store_core::Store;
+use trace_reader::{TraceFault, read_trace};
+
+/// How a run ended.
+#[derive(Drop)]
+pub struct Outcome<S: Store + Send + Drop> {
+    /// The program's exit status: one of this crate's constants.
+    pub status: u8,
+    /// Why no trace was run, where none was: for want of memory only where the reader had none.
+    pub refusal: Option<TraceFault>,
+    /// The trace, where it was run.
+    pub trace: Option<Trace>,
+    /// The history of its run.
+    pub history: Vec<Numbered>,
+    /// The stores that were handed in, in their order.
+    pub stores: Vec<S>,
+}
+
+/// Runs the program with these words over these backing stores, of which each space uses the one of its number: it reads a trace to the end
+/// of the source, runs it in the order that the words' form says, and writes the answers, where the form asks for it the history, and the counts to
+/// the sink.
+///
+/// The handle is for the form `replay` alone, which starts threads and waits for locks: nothing is proved of when such a run returns. A run
+/// of any other form is made by a function that takes no handle, and so is proved to return.
+pub fn run<T: Source, K: Sink, S: Store + Send + Drop, R: Threads + Wait + Sync>(
+    rt: &R,
+    alloc: Global,
+    words: &[&str],
+    source: &mut T,
+    sink: &mut K,
+    stores: Vec<S>,
+) -> Outcome<S>
+    ensures statuses { IsStatus result.status }
+    ensures told { IsTold result.status result.refusal }
+
+    // The words are of no form: nothing was read or written.
+    ensures form { IsForm words.now → result.status ≢ USAGE }
+    ensures usage { (IsForm words.now → ⊥) → result.status ≡ USAGE }
+    ensures unread { result.status ≡ USAGE → source.new ≡ source.old }
+
+    // Where no run was made nothing was written, and the stores are as they were.
+    ensures unwritten { result.status ≢ DONE → result.status ≢ WRITE_FAULT → sink.new ≡ sink.old }
+    ensures no_trace { result.status ≢ DONE → result.status ≢ WRITE_FAULT → (result.trace ≡ None) × (result.history.items ≡ []) }
+    ensures same_stores { result.status ≢ DONE → result.status ≢ WRITE_FAULT → map S.seen result.stores.items ≡ map S.seen stores.items }
+
+    // The bytes are refused as they should be; a read failed; a write failed; the reader had memory.
+    ensures refused { result.status ≡ REFUSED → IfSome (T.left source.old) (λ bytes. IsSomeAnd result.refusal (IsRefused (length stores.items) bytes)) }
+    ensures read_fault { result.status ≡ READ_FAULT → Rose (T.faults source.old) (T.faults source.new) }
+    ensures write_fault { result.status ≡ WRITE_FAULT → Rose (K.faults sink.old) (K.faults sink.new) }
+    ensures memory { result.status ≡ MEMORY → result.refusal ≡ None → WasText (T.left source.old) (T.left source.new) }
+
+    // Words of a form, the text of a trace and stores enough give a run, unless there is no memory or a read or a write fails.
+    ensures complete { IsForm words.now → IsSomeAnd (T.left source.old) (IsRunnable (length stores.items))
+        → (Rose (T.faults source.old) (T.faults source.new) → ⊥)
+        → (Rose (K.faults sink.old) (K.faults sink.new) → ⊥)
+        → (result.status ≡ DONE) ⊎ (result.status ≡ MEMORY) }
+
+    // A run that is done, and one whose text was written in part.
+    ensures trace { (result.status ≡ DONE) ⊎ (result.status ≡ WRITE_FAULT)
+        → IsSomeAnd result.trace (λ trace. WasRead trace (T.left source.old) (T.left source.new)
+        × IsReplay trace (map S.seen stores.items) result.history.items (map S.seen result.stores.items)) }
+    ensures ordered { (form : Asked) → AreWords words.now form → (result.status ≡ DONE) ⊎ (result.status ≡ WRITE_FAULT)
+        → IfSome result.trace (λ trace. ComesBy form trace (entries_in result.history.items)) }
+    ensures wrote { (form : Asked) → AreWords words.now form → result.status ≡ DONE → IfSome result.trace (λ trace.
+        WroteAll (run_text form trace (map S.seen stores.items) result.history.items) (K.taken sink.old) (K.taken sink.new)) }
+    ensures part { (form : Asked) → AreWords words.now form → result.status ≡ WRITE_FAULT → IfSome result.trace (λ trace.
+        WrotePart (run_text form trace (map S.seen stores.items) result.history.items) (K.taken sink.old) (K.taken sink.new)) }
+{
+    let Some(form) = form_of(words) else {
+        return stopped(alloc, USAGE, None, stores);
+    };
+    match form {
+        Form::Replay { parts } => run_in_threads(rt, alloc, parts, source, sink, stores),
+        _ => run_in_turns(alloc, form, source, sink, stores),
+    }
+}
+
+/// Runs by a form whose entries are made in turns, by one thread. It takes no handle, and so is proved to return.
+fn run_in_turns<T: Source, K: Sink, S: Store + Send + Drop>(
+    alloc: Global,
+    form: Form,
+    source: &mut T,
+    sink: &mut K,
+    stores: Vec<S>,
+) -> Outcome<S>
+    requires in_turns { IsInTurns form }
+    ensures { RunsBy T.left T.faults K.taken K.faults S.seen form source.old source.new sink.old sink.new stores.items result }
+{
+    let trace = match trace_to_run(alloc, source, stores.len()) {
+        Ok(trace) => trace,
+        Err(stop) => return stopped(alloc, stop.status, stop.refusal, stores),
+    };
+    match replay_in_turns(alloc, form, &trace, stores) {
+        Ok(gathered) => write_run(sink, trace, gathered, form.parts()),
+        Err(stores) => stopped(alloc, MEMORY, None, stores),
+    }
+}
+
+/// Runs with a thread for each processor. By its handle it starts threads and may wait for locks: nothing is proved of when it returns.
+fn run_in_threads<T: Source, K: Sink, S: Store + Send + Drop, R: Threads + Wait + Sync>(
+    rt: &R,
+    alloc: Global,
+    parts: Parts,
+    source: &mut T,
+    sink: &mut K,
+    stores: Vec<S>,
+) -> Outcome<S>
+    ensures { RunsBy T.left T.faults K.taken K.faults S.seen (Asked.Replay parts) source.old source.new sink.old sink.new stores.items result }
+{
+    let trace = match trace_to_run(alloc, source, stores.len()) {
+        Ok(trace) => trace,
+        Err(stop) => return stopped(alloc, stop.status, stop.refusal, stores),
+    };
+    match replay(rt, alloc, &trace, stores) {
+        Ok(gathered) => write_run(sink, trace, gathered, parts),
+        Err(stores) => stopped(alloc, MEMORY, None, stores),
+    }
+}
+
+/// An outcome without a run.
+fn stopped<S: Store + Send + Drop>(
+    alloc: Global,
+    status: u8,
+    refusal: Option<TraceFault>,
+    stores: Vec<S>,
+) -> Outcome<S>
+    ensures status { result.status ≡ status }
+    ensures refusal { result.refusal ≡ refusal }
+    ensures trace { result.trace ≡ None }
+    ensures history { result.history.items ≡ [] }
+    ensures stores { result.stores ≡ stores }
+{
+    Outcome {
+        status,
+        refusal,
+        trace: None,
+        history: Vec::new(alloc),
+        stores,
+    }
+}
+
+/// Why no run is made of what a source has.
+#[derive(Drop)]
+struct Stop {
+    status: u8,
+    refusal: Option<TraceFault>,
+}
+
+/// Reads a trace, to be run over so many stores; where there are fewer than spaces it is refused.
+fn trace_to_run<T: Source>(alloc: Global, source: &mut T, stores: usize) -> Result<Trace, Stop>
+    ensures read { IfOk result (λ trace. WasRead trace (T.left source.old) (T.left source.new)) }
+    ensures enough { IfOk result (λ trace. trace.spaces ≤ stores) }
+    ensures stopped { IfErr result (λ stop. IsStopped (T.left source.old) (T.left source.new) (T.faults source.old) (T.faults source.new) stores stop.status stop.refusal) }
+{
+    let trace = match read_trace(alloc, source) {
+        Ok(trace) => trace,
+        Err(fault) => return Err(refused(fault)),
+    };
+    let (stores, spaces) = (stores as u64, trace.spaces());
+    if stores < u64::from(spaces) {
+        return Err(refused(TraceFault::TooFewStores { stores, spaces }));
+    }
+    Ok(trace)
+}
+
+/// The refusal of a text that was not read, or whose trace wants more stores.
+fn refused(fault: TraceFault) -> Stop
+    ensures status { result.status ≡ status_of fault }
+    ensures refusal { result.refusal ≡ Some fault }
+{
+    let status = match fault {
+        TraceFault::ReadFault => READ_FAULT,
+        TraceFault::NoMemory => MEMORY,
+        _ => REFUSED,
+    };
+    Stop {
+        status,
+        refusal: Some(fault),
+    }
+}
+
+/// Replays the trace in the form's order of turns.
+fn replay_in_turns<S: Store + Send + Drop>(
+    alloc: Global,
+    form: Form,
+    trace: &Trace,
+    stores: Vec<S>,
+) -> Result<Gathered<S>, Vec<S>>
+    requires in_turns { IsInTurns form }
+    requires enough { trace.now.spaces ≤ length stores.items }
+    ensures run { IfOk result (λ g. IsReplay trace.now (map S.seen stores.items) g.history.items (map S.seen g.stores.items)) }
+    ensures ordered { IfOk result (λ g. ComesBy form trace.now (entries_in g.history.items)) }
+    ensures counts { IfOk result (λ g. AreItsCounts trace.now (map S.seen stores.items) g.history.items g.summary) }
+    ensures back { IfErr result (λ back. map S.seen back.items ≡ map S.seen stores.items) }
+{
+    match form {
+        Form::Order { .. } => replay_file_order(alloc, trace, stores),
+        Form::Turns { seed, .. } => replay_turns(alloc, trace, stores, seed),
+        Form::Replay { .. } => unreachable!(),
+    }
+}
+
+/// Writes the report of a run.
+fn write_run<K: Sink, S: Store + Send + Drop>(
+    sink: &mut K,
+    trace: Trace,
+    gathered: Gathered<S>,
+    parts: Parts,
+) -> Outcome<S>
+    ensures statuses { (result.status ≡ DONE) ⊎ (result.status ≡ WRITE_FAULT) }
+    ensures refusal { result.refusal ≡ None }
+    ensures trace { result.trace ≡ Some trace }
+    ensures history { result.history ≡ gathered.history }
+    ensures stores { result.stores ≡ gathered.stores }
+    ensures wrote { result.status ≡ DONE
+        → WroteAll (out_text (has_history parts) trace.processors gathered.history.items gathered.summary) (K.taken sink.old) (K.taken sink.new) }
+    ensures part { result.status ≡ WRITE_FAULT
+        → WrotePart (out_text (has_history parts) trace.processors gathered.history.items gathered.summary) (K.taken sink.old) (K.taken sink.new) }
+    ensures rose { result.status ≡ WRITE_FAULT → Rose (K.faults sink.old) (K.faults sink.new) }
+{
+    let Gathered {
+        history,
+        stores,
+        summary,
+    } = gathered;
+    let wrote = write_report(
+        sink,
+        trace.processors(),
+        history.as_slice(),
+        &summary,
+        parts,
+    );
+    let status = match wrote {
+        Ok(()) => DONE,
+        Err(WriteFailed) => WRITE_FAULT,
+    };
+    Outcome {
+        status,
+        refusal: None,
+        trace: Some(trace),
+        history,
+        stores,
+    }
+}
