@@ -5,7 +5,9 @@ use super::printed::{read_text, run_threads};
 use pager_model::{Generator, Numbered, Reply, What};
 use std::alloc::{AllocError, Global};
 use std::process::Abort;
+use std::sync::Wait;
 use std::test::Fail;
+use std::thread::Threads;
 use store_core::{MemoryStore, Store};
 
 /// How many runs are drawn.
@@ -145,11 +147,9 @@ fn draw_stores(
     spaces: u32,
     random: &mut Generator,
 ) -> Result<Vec<MemoryStore>, AllocError> {
-    let mut stores = Vec::new(alloc);
-    for _ in 0..spaces {
-        stores.push(draw_store(alloc, random)?)?;
-    }
-    Ok(stores)
+    (0..spaces)
+        .map(|_| draw_store(alloc, random))
+        .try_collect(alloc)
 }
 
 /// A store's failure: the space that its entry names, and its count.
@@ -197,19 +197,28 @@ fn count_failures(rt: &impl Abort, history: &[Numbered]) -> u32 {
     answered
 }
 
+/// The run of a seed: its history, and how many spaces it has.
+fn run_drawn<R: Abort + Threads + Wait + Sync>(
+    rt: &R,
+    alloc: Global,
+    seed: u64,
+) -> Result<(Vec<Numbered>, u32), Fail> {
+    let mut random = Generator::of(seed);
+    let shape = draw_shape(&mut random);
+    let text = draw_text(alloc, shape, &mut random)?;
+    let stores = draw_stores(alloc, shape.spaces, &mut random)?;
+    let trace = read_text(alloc, text.as_str())?;
+    let gathered = run_threads(rt, alloc, &trace, stores)?;
+    Ok((gathered.history, shape.spaces))
+}
+
 #[test]
 fn a_failure_is_answered_where_the_call_met_it(rt: HostRuntime) -> Result<(), Fail> {
-    let alloc = rt.alloc();
     for seed in 0..RUNS {
-        let mut random = Generator::of(seed);
-        let shape = draw_shape(&mut random);
-        let text = draw_text(alloc, shape, &mut random)?;
-        let stores = draw_stores(alloc, shape.spaces, &mut random)?;
-        let trace = read_text(alloc, text.as_str())?;
-        let gathered = run_threads(&rt, alloc, &trace, stores)?;
-        let answered = count_failures(&rt, gathered.history.as_slice());
+        let (history, spaces) = run_drawn(&rt, rt.alloc(), seed)?;
+        let answered = count_failures(&rt, history.as_slice());
         // The first read of each store fails.
-        assert!(rt; answered >= shape.spaces, "seed {seed}");
+        assert!(rt; answered >= spaces, "seed {seed}");
     }
     Ok(())
 }

@@ -48,9 +48,11 @@ pub(super) fn two_stores(
 ) -> Result<Vec<Gated>, AllocError> {
     let own = Arc::new(alloc, AtomicBool::new(false))?;
     let other = Arc::new(alloc, AtomicBool::new(false))?;
+    let first = new_store(first, Arc::try_clone(&own)?, Arc::try_clone(&other)?);
+    let second = new_store(second, other, own);
     let mut stores = Vec::with_capacity(alloc, 2)?;
-    stores.push(new_store(first, Arc::try_clone(&own)?, Arc::try_clone(&other)?))?;
-    stores.push(new_store(second, other, own))?;
+    stores.push_reserved(first);
+    stores.push_reserved(second);
     Ok(stores)
 }
 

@@ -1,7 +1,10 @@
 //! Runs whose answers and counts are the same in every order of the threads' steps.
 use super::printed::{memory_stores, printed};
 use std::alloc::{AllocError, Global};
+use std::process::Abort;
+use std::sync::Wait;
 use std::test::Fail;
+use std::thread::Threads;
 
 /// How often each of them is run.
 const TIMES: u32 = 10;
@@ -106,24 +109,28 @@ fn ordinary_use_text(alloc: Global) -> Result<String, AllocError> {
     Ok(text)
 }
 
-#[test]
-fn one_processor_runs_as_in_the_order_of_its_lines(rt: HostRuntime) -> Result<(), Fail> {
-    let alloc = rt.alloc();
-    for _ in 0..TIMES {
-        let text = printed(&rt, alloc, EIGHT_PAGES, memory_stores(alloc, 1)?)?;
-        assert_eq!(rt; text.as_str(), EIGHT_PAGES_TEXT);
+/// Asserts that a trace of one space prints this text, each time that it is run.
+fn prints<R: Abort + Threads + Wait + Sync>(
+    rt: &R,
+    alloc: Global,
+    trace: &str,
+    wanted: &str,
+) -> Result<(), Fail> {
+    for time in 0..TIMES {
+        let text = printed(rt, alloc, trace, memory_stores(alloc, 1)?)?;
+        assert_eq!(rt; text.as_str(), wanted, "time {time}");
     }
     Ok(())
 }
 
 #[test]
+fn one_processor_runs_as_in_the_order_of_its_lines(rt: HostRuntime) -> Result<(), Fail> {
+    prints(&rt, rt.alloc(), EIGHT_PAGES, EIGHT_PAGES_TEXT)
+}
+
+#[test]
 fn a_table_of_superpages_and_a_stack_are_used_side_by_side(rt: HostRuntime) -> Result<(), Fail> {
-    let alloc = rt.alloc();
-    let trace = ordinary_use(alloc)?;
-    let wanted = ordinary_use_text(alloc)?;
-    for time in 0..TIMES {
-        let text = printed(&rt, alloc, trace.as_str(), memory_stores(alloc, 1)?)?;
-        assert!(rt; text.as_str() == wanted.as_str(), "time {time}");
-    }
-    Ok(())
+    let trace = ordinary_use(rt.alloc())?;
+    let wanted = ordinary_use_text(rt.alloc())?;
+    prints(&rt, rt.alloc(), trace.as_str(), wanted.as_str())
 }

@@ -1,4 +1,6 @@
 //! What a run in threads prints.
+ghost use Rattle.std.specs.Prelude.{◌≡◌, IfOk, length};
+
 use io_core::{MemorySink, MemorySource};
 use pager_model::Trace;
 use replay_core::{Gathered, replay};
@@ -21,11 +23,13 @@ pub(super) fn read_text(alloc: Global, text: &str) -> Result<Trace, Fail> {
 }
 
 /// So many stores in memory that don't fail.
-pub(super) fn memory_stores(alloc: Global, count: u32) -> Result<Vec<MemoryStore>, AllocError> {
+pub(super) fn memory_stores(alloc: Global, count: u32) -> Result<Vec<MemoryStore>, AllocError>
+    ensures { IfOk result (λ stores. length stores.items ≡ count) }
+{
     let mut stores = Vec::new(alloc);
-    for _ in 0..count {
-        stores.push(MemoryStore::of(alloc, Vec::new(alloc), Vec::new(alloc)))?;
-    }
+    stores.resize_with(count as usize, || {
+        MemoryStore::of(alloc, Vec::new(alloc), Vec::new(alloc))
+    })?;
     Ok(stores)
 }
 
