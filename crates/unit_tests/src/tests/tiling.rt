@@ -208,7 +208,8 @@ fn count_of(tiles: &[Option<Tile>], of: u8) -> usize {
 
 /// Whether a tile has a page from this one on.
 fn reaches(tile: &Option<Tile>, page: usize) -> bool {
-    tile.is_some_and(|tile| tile.extent.first.wrapping_add(tile.extent.size.pages()) as usize > page)
+    tile.is_some_and(|tile| tile.extent.first.wrapping_add(tile.extent.size.pages()) as usize
+        > page)
 }
 
 /// How many tiles above size 0 have a page from the first on and before the end.
