@@ -3,7 +3,7 @@
 //! An image takes no memory: its places lie in itself.
 #![tactic(auto)]
 
-ghost use Rattle.std.specs.Prelude.{◌≡◌, ◌<◌, ◌≤◌, [], ◌∷◌, Bool, length, filter, slice_index_or, remove, IfSome};
+ghost use Rattle.std.specs.Prelude.{◌≡◌, ◌<◌, ◌≤◌, [], ◌∷◌, Bool, Some, length, filter, slice_index_or, remove, IfSome};
 ghost use Rattle.std.specs.Fn.{FnReturnsAt};
 ghost use Rattle.std.specs.List.{list_any, position};
 ghost use Rattle.pager_model.specs.declared.tile.Tile.{Tile};
@@ -105,15 +105,20 @@ impl Image {
     }
 
     /// An access used the tile: it comes to the front, without its earlier place, and the one that was used least recently makes room
-    /// where it has to.
-    pub fn touch(&mut self, tile: Tile)
-        ensures { self.new ≡ touched tile self.old }
+    /// where it has to. Tells whether the tile stood there, which makes the access a hit.
+    pub fn touch(&mut self, tile: Tile) -> bool
+        ensures touched { self.new ≡ touched tile self.old }
+        ensures hit { result ≡ is_in_image self.old (Some tile) }
     {
         match self.place_of(&tile) {
-            Some(place) => bring_to_front(&mut self.places, place),
+            Some(place) => {
+                bring_to_front(&mut self.places, place);
+                true
+            }
             None => {
                 self.places.truncate(ROOM - 1);
                 self.places.insert(0, Place { tile });
+                false
             }
         }
     }
