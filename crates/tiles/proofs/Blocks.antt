@@ -1,9 +1,10 @@
 -- A change of rights in the blocks of a range, and how its moves are counted.
-use Rattle.std.proofs.Common.{◌≡◌, ◌≢◌, ℕ, zero, suc, ◌+◌, ◌-◌, ◌*◌, ◌/◌, ◌%◌, ◌^◌, ◌<◌, ◌≤◌, Bool, true, false, eqb, ltb, if◌then◌else◌, ◌&&◌, nat_lt, List, [], ◌∷◌, length, slice_index, slice_set, Option, Some, None, option_map, refl, sym, ap, inl, inr, ◌∙◌, arith}
+use Rattle.std.proofs.Common.{◌≡◌, ◌≢◌, ℕ, zero, suc, ◌+◌, ◌-◌, ◌*◌, ◌/◌, ◌%◌, ◌^◌, ◌<◌, ◌≤◌, Bool, true, false, eqb, ltb, if◌then◌else◌, ◌&&◌, nat_le, nat_lt, List, [], ◌∷◌, length, slice_index, slice_set, Option, Some, None, option_map, refl, sym, ap, inl, inr, ◌∙◌, arith}
 use Rattle.std.specs.Int.{div_ceil}
 use Rattle.std.proofs.lemmas.Bool.{cases_eq, cases_lt, eq-eqb, ne_eqb}
 use Rattle.std.proofs.lemmas.Bool.Decides.{nat_tests}
 use Rattle.std.proofs.lemmas.List.{get_or-set_other, get_or-set_same, length-set}
+use Rattle.pager_model.specs.declared.page_range.PageRange.{PageRange}
 use Rattle.pager_model.specs.declared.region.Rights.{Rights}
 use Rattle.pager_model.specs.declared.tile.Mapping.{Mapping}
 use Rattle.pager_model.specs.declared.tile.Tile.{Tile}
@@ -12,12 +13,13 @@ use Rattle.pager_model.specs.Regions.{in_range}
 use Rattle.pager_model.specs.Tiles.{tile_of, begins_at, size_at, size_in, is_promoted, promotions_between, count_pages, begins_tile, tiles_of_size}
 use Rattle.pager_model.proofs.CountLemmas.{weight}
 use Rattle.tiles.specs.declared.moves.Moves.{Moves}
-use Rattle.tiles.specs.Blocks.{ProtectsInBlock, OutsideSame, AreMovesOf, is_grown_at, begun_in, begun_at}
+use Rattle.tiles.specs.Blocks.{ProtectsInBlock, ProtectsTo, OutsideSame, AreMovesOf, is_grown_at, begun_in, begun_at}
 use Rattle.tiles.specs.Resident.{Resident, mapping_at, frames_in, with_rights, Protects, AreMoves, begins_large}
+use Rattle.tiles.specs.Touched.{IsInSpace, is_touched}
 use Rattle.tiles.proofs.Counting.{count, count-zero, count-suc, count-more, count-apart, count-none, count-same, count_pages-is, count_pages_most}
 use Rattle.tiles.proofs.Extents.{StartsBelow, starts_below}
 use Rattle.tiles.proofs.Largest.{size_small, none_size, tile_absent, tile_begins}
-use Rattle.tiles.proofs.MoveCounts.{size_local, promoted_test, promoted_none, promotions_add, demotions_add}
+use Rattle.tiles.proofs.MoveCounts.{size_local, promoted_test, promoted_none, promotions_add, demotions_add, outside_block}
 
 -- ---- the pages that get rights
 
@@ -31,6 +33,17 @@ outside_same block first len rights r s protects p apart =
     no_right : (a b : Bool) → b ≡ false → (a && b) ≡ false
     no_right true b h = h
     no_right false b h = refl
+
+pub outside_part : (block from end : ℕ) (rights : Rights) (r s : Resident) → block * 512 ≤ from → end ≤ block * 512 + 512 → ProtectsTo from end rights r s → OutsideSame block (mapping_at r) (mapping_at s)
+outside_part block from end rights r s low high protects p apart =
+    let none : (nat_le from p && nat_lt p end) ≡ false = elim (cases_lt p from) [
+      | inl before ↦ grind (arith, nat_tests)
+      | inr after ↦ elim (cases_lt p end) [
+        | inl within ↦ absurd (apart (omega arith))
+        | inr past ↦ grind (arith, nat_tests)
+      ]
+    ] in
+    protects.at p ∙ ap (λ b. protected b rights (mapping_at r p)) none
 
 -- the rights of the range's pages in the blocks before one
 pub record ProtectsBlocks (to first len : ℕ) (rights : Rights) (old new : Resident) : Type 0 where
@@ -101,13 +114,15 @@ blocks_all to first len rights r s past so_far = record { frames = so_far.frames
 -- ---- the moves
 
 pub moves_more : (to first len : ℕ) (rights : Rights) (r s t : Resident) (so_far more all : Moves) → ProtectsBlocks to first len rights r s → ProtectsInBlock to first len rights s t → AreMoves r s so_far → AreMoves s t more → all.promotions ≡ so_far.promotions + more.promotions
-    → all.demotions ≡ so_far.demotions + more.demotions → AreMoves r t all
-moves_more to first len rights r s t so_far more all before protects moved moves promoted demoted =
+    → all.demotions ≡ so_far.demotions + more.demotions → IsInSpace all.touched → ((p : ℕ) → is_touched all.touched p ≡ false → (is_touched so_far.touched p ≡ false) × (is_touched more.touched p ≡ false)) → AreMoves r t all
+moves_more to first len rights r s t so_far more all before protects moved moves promoted demoted in_range touched =
     let untouched = block_untouched to first len rights r s before in
     let outside = outside_same to first len rights s t protects in
     record {
       promotions = omega (arith, promotions_add (mapping_at r) (mapping_at s) (mapping_at t) to untouched outside, promoted, moved.promotions, moves.promotions);
       demotions = omega (arith, demotions_add (mapping_at r) (mapping_at s) (mapping_at t) to untouched outside, demoted, moved.demotions, moves.demotions);
+      in_space = in_range;
+      outside = λ u is out. let neither = touched u.extent.first out in moves.outside u (moved.outside u is neither.0) neither.1;
     }
 
 pub moves_fit : (to first len : ℕ) (rights : Rights) (r s t : Resident) (so_far more : Moves) → ProtectsBlocks to first len rights r s → ProtectsInBlock to first len rights s t → AreMoves r s so_far → AreMoves s t more
@@ -207,10 +222,13 @@ counts_more block i had has old new so_far at all counts before after promoted d
       demotions = omega (arith, d, counts.demotions, down, count_eight new old (block * 512) i whole);
     }
 
-pub counts_all : (block : ℕ) (old new : ℕ → Option Mapping) (moves : Moves) → block < 2048 → OutsideSame block old new → CountsTo block 64 old new moves → AreMovesOf old new moves
-counts_all block old new moves known outside counts = record {
+-- and they are in it
+pub counts_all : (block : ℕ) (old new : ℕ → Option Mapping) (moves : Moves) → block < 2048 → OutsideSame block old new → CountsTo block 64 old new moves → moves.touched ≡ record { first = block * 512; length = 512 } → AreMovesOf old new moves
+counts_all block old new moves known outside counts touched = record {
   promotions = counts.promotions ∙ count_block old new block known outside;
   demotions = counts.demotions ∙ count_block new old block known (λ p apart. sym (outside p apart));
+  in_space = omega (arith, ap (λ (r : PageRange). r.first) touched, ap (λ (r : PageRange). r.length) touched);
+  outside = outside_block old new block moves.touched outside touched;
 }
 
 pub one_most : (b : Bool) → weight b ≤ 1

@@ -12,3 +12,4 @@ pub mod Numbering
 pub mod MoveCounts
 pub mod SettledSizes
 pub mod TileLaws
+pub mod TouchedTiles

@@ -1,10 +1,11 @@
 -- The moves of a change of one page, and of changes in blocks that lie apart.
-use Rattle.std.proofs.Common.{◌≡◌, ℕ, ◌+◌, ◌/◌, ◌%◌, ◌^◌, ◌<◌, ◌≤◌, Bool, true, false, cond, eqb, ltb, if◌then◌else◌, ◌&&◌, nat_lt, Option, refl, sym, ap, inl, inr, ◌∙◌, arith}
+use Rattle.std.proofs.Common.{◌≡◌, ℕ, ◌+◌, ◌*◌, ◌/◌, ◌%◌, ◌^◌, ◌<◌, ◌≤◌, Bool, true, false, cond, eqb, ltb, if◌then◌else◌, ◌&&◌, nat_lt, max, Option, None, refl, sym, ap, inl, inr, ◌∙◌, arith}
 use Rattle.std.proofs.lemmas.Bool.{cases_eq, ne_eqb}
 use Rattle.std.proofs.lemmas.Bool.Decides.{nat_tests}
+use Rattle.pager_model.specs.declared.page_range.PageRange.{PageRange}
 use Rattle.pager_model.specs.declared.tile.Mapping.{Mapping}
 use Rattle.pager_model.specs.Extents.{extent_start}
-use Rattle.pager_model.specs.Tiles.{tile_of, begins_at, size_at, is_promoted, promotions_between, demotions_between}
+use Rattle.pager_model.specs.Tiles.{tile_of, is_that_tile, is_tile, begins_at, size_at, is_promoted, promotions_between, demotions_between}
 use Rattle.pager_model.proofs.CountLemmas.{weight}
 use Rattle.pager_model.proofs.ExtentLemmas.{coarser}
 use Rattle.tiles.specs.declared.moves.Moves.{Moves}
@@ -12,11 +13,13 @@ use Rattle.tiles.specs.Beside.{AreKeptBut, SamePages, whole}
 use Rattle.tiles.specs.Blocks.{OutsideSame, is_grown_at}
 use Rattle.tiles.specs.Kept.{AreSizes, SizesBut, SameSizes}
 use Rattle.tiles.specs.Resident.{Resident, mapping_at, Maps, AreMoves}
+use Rattle.tiles.specs.Touched.{IsInSpace, KeepsOutside, extent_range, is_touched}
 use Rattle.tiles.proofs.SizeChanges.{others_back, promotions_one, promotions_same}
 use Rattle.tiles.proofs.Counting.{count_pages-is, count-sum}
 use Rattle.tiles.proofs.Eligible.{whole_local}
 use Rattle.tiles.proofs.Extents.{StartsBelow, starts_below}
-use Rattle.tiles.proofs.Largest.{size_small, size_is, whole_within, whole_beyond, none_size, tile_begins}
+use Rattle.tiles.proofs.Largest.{size_absent, size_small, size_is, whole_within, whole_beyond, none_size, tile_begins}
+use Rattle.tiles.proofs.TouchedTiles.{extent_in_space, outside_larger, outside_none, tile_same, outside_apart}
 
 -- ---- one page
 
@@ -31,10 +34,12 @@ pub same_sizes_but : (r s : Resident) (page : ℕ) → SameSizes r s → SizesBu
 same_sizes_but r s page same p apart = same p
 
 pub moves_one : (r s t : Resident) (page before after : ℕ) (moves : Moves) → AreKeptBut page (mapping_at r) s → SamePages s t → page < 1048576 → before ≡ size_at (mapping_at r) page → after ≡ size_at (mapping_at s) page
-    → moves.promotions ≡ (if nat_lt before after then 1 else 0) → moves.demotions ≡ (if nat_lt after before then 1 else 0) → AreMoves r t moves
-moves_one r s t page before after moves kept same in_space had has promoted demoted =
+    → moves.promotions ≡ (if nat_lt before after then 1 else 0) → moves.demotions ≡ (if nat_lt after before then 1 else 0) → IsInSpace moves.touched → KeepsOutside moves.touched (mapping_at r) (mapping_at s) → AreMoves r t moves
+moves_one r s t page before after moves kept same in_space had has promoted demoted in_range outside =
     let one : mapping_at t ≡ mapping_at s = λ i p. same.at p i in
     record {
+      in_space = in_range;
+      outside = λ u is out. ap (λ (pages : ℕ → Option Mapping). is_tile pages u) one ∙ outside u is out;
       promotions = promoted ∙ ap (λ n. cond (ltb n after) 1 0) had ∙ ap (λ n. cond (ltb (size_at (mapping_at r) page) n) 1 0) has ∙ sym (promotions_one (mapping_at r) (mapping_at s) page kept.others in_space)
           ∙ sym (ap (λ (pages : ℕ → Option Mapping). promotions_between (mapping_at r) pages) one);
       demotions = demoted ∙ ap (λ n. cond (ltb n before) 1 0) has ∙ ap (λ n. cond (ltb (size_at (mapping_at s) page) n) 1 0) had
@@ -42,9 +47,25 @@ moves_one r s t page before after moves kept same in_space had has promoted demo
           ∙ sym (ap (λ (pages : ℕ → Option Mapping). promotions_between pages (mapping_at r)) one);
     }
 
+-- in the larger of the page's two tiles
+pub moves_in_larger : (r s t : Resident) (page before after : ℕ) (moves : Moves) → AreKeptBut page (mapping_at r) s → SamePages s t → page < 1048576 → before ≡ size_at (mapping_at r) page → after ≡ size_at (mapping_at s) page
+    → moves.promotions ≡ (if nat_lt before after then 1 else 0) → moves.demotions ≡ (if nat_lt after before then 1 else 0) → moves.touched ≡ extent_range (max before after) page → AreMoves r t moves
+moves_in_larger r s t page before after moves kept same in_space had has promoted demoted touched =
+    moves_one r s t page before after moves kept same in_space had has promoted demoted (extent_in_space before after page (mapping_at r) (mapping_at s) moves.touched had has in_space touched)
+    (outside_larger (mapping_at r) (mapping_at s) page kept.others before after moves.touched had has touched)
+
+-- nothing moves where a page came that makes no larger tile
+pub moves_none : (r s t : Resident) (page : ℕ) (moves : Moves) → AreKeptBut page (mapping_at r) s → SamePages s t → page < 1048576 → mapping_at r page ≡ None → 0 ≡ size_at (mapping_at s) page
+    → moves.promotions ≡ 0 → moves.demotions ≡ 0 → IsInSpace moves.touched → AreMoves r t moves
+moves_none r s t page moves kept same in_space absent has promoted demoted in_range =
+    moves_one r s t page 0 0 moves kept same in_space (sym (size_absent (mapping_at r) page absent)) has promoted demoted in_range
+    (outside_none (mapping_at r) (mapping_at s) page kept.others moves.touched absent (sym has))
+
 -- nothing moves where nothing changes
-pub moves_same : (r s : Resident) (moves : Moves) → ((p : ℕ) → mapping_at s p ≡ mapping_at r p) → moves.promotions ≡ 0 → moves.demotions ≡ 0 → AreMoves r s moves
-moves_same r s moves same no_promotion no_demotion = record {
+pub moves_same : (r s : Resident) (moves : Moves) → ((p : ℕ) → mapping_at s p ≡ mapping_at r p) → moves.promotions ≡ 0 → moves.demotions ≡ 0 → IsInSpace moves.touched → AreMoves r s moves
+moves_same r s moves same no_promotion no_demotion in_range = record {
+  in_space = in_range;
+  outside = λ u is out. ap (λ (pages : ℕ → Option Mapping). is_tile pages u) (let one : mapping_at s ≡ mapping_at r = λ i p. same p i in one) ∙ is;
   promotions = no_promotion ∙ sym (promotions_same (mapping_at r) (mapping_at s) same);
   demotions = no_demotion ∙ sym (promotions_same (mapping_at s) (mapping_at r) (λ p. sym (same p)));
 }
@@ -57,6 +78,13 @@ size_local old new q same =
     let n = size_at old q in
     let alike : (k : ℕ) → k ≤ 3 → whole old k q ≡ whole new k q = λ k low. whole_local old new k q low (λ p joined. sym (same p (coarser k 3 p q low (omega arith) joined))) in
     size_is new q n (size_small old q) (λ positive. sym (alike n (size_small old q)) ∙ whole_within old q n positive (omega arith)) (λ k more low. sym (alike k low) ∙ whole_beyond old q k more low)
+
+-- and so is the tile
+pub outside_block : (old new : ℕ → Option Mapping) (block : ℕ) (range : PageRange) → OutsideSame block old new → range ≡ record { first = block * 512; length = 512 } → KeepsOutside range old new
+outside_block old new block range outside is t tile out =
+    let q = t.extent.first in
+    let apart = outside_apart block 512 q (omega arith) (ap (λ (r : PageRange). is_touched r q) (sym is) ∙ out) in
+    ap (is_that_tile t) (tile_same old new q (outside q apart) (size_local old new q (λ p joined. outside p (λ e. apart (sym joined ∙ e))))) ∙ tile
 
 swap : (a b x y : Bool) → (y ≡ true → a ≡ x) → b ≡ y → (a && b) ≡ (y && x)
 swap true true x true f e = f refl

@@ -7,6 +7,7 @@ use Rattle.pager_model.specs.Regions.{in_range}
 use Rattle.pager_model.specs.Tiles.{tile_of, size_at, promotions_between, demotions_between}
 use Rattle.tiles.specs.declared.moves.Moves.{Moves}
 use Rattle.tiles.specs.Resident.{Resident, mapping_at, frames_in, with_rights}
+use Rattle.tiles.specs.Touched.{IsInSpace, KeepsOutside}
 
 -- the pages from first to before end have these rights already
 abbrev pub KeepsRights : ℕ → ℕ → Rights → (ℕ → Option Mapping) → Type 0
@@ -33,6 +34,8 @@ OutsideSame block old new = (p : ℕ) → p / 512 ≢ block → new p ≡ old p
 pub record AreMovesOf (old new : ℕ → Option Mapping) (moves : Moves) : Type 0 where
   pub promotions : moves.promotions ≡ promotions_between old new
   pub demotions : moves.demotions ≡ demotions_between old new
+  pub in_space : IsInSpace moves.touched
+  pub outside : KeepsOutside moves.touched old new
 
 -- a page is the first of an extent of the level after, which is the larger one
 abbrev pub is_grown_at : ℕ → ℕ → ℕ → Bool

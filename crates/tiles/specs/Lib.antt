@@ -4,3 +4,4 @@ pub mod Cleared
 pub mod Kept
 pub mod Parts
 pub mod Resident
+pub mod Touched

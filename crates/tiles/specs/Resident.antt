@@ -7,6 +7,7 @@ use Rattle.pager_model.specs.Regions.{in_range}
 use Rattle.pager_model.specs.Tiles.{tile_of, size_at, begins_at, count_pages, promotions_between, demotions_between}
 use Rattle.tiles.specs.declared.moves.Moves.{Moves}
 use Rattle.tiles.specs.declared.pages.Place.{Place}
+use Rattle.tiles.specs.Touched.{IsInSpace, KeepsOutside}
 
 pub record Resident : Type 0 where
   -- the numbers of frames: each is the row of the page that has the frame
@@ -54,10 +55,12 @@ pub record Protects (first len : ℕ) (rights : Rights) (old new : Resident) : T
   pub frames : frames_in new ≡ frames_in old
   pub at : (p : ℕ) → mapping_at new p ≡ (if in_range first len p then option_map (with_rights rights) (mapping_at old p) else mapping_at old p)
 
--- these are the tiles that a change made larger, and that it broke
+-- these are the tiles that a change made larger, and that it broke, and where it touched the tiles there were
 pub record AreMoves (old new : Resident) (moves : Moves) : Type 0 where
   pub promotions : moves.promotions ≡ promotions_between (mapping_at old) (mapping_at new)
   pub demotions : moves.demotions ≡ demotions_between (mapping_at old) (mapping_at new)
+  pub in_space : IsInSpace moves.touched
+  pub outside : KeepsOutside moves.touched (mapping_at old) (mapping_at new)
 
 -- the page is the first of a tile of size 1 or more
 abbrev pub begins_large : (ℕ → Option Mapping) → ℕ → Bool

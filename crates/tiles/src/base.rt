@@ -9,7 +9,7 @@ ghost use Rattle.pager_model.specs.Bounds.{most_frames, space_pages};
 
 use crate::moves::Moves;
 use crate::pages::Pages;
-use pager_model::{Extent, Mapping, NoMemory, PAGES, Rights, Size, Tile};
+use pager_model::{Extent, Mapping, NoMemory, PAGES, PageRange, Rights, Size, Tile};
 use std::alloc::Global;
 use std::marker::Model;
 
@@ -94,7 +94,10 @@ impl Base {
     {
         self.pages.put(page, mapping);
         let size = self.pages.settle(page, Size::at_level(0));
-        Moves::of_one(Size::at_level(0), size)
+        if size.level() == 0 {
+            return Moves::NONE;
+        }
+        Moves::of_one(page, Size::at_level(0), size)
     }
 
     /// A page is resident no more.
@@ -107,7 +110,7 @@ impl Base {
         };
         self.pages.remove(page);
         let size = self.pages.settle(page, before);
-        Moves::of_one(before, size)
+        Moves::of_one(page, before, size)
     }
 
     /// A page has this dirty flag, where it is resident.
@@ -120,7 +123,7 @@ impl Base {
         };
         self.pages.set_dirty(page, dirty);
         let size = self.pages.settle(page, before);
-        Moves::of_one(before, size)
+        Moves::of_one(page, before, size)
     }
 
     /// The size of a page's tile, where the page is resident with another dirty flag.
@@ -205,7 +208,13 @@ impl Base {
             let page = block * BLOCK + 8 * i as u32;
             moves = moves.and(Moves::at(page, before[i], self.size(page).level()));
         }
-        moves
+        Moves {
+            touched: PageRange {
+                first: block * BLOCK,
+                length: BLOCK,
+            },
+            ..moves
+        }
     }
 
     /// The resident pages of a range that are in a block have these rights.

@@ -4,7 +4,7 @@ ghost use Rattle.std.specs.Prelude.{◌≡◌, ◌≢◌, ◌<◌, ◌≤◌, �
 ghost use Rattle.tiles.specs.Resident.{mapping_at, frames_in, frame_of_page};
 
 use super::size;
-use pager_model::{Extent, Generator, Mapping, NoMemory, Rights, Size, Tile};
+use pager_model::{Extent, Generator, Mapping, NoMemory, PageRange, Rights, Size, Tile};
 use std::alloc::{AllocGlobal, Global};
 use std::process::Abort;
 use std::test::Fail;
@@ -18,6 +18,10 @@ const FRAMES: u32 = 1536;
 const NO_MOVES: Moves = Moves {
     promotions: 0,
     demotions: 0,
+    touched: PageRange {
+        first: 0,
+        length: 0,
+    },
 };
 
 /// The base beside a plain list of mappings.
@@ -245,12 +249,25 @@ fn are_moves(moves: &Moves, before: &[Option<Tile>], after: &[Option<Tile>]) -> 
         && moves.demotions as usize == came(after, before)
 }
 
+/// Whether each tile that begins outside of what was touched is a tile still.
+fn keeps_outside(moves: &Moves, before: &[Option<Tile>], after: &[Option<Tile>]) -> bool {
+    let mut gone = before.iter().zip(after).filter(|(old, new)| old != new);
+    gone.all(|(old, _)| old.is_none_or(|tile| begins_in(moves.touched, &tile)))
+}
+
+/// Whether a tile begins in a range.
+fn begins_in(range: PageRange, tile: &Tile) -> bool {
+    tile.extent.first.wrapping_sub(range.first) < range.length
+}
+
 /// Makes a drawn change. Answers whether the tiles after it and the moves are those of a scan.
 fn goes_alike(both: &mut Beside, alloc: Global, random: &mut Generator) -> Result<bool, NoMemory> {
     let before = tiles(alloc, &both.pages)?;
     let moves = both.change(random);
     let after = tiles(alloc, &both.pages)?;
-    Ok(both.is_alike(&after) && are_moves(&moves, &before, &after))
+    Ok(both.is_alike(&after)
+        && are_moves(&moves, &before, &after)
+        && keeps_outside(&moves, &before, &after))
 }
 
 /// Whether the base has as many tiles as a scan finds, of each size and below page 900.
@@ -295,6 +312,25 @@ fn first_half(rt: &(impl Abort + AllocGlobal)) -> Result<Beside, Fail> {
         assert_eq!(rt; moves_of_fill(&mut both, page), (promotions, 0), "{page}");
     }
     Ok(both)
+}
+
+#[test]
+fn a_change_touches_the_larger_of_its_tiles(rt: HostRuntime) -> Result<(), Fail> {
+    let mut both = first_half(&rt)?;
+    assert_eq!(rt; both.fill(600, mapping(600)).touched.length, 0);
+    assert_eq!(rt; both.remove(600).touched, pages(600, 1));
+    assert_eq!(rt; both.set_dirty(100, true).touched, pages(0, 512));
+    assert_eq!(rt; both.set_dirty(101, true).touched, pages(101, 1));
+    assert_eq!(rt; both.remove(70).touched, pages(64, 8));
+    assert_eq!(rt; both.protect(8, 0, Rights::Read).touched.length, 0);
+    assert_eq!(rt; both.protect(8, 8, Rights::Write).touched.length, 0);
+    assert_eq!(rt; both.protect(8, 8, Rights::Read).touched, pages(0, 512));
+    Ok(())
+}
+
+/// So many pages from the first on.
+fn pages(first: u32, length: u32) -> PageRange {
+    PageRange { first, length }
 }
 
 #[test]

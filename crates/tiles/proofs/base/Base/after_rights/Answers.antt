@@ -6,7 +6,7 @@ use Rattle.tiles.proofs.base.Base.after_rights.Goals as goal
 pub loop-block-init : goal.loop-block-init
 loop-block-init c = record {
   protects = blocks_none c.args.first c.args.length c.args.rights c.args.self.now;
-  moves = moves_same c.args.self.now c.args.self.now _ (λ p. refl) refl refl;
+  moves = moves_same c.args.self.now c.args.self.now _ (λ p. refl) refl refl (omega arith);
 }
 
 pub loop-block-preserved : goal.loop-block-preserved
@@ -14,7 +14,7 @@ loop-block-preserved c = record {
   protects = blocks_more c.loop-block.block c.args.first c.args.length c.args.rights c.args.self.now c.loop-block.self c.after_rights_in_block.new.self c.loop-block.invariant.protects c.after_rights_in_block.ensures.protects;
   moves =
       moves_more c.loop-block.block c.args.first c.args.length c.args.rights c.args.self.now c.loop-block.self c.after_rights_in_block.new.self c.loop-block.moves c.after_rights_in_block.result c.and-moves.result c.loop-block.invariant.protects c.after_rights_in_block.ensures.protects
-      c.loop-block.invariant.moves c.after_rights_in_block.ensures.moves c.and-moves.ensures.promotions c.and-moves.ensures.demotions;
+      c.loop-block.invariant.moves c.after_rights_in_block.ensures.moves c.and-moves.ensures.promotions c.and-moves.ensures.demotions c.and-moves.ensures.in_space c.and-moves.ensures.touched;
 }
 
 pub returns-clause-protects : goal.returns-clause-protects

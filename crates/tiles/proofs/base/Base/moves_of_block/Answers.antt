@@ -8,6 +8,7 @@ pub loop-i-init : goal.loop-i-init
 loop-i-init c = record {
   few_promotions = omega arith;
   few_demotions = omega arith;
+  in_space = omega arith;
   counts = λ old sizes. counts_none c.args.block old (mapping_at c.args.self.now) _ refl refl;
 }
 
@@ -15,6 +16,7 @@ pub loop-i-preserved : goal.loop-i-preserved
 loop-i-preserved c = record {
   few_promotions = omega (arith, c.loop-i.invariant.few_promotions, c.and-moves.ensures.promotions, c.at.ensures.promotions, one_most (is_grown_at (c.args.block * 512 + 8 * c.loop-i.i) (slice_index c.args.before.now c.loop-i.i) c.level.result));
   few_demotions = omega (arith, c.loop-i.invariant.few_demotions, c.and-moves.ensures.demotions, c.at.ensures.demotions, one_most (is_grown_at (c.args.block * 512 + 8 * c.loop-i.i) c.level.result (slice_index c.args.before.now c.loop-i.i)));
+  in_space = c.and-moves.ensures.in_space;
   counts = λ old sizes.
       counts_more c.args.block c.loop-i.i (slice_index c.args.before.now c.loop-i.i) c.level.result old (mapping_at c.args.self.now) c.loop-i.moves c.at.result c.and-moves.result (c.loop-i.invariant.counts old sizes)
       (sizes c.loop-i.i c.loop-i-test.true) (c.level.ensures.level ∙ c.size.ensures) c.at.ensures.promotions c.at.ensures.demotions c.and-moves.ensures.promotions c.and-moves.ensures.demotions;
@@ -25,4 +27,5 @@ returns c old sizes outside =
     let past = c.loop-i-test.false in
     let ended = c.loop-i.auto.i-end in
     let all : c.loop-i.i ≡ 64 = omega arith in
-    counts_all c.args.block old (mapping_at c.args.self.now) c.loop-i.moves c.requires.block outside (subst (λ (i : ℕ). CountsTo c.args.block i old (mapping_at c.args.self.now) c.loop-i.moves) all (c.loop-i.invariant.counts old sizes))
+    let counts = subst (λ (i : ℕ). CountsTo c.args.block i old (mapping_at c.args.self.now) c.loop-i.moves) all (c.loop-i.invariant.counts old sizes) in
+    counts_all c.args.block old (mapping_at c.args.self.now) _ c.requires.block outside (record { promotions = counts.promotions; demotions = counts.demotions }) refl
