@@ -1,9 +1,10 @@
 -- What becomes of what a space and a state have in common of translations, as pages change and tiles are used.
-use Rattle.std.proofs.Common.{◌≡◌, ℕ, ◌+◌, ◌<◌, ◌≤◌, Bool, true, false, ◌==◌, nat_lt, min, if◌then◌else◌, List, [], map, length, slice_index_or, Option, Some, None, is_some, option_map, refl, sym, ap, subst, inl, inr, ◌∙◌, arith}
-use Rattle.std.proofs.lemmas.Bool.{cases_lt}
+use Rattle.std.proofs.Common.{◌≡◌, ℕ, ◌+◌, ◌<◌, ◌≤◌, Bool, true, false, ◌==◌, not, ◌||◌, nat_lt, min, if◌then◌else◌, List, [], ◌∷◌, filter, map, length, slice_index_or, Option, Some, None, is_some, option_map, refl, sym, ap, subst, inl, inr, ◌∙◌, arith}
+use Rattle.std.proofs.lemmas.Bool.{cases_Bool, cases_lt, cond-true, cond-false}
 use Rattle.std.proofs.lemmas.Bool.Decides.{nat_tests}
 use Rattle.std.proofs.lemmas.List.{get_or-map, length-map}
 use Rattle.std.proofs.Math.Nat.{min-eq_left, min-eq_right}
+use Rattle.pager_model.specs.declared.page_range.PageRange.{PageRange}
 use Rattle.pager_model.specs.declared.region.Region.{Region}
 use Rattle.pager_model.specs.declared.region.Rights.{Rights}
 use Rattle.pager_model.specs.declared.tile.Mapping.{Mapping}
@@ -12,14 +13,15 @@ use Rattle.pager_model.specs.Images.{still_tiles, touched_by, images_with}
 use Rattle.pager_model.specs.Regions.{region_at}
 use Rattle.pager_model.specs.SpaceStates.{SpaceState, last_count, pages_of}
 use Rattle.pager_model.specs.SizeSets.{SizeSet, all_sizes}
-use Rattle.pager_model.specs.Tiles.{mapping_with, tile_of, tile_in, promotions_between, demotions_between, promotions_in, demotions_in}
+use Rattle.pager_model.specs.Tiles.{mapping_with, is_tile, tile_of, tile_in, promotions_between, demotions_between, promotions_in, demotions_in}
 use Rattle.space_core.specs.Keeping.{IsMapped}
 use Rattle.space_core.specs.Standing.{Kept, Translates, image_at, frame_at, dirty_at, rights_at, rights_by}
 use Rattle.space_core.specs.Tables.{Table, mapping_in, own_in}
-use Rattle.space_core.specs.Translating.{Retouches, Touches, counted_up}
+use Rattle.space_core.specs.Translating.{Retouches, Touches, counted_up, untouched_tiles}
 use Rattle.space_core.proofs.TableLemmas.{frame-absent, frame-mapped, dirty-mapped}
 use Rattle.tiles.specs.declared.moves.Moves.{Moves}
 use Rattle.tiles.specs.Resident.{AreMoves, with_flag}
+use Rattle.tiles.specs.Touched.{KeepsOutside, is_touched}
 use Rattle.tiles.proofs.Cleared.{no_promotions, no_demotions}
 use Rattle.pager_laws.proofs.ImageTiles.{touched_if, still_again, used_at, IsUsed}
 
@@ -87,6 +89,12 @@ same_translates old new st still s =
       promotions = λ low. still.promotions ∙ s.promotions low;
       demotions = λ low. still.demotions ∙ s.demotions low;
     }
+
+-- the images of a space that a state stands for have tiles alone
+tiles_before : (old : Kept) (st : SpaceState) → Translates old st → ((p : ℕ) → pages_of st p ≡ mapping_in old.table p) → (i : ℕ) → i < length old.images → still_tiles all_sizes (mapping_in old.table) (image_at old i) ≡ image_at old i
+tiles_before old st s was i within =
+    let pages : pages_of st ≡ mapping_in old.table = λ j p. was p j in
+    ap (λ (ps : ℕ → Option Mapping). still_tiles all_sizes ps (image_at old i)) (sym pages) ∙ ap (still_tiles all_sizes (pages_of st)) (sym (s.images i within)) ∙ s.tiles i within ∙ s.images i within
 
 -- The pages of a state become the space's.
 module _ (old new : Kept) (st after : SpaceState) (c : ℕ) (tile : Option Tile) (known : Follows st after c tile) (used : IsUsed all_sizes (pages_of after) tile)
@@ -167,7 +175,7 @@ module _ (old new : Kept) (st after : SpaceState) (c : ℕ) (follows : Follows s
   pub retouches : Retouches old new → Translates new after
   retouches retouched =
       translates_moved old new st after c None follows tt s was is retouched.processors
-      (λ i within. retouched.images i within ∙ sym (untouched (i == c) (still_tiles all_sizes (mapping_in new.table) (image_at old i))))
+      (λ i within. retouched.images i within (tiles_before old st s was i within) ∙ sym (untouched (i == c) (still_tiles all_sizes (mapping_in new.table) (image_at old i))))
       retouched.promotions retouched.demotions
 
 -- The pages of a range were cleared one after another: the tiles that meet it were counted before, and the images keep what is a tile still.
@@ -220,16 +228,56 @@ module _ (old mid new : Kept) (st after : SpaceState) (c page : ℕ) (known : Fo
   pub retouches_used : Retouches old mid → Translates new after
   retouches_used retouched =
       translates_moved old new st after c (tile_of (pages_of after) page) follows_used is_used s was is (touches.processors ∙ retouched.processors)
-      (λ i within. image_used i (omega (arith, retouched.processors)) ∙ ap (touched_by (if i == c then tile_of (pages_of after) page else None)) (retouched.images i within ∙ ap (λ (t : Table). still_tiles all_sizes (mapping_in t) (image_at old i)) (sym same_table)))
+      (λ i within. image_used i (omega (arith, retouched.processors)) ∙ ap (touched_by (if i == c then tile_of (pages_of after) page else None)) (retouched.images i within (tiles_before old st s was i within) ∙ ap (λ (t : Table). still_tiles all_sizes (mapping_in t) (image_at old i)) (sym same_table)))
       (ap (λ (k : Kept). k.promotions) touches.same ∙ retouched.promotions ∙ ap (λ (t : Table). counted_up old.promotions (promotions_between (mapping_in old.table) (mapping_in t))) (sym same_table))
       (ap (λ (k : Kept). k.demotions) touches.same ∙ retouched.demotions ∙ ap (λ (t : Table). counted_up old.demotions (demotions_between (mapping_in old.table) (mapping_in t))) (sym same_table))
 
--- the moves were counted, and the images keep what is a tile still
-pub retouched_by : (old new : Kept) (moves : Moves) → AreMoves old.table.pages new.table.pages moves → new.images ≡ map (still_tiles all_sizes (mapping_in new.table)) old.images → new.promotions ≡ counted_up old.promotions moves.promotions → new.demotions ≡ counted_up old.demotions moves.demotions → Retouches old new
+-- two tests that answer alike for what a third one passes keep the same of it
+filter_alike : (passes test other : Tile → Bool) (ts : List Tile) → ((t : Tile) → passes t ≡ true → test t ≡ other t) → filter test (filter passes ts) ≡ filter other (filter passes ts)
+filter_alike passes test other [] alike = refl
+filter_alike passes test other (t ∷ ts) alike =
+    let rest = filter_alike passes test other ts alike in
+    elim (cases_Bool (passes t)) [
+      | inl is ↦
+          ap (filter test) (cond-true _ _ _ is) ∙ ap (λ b. if b then t ∷ filter test (filter passes ts) else filter test (filter passes ts)) (alike t is)
+          ∙ ap (λ us. if other t then t ∷ us else us) rest ∙ sym (ap (filter other) (cond-true _ _ _ is))
+      | inr isnt ↦ ap (filter test) (cond-false _ _ _ isnt) ∙ rest ∙ sym (ap (filter other) (cond-false _ _ _ isnt))
+    ]
+
+-- of an image that had tiles alone it is what is a tile still, where no other tile went
+untouched_still : (range : PageRange) (old new : ℕ → Option Mapping) (ts : List Tile) → KeepsOutside range old new → still_tiles all_sizes old ts ≡ ts → untouched_tiles range new ts ≡ still_tiles all_sizes new ts
+untouched_still range old new ts keeps had =
+    ap (untouched_tiles range new) (sym had)
+    ∙ filter_alike (is_tile old) (λ t. not (is_touched range t.extent.first) || is_tile new t) (is_tile new) ts (λ t is. alike (is_touched range t.extent.first) (is_tile new t) (keeps t is))
+    ∙ ap (still_tiles all_sizes new) had
+  where
+    alike : (inside tile : Bool) → (inside ≡ false → tile ≡ true) → (not inside || tile) ≡ tile
+    alike true tile keeps = refl
+    alike false tile keeps = sym (keeps refl)
+
+-- an empty range leaves all of them alone
+pub untouched_none : (range : PageRange) (pages : ℕ → Option Mapping) (images : List (List Tile)) → range.length ≡ 0 → map (untouched_tiles range pages) images ≡ images
+untouched_none range pages images none = all images
+  where
+    outside : (q : ℕ) → is_touched range q ≡ false
+    outside q = grind (arith, nat_tests)
+
+    one : (ts : List Tile) → untouched_tiles range pages ts ≡ ts
+    one [] = refl
+    one (t ∷ ts) = cond-true _ _ _ (ap (λ b. not b || is_tile pages t) (outside t.extent.first)) ∙ ap (λ us. t ∷ us) (one ts)
+
+    all : (is : List (List Tile)) → map (untouched_tiles range pages) is ≡ is
+    all [] = refl
+    all (ts ∷ is) = ap (λ us. us ∷ map (untouched_tiles range pages) is) (one ts) ∙ ap (λ us. ts ∷ us) (all is)
+
+-- the moves were counted, and each image keeps what they left alone and what is a tile still
+pub retouched_by : (old new : Kept) (moves : Moves) → AreMoves old.table.pages new.table.pages moves → new.images ≡ map (untouched_tiles moves.touched (mapping_in new.table)) old.images → new.promotions ≡ counted_up old.promotions moves.promotions → new.demotions ≡ counted_up old.demotions moves.demotions → Retouches old new
 retouched_by old new moves are images promotions demotions =
+    let kept = untouched_tiles moves.touched (mapping_in new.table) in
     record {
-      processors = ap length images ∙ length-map old.images (still_tiles all_sizes (mapping_in new.table));
-      images = λ c within. ap (λ (ts : List (List Tile)). slice_index_or ts c []) images ∙ get_or-map (still_tiles all_sizes (mapping_in new.table)) old.images c [] [] within;
+      processors = ap length images ∙ length-map old.images kept;
+      images = λ c within had. ap (λ (ts : List (List Tile)). slice_index_or ts c []) images ∙ get_or-map kept old.images c [] [] within
+          ∙ untouched_still moves.touched (mapping_in old.table) (mapping_in new.table) (image_at old c) are.outside had;
       promotions = promotions ∙ ap (counted_up old.promotions) are.promotions;
       demotions = demotions ∙ ap (counted_up old.demotions) are.demotions;
     }

@@ -14,7 +14,8 @@ ghost use Rattle.space_core.specs.Pages.{Maps};
 ghost use Rattle.space_core.specs.Saving.{Saves, FailsToSave, LacksRoom, unwritten_by};
 ghost use Rattle.space_core.specs.Standing.{StandsFor, IsResting, range_of, frame_at, dirty_at, image_at, rights_by, is_allowed, CanBegin};
 ghost use Rattle.space_core.specs.Tables.{mapping_in, own_in};
-ghost use Rattle.space_core.specs.Translating.{counted_up, Retouches, ChangesPages, CleansPage, Touches, BeginsClear};
+ghost use Rattle.tiles.specs.Touched.{is_touched};
+ghost use Rattle.space_core.specs.Translating.{counted_up, untouched_tiles, Retouches, ChangesPages, CleansPage, Touches, BeginsClear};
 ghost use Rattle.pager_model.specs.Bounds.{space_bytes, space_pages};
 
 use crate::access::{accessed_page, answered, page_of, permits, want_in, word_of};
@@ -559,17 +560,17 @@ impl<S: Store + Send + Drop> Space<S> {
         frame
     }
 
-    /// Counts the moves of a change of the pages, after which each image keeps what is a tile still.
+    /// Counts the moves of a change of the pages, after which each image keeps what they didn't touch, and what is a tile still.
     fn retouch(&mut self, moves: Moves)
         ensures { self.new ≡ record self.old {
-          images = map (still_tiles all_sizes (mapping_in self.old.table)) self.old.images;
+          images = map (untouched_tiles moves.touched (mapping_in self.old.table)) self.old.images;
           promotions = counted_up self.old.promotions moves.promotions;
           demotions = counted_up self.old.demotions moves.demotions;
         } }
     {
         self.promotions = self.promotions.saturating_add(u64::from(moves.promotions));
         self.demotions = self.demotions.saturating_add(u64::from(moves.demotions));
-        self.keep_tiles();
+        keep_untouched(self.images.as_mut_slice(), &self.table, moves.touched);
     }
 
     /// Each image keeps what is a tile still.
@@ -623,6 +624,26 @@ fn keep_tiles(images: &mut [Image], table: &PageTable)
     for image in images.iter_mut() {
         image.retain(|tile| table.is_tile(tile));
     }
+}
+
+/// Each image keeps what begins outside of the range, which isn't asked about, and what is a tile still.
+fn keep_untouched(images: &mut [Image], table: &PageTable, range: PageRange)
+    ensures { images.new ≡ map (untouched_tiles range (mapping_in table.now)) images.old }
+{
+    if range.length == 0 {
+        return;
+    }
+    for image in images.iter_mut() {
+        image.retain(|tile| !begins_in(tile, range) || table.is_tile(tile));
+    }
+}
+
+/// Whether a tile begins in a range.
+fn begins_in(tile: &Tile, range: PageRange) -> bool
+    ensures { result ≡ is_touched range tile.now.extent.first }
+{
+    let first = tile.extent.first;
+    range.first <= first && first - range.first < range.length
 }
 
 /// Written where the page was dirty, and else clean.

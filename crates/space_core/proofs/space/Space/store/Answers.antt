@@ -1,8 +1,6 @@
 use Rattle.std.proofs.Common.{◌∙◌, refl, sym, map, inl, inr}
-use Rattle.pager_model.specs.Images.{still_tiles}
-use Rattle.pager_model.specs.SizeSets.{all_sizes}
 use Rattle.space_core.specs.Tables.{mapping_in}
-use Rattle.space_core.specs.Translating.{counted_up}
+use Rattle.space_core.specs.Translating.{counted_up, untouched_tiles}
 use Rattle.space_core.proofs.ServedPages.{stores, stored_kept, same_stored}
 use Rattle.space_core.proofs.TableLemmas.{writes_frame}
 use Rattle.space_core.proofs.Translations.{retouched_by}
@@ -35,7 +33,7 @@ returns g c =
     elim c.if-not-was_dirty.branch [
       | then-not-was_dirty w ↦
           rw (c.touch.ensures.answered, c.has_translation-hit.ensures, c.page_of-page.ensures.page, w.self-is, w.retouch.ensures, ← c.self.view_is, rest.none_pending, rest.none_clearing, rest.none_paged)
-          (stores c.self.inside.number c.self.inside.regions c.self.inside.table u _ c.self.inside.images.items (map (still_tiles all_sizes (mapping_in u)) c.self.inside.images.items)
+          (stores c.self.inside.number c.self.inside.regions c.self.inside.table u _ c.self.inside.images.items (map (untouched_tiles c.set_word-moves.result.touched (mapping_in u)) c.self.inside.images.items)
           c.self.inside.promotions (counted_up c.self.inside.promotions c.set_word-moves.result.promotions) c.self.inside.demotions (counted_up c.self.inside.demotions c.set_word-moves.result.demotions) c.self.inside.broken
           c.args.address c.args.word resident writes c.args.processor within may (inr (retouched_by _ _ c.set_word-moves.result c.set_word-moves.ensures.moves refl refl refl)) c.touch.new.self
           (rw (c.page_of-page.ensures.page, w.self-is, w.retouch.ensures, rest.none_pending, rest.none_clearing, rest.none_paged) at c.touch.ensures.touched))
