@@ -531,6 +531,13 @@ module _ (number : ℕ) (regions : List Region) (t u : Table) (store : Stored) (
         subst (λ (k : Kept). Finishes before k c (Store number address word) (record { reply = Done; hit = is_in_image (image_at before c) (tile_of (mapping_in t) (page_of address)); size = option_map (λ (x : Tile). x.extent.size) tile_stored }))
         (sym touches.same) (stores_into new.images (subst (λ (k : Kept). Touches mid k c tile_stored) touches.same touches))
 
+    -- where nothing else is said of any page, the page's tile is the one before
+    pub stores_same : ((p : ℕ) → mapping_in u p ≡ mapping_in t p) → (new : Kept) → Touches mid new c tile_stored → Finishes before new c (Store number address word) (record { reply = Done; hit = is_in_image (image_at before c) tile_stored; size = option_map (λ (x : Tile). x.extent.size) tile_stored })
+    stores_same same new touches =
+        let whole : mapping_in t ≡ mapping_in u = λ i p. sym (same p) i in
+        subst (λ (ps : ℕ → Option Mapping). Finishes before new c (Store number address word) (record { reply = Done; hit = is_in_image (image_at before c) (tile_of ps (page_of address)); size = option_map (λ (x : Tile). x.extent.size) tile_stored }))
+        whole (stores new touches)
+
 -- a dirty page that is stored to has the same said of it
 pub same_stored : (t u : Table) (page index word : ℕ) → Writes page index word t u → dirty_in t page ≡ true → (p : ℕ) → mapping_in u p ≡ mapping_in t p
 same_stored t u page index word writes dirty p =

@@ -486,11 +486,10 @@ impl<S: Store + Send + Drop> Space<S> {
     {
         let page = page_of(address);
         let word = self.table.word(page, word_of(address));
-        let hit = self.has_translation(processor, page);
-        self.touch(processor, page, hit, Reply::Value(word))
+        self.touch(processor, page, Reply::Value(word))
     }
 
-    /// Writes the word of a resident page.
+    /// Writes the word of a resident page, whose tiles change where it was clean.
     fn store(&mut self, processor: u32, address: u64, word: u64) -> Answered
         requires processor { processor < length self.old.images }
         requires resting { IsResting self.old }
@@ -500,13 +499,15 @@ impl<S: Store + Send + Drop> Space<S> {
         ensures { Finishes self.old self.new processor (Call.Store self.old.number address word) result }
     {
         let page = page_of(address);
-        let hit = self.has_translation(processor, page);
-        let was_dirty = self.table.is_dirty(page);
-        let moves = self.table.set_word(page, word_of(address), word);
-        if !was_dirty {
-            self.retouch(moves);
+        if self.table.is_dirty(page) {
+            self.table.set_word(page, word_of(address), word);
+            return self.touch(processor, page, Reply::Done);
         }
-        self.touch(processor, page, hit, Reply::Done)
+        let hit = self.has_translation(processor, page);
+        let moves = self.table.set_word(page, word_of(address), word);
+        self.retouch(moves);
+        let answered = self.touch(processor, page, Reply::Done);
+        Answered { hit, ..answered }
     }
 
     /// Whether the processor's image has the tile of the page.
@@ -517,17 +518,22 @@ impl<S: Store + Send + Drop> Space<S> {
         self.images[processor as usize].has(self.table.tile_of(page))
     }
 
-    /// The processor used the tile of the page, which comes to the front of its image; the whole answer.
-    fn touch(&mut self, processor: u32, page: u32, hit: bool, reply: Reply) -> Answered
+    /// The processor used the tile of the page, which comes to the front of its image; the whole answer, a hit where the tile stood there.
+    fn touch(&mut self, processor: u32, page: u32, reply: Reply) -> Answered
         requires processor { processor < length self.old.images }
         requires resident { frame_at self.old page ≢ None }
         ensures touched { Touches self.old self.new processor (tile_of (mapping_in self.old.table) page) }
-        ensures answered { result ≡ record { reply = reply; hit = hit; size = option_map (λ t. t.extent.size) (tile_of (mapping_in self.old.table) page) } }
+        ensures answered { result ≡ record {
+          reply = reply;
+          hit = is_in_image (image_at self.old processor) (tile_of (mapping_in self.old.table) page);
+          size = option_map (λ t. t.extent.size) (tile_of (mapping_in self.old.table) page);
+        } }
     {
         let tile = self.table.tile_of(page);
-        if let Some(tile) = &tile {
-            use_tile(self.images.as_mut_slice(), processor, tile);
-        }
+        let hit = match &tile {
+            Some(tile) => use_tile(self.images.as_mut_slice(), processor, tile),
+            None => false,
+        };
         Answered {
             reply,
             hit,
@@ -609,12 +615,13 @@ impl<S: Store + Send + Drop> Space<S> {
     }
 }
 
-/// The tile comes to the front of the processor's image.
-fn use_tile(images: &mut [Image], processor: u32, tile: &Tile)
+/// The tile comes to the front of the processor's image. Tells whether it stood there.
+fn use_tile(images: &mut [Image], processor: u32, tile: &Tile) -> bool
     requires { processor < length images.old }
-    ensures { images.new ≡ slice_set images.old processor (touched tile.now (slice_index_or images.old processor [])) }
+    ensures touched { images.new ≡ slice_set images.old processor (touched tile.now (slice_index_or images.old processor [])) }
+    ensures hit { result ≡ is_in_image (slice_index_or images.old processor []) (Some tile.now) }
 {
-    images[processor as usize].touch(*tile);
+    images[processor as usize].touch(*tile)
 }
 
 /// Each image keeps what is a tile still.
