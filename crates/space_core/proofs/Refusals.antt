@@ -1,6 +1,6 @@
 -- A refusal changes nothing that a space shows.
 use Rattle.std.proofs.Common.{◌≡◌, ◌≢◌, ℕ, Bool, true, false, if◌then◌else◌, List, [], ◌∷◌, Option, Some, None, is_some, option_map, refl, sym, ap, inl, inr, ◌∙◌, ◌||◌, not, subst}
-use Rattle.std.proofs.lemmas.Bool.{cases_Bool, cond-true, cond-false, true≢false}
+use Rattle.std.proofs.lemmas.Bool.{cases_Bool, cond-true, cond-false, true≢false, and_parts}
 use Rattle.std.proofs.lemmas.Option.{none-some, same_Some}
 use Rattle.pager_model.specs.declared.call.Call.{Call}
 use Rattle.pager_model.specs.declared.call.Call.TheVariants.{Map, Grow, Unmap, Protect, Load, Store, Sync, Evict}
@@ -16,8 +16,8 @@ use Rattle.pager_model.specs.Regions.{has_page, region_at, range_in, without_reg
 use Rattle.pager_model.specs.SpaceStates.{SpaceState, answered_flat, ReplyAllowed, access_page, pages_of, pages_after, tile_at, space_after}
 use Rattle.pager_model.proofs.SpaceEntries.{base-unnamed, frees-unlawful, said-unlawful, served-unlawful}
 use Rattle.pager_model.specs.Stores.{IsCopy}
-use Rattle.space_core.specs.Beginning.{BeginsAnswered}
-use Rattle.space_core.specs.Standing.{Kept, StandsFor, IsResting, CanBegin, rights_at, rights_by}
+use Rattle.space_core.specs.Beginning.{BeginsAnswered, NeedsNoFrame}
+use Rattle.space_core.specs.Standing.{Kept, StandsFor, IsResting, CanBegin, is_allowed, rights_at, rights_by}
 use Rattle.pager_model.specs.CallEntries.{answer_entry}
 use Rattle.pager_model.specs.Stored.{copy_at}
 use Rattle.space_core.specs.Pages.{permits}
@@ -208,6 +208,20 @@ begins_unmapped old c (Store space address word) page can resting is none =
     begins_refused old c (Store space address word) Unmapped can resting refl tt (λ st s.
     access_unmapped _ _ _ (ap (λ rs. region_at rs (page_of address)) s.beside.regions ∙ ap (region_at old.regions) (same_Some _ _ is) ∙ none))
 begins_unmapped old c call page can resting is none = absurd (none-some page is)
+
+-- and neither needs a frame, as an access that isn't allowed
+allowed_at : (kept : Kept) (call : Call) (page : ℕ) → access_page call ≡ Some page → is_allowed kept call ≡ true → (is_some (region_at kept.regions page) ≡ true) × (permits (rights_at kept page) call ≡ true)
+allowed_at kept (Load space address) page is allowed =
+    subst (λ p. (is_some (region_at kept.regions p) ≡ true) × (permits (rights_at kept p) (Load space address) ≡ true)) (same_Some _ _ is) (and_parts _ _ allowed)
+allowed_at kept (Store space address word) page is allowed =
+    subst (λ p. (is_some (region_at kept.regions p) ≡ true) × (permits (rights_at kept p) (Store space address word) ≡ true)) (same_Some _ _ is) (and_parts _ _ allowed)
+allowed_at kept call page is allowed = absurd (none-some page is)
+
+pub unmapped_needs_none : (kept : Kept) (call : Call) (page : ℕ) → access_page call ≡ Some page → region_at kept.regions page ≡ None → NeedsNoFrame kept call
+unmapped_needs_none kept call page is none allowed = absurd (true≢false (sym (allowed_at kept call page is allowed).0 ∙ ap is_some none))
+
+pub denied_needs_none : (kept : Kept) (call : Call) (page : ℕ) (r : Region) → access_page call ≡ Some page → region_at kept.regions page ≡ Some r → permits (rights_by (own_in kept.table page) (Some r)) call ≡ false → NeedsNoFrame kept call
+denied_needs_none kept call page r is at refused allowed = absurd (true≢false (sym (allowed_at kept call page is allowed).1 ∙ ap (λ o. permits (rights_by (own_in kept.table page) o) call) at ∙ refused))
 
 refused_if : (b : Bool) (x y : Reply) → is_refusal x ≡ true → (y ≢ Done → is_refusal y ≡ true) → (if b then x else y) ≢ Done → is_refusal (if b then x else y) ≡ true
 refused_if true x y hx hy n = hx

@@ -15,6 +15,8 @@ use Rattle.pager_model.specs.Regions.{in_range, region_at, wanted}
 use Rattle.pager_model.specs.SpaceStates.{SpaceState, AfterClear, space_after, access_page, Rises, WhatAllowed}
 use Rattle.space_core.specs.declared.space.Begun.{Begun}
 use Rattle.space_core.specs.declared.space.Begun.TheVariants.{Answered as HasAnswered, NeedsFrame, NeedsClear, NeedsEvict, Failed as HasFailed}
+use Rattle.space_core.specs.declared.space.Found.{Found}
+use Rattle.space_core.specs.declared.space.Found.TheVariants.{Refused, Absent, Resident}
 use Rattle.space_core.specs.Standing.{Kept, StandsFor, StandsBut, IsResting, MustWrite, range_of, frame_at, rights_at, dirty_at, is_allowed, is_unwired, copied_page}
 use Rattle.pager_model.specs.CallEntries.{answer_entry, evict_entry, take_entry, give_entry, clear_entry, out_entry, failed_entry}
 use Rattle.pager_model.specs.Stored.{keeps_at}
@@ -71,6 +73,12 @@ pub record BeginsNeedingFrame (old new : Kept) (call : Call) (page : ℕ) (want 
 -- the load or store needs no frame: it isn't allowed, or its page is resident
 abbrev pub NeedsNoFrame : Kept → Call → Type 0
 NeedsNoFrame kept call = is_allowed kept call ≡ true → IfSome (access_page call) (λ page. frame_at kept page ≢ None)
+
+-- What there is at the page of a load or a store: it is refused, its page isn't resident, or its page is.
+abbrev pub Finds : Kept → Call → ℕ → Found → Type 0
+Finds kept call page (Refused reply) = NeedsNoFrame kept call × (IsResting kept → (c : ℕ) → BeginsAnswered kept kept c call (record { reply = reply; hit = false; size = None }))
+Finds kept call page (Absent want) = NeedsItsFrame kept call page want
+Finds kept call page Resident = (is_allowed kept call ≡ true) × IfSome (access_page call) (λ p. frame_at kept p ≢ None)
 
 -- the region that the unmap of a page is of, with this range
 pub record IsUnmapping (kept : Kept) (call : Call) (first len : ℕ) : Type 0 where

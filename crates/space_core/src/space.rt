@@ -8,7 +8,7 @@ ghost use Rattle.pager_model.specs.SizeSets.{all_sizes};
 ghost use Rattle.pager_model.specs.Tiles.{tile_of, tiles_of_size};
 ghost use Rattle.pager_model.specs.SpaceStates.{empty_state, access_page};
 ghost use Rattle.pager_model.specs.Stored.{TellsZero};
-ghost use Rattle.space_core.specs.Beginning.{Begins, NeedsItsFrame, NeedsNoFrame, Places, ReadsIn, FailsToRead, Finishes, WritesOut, FailsToWrite, LeavesUnwritten, Removes, IsEvicting, Evicts, copied_reply};
+ghost use Rattle.space_core.specs.Beginning.{Begins, Finds, NeedsItsFrame, NeedsNoFrame, Places, ReadsIn, FailsToRead, Finishes, WritesOut, FailsToWrite, LeavesUnwritten, Removes, IsEvicting, Evicts, copied_reply};
 ghost use Rattle.space_core.specs.Beginning.{NoneResident, ClearsOne, ClearsNone, Unmapped};
 ghost use Rattle.space_core.specs.Pages.{Maps};
 ghost use Rattle.space_core.specs.Saving.{Saves, FailsToSave, LacksRoom, unwritten_by};
@@ -41,6 +41,17 @@ pub enum Begun {
     NeedsEvict { page: u32, written: bool },
     /// A sync or an evict, where writing the page's copy failed; the store's count of faults is this now.
     Failed { page: u32, count: u64 },
+}
+
+/// What there is at the page of a load or a store.
+#[derive(Clone, Copy, Debug)]
+pub(crate) enum Found {
+    /// The access is refused, for this.
+    Refused(Reply),
+    /// The access is allowed, and the page isn't resident; its region wants this of a frame for it.
+    Absent(Want),
+    /// The access is allowed, and the page is resident.
+    Resident,
 }
 
 /// Why a page was not paged out: it stays resident and dirty.
@@ -163,11 +174,10 @@ impl<S: Store + Send + Drop> Space<S> {
         ensures none { IfNone result (NeedsNoFrame self.now call.now) }
     {
         let page = accessed_page(call)?;
-        let region = self.regions.find(page)?;
-        if !permits(self.rights(page, region), call) || self.table.number(page).is_some() {
-            return None;
+        match self.look(page, call) {
+            Found::Absent(want) => Some((page, want)),
+            Found::Refused(_) | Found::Resident => None,
         }
-        Some((page, want_in(&region, page, self.regions.next_start(page))))
     }
 
     /// Puts a frame under a page that isn't resident. No other page has a frame of this number.
@@ -379,32 +389,34 @@ impl<S: Store + Send + Drop> Space<S> {
         requires access { is_access call.now ≡ true }
         ensures { Begins self.old self.new processor call.now result }
     {
-        if let Some((page, want)) = self.wants(call) {
-            return Begun::NeedsFrame { page, want };
-        }
-        match self.refusal(call) {
-            Some(refusal) => Begun::Answered(answered(refusal)),
-            None => Begun::Answered(self.finish(processor, call)),
+        let Some(page) = accessed_page(call) else {
+            unreachable!()
+        };
+        match self.look(page, call) {
+            Found::Refused(refusal) => Begun::Answered(answered(refusal)),
+            Found::Absent(want) => Begun::NeedsFrame { page, want },
+            Found::Resident => Begun::Answered(self.finish(processor, call)),
         }
     }
 
-    /// Why a load or a store is refused, where it is.
-    fn refusal(&self, call: &Call) -> Option<Reply>
+    /// What there is at the page of a load or a store.
+    fn look(&self, page: u32, call: &Call) -> Found
         requires space { space_of_call call.now ≡ self.now.number }
-        requires resting { IsResting self.now }
         requires can { CanBegin call.now }
-        requires access { is_access call.now ≡ true }
-        ensures some { IfSome result (λ reply. (c : ℕ) → Begins self.now self.now c call.now (Begun.Answered (record { reply = reply; hit = false; size = None }))) }
-        ensures none { IfNone result (is_allowed self.now call.now ≡ true) }
+        requires page { access_page call.now ≡ Some page }
+        requires in_space { page < space_pages }
+        ensures { Finds self.now call.now page result }
     {
-        let page = accessed_page(call)?;
         let Some(region) = self.regions.find(page) else {
-            return Some(Reply::Unmapped);
+            return Found::Refused(Reply::Unmapped);
         };
-        if permits(self.rights(page, region), call) {
-            return None;
+        if !permits(self.rights(page, region), call) {
+            return Found::Refused(Reply::Denied);
         }
-        Some(Reply::Denied)
+        if self.table.number(page).is_some() {
+            return Found::Resident;
+        }
+        Found::Absent(want_in(&region, page, self.regions.next_start(page)))
     }
 
     /// Writes the copy of a page where it is dirty, and answers.
