@@ -1,21 +1,21 @@
 -- What becomes of a table of pages when a page gets a frame, loses it, has its words written, or is marked dirty or clean, and when a
 -- range gets rights.
-use Rattle.std.proofs.Common.{◌≡◌, ◌≢◌, ℕ, ◌+◌, ◌-◌, ◌<◌, ◌≤◌, true, false, ◌==◌, if◌then◌else◌, List, ◌++◌, Bool, Option, Some, None, is_some, length, replicate, take, drop, slice_index_or, slice_set, option_map, refl, sym, ap, inl, inr, ◌∙◌, arith, subst}
-use Rattle.std.specs.Option.{option_and_then}
-use Rattle.std.proofs.lemmas.Bool.{cases_eq, cases_lt, cond-true, cond-false, eq-eqb, ne_eqb}
+use Rattle.std.proofs.Common.{◌≡◌, ◌≢◌, ℕ, ◌<◌, ◌≤◌, true, false, ◌==◌, if◌then◌else◌, List, Bool, Option, Some, None, length, replicate, slice_index_or, slice_set, option_map, refl, sym, ap, inl, inr, ◌∙◌, arith, subst}
+use Rattle.std.specs.Option.{option_and_then, IfSome, IfNone}
+use Rattle.std.proofs.lemmas.Bool.{cases_eq, cond-true, cond-false, eq-eqb, ne_eqb}
 use Rattle.std.proofs.lemmas.Bool.Decides.{nat_tests}
 use Rattle.std.proofs.lemmas.Grind.{common_steps}
-use borrow.Rule.Slice.PartMut.{put_mid}
 use Rattle.pager_model.specs.Regions.{in_range}
-use Rattle.std.proofs.lemmas.List.{get_or-set_other, get_or-set_same, length-set, get_or_read, get_or-replicate, length-replicate, length-take, get_or_append_left, get_or-append_right, get_or-take, take_at, get_or-drop, length-append, length-drop}
+use Rattle.std.proofs.lemmas.List.{get_or-set_other, get_or-set_same, length-set, get_or_read, length-replicate}
 use Rattle.std.proofs.lemmas.Option.{none-some, same_Some}
 use Rattle.pager_model.specs.declared.region.Rights.{Rights}
 use Rattle.pager_model.specs.declared.tile.Mapping.{Mapping}
 use Rattle.pager_model.specs.Frame.{Framed}
-use Rattle.pager_model.proofs.Lists.{get_or-alike, get_or_within}
-use Rattle.space_core.specs.Pages.{IsFrameAt, IsPaged, IsFresh, Maps, Refills, HasWords, Writes, Cleans, OwnsRights, Protects, Forgets}
+use Rattle.pager_model.proofs.Lists.{get_or_within}
+use Rattle.page_rights.specs.Rights.{RightsTree, rights_of}
+use Rattle.space_core.specs.Pages.{IsFrameAt, IsPaged, IsFresh, Maps, Refills, HasWords, Writes, Cleans, Protects, Forgets, IsFirstResident, NoneFrom}
 use Rattle.space_core.specs.Tables.{Table, mapping_in, frame_in, word_in, word_in_frame, own_in, flag_in, dirty_in}
-use Rattle.tiles.specs.Resident.{Resident, mapping_at, frames_in, with_flag, with_rights, Maps as MapsTo, Protects as ProtectsIn}
+use Rattle.tiles.specs.Resident.{Resident, IsNextResident, NoneResident, mapping_at, frames_in, with_flag, with_rights, Maps as MapsTo, Protects as ProtectsIn}
 
 -- the number of what is said of a page
 abbrev pub number_of : Option Mapping → Option ℕ
@@ -25,7 +25,7 @@ pub frame_in-is : (t : Table) (p : ℕ) → frame_in t p ≡ number_of (mapping_
 unfolding frame_in
 frame_in-is t p = refl
 
-pub own_in-is : (t : Table) (p : ℕ) → own_in t p ≡ slice_index_or t.own p None
+pub own_in-is : (t : Table) (p : ℕ) → own_in t p ≡ rights_of t.own p
 unfolding own_in
 own_in-is t p = refl
 
@@ -154,10 +154,7 @@ word-other : (frames : List (Option Framed)) (k : ℕ) (f : Option Framed) (o : 
 word-other frames k f None i h = refl
 word-other frames k f (Some n) i h = ap (λ x. word_in_frame x i) (get_or-set_other frames k n f None (λ e. h (ap Some e)))
 
--- what is read at a page
-pub own_in-read : (t : Table) (p : ℕ) (x : Option Rights) → IsPaged t → p < 1048576 → x ≡ slice_index_or t.own p x → own_in t p ≡ x
-own_in-read t p x paged in_space read = own_in-is t p ∙ sym (get_or_read t.own p x (omega (arith, paged.own)) read None)
-
+-- what is read at a number
 pub frame-read : (t : Table) (number : ℕ) (x : Option Framed) → number < length t.frames → x ≡ slice_index_or t.frames number x → slice_index_or t.frames number None ≡ x
 frame-read t number x known read = sym (get_or_read t.frames number x known read None)
 
@@ -178,10 +175,9 @@ frame_at-other t u k n f e other at =
     record { frame = at.frame; is = ap (λ fs. slice_index_or fs n None) e ∙ get_or-set_other t.frames k n f None other ∙ at.is; number_is = at.number_is }
 
 -- What is kept of a table stays where each page keeps its frame, and each frame its number.
-pub kept_paged : (t u : Table) → IsPaged t → length u.own ≡ length t.own → frames_in u.pages ≡ frames_in t.pages → length u.frames ≡ length t.frames → ((p : ℕ) → frame_in u p ≡ frame_in t p) → ((n : ℕ) → IsFrameAt t n → IsFrameAt u n) → IsPaged u
-kept_paged t u paged own pages frames frame at =
+pub kept_paged : (t u : Table) → IsPaged t → frames_in u.pages ≡ frames_in t.pages → length u.frames ≡ length t.frames → ((p : ℕ) → frame_in u p ≡ frame_in t p) → ((n : ℕ) → IsFrameAt t n → IsFrameAt u n) → IsPaged u
+kept_paged t u paged pages frames frame at =
     record {
-      own = own ∙ paged.own;
       count = pages ∙ paged.count ∙ sym frames;
       few = omega (arith, frames, paged.few);
       found = λ p n h. at n (paged.found p n (sym (frame p) ∙ h));
@@ -224,7 +220,6 @@ module _ (t : Table) (paged : IsPaged t) (page k : ℕ) (given : Option Mapping)
   pub moved_paged : ((n : ℕ) → number_of given ≡ Some n → n ≡ k) → (number_of given ≡ Some k → IsFrameAt moved k) → IsPaged moved
   moved_paged only there =
       record {
-        own = paged.own;
         count = maps.frames ∙ paged.count ∙ sym (length-set t.frames k f);
         few = omega (arith, length-set t.frames k f, paged.few);
         found = λ p n h.
@@ -316,7 +311,7 @@ module _ (t : Table) (paged : IsPaged t) (page k : ℕ) (f : Framed) (has : fram
       ]
 
   pub rewritten_paged : IsPaged rewritten
-  rewritten_paged = kept_paged t rewritten paged refl refl (length-set t.frames k (Some f)) frame_rewritten frame_at_rewritten
+  rewritten_paged = kept_paged t rewritten paged refl (length-set t.frames k (Some f)) frame_rewritten frame_at_rewritten
 
   pub rewritten_has : HasWords rewritten page f.words
   unfolding there
@@ -337,7 +332,7 @@ module _ (t : Table) (paged : IsPaged t) (pages : Resident) (count : frames_in p
   said = record { pages = pages; own = t.own; frames = t.frames }
 
   pub said_paged : ((p : ℕ) → frame_in said p ≡ frame_in t p) → IsPaged said
-  said_paged frame = kept_paged t said paged refl count refl frame (λ n at. frame_at-same t said n refl at)
+  said_paged frame = kept_paged t said paged count refl frame (λ n at. frame_at-same t said n refl at)
 
 -- the flag of a page is written, where it is resident
 module _ (t : Table) (page : ℕ) (flag : Bool) (pages : Resident) (maps : MapsTo page (option_map (with_flag flag) (mapping_at t.pages page)) t.pages pages) where
@@ -408,28 +403,8 @@ module _ (t : Table) (paged : IsPaged t) (page k : ℕ) (f : Framed) (has : fram
         ];
       }
 
--- a part of a list is filled: within it each place has the value, and elsewhere it is as before
-pub filled-at : {X : Type 0} (xs : List X) (a k : ℕ) (v d : X) (p : ℕ) → a + k ≤ length xs → slice_index_or (put_mid a k xs (replicate k v)) p d ≡ (if in_range a k p then v else slice_index_or xs p d)
-filled-at xs a k v d p h =
-    let front : length (take a xs) ≡ a = omega (arith, length-take a xs) in
-    let part = length-replicate k v in
-    elim (cases_lt p a) [
-      | inl below ↦ get_or_append_left (take a xs) _ d p (omega arith) ∙ get_or-take a xs p d below ∙ grind (arith, nat_tests)
-      | inr from ↦ elim (cases_lt p (a + k)) [
-        | inl inside ↦ get_or-append_right (take a xs) _ a p d front from ∙ get_or_append_left (replicate k v) _ d _ (omega arith) ∙ get_or-replicate k _ v d (omega arith) ∙ grind (arith, nat_tests)
-        | inr past ↦ get_or-append_right (take a xs) _ a p d front from ∙ get_or-append_right (replicate k v) _ k _ d part (omega arith) ∙ get_or-drop k (drop a xs) _ d ∙ get_or-drop a xs _ d ∙ ap (λ i. slice_index_or xs i d) {y = p} (omega arith) ∙ grind (arith, nat_tests)
-      ]
-    ]
-
-length-put_mid : {X : Type 0} (a k : ℕ) (xs ys : List X) → length ys ≡ k → a + k ≤ length xs → length (put_mid a k xs ys) ≡ length xs
-length-put_mid {X} a k xs ys e h =
-    omega (arith, length-append {A = X} (take a xs) (ys ++ drop k (drop a xs)), length-append {A = X} ys (drop k (drop a xs)), length-take {A = X} a xs, length-drop {A = X} k (drop a xs), length-drop {A = X} a xs)
-
 -- a table of empty places
-empty_place : {X : Type 0} (n p : ℕ) → ◌≡◌ {A = Option X} (slice_index_or (replicate n None) p None) None
-empty_place n p = get_or-alike n p None
-
-module _ (t : Table) (frames : ℕ) (count : frames_in t.pages ≡ frames) (none : (p : ℕ) → mapping_at t.pages p ≡ None) (own : t.own ≡ replicate 1048576 None) (places : t.frames ≡ replicate frames None) where
+module _ (t : Table) (frames : ℕ) (count : frames_in t.pages ≡ frames) (none : (p : ℕ) → mapping_at t.pages p ≡ None) (own : (p : ℕ) → rights_of t.own p ≡ None) (places : t.frames ≡ replicate frames None) where
   none_resident : (p : ℕ) → frame_in t p ≡ None
   none_resident p = frame-absent t p (none p)
 
@@ -441,81 +416,75 @@ module _ (t : Table) (frames : ℕ) (count : frames_in t.pages ≡ frames) (none
       record {
         count = place_count;
         none_resident = none;
-        none_own = λ p. own_in-is t p ∙ ap (λ (rs : List (Option Rights)). slice_index_or rs p None) own ∙ empty_place 1048576 p;
+        none_own = λ p. own_in-is t p ∙ own p;
       }
 
   pub fresh_paged : frames ≤ 32768 → IsPaged t
   fresh_paged few =
       record {
-        own = ap length own ∙ length-replicate {A = Option Rights} 1048576 None;
         count = count ∙ sym place_count;
         few = omega (arith, place_count);
         found = λ p n h. absurd (none-some n (sym (none_resident p) ∙ h));
         apart = λ p q n h _. absurd (none-some n (sym (none_resident p) ∙ h));
       }
 
--- what a fill of a part leaves of the whole
-pub part_filled : {X : Type 0} (own row part : List X) (len first n : ℕ) (v : X) → row ≡ own → part ≡ replicate (length (take (first + n - first) (drop first row))) v → len ≡ length own → first + n ≤ length own → take len (put_mid first (first + n - first) row part ++ drop (length (put_mid first (first + n - first) row part)) own) ≡ put_mid first n own (replicate n v)
-part_filled {X} own row part len first n v rows parts lens h =
-    let k : first + n - first ≡ n = omega arith in
-    let count : length (take (first + n - first) (drop first row)) ≡ n = omega (arith, length-take {A = X} (first + n - first) (drop first row), length-drop {A = X} first row, ap length rows) in
-    let filled : part ≡ replicate n v = parts ∙ ap (λ (m : ℕ). replicate m v) count in
-    rw (rows, filled, k) (take_at _ _ len (length-put_mid first n own (replicate n v) (length-replicate {A = X} n v) h ∙ sym lens))
-
--- the pages of a range get these rights of their own
-module _ (t : Table) (paged : IsPaged t) (first len : ℕ) (rights : Option Rights) (in_space : first + len ≤ 1048576) where
+-- the pages of a range get these rights of their own, or none
+module _ (t : Table) (first len : ℕ) (rights : Option Rights) (own : RightsTree) (set : (p : ℕ) → rights_of own p ≡ (if in_range first len p then rights else rights_of t.own p)) where
   abbrev pub owning : Table
-  owning = record { pages = t.pages; own = put_mid first len t.own (replicate len rights); frames = t.frames }
+  owning = record { pages = t.pages; own = own; frames = t.frames }
 
   frame_owning : (p : ℕ) → frame_in owning p ≡ frame_in t p
   frame_owning p = frame-same t owning p refl
 
-  pub owns_rights : OwnsRights first len rights t owning
-  owns_rights =
-      record {
-        count = refl;
-        pages = refl;
-        word = λ p i. word-same t owning p i refl (frame_owning p);
-        own = λ p. own_in-is owning p ∙ filled-at t.own first len rights None p (omega (arith, paged.own)) ∙ ap (λ o. if in_range first len p then rights else o) (sym (own_in-is t p));
-      }
+  word_owning : (p i : ℕ) → word_in owning p i ≡ word_in t p i
+  word_owning p i = word-same t owning p i refl (frame_owning p)
 
-  pub owning_paged : IsPaged owning
-  owning_paged =
-      kept_paged t owning paged (length-put_mid first len t.own (replicate len rights) (length-replicate {A = Option Rights} len rights) (omega (arith, paged.own))) refl refl frame_owning (λ n at. frame_at-same t owning n refl at)
+  own_owning : (p : ℕ) → own_in owning p ≡ (if in_range first len p then rights else own_in t p)
+  own_owning p = own_in-is owning p ∙ set p ∙ ap (λ o. if in_range first len p then rights else o) (sym (own_in-is t p))
+
+  pub owning_paged : IsPaged t → IsPaged owning
+  owning_paged paged = kept_paged t owning paged refl refl frame_owning (λ n at. frame_at-same t owning n refl at)
 
 -- no page of the range keeps rights of its own
-pub forgets : (first len : ℕ) (t u : Table) → OwnsRights first len None t u → Forgets first len t u
-forgets first len t u owns =
-    record { count = owns.count; mapping = λ p. ap (λ pages. mapping_at pages p) owns.pages; word = owns.word; own = owns.own }
+pub forgets : (t : Table) (first len : ℕ) (own : RightsTree) (set : (p : ℕ) → rights_of own p ≡ (if in_range first len p then None else rights_of t.own p)) → Forgets first len t (owning t first len None own set)
+forgets t first len own set =
+    record { count = refl; mapping = λ p. refl; word = word_owning t first len None own set; own = own_owning t first len None own set }
 
 -- the pages of the range have rights of their own, and it is said of the resident ones
-module _ (t mid : Table) (first len : ℕ) (rights : Rights) (owns : OwnsRights first len (Some rights) t mid) (pages : Resident) (protects : ProtectsIn first len rights mid.pages pages) where
-  abbrev pub protected : Table
-  protected = record { pages = pages; own = mid.own; frames = mid.frames }
+module _ (t : Table) (first len : ℕ) (rights : Rights) (own : RightsTree) (set : (p : ℕ) → rights_of own p ≡ (if in_range first len p then Some rights else rights_of t.own p)) (pages : Resident) (protects : ProtectsIn first len rights t.pages pages) where
+  abbrev mid : Table
+  mid = owning t first len (Some rights) own set
 
-  mapping_protected : (p : ℕ) → mapping_in protected p ≡ (if in_range first len p then option_map (with_rights rights) (mapping_in mid p) else mapping_in mid p)
-  mapping_protected p = protects.at p
+  abbrev pub protected : Table
+  protected = record { pages = pages; own = own; frames = t.frames }
 
   frame_protected : (p : ℕ) → frame_in protected p ≡ frame_in mid p
   frame_protected p =
-      frame-picked mid protected p (in_range first len p) _ (mapping_protected p) ∙ ap (λ o. if in_range first len p then o else frame_in mid p) (number_with rights (mapping_in mid p) ∙ sym (frame_in-is mid p)) ∙ same_both _ (frame_in mid p)
+      frame-picked mid protected p (in_range first len p) _ (protects.at p) ∙ ap (λ o. if in_range first len p then o else frame_in mid p) (number_with rights (mapping_in mid p) ∙ sym (frame_in-is mid p)) ∙ same_both _ (frame_in mid p)
 
   pub protects_range : Protects first len rights t protected
   protects_range =
       record {
-        count = owns.count;
-        mapping = λ p. mapping_protected p ∙ ap (λ (ps : Resident). if in_range first len p then option_map (with_rights rights) (mapping_at ps p) else mapping_at ps p) owns.pages;
-        word = λ p i. word-same mid protected p i refl (frame_protected p) ∙ owns.word p i;
-        own = λ p. own_in-is protected p ∙ sym (own_in-is mid p) ∙ owns.own p;
+        count = refl;
+        mapping = protects.at;
+        word = λ p i. word-same mid protected p i refl (frame_protected p) ∙ word_owning t first len (Some rights) own set p i;
+        own = λ p. own_in-is protected p ∙ sym (own_in-is mid p) ∙ own_owning t first len (Some rights) own set p;
       }
 
-  pub protected_paged : IsPaged mid → IsPaged protected
-  protected_paged paged = said_paged mid paged pages protects.frames frame_protected
+  pub protected_paged : IsPaged t → IsPaged protected
+  protected_paged paged = said_paged mid (owning_paged t first len (Some rights) own set paged) pages protects.frames frame_protected
 
-pub none-is : {X : Type 0} (o : Option X) → false ≡ is_some o → o ≡ None
-none-is None h = refl
-none-is (Some x) h = cc
+-- the next resident page is that which has a frame
+pub next_some : (t : Table) (from end : ℕ) (o : Option ℕ) → IfSome o (IsNextResident (mapping_in t) from end) → IfSome o (IsFirstResident t from end)
+next_some t from end None h = tt
+next_some t from end (Some page) h =
+    record {
+      from_on = h.from_on;
+      before_end = h.before_end;
+      resident = λ none. h.resident (mapping-absent t page none);
+      lowest = λ p low high. frame-absent t p (h.lowest p low high);
+    }
 
-pub some-isnt : {X : Type 0} (o : Option X) → true ≡ is_some o → o ≢ None
-some-isnt None h e = cc
-some-isnt (Some x) h e = none-some x (sym e)
+pub next_none : (t : Table) (from end : ℕ) (o : Option ℕ) → IfNone o (NoneResident (mapping_in t) from end) → IfNone o (NoneFrom t from end)
+next_none t from end None h = λ p low high. frame-absent t p (h p low high)
+next_none t from end (Some page) h = tt

@@ -9,7 +9,7 @@ use Rattle.pager_model.specs.Frame.{Framed}
 use Rattle.pager_model.specs.Regions.{in_range}
 use Rattle.space_core.specs.Tables.{Table, mapping_in, frame_in, word_in, own_in}
 use Rattle.tiles.specs.Resident.{frames_in, with_rights, with_flag}
-use Rattle.pager_model.specs.Bounds.{most_frames, space_pages}
+use Rattle.pager_model.specs.Bounds.{most_frames}
 
 -- the frame of this number is kept at it
 pub record IsFrameAt (table : Table) (number : ℕ) : Type 0 where
@@ -17,9 +17,8 @@ pub record IsFrameAt (table : Table) (number : ℕ) : Type 0 where
   pub is : slice_index_or table.frames number None ≡ Some frame
   pub number_is : frame.number ≡ number
 
--- There are rights for each of the 1,048,576 pages, the number of a page names a frame that is there, and no two pages have one number.
+-- The number of a page names a frame that is there, and no two pages have one number.
 pub record IsPaged (table : Table) : Type 0 where
-  pub own : length table.own ≡ space_pages
   pub count : frames_in table.pages ≡ length table.frames
   pub few : length table.frames ≤ most_frames
   pub found : (page number : ℕ) → frame_in table page ≡ Some number → IsFrameAt table number
@@ -62,13 +61,6 @@ pub record Cleans (page : ℕ) (old new : Table) : Type 0 where
   pub same : SameOwn old new
   pub mapping : (p : ℕ) → mapping_in new p ≡ (if p == page then option_map (with_flag false) (mapping_in old p) else mapping_in old p)
   pub word : (p i : ℕ) → word_in new p i ≡ word_in old p i
-
--- the pages of the range have these rights of their own, or none, and all else is as before, whatever is said of resident pages
-pub record OwnsRights (first len : ℕ) (rights : Option Rights) (old new : Table) : Type 0 where
-  pub count : length new.frames ≡ length old.frames
-  pub pages : new.pages ≡ old.pages
-  pub word : (p i : ℕ) → word_in new p i ≡ word_in old p i
-  pub own : (p : ℕ) → own_in new p ≡ (if in_range first len p then rights else own_in old p)
 
 -- the pages of the range have these rights, and all else is as before
 pub record Protects (first len : ℕ) (rights : Rights) (old new : Table) : Type 0 where

@@ -4,6 +4,7 @@ use Rattle.std.specs.Prelude.{ℕ, Bool, false, List, slice_index_or, Option, So
 use Rattle.std.specs.Option.{option_and_then}
 use Rattle.pager_model.specs.declared.region.Rights.{Rights}
 use Rattle.pager_model.specs.declared.tile.Mapping.{Mapping}
+use Rattle.page_rights.specs.Rights.{RightsTree, rights_of}
 use Rattle.pager_model.specs.Frame.{Framed}
 use Rattle.tiles.specs.Resident.{Resident, mapping_at, frame_of_page}
 
@@ -11,7 +12,7 @@ pub record Table : Type 0 where
   -- the resident pages, and the tiles that they make
   pub pages : Resident
   -- of each page its own rights, where a protect gave it any
-  pub own : List (Option Rights)
+  pub own : RightsTree
   -- of each number the frame, where a page has it
   pub frames : List (Option Framed)
 
@@ -33,7 +34,7 @@ word_in table page i = word_in_frame (option_and_then (λ number. slice_index_or
 
 -- the rights that a protect gave a page
 unfoldable pub own_in : Table → ℕ → Option Rights
-own_in table page = slice_index_or table.own page None
+own_in table page = rights_of table.own page
 
 abbrev pub flag_in : Option Mapping → Bool
 flag_in None = false

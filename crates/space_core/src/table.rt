@@ -6,11 +6,12 @@ ghost use Rattle.pager_model.specs.Tiles.{tile_of, is_tile, tiles_of_size};
 ghost use Rattle.pager_model.specs.Stored.{copy_at, keeps_at, SameCopies, SetsCopy};
 ghost use Rattle.tiles.specs.Resident.{AreMoves, large_tiles_meeting};
 ghost use Rattle.space_core.specs.Tables.{mapping_in, frame_in, word_in, own_in, dirty_in};
-ghost use Rattle.space_core.specs.Pages.{IsFresh, Maps, Refills, HasWords, Writes, Cleans, OwnsRights, Protects, Forgets, IsFirstResident, NoneFrom};
+ghost use Rattle.space_core.specs.Pages.{IsFresh, Maps, Refills, HasWords, Writes, Cleans, Protects, Forgets, IsFirstResident, NoneFrom};
 ghost use Rattle.pager_model.specs.Bounds.{most_frames, space_pages};
 
 use crate::frames::{set_word, set_words, word};
-use pager_model::{Frame, Mapping, NoMemory, PAGES, Rights, Tile, WORDS};
+use page_rights::PageRights;
+use pager_model::{Frame, Mapping, NoMemory, Rights, Tile, WORDS};
 use std::alloc::Global;
 use std::marker::Model;
 use store_core::{Store, StoreFailed, WriteRefused};
@@ -21,8 +22,8 @@ use tiles::{Base, Moves};
 pub struct PageTable {
     /// The resident pages, and the tiles that they make.
     pages: Base,
-    /// For each page its own rights, where a protect gave it any.
-    own: Vec<Option<Rights>>,
+    /// The rights that a protect gave pages.
+    own: PageRights,
     /// For each number the frame, where a page has it.
     frames: Vec<Option<Frame>>,
 }
@@ -35,13 +36,13 @@ impl Model for PageTable {
 
     ghost view = { λ t. record {
       pages = t.pages;
-      own = t.own.items;
+      own = t.own;
       frames = t.frames.items;
     } };
 
     ghost invariant = { λ t. IsPaged (record {
       pages = t.pages;
-      own = t.own.items;
+      own = t.own;
       frames = t.frames.items;
     }) };
 }
@@ -54,7 +55,7 @@ impl PageTable {
     {
         Ok(PageTable {
             pages: Base::create(alloc, frames)?,
-            own: empty_places(alloc, PAGES)?,
+            own: PageRights::create(alloc)?,
             frames: empty_places(alloc, frames)?,
         })
     }
@@ -101,7 +102,7 @@ impl PageTable {
         requires { page < space_pages }
         ensures { result ≡ own_in self.now page }
     {
-        self.own[page as usize]
+        self.own.get(page)
     }
 
     /// A word of a page, which is zero where the page isn't resident.
@@ -125,12 +126,7 @@ impl PageTable {
         ensures some { IfSome result (IsFirstResident self.now from end) }
         ensures none { IfNone result (NoneFrom self.now from end) }
     {
-        for page in from..end {
-            if self.pages.mapping(page).is_some() {
-                return Some(page);
-            }
-        }
-        None
+        self.pages.next_resident(from, end)
     }
 
     /// Puts a frame under a page that isn't resident, of the region that begins at this page and with these rights.
@@ -251,7 +247,7 @@ impl PageTable {
         ensures protects { Protects first length rights self.old self.new }
         ensures moves { AreMoves self.old.pages self.new.pages result }
     {
-        self.set_own(first, length, Some(rights));
+        self.own.set(first, length, Some(rights));
         self.pages.after_rights(first, length, rights)
     }
 
@@ -260,23 +256,12 @@ impl PageTable {
         requires { first + length ≤ space_pages }
         ensures { Forgets first length self.old self.new }
     {
-        self.set_own(first, length, None);
-    }
-
-    /// Gives the pages of a range these rights of their own, or none.
-    fn set_own(&mut self, first: u32, length: u32, rights: Option<Rights>)
-        requires { first + length ≤ space_pages }
-        ensures { OwnsRights first length rights self.old self.new }
-    {
-        fill(
-            &mut self.own[first as usize..(first + length) as usize],
-            rights,
-        );
+        self.own.set(first, length, None);
     }
 }
 
 /// So many places with nothing in them.
-fn empty_places<T: Drop>(alloc: Global, count: u32) -> Result<Vec<Option<T>>, NoMemory>
+fn empty_places(alloc: Global, count: u32) -> Result<Vec<Option<Frame>>, NoMemory>
     ensures { IfOk result (λ places. places.items ≡ replicate count None) }
 {
     let mut places = Vec::with_capacity(alloc, count as usize)?;
@@ -284,13 +269,4 @@ fn empty_places<T: Drop>(alloc: Global, count: u32) -> Result<Vec<Option<T>>, No
         places.push(None)?;
     }
     Ok(places)
-}
-
-/// Gives every page of a part the same rights of its own, or none.
-fn fill(own: &mut [Option<Rights>], rights: Option<Rights>)
-    ensures { own.new ≡ replicate (length own.old) rights }
-{
-    for page in own.iter_mut() {
-        *page = rights;
-    }
 }

@@ -13,8 +13,8 @@ use Rattle.pager_model.specs.Regions.{in_range}
 use Rattle.pager_model.specs.Tiles.{tile_of, begins_at, size_at, size_in, is_promoted, promotions_between, count_pages, begins_tile, tiles_of_size}
 use Rattle.pager_model.proofs.CountLemmas.{weight}
 use Rattle.tiles.specs.declared.moves.Moves.{Moves}
-use Rattle.tiles.specs.Blocks.{ProtectsInBlock, ProtectsTo, OutsideSame, AreMovesOf, is_grown_at, begun_in, begun_at}
-use Rattle.tiles.specs.Resident.{Resident, mapping_at, frames_in, with_rights, Protects, AreMoves, begins_large}
+use Rattle.tiles.specs.Blocks.{ProtectsInBlock, OutsideSame, AreMovesOf, is_grown_at, begun_in, begun_at}
+use Rattle.tiles.specs.Resident.{NoneResident, Resident, mapping_at, frames_in, with_rights, Protects, AreMoves, begins_large}
 use Rattle.tiles.specs.Touched.{IsInSpace, is_touched}
 use Rattle.tiles.proofs.Counting.{count, count-zero, count-suc, count-more, count-apart, count-none, count-same, count_pages-is, count_pages_most}
 use Rattle.tiles.proofs.Extents.{StartsBelow, starts_below}
@@ -306,6 +306,17 @@ count_in_range f first len known = at 1048576 refl
 -- one page more
 pub count_on : (f : ℕ → Bool) (first page : ℕ) → first ≤ page → count f first (page + 1 - first) ≡ count f first (page - first) + weight (f page)
 count_on f first page from = ap (count f first) {x = page + 1 - first} {y = page - first + 1} (omega arith) ∙ count-more f first (page - first) page (omega arith)
+
+-- where no page is resident no tile begins
+pub count_bare : (pages : ℕ → Option Mapping) (first from end : ℕ) → first ≤ from → from ≤ end → NoneResident pages from end → count (begins_large pages) first (end - first) ≡ count (begins_large pages) first (from - first)
+count_bare pages first from end low high none =
+    let f = begins_large pages in
+    omega (
+      arith,
+      ap (count f first) {x = end - first} {y = from - first + (end - from)} (omega arith),
+      count-apart f first (from - first) (end - from) from (omega arith),
+      count-none f from (end - from) (λ n on before. ap (λ t. begins_at n t && nat_lt 0 (size_in t)) (tile_absent pages n (none n on (omega arith)))),
+    )
 
 -- ---- the counts of all sizes
 

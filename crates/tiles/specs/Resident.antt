@@ -1,5 +1,5 @@
 -- The resident pages of a space. Contracts look at them only through the mapping of a page, where it is resident.
-use Rattle.std.specs.Prelude.{ℕ, ◌≡◌, ◌+◌, ◌%◌, ◌^◌, Bool, ◌&&◌, ◌==◌, not, nat_lt, if◌then◌else◌, List, slice_index_or, length, option_map, Option, Some, None}
+use Rattle.std.specs.Prelude.{ℕ, ◌≡◌, ◌≢◌, ◌<◌, ◌≤◌, ◌+◌, ◌%◌, ◌^◌, Bool, ◌&&◌, ◌==◌, not, nat_lt, if◌then◌else◌, List, slice_index_or, length, option_map, Option, Some, None}
 use Rattle.extent_tree.specs.Rows.{Arena, row}
 use Rattle.pager_model.specs.declared.region.Rights.{Rights}
 use Rattle.pager_model.specs.declared.tile.Mapping.{Mapping}
@@ -38,6 +38,17 @@ frames_in pages = length pages.places
 -- the frame of a page, where it is resident
 abbrev pub frame_of_page : Resident → ℕ → Option ℕ
 frame_of_page pages page = option_map (λ (m : Mapping). m.frame) (mapping_at pages page)
+
+-- no page from one on and before an end is resident
+abbrev pub NoneResident : (ℕ → Option Mapping) → ℕ → ℕ → Type 0
+NoneResident pages from end = (p : ℕ) → from ≤ p → p < end → pages p ≡ None
+
+-- the lowest resident page from a page on and before an end
+pub record IsNextResident (pages : ℕ → Option Mapping) (from end page : ℕ) : Type 0 where
+  pub from_on : from ≤ page
+  pub before_end : page < end
+  pub resident : pages page ≢ None
+  pub lowest : NoneResident pages from page
 
 -- the page has this mapping, or none, and every other page is as before
 pub record Maps (page : ℕ) (given : Option Mapping) (old new : Resident) : Type 0 where

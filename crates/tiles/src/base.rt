@@ -3,7 +3,7 @@
 ghost use Rattle.std.specs.Prelude.{◌≡◌, ◌≢◌, ◌∷◌, [], ℕ, ◌+◌, ◌*◌, ◌<◌, ◌≤◌, true, false, Option, None, Some, IfOk, IfNone, IfSome, option_map, slice_index};
 ghost use Rattle.pager_model.specs.Tiles.{tile_of, is_tile, size_at, tiles_of_size};
 ghost use Rattle.pager_model.specs.declared.tile.Mapping.{Mapping};
-ghost use Rattle.tiles.specs.Resident.{mapping_at, frames_in, frame_of_page, Maps, Protects, AreMoves, with_flag, with_rights, begins_large, begins_before, large_tiles_begun, large_tiles_meeting};
+ghost use Rattle.tiles.specs.Resident.{mapping_at, frames_in, frame_of_page, Maps, Protects, AreMoves, IsNextResident, NoneResident, with_flag, with_rights, begins_large, begins_before, large_tiles_begun, large_tiles_meeting};
 ghost use Rattle.tiles.specs.Blocks.{KeepsRights, ProtectsTo, ProtectsInBlock, AreSizesOfBlock, OutsideSame, AreMovesOf, begun_at};
 ghost use Rattle.pager_model.specs.Bounds.{most_frames, space_pages};
 
@@ -50,6 +50,26 @@ impl Base {
         ensures in_space { IfSome result (λ m. (page < space_pages) × (m.frame < frames_in self.now)) }
     {
         self.pages.mapping(page)
+    }
+
+    /// The lowest resident page from `from` on and before `end`. Blocks without a resident page are passed over.
+    pub fn next_resident(&self, from: u32, end: u32) -> Option<u32>
+        requires { end ≤ space_pages }
+        ensures some { IfSome result (IsNextResident (mapping_at self.now) from end) }
+        ensures none { IfNone result (NoneResident (mapping_at self.now) from end) }
+    {
+        let mut page = from;
+        while page < end {
+            if !self.pages.has_any_round(page) {
+                page = (page / BLOCK + 1) * BLOCK;
+                continue;
+            }
+            if self.pages.mapping(page).is_some() {
+                return Some(page);
+            }
+            page += 1;
+        }
+        None
     }
 
     /// The size of a page's tile, and a page's where it isn't resident.
@@ -149,12 +169,15 @@ impl Base {
 
     /// Whether a page of a range is resident with other rights.
     fn any_has_other_rights(&self, first: u32, end: u32, rights: Rights) -> bool
+        requires { end ≤ space_pages }
         ensures { result ≡ false → KeepsRights first end rights (mapping_at self.now) }
     {
-        for page in first..end {
+        let mut from = first;
+        while let Some(page) = self.next_resident(from, end) {
             if self.has_other_rights(page, rights) {
                 return true;
             }
+            from = page + 1;
         }
         false
     }
@@ -290,10 +313,12 @@ impl Base {
         ensures { result ≡ large_tiles_begun first length (mapping_at self.now) }
     {
         let mut count = 0;
-        for page in first..first + length {
+        let mut from = first;
+        while let Some(page) = self.next_resident(from, first + length) {
             if self.begins_large(page) {
                 count += 1;
             }
+            from = page + 1;
         }
         count
     }

@@ -2,4 +2,4 @@ use Rattle.std.proofs.Common.{◌≡◌, replicate, None}
 use Rattle.space_core.proofs.table.empty_places.Given as goal
 
 abbrev pub invariant-loop : goal.invariant-loop
-invariant-loop g l = l.places.items ≡ replicate l.counter None
+invariant-loop l = l.places.items ≡ replicate l.counter None

@@ -1,11 +1,11 @@
-use Rattle.space_core.specs.contracts.table.PageTable.{the_view}
 use Rattle.space_core.proofs.TableLemmas.{protected_paged, protects_range}
+use Rattle.space_core.specs.contracts.table.PageTable.{the_view}
 use Rattle.space_core.proofs.table.PageTable.protect.Goals as goal
 
 pub invariant_of-self : goal.invariant_of-self
 invariant_of-self c =
-    protected_paged c.args.self.now (the_view c.self.inside) c.args.first c.args.length c.args.rights (rw (← c.self.view_is) at c.set_own.ensures) _ c.after_rights.ensures.protects c.self.invariant
+    protected_paged (the_view c.self.inside) c.args.first c.args.length c.args.rights c.set.new.self c.set.ensures c.after_rights.new.self c.after_rights.ensures.protects c.self.invariant
 
 pub returns-clause-protects : goal.returns-clause-protects
 returns-clause-protects c =
-    protects_range c.args.self.now (the_view c.self.inside) c.args.first c.args.length c.args.rights (rw (← c.self.view_is) at c.set_own.ensures) _ c.after_rights.ensures.protects
+    rw (← c.self.view_is) (protects_range (the_view c.self.inside) c.args.first c.args.length c.args.rights c.set.new.self c.set.ensures c.after_rights.new.self c.after_rights.ensures.protects)

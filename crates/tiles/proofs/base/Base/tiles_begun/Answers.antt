@@ -1,37 +1,51 @@
-use Rattle.std.proofs.Common.{◌∙◌, ◌-◌, sym, ap, arith}
+use Rattle.std.proofs.Common.{◌+◌, ◌-◌, ◌∙◌, sym, ap, arith}
 use Rattle.pager_model.proofs.CountLemmas.{weight}
 use Rattle.tiles.specs.Resident.{mapping_at, begins_large}
-use Rattle.tiles.proofs.Blocks.{count_in_range, count_on}
+use Rattle.tiles.proofs.Blocks.{count_in_range, count_on, count_bare}
 use Rattle.tiles.proofs.Counting.{count, count-zero}
 use Rattle.tiles.proofs.base.Base.tiles_begun.Goals as goal
 use Rattle.tiles.proofs.base.Base.tiles_begun.Goals.{then-begins_large, else-begins_large}
 
 pub loop-page-init : goal.loop-page-init
 loop-page-init c = record {
+  from_on = omega arith;
+  within = omega arith;
   counted = sym (ap (count (begins_large (mapping_at c.args.self.now)) c.args.first) {x = c.args.first - c.args.first} {y = 0} (omega arith) ∙ count-zero (begins_large (mapping_at c.args.self.now)) c.args.first);
   few = omega arith;
 }
 
 pub loop-page-preserved : goal.loop-page-preserved
 loop-page-preserved c =
-    let from = c.loop-page.auto.page in
+    let pages = mapping_at c.args.self.now in
+    let f = begins_large pages in
+    let page = c.in-Some.page in
     let so_far = c.loop-page.invariant in
-    let f = begins_large (mapping_at c.args.self.now) in
+    let next = c.in-Some.ensures.some in
+    let low = next.from_on in
+    let high = next.before_end in
+    let bare = count_bare pages c.args.first c.loop-page.from page so_far.from_on low next.lowest in
+    let on = count_on f c.args.first page (omega arith) in
     elim c.if-begins_large.branch [
       | then-begins_large w ↦ record {
-        counted = omega (arith, w.count-is, so_far.counted, count_on f c.args.first c.loop-page.page from, ap weight (sym c.begins_large.ensures ∙ w.if-begins_large.true));
-        few = omega (arith, w.count-is, so_far.few, from);
+        from_on = omega arith;
+        within = omega arith;
+        counted = omega (arith, w.count-is, so_far.counted, bare, on, ap weight (sym c.begins_large.ensures ∙ w.if-begins_large.true));
+        few = omega (arith, w.count-is, so_far.few);
       }
       | else-begins_large w ↦ record {
-        counted = omega (arith, w.count-is, so_far.counted, count_on f c.args.first c.loop-page.page from, ap weight (sym c.begins_large.ensures ∙ w.if-begins_large.false));
-        few = omega (arith, w.count-is, so_far.few, from);
+        from_on = omega arith;
+        within = omega arith;
+        counted = omega (arith, w.count-is, so_far.counted, bare, on, ap weight (sym c.begins_large.ensures ∙ w.if-begins_large.false));
+        few = omega (arith, w.count-is, so_far.few);
       }
     ]
 
 pub returns : goal.returns
 returns c =
-    let past = c.loop-page-test.false in
-    let from = c.loop-page.auto.page in
-    let ended = c.loop-page.auto.page-end in
-    let f = begins_large (mapping_at c.args.self.now) in
-    c.loop-page.invariant.counted ∙ ap (count f c.args.first) {x = c.loop-page.page - c.args.first} {y = c.args.length} (omega arith) ∙ sym (count_in_range f c.args.first c.args.length c.requires)
+    let pages = mapping_at c.args.self.now in
+    let f = begins_large pages in
+    let so_far = c.loop-page.invariant in
+    so_far.counted
+    ∙ sym (count_bare pages c.args.first c.loop-page.from (c.args.first + c.args.length) so_far.from_on so_far.within c.in_default.ensures.none)
+    ∙ ap (count f c.args.first) {x = c.args.first + c.args.length - c.args.first} {y = c.args.length} (omega arith)
+    ∙ sym (count_in_range f c.args.first c.args.length c.requires)
