@@ -1,19 +1,20 @@
 -- Words that are decimals.
-use Rattle.std.proofs.Common.{◌∙◌, ap, codes, false, cond, leb, eqb, ◌%◌, ◌≡◌, ◌≢◌, ℕ, ◌^◌, ◌<◌, ◌≤◌, Bool, true, ltb, ◌&&◌, List, length, get_or, Result, Ok, Err, Option, Some, None, decimal, refl, sym, arith, inl, inr}
+use Rattle.std.proofs.Common.{◌∙◌, ap, codes, false, cond, leb, eqb, ◌+◌, ◌-◌, ◌*◌, ◌%◌, ◌≡◌, ℕ, ◌^◌, ◌<◌, ◌≤◌, Bool, true, ltb, ◌&&◌, List, length, take, get_or, Result, Ok, Err, Option, Some, None, decimal, refl, sym, subst, arith, inl, inr}
 use Rattle.std.specs.Fmt.{digits}
-use Rattle.std.specs.Result.{result_ok}
-use Rattle.std.specs.Str.{IsUtf8, bytes_eq}
-use Rattle.std.specs.Str.Parse.{AllDigits, digits_value, ParsesUnsigned}
+use Rattle.std.specs.Int.{IsInRange}
+use Rattle.std.specs.Str.{bytes_eq}
+use Rattle.std.specs.Str.Parse.{AllDigits, digits_value}
 use Rattle.pager_model.proofs.Options.{none_from_never}
 use Rattle.trace_reader.specs.Forms.{number_of, in_range, number_in}
 use Rattle.trace_reader.specs.Words.{IsPlain}
 use Rattle.trace_reader.specs.declared.fault.LineCause.TheVariants as causes
 use Rattle.std.proofs.lemmas.Bool.{cases_lt, cases_Bool, and_parts, ltb-true, lt-ltb, eqb-true, eq-eqb, leb-true, le-leb}
-use Rattle.std.proofs.lemmas.Fmt.{digits_decimal, digits_value-decimal, decimal_digit, decimal_nonempty, first_decimal, parse-decimal, decimal-digits_value, IsAscii-decimal}
+use Rattle.std.proofs.lemmas.Fmt.{digits_decimal, digits_value-decimal, decimal_digit, decimal_nonempty, first_decimal, decimal-digits_value}
+use Rattle.std.proofs.lemmas.Int.Digits.{digits_value_more}
 use Rattle.std.proofs.lemmas.Option.{cond_some}
 use Rattle.std.proofs.lemmas.Slice.Eq.{bytes_eq-Decides}
-use Rattle.std.proofs.lemmas.Str.{IsUtf8-from_ascii}
-use Rattle.std.proofs.lemmas.Str.Parse.{IsNumeralModel, numerals_by_value, tells_digits, digit_at, parse_plain}
+use Rattle.std.proofs.lemmas.Str.{digit_value_digit}
+use Rattle.std.proofs.lemmas.Str.Parse.{IsNumeralModel, numerals_by_value, tells_digits, tells_by_index, digits_value-take-le}
 
 own : IsNumeralModel (AllDigits 10) (digits_value 10)
 own = numerals_by_value (AllDigits 10) tells_digits
@@ -26,11 +27,8 @@ cond_ok false x y other e = absurd cc
 pub all_digits : (n : ℕ) → n < 2 ^ 64 → AllDigits 10 (decimal n)
 all_digits n small = digits_decimal own n small
 
--- a decimal has no sign and no leading zero
-pub plain : (n : ℕ) → n < 2 ^ 64 → get_or (decimal n) 0 0 ≢ 43
-plain n small e = let r = digit_at (decimal n) 0 (all_digits n small) (decimal_nonempty n small) in omega arith
-
-pub short_zero : (n : ℕ) → n < 2 ^ 64 → get_or (decimal n) 0 0 ≡ 48 → length (decimal n) ≤ 1
+-- a decimal has no leading zero
+short_zero : (n : ℕ) → n < 2 ^ 64 → get_or (decimal n) 0 0 ≡ 48 → length (decimal n) ≤ 1
 short_zero n small e =
     elim (cases_lt n 1) [
       | inl lt ↦ rw (decimal_digit n (omega arith)) (omega arith)
@@ -38,10 +36,7 @@ short_zero n small e =
     ]
 
 pub is_plain : (n : ℕ) (word : List ℕ) → n < 2 ^ 64 → word ≡ decimal n → IsPlain word
-is_plain n word small e = rw e (plain n small, short_zero n small)
-
-pub is_text : (n : ℕ) (word : List ℕ) → n < 2 ^ 64 → word ≡ decimal n → IsUtf8 word
-is_text n word small e = rw e (IsUtf8-from_ascii (decimal n) (IsAscii-decimal n small))
+is_plain n word small e = rw e (decimal_nonempty n small, short_zero n small)
 
 abbrev fits : List ℕ → Bool
 fits word = ltb (digits_value 10 word) (2 ^ 64) && bytes_eq (decimal (digits_value 10 word)) word
@@ -64,13 +59,54 @@ number_again n small =
 pub no_number : (word : List ℕ) → ((n : ℕ) → n < 2 ^ 64 → word ≡ decimal n → ⊥) → number_of word ≡ None
 no_number word none = none_from_never (number_of word) (λ n e. let t = number_takes word n e in none n t.0 t.1)
 
--- what `parse` makes of a word with no sign and no leading zero
-pub parsed : {E : Type 0} (word : List ℕ) (r : Result ℕ E) → IsPlain word → ParsesUnsigned 64 10 word r → result_ok r ≡ number_of word
-parsed {E} word (Ok n) form h =
-    let k : (AllDigits 10 word × (0 < length word) × (digits_value 10 word < 2 ^ 64)) × (n ≡ digits_value 10 word) = parse_plain own {E = E} 64 word (Ok n) h form.0 in
-    let is : decimal n ≡ word = rw k.1 (decimal-digits_value own word k.0.0 k.0.1 (λ z. let l = form.1 z in omega arith) k.0.2) in
-    sym (rw (← is) (number_again n (omega arith)))
-parsed {E} word (Err e) form h = sym (no_number word (λ n small is. let p = parse-decimal {E = E} 64 n word (Err e) small small is h in cc))
+-- ---- words digit by digit
+
+-- each byte up to this place is a digit
+abbrev pub AreDigits : List ℕ → ℕ → Type 0
+AreDigits word i = (j : ℕ) → j < i → IsInRange 48 57 (get_or word j 0)
+
+by_index : IsNumeralModel (λ ds. AreDigits ds (length ds)) (digits_value 10)
+by_index = numerals_by_value (λ ds. AreDigits ds (length ds)) tells_by_index
+
+-- digits alone, with no zero before others
+pub number_of-digits : (word : List ℕ) → IsPlain word → AreDigits word (length word) → digits_value 10 word < 2 ^ 64 → number_of word ≡ Some (digits_value 10 word)
+number_of-digits word plain digits small =
+    let is : decimal (digits_value 10 word) ≡ word = decimal-digits_value by_index word digits plain.0 (λ z. let l = plain.1 z in omega (arith, l, plain.0)) small in
+    subst (λ w. number_of w ≡ Some (digits_value 10 word)) is (number_again (digits_value 10 word) small)
+
+pub number_of-zeros : (word : List ℕ) → (IsPlain word → ⊥) → number_of word ≡ None
+number_of-zeros word zeros = no_number word (λ n small e. zeros (is_plain n word small e))
+
+-- one digit more
+pub digits_more : (word : List ℕ) (i number : ℕ) → i < length word → (number ≡ digits_value 10 (take i word)) × AreDigits word i → 48 ≤ get_or word i 0 → get_or word i 0 ≤ 57
+    → (number * 10 + (get_or word i 0 - 48) ≡ digits_value 10 (take (i + 1) word)) × AreDigits word (i + 1)
+digits_more word i number below so_far low high =
+    let more = digits_value_more 10 word i below in
+    let digit = digit_value_digit (get_or word i 0) (low, high) in (
+      omega (arith, so_far.0, more, digit),
+      λ j within. elim (cases_lt j i) [
+        | inl before ↦ so_far.1 j before
+        | inr after ↦ (let here : j ≡ i = omega arith in rw here (low, high))
+      ],
+    )
+
+-- a byte that is no digit
+pub number_of-other : (word : List ℕ) (i : ℕ) → i < length word → (48 ≤ get_or word i 0 → get_or word i 0 ≤ 57 → ⊥) → number_of word ≡ None
+number_of-other word i below other =
+    no_number word (λ n small e.
+    let digits : AreDigits word (length word) = rw e (by_index.from (decimal n) (all_digits n small)) in
+    let here = digits i below in
+    other (omega (arith, here)) (omega (arith, here)))
+
+-- digits of which those up to this place make too large a number
+pub number_of-large : (word : List ℕ) (i : ℕ) → i < length word → AreDigits word (i + 1) → 2 ^ 64 ≤ digits_value 10 (take i word) * 10 + (get_or word i 0 - 48) → number_of word ≡ None
+number_of-large word i below digits large =
+    no_number word (λ n small e.
+    let whole : digits_value 10 word ≡ n = ap (digits_value 10) e ∙ digits_value-decimal own n small in
+    let least = digits_value-take-le 10 word (i + 1) (omega arith) in
+    let more = digits_value_more 10 word i below in
+    let digit = digit_value_digit (get_or word i 0) (digits i (omega arith)) in
+    omega (arith, small, whole, least, more, digit, large))
 
 -- ---- numbers in a range
 

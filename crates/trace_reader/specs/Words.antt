@@ -1,11 +1,11 @@
 -- Lists of words and of numbers as a reader sees them.
-use Rattle.std.specs.Prelude.{◌≡◌, ◌≢◌, ℕ, ◌≤◌, List, length, slice_index, map}
+use Rattle.std.specs.Prelude.{◌≡◌, ℕ, ◌<◌, ◌≤◌, List, length, slice_index, map}
 use denote.Ref.{Bor}
 
 -- words that lie in a text
 abbrev pub seen : List (Bor (List ℕ)) → List (List ℕ)
 seen words = map (λ word. word.now) words
 
--- a word has no sign and no zero before other digits
+-- a word has a byte, and no zero before others
 abbrev pub IsPlain : List ℕ → Type 0
-IsPlain word = (slice_index word 0 ≢ 43) × (slice_index word 0 ≡ 48 → length word ≤ 1)
+IsPlain word = (0 < length word) × (slice_index word 0 ≡ 48 → length word ≤ 1)

@@ -19,7 +19,7 @@ const TRACE: &[u8] = b"trace";
 const ADDRESSES: u64 = 8_589_934_592;
 
 /// What a trace's first line says.
-#[derive(Clone, Copy, Debug, PartialEq, Eq)]
+#[derive(Clone, Copy)]
 pub struct Head {
     pub frames: u32,
     pub processors: u32,
@@ -127,7 +127,7 @@ fn call_of(
 }
 
 /// The name of a call.
-#[derive(Clone, Copy, Debug, PartialEq, Eq)]
+#[derive(Clone, Copy)]
 enum Name {
     Map,
     Grow,

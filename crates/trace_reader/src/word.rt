@@ -1,5 +1,5 @@
 //! Words, and what they say.
-ghost use Rattle.std.specs.Prelude.{◌≡◌, ◌==◌, ◌^◌, ◌%◌, ◌<◌, ◌≤◌, ◌++◌, ◌∷◌, [], length, true, false, IsTrue, ◌↔◌, IfSome, IfNone, IfOk, decimal};
+ghost use Rattle.std.specs.Prelude.{◌≡◌, ◌==◌, ◌+◌, ◌-◌, ◌*◌, ◌^◌, ◌%◌, ◌<◌, ◌≤◌, ◌++◌, ◌∷◌, [], length, true, false, IsTrue, ◌↔◌, IfSome, IfNone, IfOk, decimal};
 ghost use Rattle.std.specs.List.{position, slice_split};
 ghost use Rattle.pager_model.specs.TraceText.{kind_word, rights_word};
 ghost use Rattle.trace_reader.specs.Forms.{number_of, number_in, may_stand, any_kind, any_rights};
@@ -53,11 +53,31 @@ pub fn words(line: &[u8]) -> Option<ArrayVec<&[u8], MAX_WORDS>>
     Some(words)
 }
 
-/// Whether a word has neither a sign nor a zero before other digits.
+/// Whether a word has a byte, and no zero before others.
 fn is_plain(word: &[u8]) -> bool
     ensures { IsTrue result ↔ IsPlain word.now }
 {
-    !matches!(word, [b'+', ..] | [b'0', _, ..])
+    !matches!(word, [] | [b'0', _, ..])
+}
+
+/// The digit that a byte is.
+fn digit_of(byte: u8) -> Option<u64>
+    ensures some { IfSome result (λ digit. (48 ≤ byte) × (byte ≤ 57) × (digit ≡ byte - 48)) }
+    ensures none { IfNone result (48 ≤ byte → byte ≤ 57 → ⊥) }
+{
+    if byte.is_ascii_digit() {
+        Some(u64::from(byte - b'0'))
+    } else {
+        None
+    }
+}
+
+/// The number that a digit behind this number makes, below 2^64.
+fn with_digit(number: u64, digit: u64) -> Option<u64>
+    ensures some { IfSome result (λ n. n ≡ number * 10 + digit) }
+    ensures none { IfNone result (2 ^ 64 ≤ number * 10 + digit) }
+{
+    number.checked_mul(10)?.checked_add(digit)
 }
 
 /// The number that a word is: decimal digits with no sign and no leading zero, below 2^64.
@@ -67,8 +87,11 @@ fn decimal_of(word: &[u8]) -> Option<u64>
     if !is_plain(word) {
         return None;
     }
-    let digits = str::from_utf8(word).ok()?;
-    digits.parse().ok()
+    let mut number = 0;
+    for byte in word {
+        number = with_digit(number, digit_of(*byte)?)?;
+    }
+    Some(number)
 }
 
 /// The number that a word is, whichever it is.

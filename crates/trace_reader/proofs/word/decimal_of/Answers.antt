@@ -1,17 +1,31 @@
-use Rattle.std.proofs.Common.{◌≡◌, arith, sym}
+use Rattle.std.proofs.Common.{◌≡◌, ◌<◌, ◌+◌, ◌-◌, ◌≤◌, ℕ, Some, arith, inl, inr, ap, length, rules, subst, sym, take, ◌∙◌}
+use Rattle.std.specs.Str.Parse.{digits_value}
 use Rattle.std.proofs.lemmas.Grind.{common_steps}
-use Rattle.trace_reader.specs.Words.{IsPlain}
-use Rattle.trace_reader.proofs.Numbers.{is_plain, is_text, no_number, parsed}
+use Rattle.trace_reader.proofs.Numbers.{digits_more, number_of-zeros, number_of-other, number_of-large, number_of-digits}
 use Rattle.trace_reader.proofs.word.decimal_of.Goals as goal
 
 pub returns-then-not-is_plain : goal.returns-then-not-is_plain
-returns-then-not-is_plain c = sym (no_number c.args.word.now (λ n small e. let plain : IsPlain c.args.word.now = is_plain n c.args.word.now small e in grind (arith, common_steps)))
+returns-then-not-is_plain c = sym (number_of-zeros c.args.word.now (λ plain. grind (arith, common_steps)))
 
-pub returns-in_err-digits : goal.returns-in_err-digits
-returns-in_err-digits c = rw c.from_residual.ensures (sym (no_number c.args.word.now (λ n small e. let text = is_text n c.args.word.now small e in grind (arith, common_steps))))
+pub returns-in_err-digit_of : goal.returns-in_err-digit_of
+returns-in_err-digit_of c = c.from_residual.ensures ∙ sym (number_of-other c.args.word.now c.loop-byte.byte-index c.loop-byte-test.true c.in_err-digit_of.ensures.none)
+
+pub returns-in_err-number : goal.returns-in_err-number
+returns-in_err-number c =
+    let digit = c.in_ok-digit_of.ensures.some in
+    let more = digits_more c.args.word.now c.loop-byte.byte-index c.loop-byte.number c.loop-byte-test.true (c.loop-byte.invariant.0, c.loop-byte.invariant.1) digit.0 digit.1 in
+    c.from_residual-in_err-number.ensures ∙ sym (number_of-large c.args.word.now c.loop-byte.byte-index c.loop-byte-test.true more.1 (let large = c.in_err-number.ensures.none in omega (arith, large, digit.2, c.loop-byte.invariant.0)))
+
+pub loop-byte-preserved : goal.loop-byte-preserved
+loop-byte-preserved c =
+    let digit = c.in_ok-digit_of.ensures.some in
+    let more = digits_more c.args.word.now c.loop-byte.byte-index c.loop-byte.number c.loop-byte-test.true (c.loop-byte.invariant.0, c.loop-byte.invariant.1) digit.0 digit.1 in
+    (let n = c.in_ok-number.ensures.some in omega (arith, n, more.0, digit.2), more.1, search rules)
 
 pub returns : goal.returns
 returns c =
-    let same : c.in_ok-digits.digits.now ≡ c.args.word.now = grind (arith, common_steps) in
-    let plain : IsPlain c.in_ok-digits.digits.now = rw same (grind (arith, common_steps)) in
-    rw (c.ok-2.ensures.value, ← same) (parsed c.in_ok-digits.digits.now c.parse.result plain c.parse.ensures.value.0)
+    let word = c.args.word.now in
+    let all : take c.loop-byte.byte-index word ≡ word = grind (arith, common_steps) in
+    let digits = c.loop-byte.invariant.1 in
+    let value : c.loop-byte.number ≡ digits_value 10 word = c.loop-byte.invariant.0 ∙ ap (digits_value 10) all in
+    ap Some value ∙ sym (number_of-digits word (grind (arith, common_steps)) (λ j below. digits j (omega (arith, below))) (omega (arith, value, c.loop-byte.invariant.2)))
