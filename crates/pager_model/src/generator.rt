@@ -36,6 +36,15 @@ impl Generator {
         Generator { state: seed }
     }
 
+    /// Draws a number of 64 bits, which is the next state.
+    pub fn word(&mut self) -> u64
+        ensures state { self.new ≡ next_state self.old }
+        ensures word { result ≡ next_state self.old }
+    {
+        self.state = self.state.wrapping_mul(MULTIPLIER).wrapping_add(INCREMENT);
+        self.state
+    }
+
     /// Draws a number below `n`.
     pub fn draw(&mut self, n: u32) -> u32
         requires { 0 < n }
@@ -43,7 +52,6 @@ impl Generator {
         ensures drawn { result ≡ drawn self.old n }
         ensures below { result < n }
     {
-        self.state = self.state.wrapping_mul(MULTIPLIER).wrapping_add(INCREMENT);
-        ((self.state >> LOW_BITS) % u64::from(n)) as u32
+        ((self.word() >> LOW_BITS) % u64::from(n)) as u32
     }
 }

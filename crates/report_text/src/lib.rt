@@ -7,4 +7,6 @@ mod report;
 mod summary_lines;
 mod writing;
 
+pub use line::Line;
 pub use report::{Parts, write_report};
+pub use writing::Room;

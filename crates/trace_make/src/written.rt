@@ -1,0 +1,158 @@
+//! The text of a trace.
+
+ghost use Rattle.std.specs.Prelude.{◌≡◌, ◌≤◌, [], ◌∷◌, OnOk, OnErr, codes, flat_map, length};
+ghost use Rattle.io_core.specs.Faults.{Rose};
+ghost use Rattle.pager_model.specs.TraceText.{call_line, call_words, first_line, kind_word, line_of_words, rights_word, text_of};
+ghost use Rattle.report_text.specs.Lines.{Adds, GrowsBy, HasRoom, line_text};
+ghost use Rattle.report_text.specs.Writing.{Puts, outgoing};
+ghost use Rattle.report_text.specs.Written.{WroteAll, WrotePart};
+
+use io_core::{Sink, WriteFailed};
+use pager_model::{Call, Kind, Line, Rights, Trace};
+use report_text::{Line as TextLine, Room};
+
+/// The version of the text.
+const VERSION: &str = "1";
+
+/// Writes the text of a trace: its first line, a line for each call, and the line `end`. After a failed write the sink has taken a beginning
+/// of it.
+///
+/// It takes no memory.
+pub fn write_trace<K: Sink>(sink: &mut K, trace: &Trace) -> Result<(), WriteFailed>
+    ensures whole { OnOk result (WroteAll (text_of trace.now) (K.taken sink.old) (K.taken sink.new)) }
+    ensures part { OnErr result (WrotePart (text_of trace.now) (K.taken sink.old) (K.taken sink.new)) }
+    ensures rose { OnErr result (Rose (K.faults sink.old) (K.faults sink.new)) }
+{
+    let mut room = Room::new();
+    put_trace(&mut room, sink, trace)
+}
+
+/// Puts the whole text, and sends it.
+fn put_trace<K: Sink>(room: &mut Room, sink: &mut K, trace: &Trace) -> Result<(), WriteFailed>
+    ensures puts { Puts result
+        (outgoing (K.taken sink.old) (K.faults sink.old) room.old.bytes.items)
+        (outgoing (K.taken sink.new) (K.faults sink.new) room.new.bytes.items)
+        (text_of trace.now) }
+    ensures empty { OnOk result (room.new.bytes.items ≡ []) }
+{
+    room.put_line(sink, &line_of_first(trace))?;
+    put_calls(room, sink, trace.calls())?;
+    room.put_line(sink, &line_of_end())?;
+    room.send(sink)
+}
+
+/// Puts a line for each call.
+fn put_calls<K: Sink>(room: &mut Room, sink: &mut K, calls: &[Line]) -> Result<(), WriteFailed>
+    ensures { Puts result
+        (outgoing (K.taken sink.old) (K.faults sink.old) room.old.bytes.items)
+        (outgoing (K.taken sink.new) (K.faults sink.new) room.new.bytes.items)
+        (flat_map call_line calls.now) }
+{
+    for line in calls {
+        room.put_line(sink, &line_of_call(line))?;
+    }
+    Ok(())
+}
+
+/// The first line.
+fn line_of_first(trace: &Trace) -> TextLine
+    ensures { line_text result ≡ first_line trace.now }
+{
+    let mut line = TextLine::named("trace");
+    line.add(
+        VERSION,
+        &[trace.frames(), trace.processors(), trace.spaces()],
+    );
+    line.end();
+    line
+}
+
+/// The last line.
+fn line_of_end() -> TextLine
+    ensures { line_text result ≡ line_of_words (codes "end" ∷ []) }
+{
+    let mut line = TextLine::named("end");
+    line.end();
+    line
+}
+
+/// The line of a call.
+fn line_of_call(line: &Line) -> TextLine
+    ensures { line_text result ≡ call_line line.now }
+{
+    let mut text = TextLine::numbered(u64::from(line.processor));
+    add_call(&mut text, &line.call);
+    text.end();
+    text
+}
+
+/// Adds the words of a call.
+fn add_call(line: &mut TextLine, call: &Call)
+    requires { HasRoom 100 line.old }
+    ensures text { Adds (call_words call.now) line.old line.new }
+    ensures short { GrowsBy 100 line.old line.new }
+{
+    match *call {
+        Call::Map {
+            space,
+            page,
+            length,
+            kind,
+            rights,
+        } => {
+            line.add("map", &[space, page, length]);
+            line.add_name(kind_name(kind));
+            line.add_name(rights_name(rights));
+        }
+        Call::Grow { space, page, by } => line.add("grow", &[space, page, by]),
+        Call::Unmap { space, page } => line.add("unmap", &[space, page]),
+        Call::Protect {
+            space,
+            page,
+            length,
+            rights,
+        } => {
+            line.add("protect", &[space, page, length]);
+            line.add_name(rights_name(rights));
+        }
+        Call::Load { space, address } => {
+            line.add("load", &[space]);
+            line.add_number(address);
+        }
+        Call::Store {
+            space,
+            address,
+            word,
+        } => {
+            line.add("store", &[space]);
+            line.add_number(address);
+            line.add_number(word);
+        }
+        Call::Sync { space, page } => line.add("sync", &[space, page]),
+        Call::Evict { space, page } => line.add("evict", &[space, page]),
+    }
+}
+
+/// The word of a kind of region.
+fn kind_name(kind: Kind) -> &'static str
+    ensures word { result.now ≡ kind_word kind }
+    ensures short { length result.now ≤ 7 }
+{
+    match kind {
+        Kind::Fixed => "fixed",
+        Kind::Growing => "growing",
+        Kind::Wired => "wired",
+    }
+}
+
+/// The word of rights.
+fn rights_name(rights: Rights) -> &'static str
+    ensures word { result.now ≡ rights_word rights }
+    ensures short { length result.now ≤ 5 }
+{
+    match rights {
+        Rights::NoAccess => "none",
+        Rights::Read => "read",
+        Rights::Write => "write",
+    }
+}
