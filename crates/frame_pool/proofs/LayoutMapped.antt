@@ -24,12 +24,13 @@ use Rattle.frame_pool.proofs.LayoutInOrder.{rest_placed}
 use Rattle.pager_laws.proofs.LayoutRelease.{not_in_rest}
 
 -- a reservation of frames that are in none, with which the layout is sound
-pub MayEnter-added : (l : Layout) (r : Reservation) (page : ℕ) → IsLaid l → IsPlaced (length l.records) r.frame r → r.first < 1048576 → ((frame id : ℕ) → has_frame frame (Some r) ≡ true → has_frame frame (record_at l id) ≡ false) → IsLaid (with_reservation r page l) → MayEnter l.records r
-MayEnter-added l r page laid placed within apart after =
+pub MayEnter-added : (l : Layout) (r : Reservation) (page : ℕ) → IsLaid l → IsPlaced (length l.records) r.frame r → r.space < 16 → r.first < 1048576 → ((frame id : ℕ) → has_frame frame (Some r) ≡ true → has_frame frame (record_at l id) ≡ false) → IsLaid (with_reservation r page l) → MayEnter l.records r
+MayEnter-added l r page laid placed few within apart after =
     let known : r.frame < length l.records = omega (arith, placed.within, eight_pos r.size) in
     let none = none_begins l.records r.frame laid.placed (apart r.frame r.frame (has_frame_from r.frame r (omega arith) (omega (arith, eight_pos r.size)))) in
     record {
       placed = placed;
+      known = few;
       within = within;
       none = λ frame has. none_begins l.records frame laid.placed (apart frame frame has);
       apart = λ id p q is has also. elim (cases_eq id r.frame) [
@@ -43,13 +44,14 @@ MayEnter-added l r page laid placed within apart after =
 
 -- a reservation of the layout that was taken out
 module _ (l : Layout) (id : ℕ) (r : Reservation) (laid : IsLaid l) (is : record_at l id ≡ Some r) where
-  MayEnter-again : r.first < 1048576 → MayEnter (set l.records id None) r
-  MayEnter-again within =
+  MayEnter-again : (r.space < 16) × (r.first < 1048576) → MayEnter (set l.records id None) r
+  MayEnter-again pages =
       let placed = laid.placed id r is in
       let long = length-set l.records id None in
       record {
         placed = subst (λ n. IsPlaced n r.frame r) (sym long) (subst (λ k. IsPlaced (length l.records) k r) (sym placed.named) placed);
-        within = within;
+        known = pages.0;
+        within = pages.1;
         none = λ frame has. none_begins (set l.records id None) frame (rest_placed l id r laid is) (elim (cases_Bool (has_frame frame (get_or (set l.records id None) frame None))) [
           | inl also ↦ absurd (not_in_rest l id r laid is frame frame has also)
           | inr not ↦ not

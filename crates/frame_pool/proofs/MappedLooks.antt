@@ -7,7 +7,7 @@ use Rattle.std.proofs.lemmas.Option.{none-some}
 use Rattle.pager_model.specs.declared.reservation.Reservation.{Reservation}
 use Rattle.pager_model.specs.Extents.{IsExtent}
 use Rattle.pager_model.specs.Layouts.{covers, covering, meets, meets_any}
-use Rattle.population_map.specs.Populations.{Populations, page_at, id_of, is_placed, space_count, IsInNone}
+use Rattle.population_map.specs.Populations.{Populations, page_at, id_of, is_placed, IsInNone}
 use Rattle.population_map.proofs.Marks.{placed_size}
 use Rattle.pager_model.specs.RecordPlaces.{ArePlaced}
 use Rattle.pager_model.proofs.ExtentLemmas.{eight_pos}
@@ -19,7 +19,7 @@ use Rattle.frame_pool.proofs.MappedPages.{end_in_space, in_page, page_in}
 use Rattle.pager_laws.proofs.PagePlaces.{CoversPageOf-covers, covers-CoversPageOf, covering-found, covering-none}
 
 -- of one page
-module _ (m : Populations) (records : List (Option Reservation)) (space page : ℕ) (mapped : IsMapped m records) (known : space < space_count m) (low : page < 1048576) where
+module _ (m : Populations) (records : List (Option Reservation)) (space page : ℕ) (mapped : IsMapped m records) (known : space < 16) (low : page < 1048576) where
   pub covering-looked : (size id : ℕ) → OneCovers records → size ≤ 3 → id_of m size (page_at space page) ≡ Some id → get_or records id None ≡ covering space page records
   covering-looked size id one small is =
       let q = found_record_and (get_or records id None) (λ r. (r.size ≡ size) × (covers space page r ≡ true)) ((mapped.exact space page size id known low small).0 is) in
@@ -52,7 +52,7 @@ any_one p (x ∷ xs) d is = elim (or_cases (p x) (list_any p xs) is) [
 ]
 
 -- of an extent
-module _ (m : Populations) (records : List (Option Reservation)) (space size first : ℕ) (mapped : IsMapped m records) (known : space < space_count m) (e : IsExtent size first) (low : first < 1048576) where
+module _ (m : Populations) (records : List (Option Reservation)) (space size first : ℕ) (mapped : IsMapped m records) (known : space < 16) (e : IsExtent size first) (low : first < 1048576) where
   -- a reservation with a page of the extent meets it
   meets_by : (page : ℕ) (r : Reservation) → first ≤ page → page < first + 8 ^ size → covers space page r ≡ true → meets space size first (Some r) ≡ true
   meets_by page r above below has =

@@ -86,6 +86,7 @@ module _ (used : ℕ → Bool) (r : Reservation) (records : List (Option Reserva
       let in_whole = part_inside n (8 ^ (r.size - 1)) 8 one in
       record {
         placed = subst (λ k. IsPlaced k (first n) (part_of r n)) (sym long) (part_placed (length records) n r may.placed splits one);
+        known = may.known;
         within = omega (arith, end, ends, eight_pos (r.size - 1));
         none = λ frame has. none_yet n frame one has;
         apart = λ id page q is has also. elim (who_stands n id q (omega arith) is) [

@@ -1,8 +1,8 @@
 -- What the map has to be as reservations come and go.
-use Rattle.std.proofs.Common.{◌≡◌, ◌≢◌, ℕ, ◌+◌, ◌/◌, ◌^◌, ◌<◌, ◌≤◌, ◌⊎◌, true, ◌&&◌, cond, eqb, leb, ltb, replicate, List, [], ◌∷◌, length, get_or, set, sum_by, Option, Some, None, is_some, IsSomeAnd, inl, inr, refl, sym, ap, subst, ◌∙◌, arith}
-use Rattle.std.proofs.lemmas.Bool.{cases_Bool, cases_eq, cond_both, cond-true, cond-false, false≢true, lt-ltb, le-ltb}
+use Rattle.std.proofs.Common.{◌≡◌, ◌≢◌, ℕ, ◌+◌, ◌/◌, ◌^◌, ◌<◌, ◌≤◌, ◌⊎◌, true, ◌&&◌, eqb, leb, ltb, replicate, List, length, get_or, set, sum_by, Option, Some, None, is_some, IsSomeAnd, inl, inr, refl, sym, ap, subst, ◌∙◌, arith}
+use Rattle.std.proofs.lemmas.Bool.{cases_Bool, cases_eq, false≢true}
 use Rattle.std.proofs.lemmas.List.{get_or-set_same, get_or-set_other, length-replicate, length-set}
-use Rattle.std.proofs.lemmas.List.Sums.{sum_by-set, sum_by-cons}
+use Rattle.std.proofs.lemmas.List.Sums.{sum_by-set}
 use Rattle.std.proofs.lemmas.Option.{none-some, same_Some}
 use Rattle.pager_model.specs.declared.reservation.Reservation.{Reservation}
 use Rattle.pager_model.specs.Extents.{IsExtent}
@@ -13,7 +13,7 @@ use Rattle.pager_model.proofs.Options.{none_from_never}
 use Rattle.population_map.specs.Populations.{Populations, page_at, id_of, placed_pages, space_count, frame_count, IsInNone, SameRoom, PlacesOnly}
 use Rattle.pager_model.proofs.ExtentLemmas.{eight_pos}
 use Rattle.pager_model.proofs.RecordFrames.{has_frame_from}
-use Rattle.frame_pool.specs.Mapped.{IsMapped, MayEnter, places_below}
+use Rattle.frame_pool.specs.Mapped.{IsMapped, MayEnter}
 use Rattle.frame_pool.proofs.ListsByFrame.{found_record_and}
 use Rattle.frame_pool.proofs.MappedPages.{covered_in, in_covered, page_in}
 use Rattle.pager_laws.proofs.PagePlaces.{CoversPageOf-covers, covers-CoversPageOf}
@@ -41,15 +41,6 @@ module _ (m n : Populations) (r : Reservation) (pages : IsExtent r.size r.first)
   id_else k s p small known else =
       places.others k (page_at s p) small (λ same at. else same (in_covered r pages low s p known (subst (λ j. page_at s p / 8 ^ j ≡ page_at r.space r.first / 8 ^ j) same at)))
 
--- the reservations of some spaces have no more places than all
-pub sum_below : (spaces : ℕ) (records : List (Option Reservation)) → sum_by (places_below spaces) records ≤ sum_by places_in records
-sum_below spaces [] = omega arith
-sum_below spaces (o ∷ records) = omega (arith, sum_by-cons (places_below spaces) o records, sum_by-cons places_in o records, at o, sum_below spaces records)
-  where
-    at : (o : Option Reservation) → places_below spaces o ≤ places_in o
-    at None = omega arith
-    at (Some r) = cond_both (ltb r.space spaces) (8 ^ r.size) 0 (λ n. n ≤ 8 ^ r.size) (λ _. omega arith) (λ _. omega arith)
-
 -- ---- a reservation comes in
 
 module _ (m : Populations) (records : List (Option Reservation)) (r : Reservation) (mapped : IsMapped m records) (may : MayEnter records r) where
@@ -69,20 +60,18 @@ module _ (m : Populations) (records : List (Option Reservation)) (r : Reservatio
   there : (j : ℕ) → j ≢ r.frame → get_or with_it j None ≡ get_or records j None
   there j other = get_or-set_other records r.frame j (Some r) None other
 
-  pages_with : (id : ℕ) (q : Reservation) → get_or with_it id None ≡ Some q → q.first < 1048576
+  pages_with : (id : ℕ) (q : Reservation) → get_or with_it id None ≡ Some q → (q.space < 16) × (q.first < 1048576)
   pages_with id q is = elim (cases_eq id r.frame) [
-    | inl same ↦ omega (arith, may.within, ap (λ (t : Reservation). t.first) (same_Some r q (sym (here id same) ∙ is)))
+    | inl same ↦ subst (λ (t : Reservation). (t.space < 16) × (t.first < 1048576)) (same_Some r q (sym (here id same) ∙ is)) (may.known, may.within)
     | inr other ↦ mapped.pages id q (sym (there id other) ∙ is)
   ]
 
-  few_with : (spaces : ℕ) → sum_by (places_below spaces) with_it ≡ sum_by (places_below spaces) records + places_below spaces (Some r)
-  few_with spaces =
-      let change = sum_by-set (places_below spaces) records r.frame (Some r) None first_known in
-      omega (arith, change, ap (places_below spaces) first_free)
+  places_with : sum_by places_in with_it ≡ sum_by places_in records + 8 ^ r.size
+  places_with = omega (arith, sum_by-set places_in records r.frame (Some r) None first_known, ap places_in first_free)
 
   -- the exact ids: by the extent of the reservation, and by the others
   module _ (n : Populations) (places : PlacesOnly m n r.size (page_at r.space r.first) (Some r.frame)) where
-    id_to : (s p k j : ℕ) → s < space_count m → p < 1048576 → k ≤ 3 → id_of n k (page_at s p) ≡ Some j → HasAt k s p (get_or with_it j None)
+    id_to : (s p k j : ℕ) → s < 16 → p < 1048576 → k ≤ 3 → id_of n k (page_at s p) ≡ Some j → HasAt k s p (get_or with_it j None)
     id_to s p k j known low small is = elim (its_own r k s p) [
       | inl own ↦
           let same = same_Some r.frame j (sym (id_here m n r may.placed.pages_aligned may.within (Some r.frame) places k s p own.0 own.1) ∙ is) in
@@ -95,7 +84,7 @@ module _ (m : Populations) (records : List (Option Reservation)) (r : Reservatio
           ]
     ]
 
-    id_from : (s p k j : ℕ) → s < space_count m → p < 1048576 → k ≤ 3 → HasAt k s p (get_or with_it j None) → id_of n k (page_at s p) ≡ Some j
+    id_from : (s p k j : ℕ) → s < 16 → p < 1048576 → k ≤ 3 → HasAt k s p (get_or with_it j None) → id_of n k (page_at s p) ≡ Some j
     id_from s p k j known low small has = elim (cases_eq j r.frame) [
       | inl same ↦
           let own = subst (HasAt k s p) (here j same) has in
@@ -110,51 +99,30 @@ module _ (m : Populations) (records : List (Option Reservation)) (r : Reservatio
           ∙ (mapped.exact s p k j known low small).1 was
     ]
 
-    pub IsMapped-entered : r.space < space_count m → SameRoom m n → placed_pages n ≡ placed_pages m + 8 ^ r.size → IsMapped n with_it
-    IsMapped-entered known same count =
-        let spaces : space_count n ≡ space_count m = ap (λ k. k / 2048) same.roots in
-        let places = ap (λ k. places_below k (Some r)) spaces ∙ cond-true (ltb r.space (space_count m)) (8 ^ r.size) 0 (lt-ltb r.space (space_count m) known) in
-        record {
-          exact = λ s p k j at low small. let within : s < space_count m = omega (arith, at, spaces) in (id_to s p k j within low small, id_from s p k j within low small);
-          pages = pages_with;
-          room = ap (λ k. k / 3) same.room ∙ mapped.room ∙ sym (length-set records r.frame (Some r));
-          few = omega (arith, few_with (space_count n), places, count, mapped.few, ap (λ k. sum_by (places_below k) records) spaces);
-        }
-
-  -- in a space that the map doesn't know nothing changes
-  pub IsMapped-entered_elsewhere : space_count m ≤ r.space → IsMapped m with_it
-  IsMapped-entered_elsewhere unknown = record {
-    exact = λ s p k j known low small. (
-      λ is.
-          let was = (mapped.exact s p k j known low small).0 is in
-          elim (cases_eq j r.frame) [
-            | inl same ↦ absurd (subst (HasAt k s p) (ap (λ i. get_or records i None) same ∙ first_free) was)
-            | inr other ↦ subst (HasAt k s p) (sym (there j other)) was
-          ],
-      λ has. elim (cases_eq j r.frame) [
-        | inl same ↦
-            let own = subst (HasAt k s p) (here j same) has in
-            absurd (omega (arith, known, (CoversPageOf-covers s p r own.1).space_is))
-        | inr other ↦ (mapped.exact s p k j known low small).1 (subst (HasAt k s p) (there j other) has)
-      ],
-    );
-    pages = pages_with;
-    room = mapped.room ∙ sym (length-set records r.frame (Some r));
-    few = omega (arith, few_with (space_count m), mapped.few);
-  }
+    pub IsMapped-entered : SameRoom m n → placed_pages n ≡ placed_pages m + 8 ^ r.size → IsMapped n with_it
+    IsMapped-entered same count = record {
+      spaces = ap (λ k. k / 2048) same.roots ∙ mapped.spaces;
+      exact = λ s p k j known low small. (id_to s p k j known low small, id_from s p k j known low small);
+      pages = pages_with;
+      room = ap (λ k. k / 3) same.room ∙ mapped.room ∙ sym (length-set records r.frame (Some r));
+      few = omega (arith, places_with, count, mapped.few);
+    }
 
   -- what placing it requires
-  pub entering_apart : r.space < space_count m → (page : ℕ) → page / 8 ^ r.size ≡ page_at r.space r.first / 8 ^ r.size → IsInNone m page
-  entering_apart known page same k small =
+  pub entering_known : r.space < space_count m
+  entering_known = omega (arith, may.known, mapped.spaces)
+
+  pub entering_apart : (page : ℕ) → page / 8 ^ r.size ≡ page_at r.space r.first / 8 ^ r.size → IsInNone m page
+  entering_apart page same k small =
       let at = page_in r.size r.space r.first page may.placed.pages_aligned may.within same in
       let covered = covers-CoversPageOf r.space at.0 r (record { space_is = refl; low = at.3; high = at.4 }) in
       ap (id_of m k) at.1 ∙ none_from_never (id_of m k (page_at r.space at.0))
       (λ j is.
-      let q = found_record_and (get_or records j None) (λ t. (t.size ≡ k) × (covers r.space at.0 t ≡ true)) ((mapped.exact r.space at.0 k j known at.2 small).0 is) in
+      let q = found_record_and (get_or records j None) (λ t. (t.size ≡ k) × (covers r.space at.0 t ≡ true)) ((mapped.exact r.space at.0 k j may.known at.2 small).0 is) in
       may.apart j at.0 q.0 q.1 covered q.2.1)
 
   pub entering_room : placed_pages m + 8 ^ r.size ≤ frame_count m
-  entering_room = omega (arith, mapped.few, mapped.room, may.few, sum_below (space_count m) records)
+  entering_room = omega (arith, mapped.few, mapped.room, may.few)
 
 -- ---- a reservation goes
 
@@ -163,7 +131,7 @@ module _ (m : Populations) (records : List (Option Reservation)) (id : ℕ) (r :
   without_it = set records id None
 
   low_of : r.first < 1048576
-  low_of = mapped.pages id r is
+  low_of = (mapped.pages id r is).1
 
   -- the records without it
   gone : (j : ℕ) → j ≡ id → get_or without_it j None ≡ None
@@ -172,25 +140,27 @@ module _ (m : Populations) (records : List (Option Reservation)) (id : ℕ) (r :
   stays : (j : ℕ) → j ≢ id → get_or without_it j None ≡ get_or records j None
   stays j other = get_or-set_other records id j None None other
 
-  pages_without : (j : ℕ) (q : Reservation) → get_or without_it j None ≡ Some q → q.first < 1048576
+  pages_without : (j : ℕ) (q : Reservation) → get_or without_it j None ≡ Some q → (q.space < 16) × (q.first < 1048576)
   pages_without j q at = mapped.pages j q (unset_before records id j None (Some q) (none-some q) at).1
 
-  few_without : (spaces : ℕ) → sum_by (places_below spaces) without_it + places_below spaces (Some r) ≡ sum_by (places_below spaces) records
-  few_without spaces =
-      let change = sum_by-set (places_below spaces) records id None None (get_or_within records id r is) in
-      omega (arith, change, ap (places_below spaces) is)
+  places_without : sum_by places_in without_it + 8 ^ r.size ≡ sum_by places_in records
+  places_without = omega (arith, sum_by-set places_in records id None None (get_or_within records id r is), ap places_in is)
 
   -- its extent is placed with its id
-  own_id : (k s p : ℕ) → s < space_count m → p < 1048576 → k ≡ r.size → covers s p r ≡ true → id_of m k (page_at s p) ≡ Some id
+  own_id : (k s p : ℕ) → s < 16 → p < 1048576 → k ≡ r.size → covers s p r ≡ true → id_of m k (page_at s p) ≡ Some id
   own_id k s p known low same has = (mapped.exact s p k id known low (omega (arith, same, pages.0))).1 (subst (HasAt k s p) (sym is) (sym same, has))
 
-  pub leaving_placed : r.space < space_count m → is_some (id_of m r.size (page_at r.space r.first)) ≡ true
-  leaving_placed known =
+  -- what taking it out requires
+  pub leaving_known : r.space < space_count m
+  leaving_known = omega (arith, (mapped.pages id r is).0, mapped.spaces)
+
+  pub leaving_placed : is_some (id_of m r.size (page_at r.space r.first)) ≡ true
+  leaving_placed =
       let first = covers-CoversPageOf r.space r.first r (record { space_is = refl; low = omega arith; high = omega (arith, eight_pos r.size) }) in
-      ap is_some (own_id r.size r.space r.first known low_of refl first)
+      ap is_some (own_id r.size r.space r.first (mapped.pages id r is).0 low_of refl first)
 
   module _ (n : Populations) (places : PlacesOnly m n r.size (page_at r.space r.first) None) where
-    left_to : (s p k j : ℕ) → s < space_count m → p < 1048576 → k ≤ 3 → id_of n k (page_at s p) ≡ Some j → HasAt k s p (get_or without_it j None)
+    left_to : (s p k j : ℕ) → s < 16 → p < 1048576 → k ≤ 3 → id_of n k (page_at s p) ≡ Some j → HasAt k s p (get_or without_it j None)
     left_to s p k j known low small at = elim (its_own r k s p) [
       | inl own ↦ absurd (none-some j (sym (id_here m n r pages low_of None places k s p own.0 own.1) ∙ at))
       | inr else ↦
@@ -203,7 +173,7 @@ module _ (m : Populations) (records : List (Option Reservation)) (id : ℕ) (r :
           ]
     ]
 
-    left_from : (s p k j : ℕ) → s < space_count m → p < 1048576 → k ≤ 3 → HasAt k s p (get_or without_it j None) → id_of n k (page_at s p) ≡ Some j
+    left_from : (s p k j : ℕ) → s < 16 → p < 1048576 → k ≤ 3 → HasAt k s p (get_or without_it j None) → id_of n k (page_at s p) ≡ Some j
     left_from s p k j known low small has = elim (cases_eq j id) [
       | inl same ↦ absurd (subst (HasAt k s p) (gone j same) has)
       | inr other ↦
@@ -211,46 +181,21 @@ module _ (m : Populations) (records : List (Option Reservation)) (id : ℕ) (r :
           id_else m n r pages low_of None places k s p small low (λ same also. other (same_Some j id (sym was ∙ own_id k s p known low same also))) ∙ was
     ]
 
-    pub IsMapped-left : r.space < space_count m → SameRoom m n → placed_pages n + 8 ^ r.size ≡ placed_pages m → IsMapped n without_it
-    IsMapped-left known same count =
-        let spaces : space_count n ≡ space_count m = ap (λ k. k / 2048) same.roots in
-        let places = ap (λ k. places_below k (Some r)) spaces ∙ cond-true (ltb r.space (space_count m)) (8 ^ r.size) 0 (lt-ltb r.space (space_count m) known) in
-        record {
-          exact = λ s p k j at low small. let within : s < space_count m = omega (arith, at, spaces) in (left_to s p k j within low small, left_from s p k j within low small);
-          pages = pages_without;
-          room = ap (λ k. k / 3) same.room ∙ mapped.room ∙ sym (length-set records id None);
-          few = omega (arith, few_without (space_count n), places, count, mapped.few, ap (λ k. sum_by (places_below k) records) spaces);
-        }
-
-  -- in a space that the map doesn't know nothing changes
-  pub IsMapped-left_elsewhere : space_count m ≤ r.space → IsMapped m without_it
-  IsMapped-left_elsewhere unknown =
-      let none : places_below (space_count m) (Some r) ≡ 0 = cond-false (ltb r.space (space_count m)) (8 ^ r.size) 0 (le-ltb r.space (space_count m) unknown) in
-      record {
-        exact = λ s p k j known low small. (
-          λ at.
-              let was = (mapped.exact s p k j known low small).0 at in
-              elim (cases_eq j id) [
-                | inl same ↦
-                    let own = subst (HasAt k s p) (ap (λ i. get_or records i None) same ∙ is) was in
-                    absurd (omega (arith, known, (CoversPageOf-covers s p r own.1).space_is))
-                | inr other ↦ subst (HasAt k s p) (sym (stays j other)) was
-              ],
-          λ has. elim (cases_eq j id) [
-            | inl same ↦ absurd (subst (HasAt k s p) (gone j same) has)
-            | inr other ↦ (mapped.exact s p k j known low small).1 (subst (HasAt k s p) (stays j other) has)
-          ],
-        );
-        pages = pages_without;
-        room = mapped.room ∙ sym (length-set records id None);
-        few = omega (arith, few_without (space_count m), none, mapped.few);
-      }
+    pub IsMapped-left : SameRoom m n → placed_pages n + 8 ^ r.size ≡ placed_pages m → IsMapped n without_it
+    IsMapped-left same count = record {
+      spaces = ap (λ k. k / 2048) same.roots ∙ mapped.spaces;
+      exact = λ s p k j known low small. (left_to s p k j known low small, left_from s p k j known low small);
+      pages = pages_without;
+      room = ap (λ k. k / 3) same.room ∙ mapped.room ∙ sym (length-set records id None);
+      few = omega (arith, places_without, count, mapped.few);
+    }
 
 -- ---- a reservation becomes younger, and none is at first
 
 -- where one stands with the same pages, the map stays
 pub IsMapped-alike : (m : Populations) (records : List (Option Reservation)) (id : ℕ) (r q : Reservation) → IsMapped m records → get_or records id None ≡ Some r → q.space ≡ r.space → q.first ≡ r.first → q.size ≡ r.size → IsMapped m (set records id (Some q))
 IsMapped-alike m records id r q mapped is space first size = record {
+  spaces = mapped.spaces;
   exact = λ s p k j known low small.
       let was = mapped.exact s p k j known low small in
       elim (cases_eq j id) [
@@ -267,14 +212,15 @@ IsMapped-alike m records id r q mapped is space first size = record {
   pages = λ j t at. elim (cases_eq j id) [
     | inl same ↦
         let at_new = ap (λ i. get_or (set records id (Some q)) i None) same ∙ get_or-set_same records id (Some q) None (get_or_within records id r is) in
-        omega (arith, mapped.pages id r is, first, ap (λ (u : Reservation). u.first) (same_Some q t (sym at_new ∙ at)))
+        let was = mapped.pages id r is in
+        subst (λ (u : Reservation). (u.space < 16) × (u.first < 1048576)) (same_Some q t (sym at_new ∙ at)) (omega (arith, was.0, space), omega (arith, was.1, first))
     | inr other ↦ mapped.pages j t (sym (get_or-set_other records id j (Some q) None other) ∙ at)
   ];
   room = mapped.room ∙ sym (length-set records id (Some q));
   few =
-      let change = sum_by-set (places_below (space_count m)) records id (Some q) None (get_or_within records id r is) in
-      let weights : places_below (space_count m) (Some q) ≡ places_below (space_count m) (Some r) = ap (λ n. cond (ltb n (space_count m)) (8 ^ q.size) 0) space ∙ ap (λ k. cond (ltb r.space (space_count m)) (8 ^ k) 0) size in
-      omega (arith, change, weights, ap (places_below (space_count m)) is, mapped.few);
+      let change = sum_by-set places_in records id (Some q) None (get_or_within records id r is) in
+      let same : 8 ^ q.size ≡ 8 ^ r.size = ap (λ k. 8 ^ k) size in
+      omega (arith, change, same, ap places_in is, mapped.few);
 }
   where
     alike : (s p : ℕ) → covers s p r ≡ covers s p q
@@ -284,8 +230,9 @@ IsMapped-alike m records id r q mapped is space first size = record {
         ∙ ap (λ k. eqb q.space s && (leb q.first p && ltb p (q.first + 8 ^ k))) (sym size)
 
 -- without a reservation no extent is placed
-pub IsMapped-start : (m : Populations) (frames : ℕ) → ((size page : ℕ) → id_of m size page ≡ None) → placed_pages m ≡ 0 → frame_count m ≡ frames → IsMapped m (replicate frames None)
-IsMapped-start m frames no_extent no_page room = record {
+pub IsMapped-start : (m : Populations) (frames : ℕ) → ((size page : ℕ) → id_of m size page ≡ None) → placed_pages m ≡ 0 → space_count m ≡ 16 → frame_count m ≡ frames → IsMapped m (replicate frames None)
+IsMapped-start m frames no_extent no_page spaces room = record {
+  spaces = spaces;
   exact = λ s p k j _ _ _. (
     λ is. absurd (none-some j (sym (no_extent k (page_at s p)) ∙ is)),
     λ has. absurd (subst (HasAt k s p) (get_or-alike frames j None) has),

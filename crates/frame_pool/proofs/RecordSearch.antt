@@ -1,18 +1,9 @@
--- Reading the records one by one.
-use Rattle.std.proofs.Common.{◌≡◌, ℕ, zero, suc, ◌+◌, ◌<◌, ◌≤◌, ◌∙◌, Bool, false, find, nat_eq, Option, Some, None, IfSome, refl, arith}
+-- Searching the parts of a reservation for one of a yield.
+use Rattle.std.proofs.Common.{◌≡◌, ℕ, zero, suc, ◌+◌, ◌<◌, ◌≤◌, ◌∙◌, Bool, false, find, nat_eq, Option, Some, None, refl, arith}
 use Rattle.std.specs.List.{range_with_len}
 use Rattle.std.proofs.lemmas.Bool.{cond-false}
 use Rattle.std.specs.Option.{option_eq}
-use Rattle.pager_model.specs.declared.reservation.Reservation.{Reservation}
-use Rattle.pager_model.specs.FrameStates.{places_in}
 use Rattle.pager_model.specs.Records.{same_size}
-use Rattle.pager_model.specs.RecordPlaces.{IsPlaced}
-use Rattle.pager_model.proofs.ExtentLemmas.{eight_small}
-
--- a reservation that is kept has at most 512 places
-pub places_few : (frames id : ℕ) (o : Option Reservation) → IfSome o (IsPlaced frames id) → places_in o ≤ 512
-places_few frames id None placed = omega arith
-places_few frames id (Some r) placed = eight_small r.size placed.aligned.0
 
 -- the equality of optional sizes is the test for the same one
 pub same_size-is : (a b : Option ℕ) → option_eq nat_eq a b ≡ same_size a b

@@ -6,3 +6,4 @@ pub mod ReservedState
 pub mod ReservedChanges
 pub mod PoolState
 pub mod Mapped
+pub mod Spaces

@@ -1,5 +1,5 @@
 -- Which pages the reservations have, as a population map says it.
-use Rattle.std.specs.Prelude.{ℕ, ◌≡◌, ◌+◌, ◌^◌, ◌<◌, ◌≤◌, ◌↔◌, true, nat_lt, if◌then◌else◌, List, length, slice_index_or, sum_by, Option, Some, None, IsSomeAnd}
+use Rattle.std.specs.Prelude.{ℕ, ◌≡◌, ◌+◌, ◌^◌, ◌<◌, ◌≤◌, ◌↔◌, true, List, length, slice_index_or, sum_by, Option, Some, None, IsSomeAnd}
 use Rattle.population_map.specs.Populations.{Populations, page_at, id_of, placed_pages, space_count, frame_count}
 use Rattle.pager_model.specs.declared.reservation.Reservation.{Reservation}
 use Rattle.pager_model.specs.Agreement.{has_frame}
@@ -8,31 +8,29 @@ use Rattle.pager_model.specs.Layouts.{covers}
 use Rattle.pager_model.specs.Records.{Records, is_used, split_records}
 use Rattle.pager_model.specs.RecordPlaces.{IsPlaced}
 use Rattle.pager_model.specs.Bounds.{space_pages}
+use Rattle.frame_pool.specs.Spaces.{most_spaces}
 
--- how many places a reservation has, where its space is one of the first so many
-abbrev pub places_below : ℕ → Option Reservation → ℕ
-places_below spaces None = 0
-places_below spaces (Some r) = if nat_lt r.space spaces then 8 ^ r.size else 0
-
--- In a space that the map knows, the extent of size k round a page is placed with an id exactly where the reservation that begins at this
--- frame is of this size and has the page. There is room to place a page for each frame, and no more pages are placed than the
--- reservations of these spaces have places.
+-- The extent of size k round a page is placed with an id exactly where the reservation that begins at this frame is of this size and has
+-- the page. The map knows every space that a reservation is of. There is room to place a page for each frame, and no more pages are placed
+-- than the reservations have places.
 pub record IsMapped (m : Populations) (records : List (Option Reservation)) : Type 0 where
-  pub exact : (space page k id : ℕ) → space < space_count m → page < space_pages → k ≤ 3
+  pub spaces : space_count m ≡ most_spaces
+  pub exact : (space page k id : ℕ) → space < most_spaces → page < space_pages → k ≤ 3
       → (id_of m k (page_at space page) ≡ Some id) ↔ IsSomeAnd (slice_index_or records id None) (λ r. (r.size ≡ k) × (covers space page r ≡ true))
-  pub pages : (id : ℕ) (r : Reservation) → slice_index_or records id None ≡ Some r → r.first < space_pages
+  pub pages : (id : ℕ) (r : Reservation) → slice_index_or records id None ≡ Some r → (r.space < most_spaces) × (r.first < space_pages)
   pub room : frame_count m ≡ length records
-  pub few : placed_pages m ≤ sum_by (places_below (space_count m)) records
+  pub few : placed_pages m ≤ sum_by places_in records
 
 -- no page of a space is in two reservations
 abbrev pub OneCovers : List (Option Reservation) → Type 0
 OneCovers records = (id other space page : ℕ) (r q : Reservation) → slice_index_or records id None ≡ Some r → slice_index_or records other None ≡ Some q
     → covers space page r ≡ true → covers space page q ≡ true → id ≡ other
 
--- A reservation of known frames and pages may come into these records: none of them begins at a frame of it or has a page of it, and
+-- A reservation of known frames, spaces and pages may come into these records: none of them begins at a frame of it or has a page of it, and
 -- with it they have no more places than there are frames.
 pub record MayEnter (records : List (Option Reservation)) (r : Reservation) : Type 0 where
   pub placed : IsPlaced (length records) r.frame r
+  pub known : r.space < most_spaces
   pub within : r.first < space_pages
   pub none : (frame : ℕ) → has_frame frame (Some r) ≡ true → slice_index_or records frame None ≡ None
   pub apart : (id page : ℕ) (q : Reservation) → slice_index_or records id None ≡ Some q → covers r.space page r ≡ true → covers r.space page q ≡ true → ⊥

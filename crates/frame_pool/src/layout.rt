@@ -11,6 +11,7 @@ ghost use Rattle.reservations.specs.Parts.{told_parts};
 ghost use Rattle.pager_laws.specs.Laid.{IsIn, IsLaid};
 ghost use Rattle.frame_pool.specs.Placed.{CanBreak, extent_there, is_larger, FindsExtent, PlacesPage};
 ghost use Rattle.pager_model.specs.Bounds.{most_frames, space_pages};
+ghost use Rattle.frame_pool.specs.Spaces.{most_spaces};
 
 use crate::free::{give, take};
 use crate::reserved::Reserved;
@@ -60,20 +61,15 @@ pub(crate) struct Place {
 }
 
 impl Layout {
-    /// All frames are free, there are these sizes, and so many spaces are announced.
-    pub(crate) fn create(
-        alloc: Global,
-        frames: u32,
-        spaces: u32,
-        sizes: Sizes,
-    ) -> Result<Layout, NoMemory>
+    /// All frames are free, and there are these sizes.
+    pub(crate) fn create(alloc: Global, frames: u32, sizes: Sizes) -> Result<Layout, NoMemory>
         requires whole { frames % 512 ≡ 0 }
         requires most { frames ≤ most_frames }
         ensures { IfOk result (λ l. l ≡ start_layout sizes frames) }
     {
         Ok(Layout {
             free: Free::create(alloc, frames)?,
-            reserved: Reserved::create(alloc, frames, spaces, sizes)?,
+            reserved: Reserved::create(alloc, frames, sizes)?,
         })
     }
 
@@ -86,11 +82,10 @@ impl Layout {
         self.reserved.reservation_of(frame)
     }
 
-    /// The frame of the page's place, where it has one.
-    ///
-    /// In an announced space at most four looks find it.
+    /// The frame of the page's place, where it has one. At most four looks find it.
     pub(crate) fn frame_of(&self, space: u32, page: u32) -> Option<u32>
-        requires { page < space_pages }
+        requires few { space < most_spaces }
+        requires page { page < space_pages }
         ensures { result ≡ frame_in self.now space page }
     {
         let reservation = self.reserved.covering(space, page)?;
@@ -108,9 +103,10 @@ impl Layout {
     /// Gives a page of a space, which has none, a place: in the reservation that has the page, or in a new one. `None` exactly
     /// where there is none, and then nothing changes.
     ///
-    /// In an announced space at most four looks find the reservation, and for each of the sizes 3, 2 and 1 at most four tell whether the
-    /// extent round the page meets one.
+    /// At most four looks find the reservation, and for each of the sizes 3, 2 and 1 at most four tell whether the extent round the page
+    /// meets one.
     pub(crate) fn place(&mut self, stamp: u64, space: u32, page: u32, want: &Want) -> Option<Place>
+        requires few { space < most_spaces }
         requires unplaced { frame_in self.old space page ≡ None }
         requires wanted { IsWanted want.now page }
         ensures placed { IfSome result (λ p. PlacesPage self.old self.new (placing stamp space page want.now self.old) p.frame p.broken) }

@@ -25,27 +25,23 @@ fn pages_of(reservation: &Reservation) -> Extent
     }
 }
 
-/// Places the pages of a reservation, where the map knows their space.
+/// Places the pages of a reservation.
 pub(crate) fn insert(map: &mut PopulationMap, reservation: &Reservation)
     requires { (records : List (Option Reservation)) × IsMapped map.old records × MayEnter records reservation.now }
     ensures { (records : List (Option Reservation)) → IsMapped map.old records → MayEnter records reservation.now
         → IsMapped map.new (slice_set records reservation.now.frame (Some reservation.now)) }
 {
-    if reservation.space < map.spaces() {
-        map.place(reservation.space, pages_of(reservation), reservation.frame);
-    }
+    map.place(reservation.space, pages_of(reservation), reservation.frame);
 }
 
-/// Takes the pages of the reservation that begins at the frame `id` out, where the map knows their space.
+/// Takes the pages of the reservation that begins at the frame `id` out.
 pub(crate) fn remove(map: &mut PopulationMap, reservations: &Reservations, id: u32)
     requires there { IsSome (reservation_at reservations.now id) }
     requires mapped { IsMapped map.old reservations.now.records }
     ensures { IsMapped map.new (slice_set reservations.now.records id None) }
 {
     let reservation = reservations.get(id).unwrap();
-    if reservation.space < map.spaces() {
-        map.remove(reservation.space, pages_of(&reservation));
-    }
+    map.remove(reservation.space, pages_of(&reservation));
 }
 
 /// Places the pages of the parts that a reservation, which isn't in the map any more, was split into, where they are reservations.
@@ -67,7 +63,7 @@ pub(crate) fn insert_parts(
     }
 }
 
-/// The first frame of the reservation that has the page of a space that the map knows, by at most four looks.
+/// The first frame of the reservation that has the page of a space, by at most four looks.
 pub(crate) fn find<L: Ledger>(
     map: &PopulationMap,
     space: u32,
@@ -86,7 +82,7 @@ pub(crate) fn find<L: Ledger>(
     map.find(space, page, &mut Steps::begin(book, share))
 }
 
-/// Whether a reservation of the space, which the map knows, has a page of the extent, by at most four looks.
+/// Whether a reservation of the space has a page of the extent, by at most four looks.
 pub(crate) fn meets<L: Ledger>(
     map: &PopulationMap,
     space: u32,

@@ -6,6 +6,7 @@ ghost use Rattle.pager_model.specs.FrameStates.{take_frame, counted, give_page, 
 ghost use Rattle.pager_model.specs.FrameStates.{free_count, used_count, reserved_count, wired_count, claimed_count, held_count};
 ghost use Rattle.pager_model.specs.PreferredSize.{IsWanted};
 ghost use Rattle.pager_model.specs.Bounds.{most_frames, space_pages};
+ghost use Rattle.frame_pool.specs.Spaces.{most_spaces};
 
 use crate::layout::Layout;
 use crate::records::page_at;
@@ -75,12 +76,10 @@ impl Model for Pool {
 
 impl Pool {
     /// All frames are free, and there are these page sizes. All the memory that the pool ever takes is taken here. `frames` is a multiple
-    /// of 512, and `processors` counts a daemon. In spaces below `spaces` a page's reservation is found in a few looks, and in others it
-    /// is looked for.
+    /// of 512, and `processors` counts a daemon.
     pub fn create(
         alloc: Global,
         frames: u32,
-        spaces: u32,
         processors: u32,
         sizes: Sizes,
     ) -> Result<Pool, NoMemory>
@@ -91,7 +90,7 @@ impl Pool {
     {
         Ok(Pool {
             frames: every_frame(alloc, frames)?,
-            layout: Layout::create(alloc, frames, spaces, sizes)?,
+            layout: Layout::create(alloc, frames, sizes)?,
             used: UsedFrames::create(alloc, frames, processors)?,
             held: vec![in alloc; None; processors as usize]?,
             entries: 0,
@@ -101,7 +100,8 @@ impl Pool {
 
     /// The frame of the page's place, where it has one.
     pub fn frame_of(&self, space: u32, page: u32) -> Option<u32>
-        requires { page < space_pages }
+        requires few { space < most_spaces }
+        requires page { page < space_pages }
         ensures { result ≡ frame_of self.now space page }
     {
         self.layout.frame_of(space, page)
@@ -140,6 +140,7 @@ impl Pool {
     /// and then nothing changes.
     pub fn take(&mut self, space: u32, page: u32, want: &Want) -> Result<Frame, Full>
         requires room { self.old.entries < 2 ^ 45 }
+        requires few { space < most_spaces }
         requires unplaced { frame_of self.old space page ≡ None }
         requires wanted { IsWanted want.now page }
         ensures taken { IfOk result
@@ -227,6 +228,7 @@ impl Pool {
     pub fn use_held(&mut self, processor: u32, space: u32, page: u32, want: &Want) -> Frame
         requires room { self.old.entries < 2 ^ 45 }
         requires holds { IsSome (held_by self.old processor) }
+        requires few { space < most_spaces }
         requires unplaced { frame_of self.old space page ≡ None }
         requires wanted { IsWanted want.now page }
         ensures { (t : Taking) × (take_frame (dropped self.old processor) space page want.now ≡ Some t) × (self.new ≡ counted t.state) × (result.number ≡ t.frame) }

@@ -11,20 +11,24 @@ ghost use Rattle.reservations.specs.Parts.{told_parts};
 ghost use Rattle.frame_pool.specs.Placed.{first_of, with_reservation};
 ghost use Rattle.frame_pool.specs.ReservedChanges.{Vacates, none_reserved, with_free};
 ghost use Rattle.pager_model.specs.Bounds.{most_frames, space_pages};
+ghost use Rattle.frame_pool.specs.Spaces.{most_spaces};
 
 use crate::lists::{enlist, enlist_parts, unlist};
 use crate::mapped;
-use crate::records::{covering_among_all, meets_among_all, page_at, yields_in};
+use crate::records::{page_at, yields_in};
 use pager_model::{Extent, NoMemory, Reservation, Size, Sizes, Want};
-use population_map::{MOST_SPACES, PopulationMap};
+use population_map::PopulationMap;
 use reservation_lists::Lists;
 use reservations::{Part, Reservations, frame_for};
 use std::alloc::Global;
 use std::marker::{Brand, Model};
 use std::sync::ledger::Blank;
 
+/// How many spaces a program has at most.
+const MOST_SPACES: u32 = 16;
+
 /// The reservations with their used places, the lists of them by age, and the map by which the one that has a page is found: all three
-/// change together. The map knows as many spaces as were announced; the pages of others are looked for among all reservations.
+/// change together.
 ///
 /// Contracts see them as a layout in which no frame is free.
 #[derive(Drop)]
@@ -49,13 +53,8 @@ impl Model for Reserved {
 }
 
 impl Reserved {
-    /// No reservation, over so many frames, by these sizes, and so many spaces are announced.
-    pub(crate) fn create(
-        alloc: Global,
-        frames: u32,
-        spaces: u32,
-        sizes: Sizes,
-    ) -> Result<Reserved, NoMemory>
+    /// No reservation, over so many frames, by these sizes.
+    pub(crate) fn create(alloc: Global, frames: u32, sizes: Sizes) -> Result<Reserved, NoMemory>
         requires { frames ≤ most_frames }
         ensures { IfOk result (λ r. r ≡ none_reserved sizes frames) }
     {
@@ -64,7 +63,7 @@ impl Reserved {
             sizes,
             reservations: Reservations::create(alloc, frames)?,
             lists: Lists::create(alloc, frames)?,
-            map: PopulationMap::create(alloc, spaces.min(MOST_SPACES), frames)?,
+            map: PopulationMap::create(alloc, MOST_SPACES, frames)?,
         })
     }
 
@@ -99,34 +98,31 @@ impl Reserved {
     }
 
     /// The reservation that has the page of the space, if one has it: by at most four looks at the map, however many reservations there
-    /// are. In a space that the map doesn't know, it is looked for among all.
+    /// are.
     pub(crate) fn covering(&self, space: u32, page: u32) -> Option<Reservation>
-        requires { page < space_pages }
+        requires few { space < most_spaces }
+        requires page { page < space_pages }
         ensures { result ≡ covering space page self.now.records }
     {
-        if self.map.spaces() <= space {
-            return covering_among_all(&self.reservations, self.frames, space, page);
-        }
         let id = mapped::find::<Brand>(&self.map, space, page, Blank::new(1))?;
         self.reservations.get(id)
     }
 
     /// Whether a reservation has a page of the extent of the space's pages: by at most four looks at the map, however many reservations
-    /// there are. In a space that the map doesn't know, each is asked.
+    /// there are.
     fn meets_any(&self, space: u32, extent: &Extent) -> bool
+        requires few { space < most_spaces }
         requires aligned { IsExtent extent.now.size extent.now.first }
         requires within { extent.now.first < space_pages }
         ensures { result ≡ meets_any space self.now.records extent.now.size extent.now.first }
     {
-        if self.map.spaces() <= space {
-            return meets_among_all(&self.reservations, self.frames, space, extent);
-        }
         mapped::meets::<Brand>(&self.map, space, *extent, Blank::new(1))
     }
 
     /// The size that is tried first for a page.
     pub(crate) fn preferred(&self, space: u32, page: u32, want: &Want) -> Size
-        requires { IsWanted want.now page }
+        requires few { space < most_spaces }
+        requires wanted { IsWanted want.now page }
         ensures { result ≡ preferred_in self.now space page want.now }
     {
         let meets = |extent: Extent| self.meets_any(space, &extent);
@@ -179,6 +175,7 @@ impl Reserved {
         requires has { CoversPage reservation page }
         requires placed { IsPlaced (length self.old.records) reservation.frame reservation }
         requires apart { (frame id : ℕ) → has_frame frame (Some reservation) ≡ true → has_frame frame (record_at self.old id) ≡ false }
+        requires few { reservation.space < most_spaces }
         requires within { reservation.first < space_pages }
         requires laid { (free : List Bool) × IsLaid (with_free free (with_reservation reservation page self.old)) }
         ensures put { self.new ≡ with_reservation reservation page self.old }

@@ -89,6 +89,11 @@ pub HasNothing-wanting : (f : Flight) (page : ℕ) (want : Want) (before : Frame
 HasNothing-wanting f page want before phase owns =
     subst (λ p. OwnsBy before f.processor (row_of (with_phase f p)).progress.doing) phase owns
 
+-- and the page that it wants one for is of its call's own space
+pub own_wanting : (f : Flight) (page : ℕ) (want : Want) (kept : Kept) (st : SpaceState) → f.phase ≡ Frame page want → IsReady f kept st → space_of_call (call_in f.purpose) ≡ kept.number
+own_wanting f page want kept st phase =
+    by_ready f (Frame page want) kept st phase (λ g to. space_of_call (call_in g.purpose) ≡ kept.number) (λ ready. same_Some _ _ ready.under)
+
 pub frame_taken : (f : Flight) (page own frame : ℕ) (want : Want) (was now : Kept) (before after : FrameState) (t : Taking) → f.phase ≡ Frame page want → own ≡ space_of_call (call_in f.purpose) → frame ≡ t.frame → AreAgreed was before → OwnsBy before f.processor (row_of f).progress.doing → take_frame before own page want ≡ Some t → after ≡ counted t.state → Places was now page t.frame → (st : SpaceState) → IsReady f was st → Makes f (with_phase f (Fill page frame)) was now st before after (take_entry f.processor own page frame want)
 frame_taken f page own frame want was now before after t phase same numbered agree owns takes counts places st =
     subst (λ n. IsReady f was st → Makes f (with_phase f (Fill page n)) was now st before after (take_entry f.processor own page n want)) (sym numbered)

@@ -572,7 +572,7 @@ impl Flight {
         ensures entry { (st : SpaceState) → IsReady self.old space.old st → Makes self.old self.new space.old space.new st pool.old pool.new result }
         ensures nearer { (row_of self.new).steps < (row_of self.old).steps }
     {
-        let own = self.own();
+        let own = space.number();
         match pool.take(own, page, &want) {
             Ok(taken) => {
                 let frame = taken.number();
@@ -770,7 +770,7 @@ impl Flight {
         ensures entry { (st : SpaceState) → IsReady self.old space.old st → Makes self.old self.new space.old space.new st pool.old pool.new result }
         ensures nearer { (row_of self.new).steps < (row_of self.old).steps }
     {
-        let own = self.own();
+        let own = space.number();
         let taken = pool.use_held(self.processor, own, page, &want);
         let frame = taken.number();
         space.place(page, taken);

@@ -54,7 +54,7 @@ impl<S: Store + Send + Drop> RunRoom<S> {
         let processors = marks.len() as u32;
         let spaces = stores.len() as u32;
         let all_sizes = Sizes::of(true, true, true);
-        let pool = Pool::create(alloc, frames, spaces, processors, all_sizes)?;
+        let pool = Pool::create(alloc, frames, processors, all_sizes)?;
         let setting = setting_of(alloc, frames, marks, stores)?;
         let spaces = SpaceRooms::create(alloc, frames, processors, spaces)?;
         Ok(RunRoom {

@@ -67,6 +67,7 @@ pub enum OutFault {
 #[derive(Drop)]
 pub struct Space<S: Store + Send + Drop> {
     number: u32,
+    ghost few: { number < 16 },
     regions: Regions,
     table: PageTable,
     /// The page that was placed and is not yet read in.
@@ -114,6 +115,7 @@ impl<S: Store + Send + Drop> Model for Space<S> {
 impl<S: Store + Send + Drop> Space<S> {
     /// A space without regions, in this room and over this store. It takes no memory.
     pub fn over(number: u32, room: SpaceRoom, store: S) -> Space<S>
+        requires few { number < 16 }
         ensures made { (result.number ≡ number) × (result.frames ≡ room.frames) × (length result.images ≡ room.processors) × (result.store ≡ S.seen store) × IsResting result }
         ensures stands { (told : Bool) → (told ≡ true → TellsZero result.store) → StandsFor result (empty_state all_sizes told result.store.faults) }
     {
@@ -132,6 +134,14 @@ impl<S: Store + Send + Drop> Space<S> {
             demotions: 0,
             broken: 0,
         }
+    }
+
+    /// Its number among the program's spaces.
+    pub fn number(&self) -> u32
+        ensures number { result ≡ self.now.number }
+        ensures few { result < 16 }
+    {
+        self.number
     }
 
     /// Begins a processor's call on this space: the whole answer, or what it needs first.

@@ -15,9 +15,9 @@ pub struct Both {
 }
 
 impl Both {
-    /// All frames are free. So many spaces are announced to the pool.
-    pub fn create(rt: &impl Abort, alloc: Global, announced: u32, sizes: &'static [u32]) -> Both {
-        let tested = Tested::create(rt, alloc, FRAMES, announced, PROCESSORS, sizes);
+    /// All frames are free.
+    pub fn create(rt: &impl Abort, alloc: Global, sizes: &'static [u32]) -> Both {
+        let tested = Tested::create(rt, alloc, FRAMES, PROCESSORS, sizes);
         let plain = Plain::new(sizes);
         Both { tested, plain }
     }

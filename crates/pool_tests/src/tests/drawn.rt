@@ -28,8 +28,6 @@ const WIRED: Want = Want {
 #[derive(Clone, Copy)]
 struct Draws {
     spaces: [Want; 3],
-    /// How many spaces are announced to the pool.
-    announced: u32,
     /// How many calls at first take a frame for the first space.
     first: u32,
     /// Of sixteen calls after them how many take a frame.
@@ -40,7 +38,6 @@ struct Draws {
 /// There is always a page that isn't wired.
 const LOOSE: Draws = Draws {
     spaces: [PLAIN, GROWING, WIRED],
-    announced: 3,
     first: 0,
     takes: 7,
     calls: 1200,
@@ -63,7 +60,6 @@ const TIGHT: Draws = Draws {
             ..PLAIN
         },
     ],
-    announced: 3,
     first: 0,
     takes: 10,
     calls: 1200,
@@ -72,7 +68,6 @@ const TIGHT: Draws = Draws {
 /// The first space may have all frames in one reservation, until another takes one.
 const WIDE: Draws = Draws {
     spaces: [Want { high: 512, ..PLAIN }, PLAIN, GROWING],
-    announced: 3,
     first: 60,
     takes: 10,
     calls: 210,
@@ -238,7 +233,7 @@ fn draw_calls(
     sizes: &'static [u32],
     tally: &mut Tally,
 ) {
-    let mut both = Both::create(rt, alloc, draws.announced, sizes);
+    let mut both = Both::create(rt, alloc, sizes);
     draw_calls_of(rt, &mut both, draws, tally);
 }
 
@@ -268,21 +263,6 @@ fn does_as_the_plain_pool(rt: HostRuntime) {
     draw_calls(&rt, rt.alloc(), &TIGHT, ALL_SIZES, &mut tally);
     assert!(rt; 0 < broken && broken < tally.broken);
     assert!(rt; 50 <= tally.least(), "{:?}", tally.answers);
-}
-
-/// Some reservation is broken by drawn calls.
-fn breaks_some(rt: &impl Abort, alloc: Global, draws: &Draws) {
-    let mut tally = Tally::new();
-    draw_calls(rt, alloc, draws, ALL_SIZES, &mut tally);
-    assert!(rt; 0 < tally.broken);
-}
-
-#[test]
-fn does_as_the_plain_pool_however_many_spaces_were_announced(rt: HostRuntime) {
-    for announced in 0..3 {
-        breaks_some(&rt, rt.alloc(), &Draws { announced, ..LOOSE });
-        breaks_some(&rt, rt.alloc(), &Draws { announced, ..WIDE });
-    }
 }
 
 /// Drawn calls with each of these sets of sizes.

@@ -32,7 +32,7 @@ fn carve_out(rt: &impl Abort, both: &mut Both, pages: u32) {
 }
 
 fn carve_out_of(rt: &impl Abort, alloc: Global, pages: u32) {
-    let mut both = Both::create(rt, alloc, 3, ALL_SIZES);
+    let mut both = Both::create(rt, alloc, ALL_SIZES);
     carve_out(rt, &mut both, pages);
 }
 
@@ -134,6 +134,6 @@ fn claim_all(rt: &impl Abort, both: &mut Both) {
 
 #[test]
 fn of_a_full_pool_the_pages_that_may_go_are_claimed_and_then_none_is_left(rt: HostRuntime) {
-    let mut both = Both::create(&rt, rt.alloc(), 3, ALL_SIZES);
+    let mut both = Both::create(&rt, rt.alloc(), ALL_SIZES);
     claim_all(&rt, &mut both);
 }

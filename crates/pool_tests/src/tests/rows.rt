@@ -19,7 +19,7 @@ struct Row {
 }
 
 /// Rows with all four sizes.
-static OF_ALL_SIZES: [Row; 5] = [
+static OF_ALL_SIZES: [Row; 6] = [
     // Of two reservations the one that was allocated from least recently is broken.
     Row {
         frames: 1024,
@@ -89,6 +89,22 @@ static OF_ALL_SIZES: [Row; 5] = [
             (0, 832, 512, 384),
             (0, 896, 512, 448),
             (0, 960, 512, 8),
+        ],
+    },
+    // Pages of a space in the middle, and of the last one that there may be.
+    Row {
+        frames: 1024,
+        sizes: ALL_SIZES,
+        broken: 1,
+        pages: &[
+            (0, 0, 512, 0),
+            (7, 0, 512, 512),
+            (0, 1, 512, 1),
+            // Space 7's reservation is broken, whose latest page allocation is least recent.
+            (15, 0, 512, 576),
+            (7, 1, 512, 513),
+            // The extent of 512 pages round this one meets what stayed of it.
+            (7, 64, 512, 640),
         ],
     },
 ];
@@ -199,16 +215,11 @@ fn take_all(rt: &impl Abort, tested: &mut Tested, row: &Row) {
     assert_eq!(rt; tested.broken(), row.broken);
 }
 
-/// The pages of a row, where so many spaces are announced, get the frames that the rules say.
-fn assert_told(rt: &impl Abort, alloc: Global, announced: u32, row: &Row) {
-    let mut tested = Tested::create(rt, alloc, row.frames, announced, 1, row.sizes);
-    take_all(rt, &mut tested, row);
-}
-
 /// The pages of each row get the frames that the rules say.
 fn assert_all_told(rt: &impl Abort, alloc: Global, rows: &[Row]) {
     for row in rows {
-        assert_told(rt, alloc, 3, row);
+        let mut tested = Tested::create(rt, alloc, row.frames, 1, row.sizes);
+        take_all(rt, &mut tested, row);
     }
 }
 
@@ -220,26 +231,4 @@ fn pages_get_the_frames_that_the_rules_say(rt: HostRuntime) {
 #[test]
 fn with_fewer_sizes_pages_get_the_frames_that_the_rules_say(rt: HostRuntime) {
     assert_all_told(&rt, rt.alloc(), &OF_SOME_SIZES)
-}
-
-/// Pages of three spaces, of which the first alone is announced.
-static UNANNOUNCED: Row = Row {
-    frames: 1024,
-    sizes: ALL_SIZES,
-    broken: 1,
-    pages: &[
-        (0, 0, 512, 0),
-        (7, 0, 512, 512),
-        (0, 1, 512, 1),
-        // Space 7's reservation is broken, whose latest page allocation is least recent.
-        (u32::MAX, 0, 512, 576),
-        (7, 1, 512, 513),
-        // The extent of 512 pages round this one meets what stayed of it.
-        (7, 64, 512, 640),
-    ],
-};
-
-#[test]
-fn pages_of_spaces_that_were_not_announced_get_the_frames_that_the_rules_say(rt: HostRuntime) {
-    assert_told(&rt, rt.alloc(), 1, &UNANNOUNCED)
 }

@@ -7,7 +7,7 @@ use std::process::Abort;
 
 /// A pool of 512 frames for two spaces, with these sizes.
 fn pool_of(rt: &impl Abort, alloc: Global, sizes: &[u32]) -> Tested {
-    Tested::create(rt, alloc, FRAMES, 2, 1, sizes)
+    Tested::create(rt, alloc, FRAMES, 1, sizes)
 }
 
 /// How many pages a reservation may have.

@@ -1,6 +1,8 @@
 //! A pool and the frames that pages have of it. Each call stands behind assertions of what it requires.
 
+ghost use Rattle.std.specs.Prelude.{◌<◌};
 ghost use Rattle.pager_model.specs.PreferredSize.{IsWanted};
+ghost use Rattle.frame_pool.specs.Spaces.{most_spaces};
 
 use super::PLAIN;
 use super::calls::{Answer, Call, Page};
@@ -29,24 +31,20 @@ fn set_of(sizes: &[u32]) -> Sizes {
 }
 
 /// A pool of which all frames are free.
-fn pool_of(
-    rt: &impl Abort,
-    alloc: Global,
-    frames: u32,
-    announced: u32,
-    processors: u32,
-    sizes: &[u32],
-) -> Pool {
+fn pool_of(rt: &impl Abort, alloc: Global, frames: u32, processors: u32, sizes: &[u32]) -> Pool {
     assert!(rt; frames % 512 == 0 && frames <= 32768 && processors <= 17);
-    let made = Pool::create(alloc, frames, announced, processors, set_of(sizes));
+    let made = Pool::create(alloc, frames, processors, set_of(sizes));
     made.expect(rt, NO_MEMORY)
 }
 
-/// Asserts that the page lies in its region.
-fn assert_wanted(rt: &impl Abort, page: u32, want: Want)
-    ensures { IsWanted want page }
+/// Asserts that there may be the space, and that the page lies in its region.
+fn assert_wanted(rt: &impl Abort, at: &Page)
+    ensures few { at.now.space < most_spaces }
+    ensures wanted { IsWanted at.now.want at.now.page }
 {
-    assert!(rt; want.low <= page && page < want.high);
+    let want = at.want;
+    assert!(rt; at.space < 16);
+    assert!(rt; want.low <= at.page && at.page < want.high);
     assert!(rt; want.high <= 1 << 20 && 1 <= want.cap);
 }
 
@@ -56,12 +54,11 @@ impl Tested {
         rt: &impl Abort,
         alloc: Global,
         frames: u32,
-        announced: u32,
         processors: u32,
         sizes: &[u32],
     ) -> Tested {
         let kept = no_frames(rt, alloc, frames);
-        let pool = pool_of(rt, alloc, frames, announced, processors, sizes);
+        let pool = pool_of(rt, alloc, frames, processors, sizes);
         Tested { pool, frames: kept }
     }
 
@@ -75,7 +72,7 @@ impl Tested {
     }
 
     fn take(&mut self, rt: &impl Abort, at: Page) -> Answer {
-        assert_wanted(rt, at.page, at.want);
+        assert_wanted(rt, &at);
         assert!(rt; self.pool.has_room());
         assert!(rt; self.pool.frame_of(at.space, at.page).is_none());
         match self.pool.take(at.space, at.page, &at.want) {
@@ -96,7 +93,7 @@ impl Tested {
     /// The page gives up the frame; answers who holds it then.
     pub fn give(&mut self, rt: &impl Abort, space: u32, page: u32, frame: u32) -> Option<u32> {
         let frame = self.taken_out(rt, frame);
-        assert!(rt; page < 1 << 20);
+        assert!(rt; space < 16 && page < 1 << 20);
         assert_eq!(rt; self.pool.frame_of(space, page), Some(frame.number()));
         self.pool.give(space, page, frame)
     }
@@ -126,7 +123,7 @@ impl Tested {
     }
 
     fn use_held(&mut self, rt: &impl Abort, processor: u32, at: Page) -> Answer {
-        assert_wanted(rt, at.page, at.want);
+        assert_wanted(rt, &at);
         assert!(rt; self.pool.has_room());
         assert!(rt; self.pool.held_by(processor).is_some());
         assert!(rt; self.pool.frame_of(at.space, at.page).is_none());

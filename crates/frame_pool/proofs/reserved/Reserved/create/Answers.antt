@@ -18,5 +18,5 @@ invariant_of-result c =
       laid = IsLaid-none_free (start_layout c.args.sizes frames) frames (IsLaid-start c.args.sizes frames) (length-replicate frames true);
       listed = AreListed-start c.args.sizes frames;
       room = refl;
-      mapped = IsMapped-start c.in_ok-create-3.field-0 frames made.no_extent made.count made.frames;
+      mapped = IsMapped-start c.in_ok-create-3.field-0 frames made.no_extent made.count made.spaces made.frames;
     })

@@ -31,7 +31,7 @@ insert-requires c =
     let apart = rw (← c.self.view_is) at c.requires.apart in
     let laid = rw (← c.self.view_is) at c.requires.laid in
     let placed = rw (← c.self.view_is) at c.requires.placed in
-    (l.records, was.mapped, MayEnter-added l r c.args.page was.laid placed c.requires.within apart (IsLaid-with l r c.args.page c.self.inside.frames was.laid was.known laid.0 laid.1))
+    (l.records, was.mapped, MayEnter-added l r c.args.page was.laid placed c.requires.few c.requires.within apart (IsLaid-with l r c.args.page c.self.inside.frames was.laid was.known laid.0 laid.1))
 
 pub invariant_of-self : goal.invariant_of-self
 invariant_of-self c =
@@ -55,5 +55,5 @@ invariant_of-self c =
       laid = laid;
       listed = rw (get_or-set_same l.records r.frame (Some r) None known) at (enlists l.records none known listed);
       room = c.enlist.ensures.room ∙ was.room;
-      mapped = c.insert.ensures l.records was.mapped (MayEnter-added l r c.args.page was.laid placed c.requires.within apart laid);
+      mapped = c.insert.ensures l.records was.mapped (MayEnter-added l r c.args.page was.laid placed c.requires.few c.requires.within apart laid);
     })

@@ -1,7 +1,7 @@
 use Rattle.std.proofs.Common.{sym, subst, ◌∙◌}
 use Rattle.space_core.specs.Beginning.{Places}
 use Rattle.pager_core.specs.Steps.{AreAgreed, Makes}
-use Rattle.pager_core.proofs.TakenFrames.{unused_elsewhere, frame_taken}
+use Rattle.pager_core.proofs.TakenFrames.{unused_elsewhere, own_wanting, frame_taken}
 use Rattle.pager_core.proofs.flight.Flight.take.Goals as goal
 
 pub place-requires-clause-other : goal.place-requires-clause-other
@@ -10,9 +10,11 @@ place-requires-clause-other g c κs within = unused_elsewhere c.args.space.now c
 pub returns-in-Ok-clause-entry : goal.returns-in-Ok-clause-entry
 returns-in-Ok-clause-entry g c =
     let taken = c.in-Ok.ensures.taken in
+    let ready = c.requires.ready in
+    let own = own_wanting c.args.self.now c.args.page c.args.want c.args.space.now ready.0 c.requires.phase ready.1 in
     λ st. rw c.entry.ensures
-    (frame_taken c.args.self.now c.args.page c.own-own.result c.number-frame.result c.args.want c.args.space.now c.place.new.self c.args.pool.now c.take.new.self taken.0
-    c.requires.phase c.own-own.ensures (c.number-frame.ensures ∙ taken.3) c.requires.agree c.requires.owns taken.1 taken.2
+    (frame_taken c.args.self.now c.args.page c.number-own.result c.number-frame.result c.args.want c.args.space.now c.place.new.self c.args.pool.now c.take.new.self taken.0
+    c.requires.phase (c.number-own.ensures.number ∙ sym own) (c.number-frame.ensures ∙ taken.3) c.requires.agree c.requires.owns taken.1 taken.2
     (subst (Places c.args.space.now c.place.new.self c.args.page) taken.3 c.place.ensures) st)
 
 pub returns-in-Err-clause-entry : goal.returns-in-Err-clause-entry
