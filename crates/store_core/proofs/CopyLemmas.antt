@@ -3,11 +3,12 @@ use Rattle.std.proofs.Common.{◌≡◌, ◌≢◌, ℕ, Bool, true, false, cond
 use Rattle.std.specs.BTreeMap.{is_at}
 use Rattle.std.specs.Cmp.{unsigned_tied}
 use Rattle.std.specs.List.{list_any}
-use Rattle.std.specs.Map.{lookup}
+use Rattle.std.specs.Map.{lookup, remove_entry}
 use Rattle.std.specs.Ordering.{nat_cmp}
 use Rattle.std.proofs.lemmas.Bool.{eqb-true}
 use Rattle.std.proofs.lemmas.Bool.Decides.{nat_tests}
 use Rattle.std.proofs.lemmas.Map.Entries.{lookup-filter-keys}
+use Rattle.std.proofs.lemmas.Option.{none-some}
 use Rattle.pager_model.specs.Regions.{in_range}
 use Rattle.pager_model.specs.Stored.{Copy, copy_in, copy_at, keeps_at, zero_words, SameCopies, SetsCopy, DropsCopies, TellsZero}
 use Rattle.store_core.specs.MemoryState.{copies_of, stored_copies}
@@ -125,3 +126,29 @@ copies_of_filter p (e ∷ es) = kept (p e.0) e _ _ (copies_of_filter p es)
         → copies_of (cond b (e ∷ rest) rest) ≡ cond b (record { page = e.0; words = e.1 } ∷ copies) copies
     kept true e rest copies h = ap (λ more. record { page = e.0; words = e.1 } ∷ more) h
     kept false e rest copies h = h
+
+-- taking out a page that a test refuses leaves what passes it
+pub filter_without : (test p : ℕ → Bool) (es : Entries) → ((page : ℕ) → test page ≡ true → p page ≡ false) → filter (λ e. p e.0) (remove_entry test es) ≡ filter (λ e. p e.0) es
+filter_without test p [] refused = refl
+filter_without test p (e ∷ es) refused = without (test e.0) (remove_entry test es) (refused e.0) (filter_without test p es refused)
+  where
+    without : (b : Bool) (left : Entries) → (b ≡ true → p e.0 ≡ false) → filter (λ f. p f.0) left ≡ filter (λ f. p f.0) es
+        → filter (λ f. p f.0) (cond b es (e ∷ left)) ≡ cond (p e.0) (e ∷ filter (λ f. p f.0) es) (filter (λ f. p f.0) es)
+    without true left refuses same = sym (ap (λ c. cond c (e ∷ filter (λ f. p f.0) es) (filter (λ f. p f.0) es)) (refuses refl))
+    without false left refuses same = ap (λ fs. cond (p e.0) (e ∷ fs) fs) same
+
+-- where the map has no page that a test refuses, all entries pass it
+pub filter_whole : (p : ℕ → Bool) (es : Entries) → ((page : ℕ) → p page ≡ false → look es page ≡ None) → filter (λ e. p e.0) es ≡ es
+filter_whole p [] none = refl
+filter_whole p (e ∷ es) none = passes (p e.0) refl (filter_whole p es (λ page refused. later (is_at (nat_cmp page) e.0) (look es page) (none page refused)))
+  where
+    here : is_at (nat_cmp e.0) e.0 ≡ true
+    here = unsigned_tied e.0 e.0 ∙ grind (arith, nat_tests)
+
+    later : (b : Bool) (x : Option (Option (List ℕ))) → cond b (Some e.1) x ≡ None → x ≡ None
+    later true x h = absurd (none-some e.1 (sym h))
+    later false x h = h
+
+    passes : (b : Bool) → p e.0 ≡ b → filter (λ f. p f.0) es ≡ es → cond b (e ∷ filter (λ f. p f.0) es) (filter (λ f. p f.0) es) ≡ e ∷ es
+    passes true is rest = ap (λ fs. e ∷ fs) rest
+    passes false is rest = absurd (none-some e.1 (sym (none e.0 is) ∙ ap (λ b. cond b (Some e.1) (look es e.0)) here))

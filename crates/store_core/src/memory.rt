@@ -1,6 +1,6 @@
 //! A backing store in memory, which fails where it is told to.
 
-ghost use Rattle.std.specs.Prelude.{◌≡◌, ◌≢◌, ℕ, ◌+◌, ◌-◌, ◌^◌, ◌<◌, ◌≤◌, ◌↔◌, Bool, true, false, ◌&&◌, not, List, [], length, filter, Option, Some, None, IfOk, IfSome, OnOk, OnErr, IsErr, IsTrue, Contains, unwrap_or};
+ghost use Rattle.std.specs.Prelude.{◌≡◌, ◌≢◌, ℕ, ◌+◌, ◌-◌, ◌^◌, ◌<◌, ◌≤◌, ◌↔◌, Bool, true, false, ◌&&◌, not, List, [], length, filter, Option, Some, None, IfOk, IfSome, IfNone, IsSome, OnOk, OnErr, IsErr, IsTrue, Contains, unwrap_or};
 ghost use Rattle.std.specs.BTreeMap.{get, Updates, IsUnchanged};
 ghost use Rattle.std.specs.Option.{option_copied};
 ghost use Rattle.std.specs.Ordering.{nat_cmp};
@@ -117,6 +117,24 @@ fn lies_in(page: u32, first: u32, length: u32) -> bool
     first <= page && page - first < length
 }
 
+/// The lowest page of a range that has a copy.
+fn first_copy(copies: &BTreeMap<u32, Room>, first: u32, length: u32) -> Option<u32>
+    ensures some { IfSome result (λ page. (in_range first length page ≡ true) × IsSome (get nat_cmp copies.now page)) }
+    ensures none { IfNone result ((page : ℕ) → in_range first length page ≡ true → get nat_cmp copies.now page ≡ None) }
+{
+    let (&page, _) = copies.range(first..).next()?;
+    lies_in(page, first, length).then_some(page)
+}
+
+/// Takes the copies of a range's pages out. It looks at these alone.
+fn drop_copies(copies: &mut BTreeMap<u32, Room>, first: u32, length: u32)
+    ensures { copies.new.entries ≡ filter (λ copy. not (in_range first length copy.0)) copies.old.entries }
+{
+    while let Some(page) = first_copy(copies, first, length) {
+        copies.remove(&page);
+    }
+}
+
 impl Store for MemoryStore {
     ghost seen = { stored_of };
 
@@ -198,7 +216,7 @@ impl Store for MemoryStore {
           copies = filter (λ c. not (in_range first length c.page)) self.old.copies;
         } }
     {
-        self.copies.retain(|page, _| !lies_in(*page, first, length));
+        drop_copies(&mut self.copies, first, length);
     }
 
     fn told(&self) -> bool

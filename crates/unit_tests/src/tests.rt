@@ -10,6 +10,7 @@ mod populations;
 mod preferences;
 mod regions;
 mod reserved;
+mod rights;
 mod rows;
 mod stores;
 mod streams;

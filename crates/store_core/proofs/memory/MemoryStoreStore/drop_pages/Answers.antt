@@ -1,5 +1,4 @@
-use Rattle.std.proofs.Common.{rules, ◌≡◌, not, filter, refl, ap, ◌∙◌}
-use Rattle.std.proofs.lemmas.Map.Made.{filter_same_pairs}
+use Rattle.std.proofs.Common.{◌≡◌, not, filter, refl, ap, ◌∙◌}
 use Rattle.pager_model.specs.Regions.{in_range}
 use Rattle.store_core.specs.MemoryState.{copies_of}
 use Rattle.store_core.proofs.CopyLemmas.{drops_copies, copies_of_filter}
@@ -7,9 +6,8 @@ use Rattle.store_core.proofs.memory.MemoryStoreStore.drop_pages.Goals as goal
 
 pub returns : goal.returns
 returns c =
-    let left : c.retain.new.self.entries ≡ filter (λ e. not (in_range c.args.first c.args.length e.0)) c.self.inside.copies.entries =
-    filter_same_pairs _ (λ e. not (in_range c.args.first c.args.length e.0)) _ (λ k v b w f t. search rules) _ _ c.retain.ensures.filtered in
-    let copies : copies_of c.retain.new.self.entries ≡ filter (λ copy. not (in_range c.args.first c.args.length copy.page)) (copies_of c.self.inside.copies.entries) =
+    let left = c.drop_copies.ensures in
+    let copies : copies_of c.drop_copies.new.copies.entries ≡ filter (λ copy. not (in_range c.args.first c.args.length copy.page)) (copies_of c.self.inside.copies.entries) =
     ap copies_of left ∙ copies_of_filter (λ p. not (in_range c.args.first c.args.length p)) c.self.inside.copies.entries
     in record {
       dropped = drops_copies _ _ _ _ _ _ (ap (λ s. s.copies) c.self.view_is) refl _ _ left (ap (λ s. s.faults) c.self.view_is);
