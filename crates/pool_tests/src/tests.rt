@@ -2,10 +2,8 @@
 mod both;
 mod calls;
 mod drawn;
-mod full;
 mod plain;
 mod rows;
-mod sizes;
 mod tested;
 
 use pager_model::Want;

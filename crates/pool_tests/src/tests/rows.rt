@@ -196,7 +196,7 @@ fn take_all(rt: &impl Abort, tested: &mut Tested, row: &Row) {
     for (space, page, cap, frame) in row.pages {
         tested.assert_takes(rt, *space, *page, *cap, *frame);
     }
-    assert_eq!(rt; tested.broken(), row.broken);
+    assert!(rt; tested.broken() == row.broken);
 }
 
 /// The pages of a row, where so many spaces are announced, get the frames that the rules say.

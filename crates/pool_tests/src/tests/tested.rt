@@ -157,7 +157,7 @@ impl Tested {
     pub fn assert_takes(&mut self, rt: &impl Abort, space: u32, page: u32, cap: u32, frame: u32) {
         let want = Want { cap, ..PLAIN };
         let answer = self.take(rt, Page { space, page, want });
-        assert_eq!(rt; answer, Answer::Took(frame));
+        assert!(rt; answer == Answer::Took(frame), "{answer:?}");
     }
 
     /// The frames that the processor claims and holds.
