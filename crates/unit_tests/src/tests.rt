@@ -8,6 +8,7 @@ mod members;
 mod numbers;
 mod populations;
 mod preferences;
+mod reader;
 mod regions;
 mod reserved;
 mod rights;
@@ -20,6 +21,9 @@ mod types;
 mod victims;
 
 use pager_model::Size;
+
+/// What is said where there is no memory for a test.
+const NO_MEMORY: &str = "no memory";
 
 /// The size of a level, and above level 3 the largest.
 fn size(level: u8) -> Size

@@ -4,14 +4,13 @@ ghost use Rattle.std.specs.Bool.{OnTrue};
 
 mod plain;
 
-use super::size;
+use super::{NO_MEMORY, size};
 use buddy_extents::{Free, laws};
 use pager_model::{Extent, Generator, NoMemory, Size, Steps};
 use std::alloc::Global;
 use std::marker::Brand;
 use std::process::Abort;
 use std::sync::ledger::{Blank, Ledger};
-use std::test::Fail;
 
 /// The set beside a plain list of flags that says the same.
 #[derive(Drop)]
@@ -136,71 +135,6 @@ impl Beside {
     }
 }
 
-/// A step of a table, with what it answers: sizes by their levels, extents by their first frames.
-#[derive(Clone, Copy)]
-enum Step {
-    Take(u8, Option<u32>),
-    Give(u8, u32),
-    Has(u8, bool),
-    Count(u32),
-}
-
-static STEPS: [Step; 29] = [
-    Step::Take(3, Some(0)),
-    Step::Take(3, Some(512)),
-    Step::Has(0, false),
-    // A single frame above a block of eight.
-    Step::Give(1, 0),
-    Step::Give(0, 17),
-    Step::Count(9),
-    Step::Take(0, Some(17)),
-    Step::Take(0, Some(0)),
-    Step::Has(1, false),
-    Step::Take(0, Some(1)),
-    Step::Take(0, Some(2)),
-    Step::Take(0, Some(3)),
-    Step::Take(0, Some(4)),
-    Step::Count(3),
-    // Two blocks of eight that make one of sixteen, below a block of eight.
-    Step::Give(1, 16),
-    Step::Give(1, 24),
-    Step::Give(1, 40),
-    Step::Take(1, Some(40)),
-    Step::Take(1, Some(16)),
-    Step::Has(1, true),
-    Step::Has(2, false),
-    // Blocks of 64 and of 512 beside that of eight.
-    Step::Give(2, 128),
-    Step::Give(3, 512),
-    Step::Take(0, Some(5)),
-    Step::Take(1, Some(24)),
-    Step::Take(1, Some(128)),
-    Step::Take(2, Some(512)),
-    Step::Take(3, None),
-    Step::Count(506),
-];
-
-impl Beside {
-    /// Whether a step answers what the table says.
-    fn goes(&mut self, step: Step) -> bool {
-        match step {
-            Step::Take(level, first) => self.take(size(level)) == first,
-            Step::Give(level, first) => self.give(size(level), first),
-            Step::Has(level, has) => self.has(size(level)) == has,
-            Step::Count(count) => self.free.count() == count,
-        }
-    }
-}
-
-#[test]
-fn takes_from_the_least_block_that_holds_the_size(rt: HostRuntime) -> Result<(), Fail> {
-    let mut both = Beside::create(rt.alloc(), 1024)?;
-    for (i, &step) in STEPS.iter().enumerate() {
-        assert!(rt; both.goes(step), "step {i}");
-    }
-    Ok(())
-}
-
 /// Takes an extent of a drawn size, or gives a drawn one back where that may be done. Answers whether a taking is as chosen by the flags.
 fn goes_alike(both: &mut Beside, frames: u32, random: &mut Generator) -> bool
     requires { 0 < frames }
@@ -225,19 +159,24 @@ fn chooses_alike(rt: &impl Abort, both: &mut Beside, frames: u32, steps: u32)
 }
 
 #[test]
-fn chooses_as_plain_flags_do(rt: HostRuntime) -> Result<(), Fail> {
-    chooses_alike(&rt, &mut Beside::create(rt.alloc(), 512)?, 512, 2_000);
-    chooses_alike(&rt, &mut Beside::create(rt.alloc(), 32_768)?, 32_768, 60);
-    Ok(())
+fn chooses_as_plain_flags_do(rt: HostRuntime) {
+    for (frames, steps) in [(512, 2_000), (32_768, 60)] {
+        let mut both = Beside::create(rt.alloc(), frames).expect(&rt, NO_MEMORY);
+        chooses_alike(&rt, &mut both, frames, steps);
+    }
+}
+
+/// Whether all single frames can be taken and given back, and make up blocks of 512 again.
+fn hands_out_and_joins(both: &mut Beside) -> bool {
+    both.takes_in_order(size(0), 32_768)
+        && both.take(size(0)).is_none()
+        && both.gives_frames()
+        && both.free.count() == 32_768
+        && both.takes_in_order(size(3), 64)
 }
 
 #[test]
-fn hands_out_and_joins_32_768_single_frames(rt: HostRuntime) -> Result<(), Fail> {
-    let mut both = Beside::create(rt.alloc(), 32_768)?;
-    assert!(rt; both.takes_in_order(size(0), 32_768));
-    assert_eq!(rt; both.take(size(0)), None);
-    assert!(rt; both.gives_frames());
-    assert_eq!(rt; both.free.count(), 32_768);
-    assert!(rt; both.takes_in_order(size(3), 64));
-    Ok(())
+fn hands_out_and_joins_32_768_single_frames(rt: HostRuntime) {
+    let mut both = Beside::create(rt.alloc(), 32_768).expect(&rt, NO_MEMORY);
+    assert!(rt; hands_out_and_joins(&mut both));
 }

@@ -1,20 +1,16 @@
 //! The histories that threads write, and what stands in them.
-ghost use Rattle.std.specs.Prelude.{◌≡◌, ◌<◌, length, Some, IfOk};
+ghost use Rattle.std.specs.Prelude.{◌≡◌, ◌<◌, length};
 ghost use Rattle.journal_core.specs.Journals.{new_author, new_pass};
-ghost use Rattle.pager_model.specs.Legal.{progress_in, entries_in};
-ghost use Rattle.pager_model.specs.Order.{at_rest};
 ghost use Rattle.pager_model.specs.Settings.{mark_of};
-ghost use Rattle.unit_tests.specs.Samples.{unmapped, sample, Filled, mapped, taking, small, watched, rest};
+ghost use Rattle.unit_tests.specs.Samples.{unmapped, sample, Filled, mapped, taking, small};
 
+use super::NO_MEMORY;
 use journal_core::{
     Author, Journal, Opened, Pass, close, commit, commit_two, create, meet, meet_two,
 };
-use pager_model::{
-    Answered, Call, Entry, Kind, NoMemory, Numbered, Reply, Rights, Setting, Want, What,
-};
+use pager_model::{Answered, Call, Entry, Kind, Numbered, Reply, Rights, Setting, Want, What};
 use std::alloc::Global;
 use std::process::Abort;
-use std::test::Fail;
 use std::thread::{Threads, join};
 
 /// The answer to a load of a processor's space, in which no region has the page.
@@ -60,13 +56,13 @@ fn commit_all(journal: &Journal, author: Author, pass: Pass, processor: u32) -> 
 }
 
 /// Two processors, two spaces whose stores aren't told, and 512 frames.
-fn sample_setting(alloc: Global) -> Result<Setting, NoMemory>
-    ensures { IfOk result (λ s. s ≡ sample) }
+fn sample_setting(rt: &impl Abort, alloc: Global) -> Setting
+    ensures { result ≡ sample }
 {
-    let marks = vec![in alloc; 0; 2]?;
-    let told = vec![in alloc; false; 2]?;
-    let faults = vec![in alloc; 0; 2]?;
-    Ok(Setting::of(512, marks, told, faults))
+    let marks = vec![in alloc; 0; 2].expect(rt, NO_MEMORY);
+    let told = vec![in alloc; false; 2].expect(rt, NO_MEMORY);
+    let faults = vec![in alloc; 0; 2].expect(rt, NO_MEMORY);
+    Setting::of(512, marks, told, faults)
 }
 
 /// Each of two threads commits all answers of one processor.
@@ -98,37 +94,42 @@ fn both<R: Threads + Sync>(
 }
 
 /// The history of two threads.
-fn by_two<R: Threads + Sync>(rt: &R, alloc: Global) -> Result<Vec<Numbered>, NoMemory> {
-    let setting = sample_setting(alloc)?;
+fn by_two<R: Threads + Sync + Abort>(rt: &R, alloc: Global) -> Vec<Numbered> {
+    let setting = sample_setting(rt, alloc);
+    let opened = create(alloc, setting, &[100, 100]).expect(rt, NO_MEMORY);
     let Opened {
         journal,
         mut authors,
         mut passes,
-    } = create(alloc, setting, &[100, 100])?;
+    } = opened;
     let first = (authors.remove(0), passes.remove(0));
     let second = (authors.remove(0), passes.remove(0));
     let (first, second) = both(rt, &journal, first, second);
-    authors.push(first.0)?;
-    authors.push(second.0)?;
-    passes.push(first.1)?;
-    passes.push(second.1)?;
-    Ok(close(journal, authors, passes))
+    authors.push(first.0).expect(rt, NO_MEMORY);
+    authors.push(second.0).expect(rt, NO_MEMORY);
+    passes.push(first.1).expect(rt, NO_MEMORY);
+    passes.push(second.1).expect(rt, NO_MEMORY);
+    close(journal, authors, passes)
+}
+
+/// How many answers each processor has in a history that holds nothing else, each processor's in order. None if it isn't so.
+fn answers_in(history: &[Numbered]) -> Option<[u32; 2]> {
+    let mut next = [0u32, 0];
+    for (place, numbered) in (0u64..).zip(history) {
+        let processor = numbered.entry.processor;
+        let number = *next.get(processor as usize)?;
+        if numbered.number != place || numbered.entry != answer(processor, number) {
+            return None;
+        }
+        next[processor as usize] = number.wrapping_add(1);
+    }
+    Some(next)
 }
 
 #[test]
-fn the_entries_of_two_threads_make_one_history(rt: HostRuntime) -> Result<(), Fail> {
-    let history = by_two(&rt, rt.alloc()).ok().ok_or("memory")?;
-    assert_eq!(rt; history.len(), 200);
-    let mut next = [0u32, 0];
-    for (place, numbered) in history.iter().enumerate() {
-        assert_eq!(rt; numbered.number, place as u64);
-        let c = numbered.entry.processor as usize;
-        assert!(rt; c < 2, "a processor of the setting");
-        assert_eq!(rt; numbered.entry, answer(c as u32, next[c]));
-        next[c] = next[c].wrapping_add(1);
-    }
-    assert_eq!(rt; next, [100, 100]);
-    Ok(())
+fn the_entries_of_two_threads_make_one_history(rt: HostRuntime) {
+    let history = by_two(&rt, rt.alloc());
+    assert!(rt; history.len() == 200 && answers_in(&history) == Some([100, 100]));
 }
 
 /// The answer to the mapping of a space's first page.
@@ -202,56 +203,41 @@ fn map_and_take(
 }
 
 /// One processor, one space whose store isn't told, and one frame.
-fn small_setting(alloc: Global) -> Result<Setting, NoMemory>
-    ensures { IfOk result (λ s. s ≡ small) }
+fn small_setting(rt: &impl Abort, alloc: Global) -> Setting
+    ensures { result ≡ small }
 {
-    let marks = vec![in alloc; 0; 1]?;
-    let told = vec![in alloc; false; 1]?;
-    let faults = vec![in alloc; 0; 1]?;
-    Ok(Setting::of(1, marks, told, faults))
+    let marks = vec![in alloc; 0; 1].expect(rt, NO_MEMORY);
+    let told = vec![in alloc; false; 1].expect(rt, NO_MEMORY);
+    let faults = vec![in alloc; 0; 1].expect(rt, NO_MEMORY);
+    Setting::of(1, marks, told, faults)
 }
 
-/// What a pass tells of itself, and the history.
-#[derive(Drop)]
-struct Told {
-    processor: u32,
-    spare: usize,
-    answers: u32,
-    kept: usize,
-    history: Vec<Numbered>,
+/// What a pass tells of itself: its processor, its room, how many answers and how many entries.
+fn told(pass: &Pass) -> (u32, usize, u32, usize) {
+    let kept = pass.entries().len();
+    (pass.processor(), pass.spare(), pass.answers(), kept)
 }
 
-fn mapped_and_taken(alloc: Global) -> Result<Told, NoMemory> {
-    let setting = small_setting(alloc)?;
+/// What the pass tells of itself, and the history.
+fn mapped_and_taken(rt: &impl Abort, alloc: Global) -> ((u32, usize, u32, usize), Vec<Numbered>) {
+    let opened = create(alloc, small_setting(rt, alloc), &[2]).expect(rt, NO_MEMORY);
     let Opened {
         journal,
         mut authors,
         mut passes,
-    } = create(alloc, setting, &[2])?;
+    } = opened;
     let (space, frames) = (authors.remove(0), authors.remove(0));
     let (space, frames, pass) = map_and_take(&journal, space, frames, passes.remove(0));
-    let processor = pass.processor();
-    let spare = pass.spare();
-    let answers = pass.answers();
-    let kept = pass.entries().len();
-    authors.push(space)?;
-    authors.push(frames)?;
-    passes.push(pass)?;
-    let history = close(journal, authors, passes);
-    Ok(Told {
-        processor,
-        spare,
-        answers,
-        kept,
-        history,
-    })
+    let told = told(&pass);
+    authors.push(space).expect(rt, NO_MEMORY);
+    authors.push(frames).expect(rt, NO_MEMORY);
+    passes.push(pass).expect(rt, NO_MEMORY);
+    (told, close(journal, authors, passes))
 }
 
 #[test]
-fn a_taking_stands_behind_the_answer_before_it(rt: HostRuntime) -> Result<(), Fail> {
-    let told = mapped_and_taken(rt.alloc()).ok().ok_or("memory")?;
-    assert_eq!(rt; told.processor, 0);
-    assert_eq!(rt; (told.spare, told.answers, told.kept), (0, 1, 2));
+fn a_taking_stands_behind_the_answer_before_it(rt: HostRuntime) {
+    let (told, history) = mapped_and_taken(&rt, rt.alloc());
     let first = Numbered {
         number: 0,
         entry: map_answer(),
@@ -260,69 +246,6 @@ fn a_taking_stands_behind_the_answer_before_it(rt: HostRuntime) -> Result<(), Fa
         number: 1,
         entry: take_frame(),
     };
-    assert!(rt;
-        told.history.as_slice() == [first, second].as_slice(),
-        "the answer, and then the taking"
-    );
-    Ok(())
-}
-
-/// A processor that makes calls and a daemon of mark 2, one space whose store isn't told, and eight frames.
-fn watched_setting(alloc: Global) -> Result<Setting, NoMemory>
-    ensures { IfOk result (λ s. s ≡ watched) }
-{
-    let marks = vec![in alloc; 0, 2]?;
-    let told = vec![in alloc; false; 1]?;
-    let faults = vec![in alloc; 0; 1]?;
-    Ok(Setting::of(8, marks, told, faults))
-}
-
-/// The daemon finds enough frames free.
-fn rest_entry() -> Entry
-    ensures { result ≡ rest }
-{
-    Entry {
-        processor: 1,
-        space: None,
-        frames: true,
-        what: What::Rest { short: false },
-    }
-}
-
-/// A turn with no other entry.
-fn rest_at_once(journal: &Journal, frames: Author, pass: Pass) -> (Author, Pass)
-    requires setting { journal.now.name.setting ≡ watched }
-    requires frames { frames ≡ new_author journal.now.name 1 }
-    requires pass { pass ≡ new_pass journal.now.name 1 1 }
-    ensures journal { (result.0.journal ≡ journal.now.name) × (result.1.journal ≡ journal.now.name) }
-    ensures pass { (result.1.processor ≡ 1) × (result.1.room ≡ 1) }
-    ensures turn { progress_in watched 1 (entries_in result.1.entries) ≡ Some (at_rest 2 1) }
-{
-    let (_, frames, pass) = commit(journal, frames, pass, rest_entry());
-    (frames, pass)
-}
-
-/// The history of a daemon's turn.
-fn rested(alloc: Global) -> Result<Vec<Numbered>, NoMemory> {
-    let setting = watched_setting(alloc)?;
-    let Opened {
-        journal,
-        mut authors,
-        mut passes,
-    } = create(alloc, setting, &[0, 1])?;
-    let (frames, pass) = rest_at_once(&journal, authors.remove(1), passes.remove(1));
-    authors.push(frames)?;
-    passes.push(pass)?;
-    Ok(close(journal, authors, passes))
-}
-
-#[test]
-fn a_turn_that_rests_at_once_is_one_entry(rt: HostRuntime) -> Result<(), Fail> {
-    let history = rested(rt.alloc()).ok().ok_or("memory")?;
-    let only = Numbered {
-        number: 0,
-        entry: rest_entry(),
-    };
-    assert!(rt; history.as_slice() == [only].as_slice(), "the rest alone");
-    Ok(())
+    assert!(rt; told == (0, 0, 1, 2));
+    assert!(rt; history.as_slice() == [first, second].as_slice());
 }

@@ -35,11 +35,41 @@ fn image_of(pages: u32) -> Image {
     image
 }
 
-/// Each of these pages hits.
-fn all_hit(rt: &impl Abort, image: &mut Image, pages: &[u32]) {
+/// How many of these pages hit, one after another.
+fn count_hits(image: &mut Image, pages: &[u32]) -> usize {
+    let mut count = 0usize;
     for &page in pages {
-        assert!(rt; hits(image, page), "page {page}");
+        if hits(image, page) {
+            count = count.wrapping_add(1);
+        }
     }
+    count
+}
+
+/// How many of the tiles of these pages an image has.
+fn count_in(image: &Image, pages: &[u32]) -> usize {
+    let mut count = 0usize;
+    for &page in pages {
+        if image.has(Some(page_tile(page))) {
+            count = count.wrapping_add(1);
+        }
+    }
+    count
+}
+
+/// Whether five new tiles replace those that were used longest ago.
+fn replaces_five(image: &mut Image) -> bool {
+    count_hits(image, &[200, 201, 202, 203, 204]) == 0
+        && count_in(image, &[1, 3, 4, 5, 6]) == 0
+        && image.len() == 128
+}
+
+#[test]
+fn a_use_makes_a_tile_the_youngest(rt: HostRuntime) {
+    let mut image = image_of(128);
+    assert!(rt; count_hits(&mut image, &[0, 127, 64, 2, 64]) == 5);
+    assert!(rt; replaces_five(&mut image));
+    assert!(rt; count_hits(&mut image, &[64, 2, 127, 0, 7, 126, 204, 200]) == 8);
 }
 
 /// Keeps the tiles below a page that aren't dirty.
@@ -48,88 +78,10 @@ fn keep_clean_below(image: &mut Image, page: u32) {
 }
 
 #[test]
-fn a_tile_hits_from_its_second_use_on(rt: HostRuntime) {
-    let mut image = Image::create();
-    assert!(rt; image.len() == 0 && !hits(&mut image, 5));
-    assert!(rt; hits(&mut image, 5) && hits(&mut image, 5));
-    assert!(rt; image.len() == 1);
-}
-
-#[test]
-fn a_page_without_a_tile_misses(rt: HostRuntime) {
-    let image = image_of(8);
-    assert!(rt; !image.has(None));
-    assert!(rt; image.has(Some(page_tile(3))));
-}
-
-/// Tiles that differ from a page's in one thing each.
-fn others(tile: Tile) -> [Tile; 4] {
-    let large = Extent {
-        size: size(1),
-        first: tile.extent.first,
-    };
-    [
-        Tile {
-            extent: large,
-            ..tile
-        },
-        Tile { frame: 512, ..tile },
-        Tile {
-            rights: Rights::Read,
-            ..tile
-        },
-        Tile {
-            dirty: true,
-            ..tile
-        },
-    ]
-}
-
-#[test]
-fn a_tile_hits_as_a_whole(rt: HostRuntime) {
-    let image = image_of(1);
-    for other in others(page_tile(0)).iter() {
-        assert!(rt; !image.has(Some(*other)));
-    }
-    assert!(rt; image.has(Some(page_tile(0))));
-}
-
-#[test]
-fn the_129th_tile_replaces_the_oldest(rt: HostRuntime) {
-    let mut image = image_of(129);
-    assert!(rt; image.len() == 128);
-    for page in 1..129 {
-        assert!(rt; hits(&mut image, page), "page {page}");
-    }
-    assert!(rt; !hits(&mut image, 0) && image.len() == 128);
-}
-
-/// Five new tiles replace those that were used longest ago.
-fn replaces_five(rt: &impl Abort, image: &mut Image) {
-    for page in 200..205 {
-        assert!(rt; !hits(image, page), "page {page}");
-    }
-    for &page in [1, 3, 4, 5, 6].iter() {
-        assert!(rt; !image.has(Some(page_tile(page))), "page {page}");
-    }
-    assert!(rt; image.len() == 128);
-}
-
-#[test]
-fn a_use_makes_a_tile_the_youngest(rt: HostRuntime) {
-    let mut image = image_of(128);
-    all_hit(&rt, &mut image, &[0, 127, 64, 2, 64]);
-    replaces_five(&rt, &mut image);
-    all_hit(&rt, &mut image, &[64, 2, 127, 0, 7, 126, 204, 200]);
-}
-
-#[test]
 fn what_passes_the_test_is_kept(rt: HostRuntime) {
     let mut image = image_of(10);
     keep_clean_below(&mut image, 7);
-    assert!(rt; image.len() == 4);
-    all_hit(&rt, &mut image, &[0, 2, 4, 6]);
+    assert!(rt; image.len() == 4 && count_hits(&mut image, &[0, 2, 4, 6]) == 4);
     keep_clean_below(&mut image, 7);
-    assert!(rt; image.len() == 4);
-    assert!(rt; !hits(&mut image, 8));
+    assert!(rt; image.len() == 4 && !hits(&mut image, 8));
 }

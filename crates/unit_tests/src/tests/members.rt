@@ -1,93 +1,12 @@
-//! The lists of reservations by age, in worked rows and beside a plain list of their members.
+//! The lists of reservations by age, beside a plain list of their members.
 ghost use Rattle.std.specs.Prelude.{◌≡◌, ◌<◌, false, length, slice_index_or};
 ghost use Rattle.unit_tests.specs.Marks.{AreMarked};
 
-use super::size;
+use super::{NO_MEMORY, size};
 use pager_model::{Generator, NoMemory, Size};
 use reservation_lists::Lists;
 use std::alloc::{AllocError, Global};
 use std::process::Abort;
-use std::test::Fail;
-
-const FRAMES: u32 = 64;
-
-/// Asserts that these are the stamps and frames of a list, oldest first, and empties it.
-fn assert_drains(rt: &impl Abort, lists: &mut Lists, size: Size, members: &[(u64, u32)])
-    requires { size < 3 }
-{
-    for &(stamp, frame) in members {
-        assert_eq!(rt; lists.oldest(size), Some(frame));
-        lists.remove(size, stamp, frame);
-    }
-    assert_eq!(rt; lists.oldest(size), None);
-}
-
-#[test]
-fn new_lists_are_empty(rt: HostRuntime) -> Result<(), Fail> {
-    let (base, small, middle) = (size(0), size(1), size(2));
-    for frames in [0, 1, FRAMES] {
-        let lists = Lists::create(rt.alloc(), frames)?;
-        assert_eq!(rt; lists.oldest(base), None);
-        assert_eq!(rt; lists.oldest(small), None);
-        assert_eq!(rt; lists.oldest(middle), None);
-    }
-    Ok(())
-}
-
-#[test]
-fn the_oldest_comes_first_whatever_the_order_of_insertion(rt: HostRuntime) -> Result<(), Fail> {
-    let base = size(0);
-    let mut lists = Lists::create(rt.alloc(), FRAMES)?;
-    lists.insert(base, 30, 2);
-    lists.insert(base, 10, 8);
-    lists.insert(base, 40, 0);
-    lists.insert(base, 20, 63);
-    assert_drains(
-        &rt,
-        &mut lists,
-        base,
-        &[(10, 8), (20, 63), (30, 2), (40, 0)],
-    );
-    Ok(())
-}
-
-#[test]
-fn of_equal_stamps_the_lowest_frame_comes_first(rt: HostRuntime) -> Result<(), Fail> {
-    let small = size(1);
-    let mut lists = Lists::create(rt.alloc(), FRAMES)?;
-    lists.insert(small, 5, 24);
-    lists.insert(small, 5, 8);
-    lists.insert(small, 4, 40);
-    lists.insert(small, 5, 16);
-    assert_drains(&rt, &mut lists, small, &[(4, 40), (5, 8), (5, 16), (5, 24)]);
-    Ok(())
-}
-
-#[test]
-fn each_size_has_a_list_of_its_own(rt: HostRuntime) -> Result<(), Fail> {
-    let (base, small, middle) = (size(0), size(1), size(2));
-    let mut lists = Lists::create(rt.alloc(), FRAMES)?;
-    lists.insert(base, 3, 1);
-    lists.insert(small, 2, 8);
-    lists.insert(middle, 1, 0);
-    assert_drains(&rt, &mut lists, small, &[(2, 8)]);
-    assert_drains(&rt, &mut lists, middle, &[(1, 0)]);
-    assert_drains(&rt, &mut lists, base, &[(3, 1)]);
-    Ok(())
-}
-
-#[test]
-fn a_removal_takes_only_the_member_of_that_stamp_and_frame(rt: HostRuntime) -> Result<(), Fail> {
-    let (base, small) = (size(0), size(1));
-    let mut lists = Lists::create(rt.alloc(), FRAMES)?;
-    lists.insert(base, 7, 1);
-    lists.insert(base, 7, 2);
-    lists.remove(base, 7, 1);
-    lists.remove(base, 6, 2);
-    lists.remove(small, 7, 2);
-    assert_drains(&rt, &mut lists, base, &[(7, 2)]);
-    Ok(())
-}
 
 /// How many frames the drawn members have, each at most once.
 const DRAWN: u32 = 4096;
@@ -228,13 +147,20 @@ fn change(both: &mut Beside, step: u32, random: &mut Generator) -> Result<(), Al
     Ok(())
 }
 
-#[test]
-fn orders_its_members_as_a_plain_list_does(rt: HostRuntime) -> Result<(), Fail> {
-    let mut both = Beside::create(rt.alloc())?;
+/// Whether so many drawn rows leave both with the same oldest members.
+fn goes_alike(both: &mut Beside, steps: u32) -> Result<bool, AllocError> {
     let mut random = Generator::of(7);
-    for step in 0..2_000 {
-        change(&mut both, step, &mut random)?;
-        assert!(rt; (0..3).all(|level| both.is_alike(level)), "step {step}");
+    for step in 0..steps {
+        change(both, step, &mut random)?;
+        if !(both.is_alike(0) && both.is_alike(1) && both.is_alike(2)) {
+            return Ok(false);
+        }
     }
-    Ok(())
+    Ok(true)
+}
+
+#[test]
+fn orders_its_members_as_a_plain_list_does(rt: HostRuntime) {
+    let mut both = Beside::create(rt.alloc()).expect(&rt, NO_MEMORY);
+    assert!(rt; goes_alike(&mut both, 2_000).expect(&rt, NO_MEMORY));
 }

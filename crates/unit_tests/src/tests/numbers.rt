@@ -1,12 +1,13 @@
 //! Numbers at the ends of words of all levels of a set.
 ghost use Rattle.std.specs.Prelude.{◌≡◌, ◌<◌, length};
 
+use super::NO_MEMORY;
 use bit_set::BitSet;
 use pager_model::Steps;
 use std::alloc::{AllocError, Global};
 use std::marker::Brand;
+use std::process::Abort;
 use std::sync::ledger::{Blank, Ledger};
-use std::test::Fail;
 
 const BOUND: u32 = 262_144;
 
@@ -81,8 +82,7 @@ fn goes_through<L: Ledger>(largest: &mut Largest, blank: Blank) -> bool
 }
 
 #[test]
-fn finds_the_next_number_over_all_levels(rt: HostRuntime) -> Result<(), Fail> {
-    let mut largest = Largest::create(rt.alloc())?;
+fn finds_the_next_number_over_all_levels(rt: HostRuntime) {
+    let mut largest = Largest::create(rt.alloc()).expect(&rt, NO_MEMORY);
     assert!(rt; goes_through::<Brand>(&mut largest, Blank::new(1)));
-    Ok(())
 }

@@ -5,72 +5,59 @@ use pager_model::{Extent, Want};
 use size_policy::preferred;
 use std::process::Abort;
 
-/// The level that is preferred for a page where the pages from `taken.0` to before `taken.1` have a reservation.
-fn level_among(rt: &impl Abort, taken: (u32, u32), page: u32, want: &Want) -> u8 {
-    assert!(rt; want.low <= page && page < want.high);
-    assert!(rt; want.high <= 1_048_576 && want.cap >= 1);
+/// The level that is preferred for a page where the pages from `taken.0` to before `taken.1` have a reservation. None if the page isn't in
+/// its region, or the region isn't in a space.
+fn level_among(taken: (u32, u32), page: u32, want: &Want) -> Option<u8> {
+    if page < want.low || want.high <= page || 1_048_576 < want.high || want.cap < 1 {
+        return None;
+    }
     let meets = |extent: Extent| extent.first < taken.1
         && taken.0 < extent.first + extent.size.pages();
-    preferred(page, want, meets).level()
+    Some(preferred(page, want, meets).level())
 }
 
-/// A region from `low` to before `high`.
-fn want(low: u32, high: u32, cap: u32) -> Want {
-    Want {
-        low,
-        high,
-        cap,
-        wired: false,
-    }
-}
+/// The ends of the pages that have a reservation, a page, the ends of its region, its cap, and the level.
+type Row = ((u32, u32), u32, (u32, u32), u32, u8);
 
-/// A page, the ends of its region, and the level.
-static ENDS: [(u32, u32, u32, u8); 9] = [
-    (512, 512, 1024, 3),
-    (1023, 512, 1024, 3),
-    (513, 513, 1024, 0),
-    (520, 513, 1024, 1),
-    (600, 513, 1024, 2),
-    (1000, 512, 1023, 1),
-    (959, 512, 1023, 2),
-    (5, 5, 6, 0),
-    (1048575, 0, 1048576, 3),
+static ROWS: [Row; 23] = [
+    // The ends of a region.
+    ((0, 0), 512, (512, 1024), 4096, 3),
+    ((0, 0), 1023, (512, 1024), 4096, 3),
+    ((0, 0), 513, (513, 1024), 4096, 0),
+    ((0, 0), 520, (513, 1024), 4096, 1),
+    ((0, 0), 600, (513, 1024), 4096, 2),
+    ((0, 0), 1000, (512, 1023), 4096, 1),
+    ((0, 0), 959, (512, 1023), 4096, 2),
+    ((0, 0), 5, (5, 6), 4096, 0),
+    ((0, 0), 1_048_575, (0, 1_048_576), 4096, 3),
+    // The cap.
+    ((0, 0), 600, (0, 4096), 1, 0),
+    ((0, 0), 600, (0, 4096), 7, 0),
+    ((0, 0), 600, (0, 4096), 8, 1),
+    ((0, 0), 600, (0, 4096), 63, 1),
+    ((0, 0), 600, (0, 4096), 64, 2),
+    ((0, 0), 600, (0, 4096), 511, 2),
+    ((0, 0), 600, (0, 4096), 512, 3),
+    // No reservation is met.
+    ((0, 512), 600, (0, 4096), 4096, 3),
+    ((1024, 2048), 600, (0, 4096), 4096, 3),
+    ((1023, 1024), 600, (0, 4096), 4096, 2),
+    ((639, 640), 600, (0, 4096), 4096, 1),
+    ((576, 577), 600, (0, 4096), 4096, 1),
+    ((607, 608), 600, (0, 4096), 4096, 0),
+    ((601, 602), 600, (0, 4096), 4096, 0),
 ];
 
 #[test]
-fn keeps_to_the_ends_of_a_region(rt: HostRuntime) {
-    for &(page, low, high, level) in ENDS.iter() {
-        let preferred = level_among(&rt, (0, 0), page, &want(low, high, 4096));
-        assert!(rt; preferred == level, "page {page} of {low} to {high}");
-    }
-}
-
-/// A cap and the level.
-static CAPS: [(u32, u8); 7] = [(1, 0), (7, 0), (8, 1), (63, 1), (64, 2), (511, 2), (512, 3)];
-
-#[test]
-fn keeps_to_the_cap(rt: HostRuntime) {
-    for &(cap, level) in CAPS.iter() {
-        let preferred = level_among(&rt, (0, 0), 600, &want(0, 4096, cap));
-        assert!(rt; preferred == level, "cap {cap}");
-    }
-}
-
-/// The ends of the pages that have a reservation, and the level.
-static TAKEN: [(u32, u32, u8); 7] = [
-    (0, 512, 3),
-    (1024, 2048, 3),
-    (1023, 1024, 2),
-    (639, 640, 1),
-    (576, 577, 1),
-    (607, 608, 0),
-    (601, 602, 0),
-];
-
-#[test]
-fn meets_no_reservation(rt: HostRuntime) {
-    for &(first, end, level) in TAKEN.iter() {
-        let preferred = level_among(&rt, (first, end), 600, &want(0, 4096, 4096));
-        assert!(rt; preferred == level, "pages {first} to {end} taken");
+fn keeps_to_the_region_and_its_cap_and_meets_no_reservation(rt: HostRuntime) {
+    for &(taken, page, (low, high), cap, level) in ROWS.iter() {
+        let want = Want {
+            low,
+            high,
+            cap,
+            wired: false,
+        };
+        let preferred = level_among(taken, page, &want);
+        assert!(rt; preferred == Some(level), "page {page} of {want:?}");
     }
 }

@@ -1,14 +1,13 @@
 //! A tree of extents beside a plain list of its rows.
 ghost use Rattle.std.specs.Prelude.{◌≡◌, ◌*◌, ◌<◌, ◌≤◌};
 
-use super::size;
+use super::{NO_MEMORY, size};
 use extent_tree::ExtentTree;
 use pager_model::{Extent, Generator, NoMemory, Size, Steps};
 use std::alloc::{AllocError, Global};
 use std::marker::Brand;
 use std::process::Abort;
 use std::sync::ledger::{Blank, Ledger};
-use std::test::Fail;
 
 const ROOTS: u32 = 3;
 
@@ -159,8 +158,7 @@ fn goes_through<L: Ledger>(
 }
 
 #[test]
-fn says_what_a_list_of_rows_says(rt: HostRuntime) -> Result<(), Fail> {
-    let mut both = Beside::create(rt.alloc())?;
-    goes_through::<Brand>(&rt, &mut both, Blank::new(1))?;
-    Ok(())
+fn says_what_a_list_of_rows_says(rt: HostRuntime) {
+    let mut both = Beside::create(rt.alloc()).expect(&rt, NO_MEMORY);
+    assert!(rt; goes_through::<Brand>(&rt, &mut both, Blank::new(1)).is_ok());
 }

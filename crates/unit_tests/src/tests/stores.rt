@@ -3,12 +3,12 @@ mod full;
 mod silent;
 mod table;
 
+use super::NO_MEMORY;
 use full::Full;
 use pager_model::Generator;
 use silent::Silent;
 use std::alloc::{AllocError, Global};
 use std::process::Abort;
-use std::test::Fail;
 use store_core::{MemoryStore, Store, StoreFailed, WriteRefused};
 use table::{PAGES, Table, image};
 
@@ -78,41 +78,21 @@ fn failing_table(alloc: Global) -> Result<Table, AllocError> {
     Ok(Table::of(reads, FAILING.1.to_vec(alloc)?))
 }
 
-#[test]
-fn goes_as_a_plain_table_of_copies(rt: HostRuntime) -> Result<(), Fail> {
-    let mut store = failing_store(rt.alloc())?;
-    let mut table = failing_table(rt.alloc())?;
+/// Whether so many drawn calls, and then a read of each page, are answered by the table's rules.
+fn go_alike<S: Store>(rt: &impl Abort, store: &mut S, table: &mut Table, calls: u32) -> bool {
     let mut random = Generator::of(5);
-    for call in 0..400 {
-        assert!(rt;
-            goes_alike(&mut store, &mut table, &mut random, call),
-            "call {call}"
-        );
-        assert!(rt; tells_alike(&store, &table), "call {call}");
+    for call in 0..calls {
+        let alike = goes_alike(store, table, &mut random, call) && tells_alike(store, table);
+        assert!(rt; alike, "call {call}");
     }
-    assert!(rt; all_read_alike(&mut store, &mut table));
-    Ok(())
-}
-
-/// A store in memory whose second and third write fail.
-fn two_fail(alloc: Global) -> Result<MemoryStore, AllocError> {
-    let writes = [2, 3].to_vec(alloc)?;
-    Ok(MemoryStore::of(alloc, Vec::new(alloc), writes))
+    all_read_alike(store, table)
 }
 
 #[test]
-fn a_failed_write_keeps_its_page_with_an_unknown_copy(rt: HostRuntime) -> Result<(), Fail> {
-    let mut store = two_fail(rt.alloc())?;
-    assert!(rt; store.told());
-    assert_eq!(rt; store.write(7, &image(1)), Ok(()));
-    assert_eq!(rt; store.write(7, &image(2)), Err(WriteRefused::Failed));
-    assert_eq!(rt; store.write(8, &image(3)), Err(WriteRefused::Failed));
-    assert_eq!(rt; store.faults(), 2);
-    assert!(rt; !told_without(&mut store, 7));
-    assert!(rt; told_without(&mut store, 8));
-    assert_eq!(rt; store.write(8, &image(4)), Ok(()));
-    assert!(rt; reads_alike(&mut store, 8, Ok(Some(4))));
-    Ok(())
+fn goes_as_a_plain_table_of_copies(rt: HostRuntime) {
+    let mut store = failing_store(rt.alloc()).expect(&rt, NO_MEMORY);
+    let mut table = failing_table(rt.alloc()).expect(&rt, NO_MEMORY);
+    assert!(rt; go_alike(&rt, &mut store, &mut table, 400));
 }
 
 /// Drops the copy of a page, and says whether the store tells that all are zero then.
@@ -124,24 +104,21 @@ fn told_without<S: Store>(store: &mut S, page: u32) -> bool {
 #[test]
 fn a_store_may_find_no_memory(rt: HostRuntime) {
     let mut store = Full;
-    assert_eq!(rt; store.write(3, &image(1)), Err(WriteRefused::NoMemory));
-    assert!(rt; reads_alike(&mut store, 3, Ok(Some(0))));
-    assert!(rt; told_without(&mut store, 0));
-    assert_eq!(rt; store.faults(), 0);
+    assert!(rt; store.write(3, &image(1)) == Err(WriteRefused::NoMemory));
+    assert!(rt; reads_alike(&mut store, 3, Ok(Some(0))) && told_without(&mut store, 0));
+    assert!(rt; store.faults() == 0);
 }
 
-/// What a store that tells nothing answers to a write and a read, and its faults then.
-fn silent_answers(fails: bool) -> (bool, bool, u64) {
+/// What a store that tells nothing answers to a write and a read, its faults then, and what it tells.
+fn silent_answers(fails: bool) -> (bool, bool, u64, bool) {
     let mut store = Silent::of(fails);
     let wrote = store.write(3, &image(1)).is_ok();
     let gave = reads_alike(&mut store, 3, Ok(None));
-    (wrote, gave, store.faults())
+    (wrote, gave, store.faults(), told_without(&mut store, 0))
 }
 
 #[test]
 fn a_store_may_tell_nothing(rt: HostRuntime) {
-    assert_eq!(rt; silent_answers(false), (true, true, 0));
-    assert_eq!(rt; silent_answers(true), (false, false, 2));
-    assert!(rt; !told_without(&mut Silent::of(false), 0));
-    assert!(rt; !told_without(&mut Silent::of(true), 0));
+    assert!(rt; silent_answers(false) == (true, true, 0, false));
+    assert!(rt; silent_answers(true) == (false, false, 2, false));
 }

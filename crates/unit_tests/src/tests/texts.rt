@@ -1,13 +1,14 @@
 //! Texts of small runs, and a line of each kind.
+use super::NO_MEMORY;
 use super::streams::sink_of;
 use super::streams::slow::Slow;
-use io_core::{MemorySink, Sink, WriteFailed};
+use io_core::{Sink, WriteFailed};
 use pager_model::{
     Answered, Call, Entry, Kind, Need, Numbered, Reply, Rights, Size, Summary, Want, What,
 };
 use report_text::{Parts, write_report};
-use std::alloc::{AllocError, Global};
-use std::test::Fail;
+use std::alloc::Global;
+use std::process::Abort;
 
 const MAP: Call = Call::Map {
     space: 0,
@@ -99,113 +100,114 @@ fn write_small<K: Sink>(sink: &mut K, parts: Parts) -> Result<(), WriteFailed> {
 }
 
 /// The text of the small run.
-fn small_text(alloc: Global, parts: Parts) -> Result<Vec<u8>, AllocError> {
-    let mut text = ANSWERS.to_vec(alloc)?;
-    if parts == Parts::AnswersAndHistory {
-        text.extend_from_slice(HISTORY)?;
-    }
-    text.extend_from_slice(COUNTS)?;
-    Ok(text)
+fn small_text(rt: &impl Abort, alloc: Global, parts: Parts) -> Vec<u8> {
+    let history = if parts == Parts::AnswersAndHistory {
+        HISTORY
+    } else {
+        b""
+    };
+    [ANSWERS, history, COUNTS]
+        .concat(alloc)
+        .expect(rt, NO_MEMORY)
 }
 
-/// Writes the small run to a sink of at most `limit` bytes.
-fn small_within(
-    alloc: Global,
-    limit: usize,
-    parts: Parts,
-) -> Result<(bool, MemorySink), AllocError> {
-    let mut sink = sink_of(alloc, limit, 0)?;
+/// Writes the small run to a sink of at most `limit` bytes. Answers whether all was written, and whether the sink has the text's first bytes,
+/// as many as it takes.
+fn small_within(rt: &impl Abort, alloc: Global, limit: usize, parts: Parts) -> (bool, bool) {
+    let mut sink = sink_of(rt, alloc, limit, 0);
     let wrote = write_small(&mut sink, parts).is_ok();
-    Ok((wrote, sink))
+    let text = small_text(rt, alloc, parts);
+    let bytes = sink.bytes();
+    (
+        wrote,
+        bytes.len() == limit.min(text.len()) && text.starts_with(bytes),
+    )
 }
+
+/// A limit, the parts, and whether all is written.
+static LIMITS: [(usize, Parts, bool); 6] = [
+    (300, Parts::Answers, true),
+    (300, Parts::AnswersAndHistory, true),
+    (0, Parts::Answers, false),
+    (1, Parts::Answers, false),
+    (ANSWERS.len(), Parts::Answers, false),
+    (ANSWERS.len() + COUNTS.len() - 1, Parts::Answers, false),
+];
 
 #[test]
-fn a_run_has_its_answers_the_history_where_it_is_asked_for_and_the_counts(
-    rt: HostRuntime,
-) -> Result<(), Fail> {
-    for parts in [Parts::Answers, Parts::AnswersAndHistory] {
-        let (wrote, sink) = small_within(rt.alloc(), 300, parts)?;
-        assert!(rt; wrote);
-        assert_eq!(rt; sink.bytes(), small_text(rt.alloc(), parts)?.as_slice());
+fn a_run_has_its_answers_the_history_where_it_is_asked_for_and_the_counts(rt: HostRuntime) {
+    for &(limit, parts, wrote) in LIMITS.iter() {
+        let told = small_within(&rt, rt.alloc(), limit, parts);
+        assert!(rt; told == (wrote, true), "{parts:?} within {limit} bytes");
     }
-    Ok(())
 }
 
 /// Writes the small run with its history, 16 bytes a write, of which one fails. Answers whether all was written, and how many bytes of
 /// the text are there, where it begins with them.
 fn small_failing(
+    rt: &impl Abort,
     alloc: Global,
     failing: u64,
     text: &[u8],
-) -> Result<(bool, Option<usize>), AllocError> {
-    let mut sink = Slow::of(sink_of(alloc, 300, failing)?, 16);
+) -> (bool, Option<usize>) {
+    let mut sink = Slow::of(sink_of(rt, alloc, 300, failing), 16);
     let wrote = write_small(&mut sink, Parts::AnswersAndHistory).is_ok();
     let bytes = sink.bytes();
-    Ok((wrote, text.starts_with(bytes).then_some(bytes.len())))
+    (wrote, text.starts_with(bytes).then_some(bytes.len()))
 }
 
-#[test]
-fn each_write_that_fails_leaves_what_went_before(rt: HostRuntime) -> Result<(), Fail> {
-    let text = small_text(rt.alloc(), Parts::AnswersAndHistory)?;
+/// Asserts that each write that fails leaves the bytes of those before it.
+fn fail_each(rt: &impl Abort, alloc: Global, text: &[u8]) {
     let writes = text.len().div_ceil(16);
     for gone in 0..=writes {
         let failing = gone as u64 + 1;
         let bytes = text.len().min(gone.saturating_mul(16));
-        let told = small_failing(rt.alloc(), failing, text.as_slice())?;
-        assert_eq!(rt; told, (gone == writes, Some(bytes)), "at write {failing}");
+        let told = small_failing(rt, alloc, failing, text);
+        assert!(rt; told == (gone == writes, Some(bytes)), "at write {failing}");
     }
-    Ok(())
 }
 
 #[test]
-fn a_full_sink_has_the_first_bytes_of_the_text(rt: HostRuntime) -> Result<(), Fail> {
-    let text = small_text(rt.alloc(), Parts::Answers)?;
-    for limit in [0, 1, ANSWERS.len(), ANSWERS.len() + COUNTS.len() - 1] {
-        let (wrote, sink) = small_within(rt.alloc(), limit, Parts::Answers)?;
-        assert!(rt; !wrote, "after {limit} bytes");
-        assert_eq!(rt; Some(sink.bytes()), text.get(..limit));
-    }
-    Ok(())
+fn each_write_that_fails_leaves_what_went_before(rt: HostRuntime) {
+    fail_each(
+        &rt,
+        rt.alloc(),
+        &small_text(&rt, rt.alloc(), Parts::AnswersAndHistory),
+    );
 }
 
+/// An entry of 13 bytes.
 const GOT: What = What::Got { frame: 7 };
 
 /// Writes a run with 400 entries, whose lines have 13 bytes, and answers whether all was written and how many bytes there are.
-fn write_many(alloc: Global, failing: u64) -> Result<(bool, usize), AllocError> {
-    let history = vec![in alloc; of_the_frames(GOT); 400]?;
-    let mut sink = sink_of(alloc, 10_000, failing)?;
-    let wrote = write_report(
-        &mut sink,
-        1,
-        history.as_slice(),
-        &SUMMARY,
-        Parts::AnswersAndHistory,
-    );
-    Ok((wrote.is_ok(), sink.bytes().len()))
+fn write_many(rt: &impl Abort, alloc: Global, failing: u64) -> (bool, usize) {
+    let history = [of_the_frames(GOT); 400];
+    let mut sink = sink_of(rt, alloc, 10_000, failing);
+    let wrote = write_report(&mut sink, 1, &history, &SUMMARY, Parts::AnswersAndHistory);
+    (wrote.is_ok(), sink.bytes().len())
 }
 
 #[test]
-fn a_long_text_goes_out_in_pieces(rt: HostRuntime) -> Result<(), Fail> {
+fn a_long_text_goes_out_in_pieces(rt: HostRuntime) {
     // The write that fails, and how many bytes went out: the first piece ends at a line's end.
     for (failing, gone) in [(1, 0), (2, 4096 / 13 * 13), (3, 400 * 13 + COUNTS.len())] {
-        let wrote = write_many(rt.alloc(), failing)?;
-        assert_eq!(rt; wrote, (failing == 3, gone), "at write {failing}");
+        let wrote = write_many(&rt, rt.alloc(), failing);
+        assert!(rt; wrote == (failing == 3, gone), "at write {failing}");
     }
-    Ok(())
 }
 
 /// Whether the answers and the history of some entries, and the counts, are these lines and the counts.
 fn has_lines(
+    rt: &impl Abort,
     alloc: Global,
     processors: u32,
     history: &[Numbered],
     parts: Parts,
     lines: &[u8],
-) -> Result<bool, AllocError> {
-    let mut sink = sink_of(alloc, 1_000, 0)?;
+) -> bool {
+    let mut sink = sink_of(rt, alloc, 1_000, 0);
     let wrote = write_report(&mut sink, processors, history, &SUMMARY, parts);
-    let rest = sink.bytes().strip_prefix(lines);
-    Ok(wrote.is_ok() && rest == Some(COUNTS))
+    wrote.is_ok() && sink.bytes().strip_prefix(lines) == Some(COUNTS)
 }
 
 /// A reply, and the level of the size that it names.
@@ -243,7 +245,7 @@ const REPLY_LINES: &[u8] =
     b"15 7 done\n15 7 done hit 0\n15 7 value 5 hit 3\n15 7 clean\n15 7 written\n15 7 unmapped\n15 7 denied\n15 7 overlap\n15 7 outofspace\n15 7 notgrowing\n15 7 regionsfull\n15 7 noframes 500 10 2\n15 7 storefault 15 18446744073709551615\n15 7 nomemory\n";
 
 /// Processor 15's answer to its call number 7.
-fn answer_of_15(reply: Reply, level: Option<u8>) -> Numbered {
+fn answer_of_15((reply, level): (Reply, Option<u8>)) -> Numbered {
     Numbered {
         number: 0,
         entry: Entry {
@@ -256,14 +258,9 @@ fn answer_of_15(reply: Reply, level: Option<u8>) -> Numbered {
 }
 
 #[test]
-fn each_reply_has_its_line(rt: HostRuntime) -> Result<(), Fail> {
-    let answers = REPLIES
-        .iter()
-        .map(|(reply, level)| answer_of_15(*reply, *level));
-    let history: Vec<Numbered> = answers.collect(rt.alloc())?;
-    let parts = Parts::Answers;
-    assert!(rt; has_lines(rt.alloc(), 16, history.as_slice(), parts, REPLY_LINES)?);
-    Ok(())
+fn each_reply_has_its_line(rt: HostRuntime) {
+    let history = REPLIES.map(answer_of_15);
+    assert!(rt; has_lines(&rt, rt.alloc(), 16, &history, Parts::Answers, REPLY_LINES));
 }
 
 /// Entry 12, of processor 3.
@@ -281,21 +278,32 @@ fn of_the_frames(what: What) -> Numbered {
     entry_of_3(None, true, what)
 }
 
-#[test]
-fn each_answer_in_a_history_has_its_line(rt: HostRuntime) -> Result<(), Fail> {
+/// A load's answer on space 2, which names the frames where it says so.
+fn loaded(frames: bool) -> Numbered {
     let what = answer(7, LOAD, Reply::Value(5), true, Some(3));
-    let history = [
-        entry_of_3(Some(2), false, what),
-        entry_of_3(Some(2), true, what),
-    ];
-    let lines = b"12 3 s2 answer 7 value 5 hit 3\n12 3 s2+f answer 7 value 5 hit 3\n";
-    assert!(rt; has_lines(rt.alloc(), 3, &history, Parts::AnswersAndHistory, lines)?);
-    Ok(())
+    entry_of_3(Some(2), frames, what)
 }
 
-/// Entries that name space 2: whether the frames are named, and what happened.
-const IN_A_SPACE: [(bool, What); 11] = [
+#[test]
+fn each_answer_in_a_history_has_its_line(rt: HostRuntime) {
+    let history = [loaded(false), loaded(true)];
+    let lines = b"12 3 s2 answer 7 value 5 hit 3\n12 3 s2+f answer 7 value 5 hit 3\n";
+    assert!(rt;
+        has_lines(
+            &rt,
+            rt.alloc(),
+            3,
+            &history,
+            Parts::AnswersAndHistory,
+            lines
+        )
+    );
+}
+
+/// The space that an entry names, whether it names the frames, and what happened.
+const ENTRIES: [(Option<u32>, bool, What); 17] = [
     (
+        Some(2),
         false,
         What::Out {
             page: 6,
@@ -303,6 +311,7 @@ const IN_A_SPACE: [(bool, What); 11] = [
         },
     ),
     (
+        Some(2),
         false,
         What::Out {
             page: 6,
@@ -310,6 +319,7 @@ const IN_A_SPACE: [(bool, What); 11] = [
         },
     ),
     (
+        Some(2),
         false,
         What::Failed {
             page: 6,
@@ -318,6 +328,7 @@ const IN_A_SPACE: [(bool, What); 11] = [
         },
     ),
     (
+        Some(2),
         false,
         What::Failed {
             page: 6,
@@ -326,6 +337,7 @@ const IN_A_SPACE: [(bool, What); 11] = [
         },
     ),
     (
+        Some(2),
         true,
         What::Take {
             page: 6,
@@ -334,6 +346,7 @@ const IN_A_SPACE: [(bool, What); 11] = [
         },
     ),
     (
+        Some(2),
         true,
         What::UseHeld {
             page: 6,
@@ -341,8 +354,9 @@ const IN_A_SPACE: [(bool, What); 11] = [
             want: WIDE,
         },
     ),
-    (true, What::Give { page: 6, frame: 7 }),
+    (Some(2), true, What::Give { page: 6, frame: 7 }),
     (
+        Some(2),
         true,
         What::Clear {
             first: 6,
@@ -350,6 +364,7 @@ const IN_A_SPACE: [(bool, What); 11] = [
         },
     ),
     (
+        Some(2),
         true,
         What::Claim {
             space: 1,
@@ -362,6 +377,7 @@ const IN_A_SPACE: [(bool, What); 11] = [
         },
     ),
     (
+        Some(2),
         true,
         What::Claim {
             space: 1,
@@ -373,7 +389,30 @@ const IN_A_SPACE: [(bool, What); 11] = [
             }),
         },
     ),
-    (true, What::Unclaim { frame: 7 }),
+    (Some(2), true, What::Unclaim { frame: 7 }),
+    (
+        None,
+        true,
+        What::Claim {
+            space: 1,
+            page: 4,
+            frame: 5,
+            need: None,
+        },
+    ),
+    (None, true, What::DropHeld { frame: 7 }),
+    (None, true, What::Got { frame: 7 }),
+    (
+        None,
+        true,
+        What::Refused {
+            wired: 500,
+            claimed: 10,
+            held: 2,
+        },
+    ),
+    (None, true, What::Rest { short: false }),
+    (None, true, What::Rest { short: true }),
 ];
 
 const WIDE: Want = Want {
@@ -383,46 +422,35 @@ const WIDE: Want = Want {
     wired: true,
 };
 
-const SPACE_LINES: &[u8] =
-    b"12 3 s2 out 6 written\n12 3 s2 out 6 clean\n12 3 s2 failed 6 read 1\n12 3 s2 failed 6 write 2\n12 3 s2+f take 6 7 0 8 8 0\n12 3 s2+f use 6 7 6 518 64 1\n12 3 s2+f give 6 7\n12 3 s2+f clear 6 8\n12 3 s2+f claim 1 4 5 for 9 read\n12 3 s2+f claim 1 4 5 for 9 write\n12 3 s2+f unclaim 7\n";
+const ENTRY_LINES: &[u8] =
+    b"12 3 s2 out 6 written\n12 3 s2 out 6 clean\n12 3 s2 failed 6 read 1\n12 3 s2 failed 6 write 2\n12 3 s2+f take 6 7 0 8 8 0\n12 3 s2+f use 6 7 6 518 64 1\n12 3 s2+f give 6 7\n12 3 s2+f clear 6 8\n12 3 s2+f claim 1 4 5 for 9 read\n12 3 s2+f claim 1 4 5 for 9 write\n12 3 s2+f unclaim 7\n12 3 f claim 1 4 5\n12 3 f drop 7\n12 3 f got 7\n12 3 f refused 500 10 2\n12 3 f rest 0\n12 3 f rest 1\n";
 
-#[test]
-fn each_entry_that_names_a_space_has_its_line(rt: HostRuntime) -> Result<(), Fail> {
-    let entries = IN_A_SPACE
-        .iter()
-        .map(|(frames, what)| entry_of_3(Some(2), *frames, *what));
-    let history: Vec<Numbered> = entries.collect(rt.alloc())?;
-    let parts = Parts::AnswersAndHistory;
-    assert!(rt; has_lines(rt.alloc(), 1, history.as_slice(), parts, SPACE_LINES)?);
-    Ok(())
+/// The history of these entries.
+fn history_of(
+    rt: &impl Abort,
+    alloc: Global,
+    entries: &[(Option<u32>, bool, What)],
+) -> Vec<Numbered> {
+    let mut history = Vec::new(alloc);
+    for &(space, frames, what) in entries {
+        history
+            .push(entry_of_3(space, frames, what))
+            .expect(rt, NO_MEMORY);
+    }
+    history
 }
 
-const OF_THE_FRAMES: [What; 6] = [
-    What::Claim {
-        space: 1,
-        page: 4,
-        frame: 5,
-        need: None,
-    },
-    What::DropHeld { frame: 7 },
-    What::Got { frame: 7 },
-    What::Refused {
-        wired: 500,
-        claimed: 10,
-        held: 2,
-    },
-    What::Rest { short: false },
-    What::Rest { short: true },
-];
-
-const FRAMES_LINES: &[u8] =
-    b"12 3 f claim 1 4 5\n12 3 f drop 7\n12 3 f got 7\n12 3 f refused 500 10 2\n12 3 f rest 0\n12 3 f rest 1\n";
-
 #[test]
-fn each_entry_that_names_the_frames_alone_has_its_line(rt: HostRuntime) -> Result<(), Fail> {
-    let entries = OF_THE_FRAMES.iter().map(|what| of_the_frames(*what));
-    let history: Vec<Numbered> = entries.collect(rt.alloc())?;
-    let parts = Parts::AnswersAndHistory;
-    assert!(rt; has_lines(rt.alloc(), 1, history.as_slice(), parts, FRAMES_LINES)?);
-    Ok(())
+fn each_entry_has_its_line(rt: HostRuntime) {
+    let history = history_of(&rt, rt.alloc(), &ENTRIES);
+    assert!(rt;
+        has_lines(
+            &rt,
+            rt.alloc(),
+            1,
+            &history,
+            Parts::AnswersAndHistory,
+            ENTRY_LINES
+        )
+    );
 }

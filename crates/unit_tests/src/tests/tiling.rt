@@ -3,11 +3,10 @@
 ghost use Rattle.std.specs.Prelude.{◌≡◌, ◌≢◌, ◌<◌, ◌≤◌, ℕ, true, None, Some};
 ghost use Rattle.tiles.specs.Resident.{mapping_at, frames_in, frame_of_page};
 
-use super::size;
-use pager_model::{Extent, Generator, Mapping, NoMemory, PageRange, Rights, Size, Tile};
-use std::alloc::{AllocGlobal, Global};
+use super::{NO_MEMORY, size};
+use pager_model::{Extent, Generator, Mapping, NoMemory, Rights, Size, Tile};
+use std::alloc::Global;
 use std::process::Abort;
-use std::test::Fail;
 use tiles::{Base, Moves};
 
 /// The pages that the tests use, and the frames.
@@ -283,19 +282,21 @@ fn has_tiles(both: &Beside, alloc: Global) -> Result<bool, NoMemory> {
     Ok(both.is_alike(&tiles(alloc, &both.pages)?))
 }
 
-#[test]
-fn drawn_changes_leave_the_tiles_of_a_scan(rt: HostRuntime) -> Result<(), Fail> {
-    let mut both = filled(rt.alloc())?;
-    assert!(rt; has_tiles(&both, rt.alloc())?);
+/// Makes drawn changes, and asserts that the tiles and the moves are those of a scan.
+fn go_alike(rt: &impl Abort, alloc: Global, both: &mut Beside) {
     let mut random = Generator::of(7);
     for change in 0..100 {
-        assert!(rt;
-            goes_alike(&mut both, rt.alloc(), &mut random)?,
-            "change {change}"
-        );
+        let alike = goes_alike(both, alloc, &mut random);
+        assert!(rt; alike.expect(rt, NO_MEMORY), "change {change}");
     }
-    assert!(rt; counts_alike(&both, rt.alloc())?);
-    Ok(())
+}
+
+#[test]
+fn drawn_changes_leave_the_tiles_of_a_scan(rt: HostRuntime) {
+    let mut both = filled(rt.alloc()).expect(&rt, NO_MEMORY);
+    assert!(rt; has_tiles(&both, rt.alloc()).expect(&rt, NO_MEMORY));
+    go_alike(&rt, rt.alloc(), &mut both);
+    assert!(rt; counts_alike(&both, rt.alloc()).expect(&rt, NO_MEMORY));
 }
 
 /// The promotions and demotions of a fill.
@@ -304,47 +305,80 @@ fn moves_of_fill(both: &mut Beside, page: u32) -> (u32, u32) {
     (moves.promotions, moves.demotions)
 }
 
-/// The first 512 pages, filled one by one.
-fn first_half(rt: &(impl Abort + AllocGlobal)) -> Result<Beside, Fail> {
-    let mut both = Beside::create(rt.alloc())?;
+/// Fills the first 512 pages, one by one.
+fn fill_half(rt: &impl Abort, both: &mut Beside) {
     for page in 0..512 {
         let promotions = u32::from(page % 8 == 7);
-        assert_eq!(rt; moves_of_fill(&mut both, page), (promotions, 0), "{page}");
+        assert!(rt; moves_of_fill(both, page) == (promotions, 0), "{page}");
     }
-    Ok(both)
 }
 
-#[test]
-fn a_change_touches_the_larger_of_its_tiles(rt: HostRuntime) -> Result<(), Fail> {
-    let mut both = first_half(&rt)?;
-    assert_eq!(rt; both.fill(600, mapping(600)).touched.length, 0);
-    assert_eq!(rt; both.remove(600).touched, pages(600, 1));
-    assert_eq!(rt; both.set_dirty(100, true).touched, pages(0, 512));
-    assert_eq!(rt; both.set_dirty(101, true).touched, pages(101, 1));
-    assert_eq!(rt; both.remove(70).touched, pages(64, 8));
-    assert_eq!(rt; both.protect(8, 0, Rights::Read).touched.length, 0);
-    assert_eq!(rt; both.protect(8, 8, Rights::Write).touched.length, 0);
-    assert_eq!(rt; both.protect(8, 8, Rights::Read).touched, pages(0, 512));
-    Ok(())
+/// How many tiles there are of each size before a page is dirty and then, and the demotions between.
+fn make_dirty(both: &mut Beside) -> ([u32; 4], u32, [u32; 4]) {
+    let before = both.base.counts();
+    let demotions = both.set_dirty(100, true).demotions;
+    (before, demotions, both.base.counts())
 }
 
-/// So many pages from the first on.
-fn pages(first: u32, length: u32) -> PageRange {
-    PageRange { first, length }
+/// How many tiles above size 0 have one of these pages: all 512, eight, one and none.
+fn meeting(base: &Base) -> [u32; 4] {
+    [
+        base.tiles_meeting(0, 512),
+        base.tiles_meeting(60, 8),
+        base.tiles_meeting(300, 1),
+        base.tiles_meeting(300, 0),
+    ]
 }
 
-#[test]
-fn the_last_page_of_an_extent_makes_it_a_tile(rt: HostRuntime) -> Result<(), Fail> {
-    let mut both = first_half(&rt)?;
-    assert_eq!(rt; both.base.counts(), [0, 0, 0, 1]);
-    assert_eq!(rt; both.set_dirty(100, true).demotions, 1);
-    assert_eq!(rt; both.base.counts(), [8, 7, 7, 0]);
-    assert_eq!(rt; both.base.tiles_meeting(0, 512), 14);
-    assert_eq!(rt; both.base.tiles_meeting(60, 8), 2);
-    assert_eq!(rt; both.base.tiles_meeting(300, 1), 1);
-    assert_eq!(rt; both.base.tiles_meeting(300, 0), 0);
-    assert_eq!(rt; both.protect(64, 192, Rights::Read).demotions, 0);
+/// The demotions where some pages can only be read, and the promotions where all can, none of which is dirty.
+fn make_read_only(both: &mut Beside) -> (u32, u32) {
+    let demotions = both.protect(64, 192, Rights::Read).demotions;
     both.set_dirty(100, false);
-    assert_eq!(rt; both.protect(0, 512, Rights::Read).promotions, 1);
-    Ok(())
+    (demotions, both.protect(0, 512, Rights::Read).promotions)
+}
+
+#[test]
+fn a_change_touches_the_larger_of_its_tiles(rt: HostRuntime) {
+    let mut both = Beside::create(rt.alloc()).expect(&rt, NO_MEMORY);
+    fill_half(&rt, &mut both);
+    assert!(rt; touched_by_one(&mut both) == [(0, 0), (600, 1), (0, 512), (101, 1), (64, 8)]);
+    assert!(rt; touched_by_rights(&mut both) == [(0, 0), (0, 0), (0, 512)]);
+}
+
+/// The range that each of some changes of one page touches: a page that comes, it goes again, a flag changes in a tile of 512 pages and then in
+/// one of one page, and a page of a tile of eight goes.
+fn touched_by_one(both: &mut Beside) -> [(u32, u32); 5] {
+    [
+        range_of(both.fill(600, mapping(600))),
+        range_of(both.remove(600)),
+        range_of(both.set_dirty(100, true)),
+        range_of(both.set_dirty(101, true)),
+        range_of(both.remove(70)),
+    ]
+}
+
+/// The range that each of some changes of rights touches: of no page, to the rights that the pages have, and to others.
+fn touched_by_rights(both: &mut Beside) -> [(u32, u32); 3] {
+    [
+        range_of(both.protect(8, 0, Rights::Read)),
+        range_of(both.protect(8, 8, Rights::Write)),
+        range_of(both.protect(8, 8, Rights::Read)),
+    ]
+}
+
+/// The first page and the length of the range that a change touched.
+fn range_of(moves: Moves) -> (u32, u32) {
+    match moves.touched.length {
+        0 => (0, 0),
+        length => (moves.touched.first, length),
+    }
+}
+
+#[test]
+fn the_last_page_of_an_extent_makes_it_a_tile(rt: HostRuntime) {
+    let mut both = Beside::create(rt.alloc()).expect(&rt, NO_MEMORY);
+    fill_half(&rt, &mut both);
+    assert!(rt; make_dirty(&mut both) == ([0, 0, 0, 1], 1, [8, 7, 7, 0]));
+    assert!(rt; meeting(&both.base) == [14, 2, 1, 0]);
+    assert!(rt; make_read_only(&mut both) == (0, 1));
 }

@@ -5,10 +5,10 @@ ghost use Rattle.std.specs.Bool.{OnTrue};
 ghost use Rattle.pager_model.specs.declared.reservation.Used.{Used};
 ghost use Rattle.unit_tests.specs.declared.tests.victims.TheConstants.{PROCESSORS};
 
+use super::NO_MEMORY;
 use pager_model::{Generator, NoMemory, Used};
 use std::alloc::Global;
 use std::process::Abort;
-use std::test::Fail;
 use used_frames::UsedFrames;
 
 const FRAMES: u32 = 64;
@@ -109,7 +109,7 @@ impl Beside {
         };
         let claimer = self.used.remove(frame);
         self.plain[frame as usize] = None;
-        assert_eq!(rt; claimer, note.claim);
+        assert!(rt; claimer == note.claim);
         true
     }
 
@@ -149,7 +149,7 @@ impl Beside {
             claim: None,
             ..used
         });
-        assert_eq!(rt; frame, claimed);
+        assert!(rt; frame == claimed);
         true
     }
 
@@ -247,83 +247,28 @@ fn goes_alike(
     made.then_some(kind)
 }
 
-#[test]
-fn drawn_calls_answer_as_a_plain_list_does(rt: HostRuntime) -> Result<(), Fail> {
-    let mut both = Beside::create(rt.alloc())?;
+/// Makes so many drawn changes, and counts them.
+fn go_alike(rt: &impl Abort, both: &mut Beside, steps: u64) -> Tally {
     let mut random = Generator::of(7);
     let mut tally = Tally {
         made: [0; CHANGES.len()],
         stepped_over: 0,
     };
-    for step in 0..6_000 {
-        let kind = goes_alike(&rt, &mut both, &mut random, step);
+    for step in 0..steps {
+        let kind = goes_alike(rt, both, &mut random, step);
         tally.count(kind.unwrap_or(CHANGES.len()), both.steps_over());
     }
+    tally
+}
+
+#[test]
+fn drawn_calls_answer_as_a_plain_list_does(rt: HostRuntime) {
+    let mut both = Beside::create(rt.alloc()).expect(&rt, NO_MEMORY);
+    let tally = go_alike(&rt, &mut both, 6_000);
+    let least = tally.made.iter().min();
     assert!(rt;
-        tally.made.iter().all(|times| *times > 100),
+        least > Some(&100) && tally.stepped_over > 100,
         "{:?}",
         tally.made
     );
-    assert!(rt; tally.stepped_over > 100);
-    Ok(())
-}
-
-/// Adds frames that aren't wired, each at an age.
-fn add_all(rt: &impl Abort, both: &mut Beside, frames: &[(u32, u64)]) {
-    for &(frame, age) in frames {
-        assert!(rt; both.add(frame, age, false), "frame {frame}");
-    }
-}
-
-#[test]
-fn the_first_in_is_the_victim(rt: HostRuntime) -> Result<(), Fail> {
-    let mut both = Beside::create(rt.alloc())?;
-    assert!(rt; both.used.victim() == None);
-    add_all(&rt, &mut both, &[(3, 10), (0, 11), (63, 40)]);
-    assert!(rt; both.used.victim() == Some(3));
-    assert!(rt; both.remove(&rt, 3));
-    assert!(rt; both.used.victim() == Some(0));
-    Ok(())
-}
-
-/// Gives up what a processor claims, and says the victim then.
-fn victim_without(rt: &impl Abort, both: &mut Beside, processor: u32) -> Option<u32> {
-    assert!(rt; both.unclaim(rt, processor));
-    both.used.victim()
-}
-
-#[test]
-fn claimed_frames_are_stepped_over_and_keep_their_ages(rt: HostRuntime) -> Result<(), Fail> {
-    let mut both = Beside::create(rt.alloc())?;
-    add_all(&rt, &mut both, &[(0, 0), (1, 1), (2, 2), (3, 3)]);
-    assert!(rt; both.claim(0, 4) && both.claim(1, 2));
-    assert!(rt; both.used.victim() == Some(2));
-    assert_eq!(rt; victim_without(&rt, &mut both, 2), Some(1));
-    assert_eq!(rt; victim_without(&rt, &mut both, 4), Some(0));
-    Ok(())
-}
-
-#[test]
-fn wired_frames_are_no_victims(rt: HostRuntime) -> Result<(), Fail> {
-    let mut both = Beside::create(rt.alloc())?;
-    assert!(rt; both.add(1, 0, true));
-    assert!(rt; both.used.victim() == None);
-    assert!(rt; both.add(2, 1, false) && both.add(3, 2, true));
-    assert!(rt; both.used.victim() == Some(2));
-    assert!(rt; both.remove(&rt, 2));
-    assert!(rt; both.used.victim() == None);
-    assert_eq!(rt; both.used.wired(), 2);
-    Ok(())
-}
-
-#[test]
-fn a_removed_frame_is_claimed_no_more(rt: HostRuntime) -> Result<(), Fail> {
-    let mut both = Beside::create(rt.alloc())?;
-    assert!(rt; both.add(9, 0, false) && both.claim(9, 1));
-    assert_eq!(rt; both.used.claimed_by(1), Some(9));
-    assert!(rt; both.remove(&rt, 9));
-    assert_eq!(rt; both.used.claimed_by(1), None);
-    assert!(rt; both.add(9, 5, false));
-    assert_eq!(rt; (both.used.claimed(), both.used.victim()), (0, Some(9)));
-    Ok(())
 }

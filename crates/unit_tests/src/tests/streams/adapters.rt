@@ -1,22 +1,20 @@
 //! The adapters over readers and writers in memory, and over ones that fail.
-use super::{four_reads, taken};
+use super::{given, taken};
 use io_core::{RealSink, RealSource};
-use std::alloc::{AllocError, Global};
 use std::io;
 use std::io::{Cursor, ErrorKind, Read, Write};
-use std::test::Fail;
+use std::process::Abort;
 
-/// Whether four reads into four bytes give this.
-fn gives<R: Read + Drop>(alloc: Global, reader: R, told: &[u8]) -> Result<bool, AllocError> {
+/// What three reads into four bytes give.
+fn three_reads<R: Read + Drop>(reader: R) -> [Option<[u8; 4]>; 3] {
     let mut source = RealSource::of(reader);
-    let given = four_reads(alloc, &mut source)?;
-    Ok(given.as_slice() == told)
+    [given(&mut source), given(&mut source), given(&mut source)]
 }
 
 #[test]
-fn passes_on_what_a_reader_gives(rt: HostRuntime) -> Result<(), Fail> {
-    assert!(rt; gives(rt.alloc(), Cursor::new(b"abcde"), b"abcd.e...")?);
-    Ok(())
+fn passes_on_what_a_reader_gives(rt: HostRuntime) {
+    let given = [Some(*b"abcd"), Some(*b"e\0\0\0"), Some([0; 4])];
+    assert!(rt; three_reads(Cursor::new(b"abcde")) == given);
 }
 
 /// Whether a writer of three bytes takes so many bytes of these pieces, in order, and has these bytes then.
@@ -31,14 +29,9 @@ fn takes(pieces: [&[u8]; 3], wanted: [Option<usize>; 3], bytes: &[u8; 3]) -> boo
 
 #[test]
 fn passes_on_what_a_writer_takes(rt: HostRuntime) {
-    let taken = [Some(2), Some(0), Some(1)];
-    assert!(rt; takes([b"ab", b"", b"c"], taken, b"abc"));
-}
-
-#[test]
-fn a_writer_that_takes_no_byte_has_failed(rt: HostRuntime) {
-    let taken = [Some(3), None, Some(0)];
-    assert!(rt; takes([b"abcd", b"e", b""], taken, b"abc"));
+    assert!(rt; takes([b"ab", b"", b"c"], [Some(2), Some(0), Some(1)], b"abc"));
+    // A writer that takes no byte has failed.
+    assert!(rt; takes([b"abcd", b"e", b""], [Some(3), None, Some(0)], b"abc"));
 }
 
 /// A stream that is closed.
@@ -62,8 +55,7 @@ impl Write for Closed {
 }
 
 #[test]
-fn a_closed_stream_fails_at_each_call(rt: HostRuntime) -> Result<(), Fail> {
-    assert!(rt; gives(rt.alloc(), Closed, b"!.!.!.!.")?);
+fn a_closed_stream_fails_at_each_call(rt: HostRuntime) {
+    assert!(rt; three_reads(Closed) == [None, None, None]);
     assert!(rt; taken(&mut RealSink::of(Closed), b"a").is_none());
-    Ok(())
 }

@@ -1,6 +1,7 @@
 //! Texts by the grammar and against it, whole and in pieces.
 ghost use Rattle.std.specs.Prelude.{◌<◌};
 
+use super::NO_MEMORY;
 use io_core::{MemorySource, ReadFailed, Source};
 use pager_model::{Call, Kind, Line, Rights, Trace};
 use std::process::Abort;
@@ -136,153 +137,154 @@ static LAWFUL: [(&[u8], u32, Call); 14] = [
     ),
 ];
 
-/// First lines, each with what is wrong with it.
-static FIRST_LINES: [(&[u8], LineCause); 36] = [
-    (b"", Form),
-    (b"end", Form),
-    (b"daemon 8 4", Form),
-    (b"0 load 0 8", Form),
-    (b"0 load 0 8 0", Form),
-    (b"trade 1 512 1 1", Form),
-    (b"trace 1 512 1", Form),
-    (b"trace 1 512 1 1 1", Form),
-    (b"trace 1 512 1 1 ", Form),
-    (b" trace 1 512 1 1", Form),
-    (b"trace  1 512 1 1", Form),
-    (b"trace 1 512 1 1\r", Number),
-    (b"trace 1 512 1 1 0 load 0 8", Form),
-    (b"trace x 512 1 1", Number),
-    (b"trace 01 512 1 1", Number),
-    (b"trace 0 512 1 1", Range),
-    (b"trace 2 512 1 1", Range),
-    (b"trace 1 x 1 1", Number),
-    (b"trace 1 0 1 1", Range),
-    (b"trace 1 511 1 1", Range),
-    (b"trace 1 513 1 1", Range),
-    (b"trace 1 768 1 1", Range),
-    (b"trace 1 33280 1 1", Range),
-    (b"trace 1 4294967808 1 1", Range),
-    (b"trace 1 512 x 1", Number),
-    (b"trace 1 512 0 1", Range),
-    (b"trace 1 512 17 1", Range),
-    (b"trace 1 512 1 x", Number),
-    (b"trace 1 512 1 0", Range),
-    (b"trace 1 512 1 17", Range),
-    (b"trace 1 512 1 ", Number),
-    // The leftmost place decides, behind the form.
-    (b"trace 2 500 1 1 30", Form),
-    (b"trace x 500 0 0", Number),
-    (b"trace 2 x x x", Range),
-    (b"trace 1 500 x x", Range),
-    (b"trace 1 512 0 x", Range),
-];
+/// First lines, each behind what is wrong with it. The leftmost place decides, behind the form.
+const FIRST_LINES: &str = "\
+    form: \n\
+    form: end\n\
+    form: daemon 8 4\n\
+    form: 0 load 0 8\n\
+    form: 0 load 0 8 0\n\
+    form: trade 1 512 1 1\n\
+    form: trace 1 512 1\n\
+    form: trace 1 512 1 1 1\n\
+    form: trace 1 512 1 1 \n\
+    form:  trace 1 512 1 1\n\
+    form: trace  1 512 1 1\n\
+    number: trace 1 512 1 1\r\n\
+    form: trace 1 512 1 1 0 load 0 8\n\
+    number: trace x 512 1 1\n\
+    number: trace 01 512 1 1\n\
+    range: trace 0 512 1 1\n\
+    range: trace 2 512 1 1\n\
+    number: trace 1 x 1 1\n\
+    range: trace 1 0 1 1\n\
+    range: trace 1 511 1 1\n\
+    range: trace 1 513 1 1\n\
+    range: trace 1 768 1 1\n\
+    range: trace 1 33280 1 1\n\
+    range: trace 1 4294967808 1 1\n\
+    number: trace 1 512 x 1\n\
+    range: trace 1 512 0 1\n\
+    range: trace 1 512 17 1\n\
+    number: trace 1 512 1 x\n\
+    range: trace 1 512 1 0\n\
+    range: trace 1 512 1 17\n\
+    number: trace 1 512 1 \n\
+    form: trace 2 500 1 1 30\n\
+    number: trace x 500 0 0\n\
+    range: trace 2 x x x\n\
+    range: trace 1 500 x x\n\
+    range: trace 1 512 0 x\n";
 
-/// Second lines, each with what is wrong with it.
-static CALL_LINES: [(&[u8], LineCause); 99] = [
-    // Each place of each form.
-    (b"x map 0 0 1 fixed read", Number),
-    (b"2 map 0 0 1 fixed read", Range),
-    (b"0 mop 0 0 1 fixed read", Form),
-    (b"0 map x 0 1 fixed read", Number),
-    (b"0 map 3 0 1 fixed read", Range),
-    (b"0 map 0 x 1 fixed read", Number),
-    (b"0 map 0 1048576 1 fixed read", Range),
-    (b"0 map 0 0 x fixed read", Number),
-    (b"0 map 0 0 0 fixed read", Range),
-    (b"0 map 0 0 1048577 fixed read", Range),
-    (b"0 map 0 0 1 free read", Form),
-    (b"0 map 0 0 1 fixed run", Form),
-    (b"0 map 0 0 1 fixed", Form),
-    (b"0 map 0 0 1 fixed read 0", Form),
-    (b"x grow 0 0 1", Number),
-    (b"2 grow 0 0 1", Range),
-    (b"0 grown 0 0 1", Form),
-    (b"0 grow x 0 1", Number),
-    (b"0 grow 3 0 1", Range),
-    (b"0 grow 0 x 1", Number),
-    (b"0 grow 0 1048576 1", Range),
-    (b"0 grow 0 0 x", Number),
-    (b"0 grow 0 0 0", Range),
-    (b"0 grow 0 0 1048577", Range),
-    (b"0 grow 0 0", Form),
-    (b"0 grow 0 0 1 1", Form),
-    (b"x unmap 0 0", Number),
-    (b"2 unmap 0 0", Range),
-    (b"0 Unmap 0 0", Form),
-    (b"0 unmap x 0", Number),
-    (b"0 unmap 3 0", Range),
-    (b"0 unmap 0 x", Number),
-    (b"0 unmap 0 1048576", Range),
-    (b"0 unmap 0", Form),
-    (b"0 unmap 0 0 0", Form),
-    (b"x protect 0 0 1 read", Number),
-    (b"2 protect 0 0 1 read", Range),
-    (b"0 protec 0 0 1 read", Form),
-    (b"0 protect x 0 1 read", Number),
-    (b"0 protect 3 0 1 read", Range),
-    (b"0 protect 0 x 1 read", Number),
-    (b"0 protect 0 1048576 1 read", Range),
-    (b"0 protect 0 0 x read", Number),
-    (b"0 protect 0 0 0 read", Range),
-    (b"0 protect 0 0 1048577 read", Range),
-    (b"0 protect 0 0 1 fixed", Form),
-    (b"0 protect 0 0 1", Form),
-    (b"0 protect 0 0 1 read read", Form),
-    (b"x load 0 8", Number),
-    (b"2 load 0 8", Range),
-    (b"0 lode 0 8", Form),
-    (b"0 load x 8", Number),
-    (b"0 load 3 8", Range),
-    (b"0 load 0 x", Number),
-    (b"0 load 0 4", Range),
-    (b"0 load 0 8589934592", Range),
-    (b"0 load 0 18446744073709551616", Number),
-    (b"0 load 0", Form),
-    (b"0 load 0 8 8", Form),
-    (b"x store 0 8 1", Number),
-    (b"2 store 0 8 1", Range),
-    (b"0 stor 0 8 1", Form),
-    (b"0 store x 8 1", Number),
-    (b"0 store 3 8 1", Range),
-    (b"0 store 0 x 1", Number),
-    (b"0 store 0 12 1", Range),
-    (b"0 store 0 8589934592 1", Range),
-    (b"0 store 0 8 x", Number),
-    (b"0 store 0 8 18446744073709551616", Number),
-    (b"0 store 0 8 100000000000000000000", Number),
-    (b"0 store 0 8", Form),
-    (b"0 store 0 8 1 1", Form),
-    (b"x sync 0 0", Number),
-    (b"0 sync 3 0", Range),
-    (b"0 sync 0 1048576", Range),
-    (b"0 sync 0", Form),
-    (b"x evict 0 0", Number),
-    (b"0 evict 3 0", Range),
-    (b"0 evict 0 1048576", Range),
-    (b"0 evict 0 0 0", Form),
-    // The leftmost place decides, behind the form.
-    (b"9 map x 0 0 fixed run", Form),
-    (b"9 map x 0 0 fixed read", Range),
-    (b"x map 9 0 0 fixed read", Number),
-    (b"0 store 0 x 18446744073709551616", Number),
-    // Lines that may not stand there, and words of lines in the place of a processor.
-    (b"trace 1 512 2 3", Form),
-    (b"daemon 8 4", Form),
-    (b"daemon 1 1 1", Form),
-    (b"daemon load 0 8", Number),
-    (b"end load 0 8", Number),
-    (b"end 0", Form),
-    // Empty words, and bytes that stand in no word.
-    (b"", Form),
-    (b"0  load 0 8", Form),
-    (b" load 0 8", Number),
-    (b"0 load  8", Number),
-    (b"0 load 0 ", Number),
-    (b"end ", Form),
-    (b"0 load 0 \xff", Number),
-    (b"0 load\x00 0 8", Form),
-    (b"+0 load 0 08", Number),
-];
+/// Each place of each form.
+const PLACES: &str = "\
+    number: x map 0 0 1 fixed read\n\
+    range: 2 map 0 0 1 fixed read\n\
+    form: 0 mop 0 0 1 fixed read\n\
+    number: 0 map x 0 1 fixed read\n\
+    range: 0 map 3 0 1 fixed read\n\
+    number: 0 map 0 x 1 fixed read\n\
+    range: 0 map 0 1048576 1 fixed read\n\
+    number: 0 map 0 0 x fixed read\n\
+    range: 0 map 0 0 0 fixed read\n\
+    range: 0 map 0 0 1048577 fixed read\n\
+    form: 0 map 0 0 1 free read\n\
+    form: 0 map 0 0 1 fixed run\n\
+    form: 0 map 0 0 1 fixed\n\
+    form: 0 map 0 0 1 fixed read 0\n\
+    number: x grow 0 0 1\n\
+    range: 2 grow 0 0 1\n\
+    form: 0 grown 0 0 1\n\
+    number: 0 grow x 0 1\n\
+    range: 0 grow 3 0 1\n\
+    number: 0 grow 0 x 1\n\
+    range: 0 grow 0 1048576 1\n\
+    number: 0 grow 0 0 x\n\
+    range: 0 grow 0 0 0\n\
+    range: 0 grow 0 0 1048577\n\
+    form: 0 grow 0 0\n\
+    form: 0 grow 0 0 1 1\n\
+    number: x unmap 0 0\n\
+    range: 2 unmap 0 0\n\
+    form: 0 Unmap 0 0\n\
+    number: 0 unmap x 0\n\
+    range: 0 unmap 3 0\n\
+    number: 0 unmap 0 x\n\
+    range: 0 unmap 0 1048576\n\
+    form: 0 unmap 0\n\
+    form: 0 unmap 0 0 0\n\
+    number: x protect 0 0 1 read\n\
+    range: 2 protect 0 0 1 read\n\
+    form: 0 protec 0 0 1 read\n\
+    number: 0 protect x 0 1 read\n\
+    range: 0 protect 3 0 1 read\n\
+    number: 0 protect 0 x 1 read\n\
+    range: 0 protect 0 1048576 1 read\n\
+    number: 0 protect 0 0 x read\n\
+    range: 0 protect 0 0 0 read\n\
+    range: 0 protect 0 0 1048577 read\n\
+    form: 0 protect 0 0 1 fixed\n\
+    form: 0 protect 0 0 1\n\
+    form: 0 protect 0 0 1 read read\n\
+    number: x load 0 8\n\
+    range: 2 load 0 8\n\
+    form: 0 lode 0 8\n\
+    number: 0 load x 8\n\
+    range: 0 load 3 8\n\
+    number: 0 load 0 x\n\
+    range: 0 load 0 4\n\
+    range: 0 load 0 8589934592\n\
+    number: 0 load 0 18446744073709551616\n\
+    form: 0 load 0\n\
+    form: 0 load 0 8 8\n\
+    number: x store 0 8 1\n\
+    range: 2 store 0 8 1\n\
+    form: 0 stor 0 8 1\n\
+    number: 0 store x 8 1\n\
+    range: 0 store 3 8 1\n\
+    number: 0 store 0 x 1\n\
+    range: 0 store 0 12 1\n\
+    range: 0 store 0 8589934592 1\n\
+    number: 0 store 0 8 x\n\
+    number: 0 store 0 8 18446744073709551616\n\
+    number: 0 store 0 8 100000000000000000000\n\
+    form: 0 store 0 8\n\
+    form: 0 store 0 8 1 1\n\
+    number: x sync 0 0\n\
+    range: 0 sync 3 0\n\
+    range: 0 sync 0 1048576\n\
+    form: 0 sync 0\n\
+    number: x evict 0 0\n\
+    range: 0 evict 3 0\n\
+    range: 0 evict 0 1048576\n\
+    form: 0 evict 0 0 0\n";
+
+/// The leftmost place decides, behind the form.
+const LEFTMOST: &str = "\
+    form: 9 map x 0 0 fixed run\n\
+    range: 9 map x 0 0 fixed read\n\
+    number: x map 9 0 0 fixed read\n\
+    number: 0 store 0 x 18446744073709551616\n";
+
+/// Lines that may not stand there, and words of lines in the place of a processor.
+const MISPLACED: &str = "\
+    form: trace 1 512 2 3\n\
+    form: daemon 8 4\n\
+    form: daemon 1 1 1\n\
+    number: daemon load 0 8\n\
+    number: end load 0 8\n\
+    form: end 0\n";
+
+/// Empty words, and bytes that stand in no word.
+const BYTES: &str = "\
+    form: \n\
+    form: 0  load 0 8\n\
+    number:  load 0 8\n\
+    number: 0 load  8\n\
+    number: 0 load 0 \n\
+    form: end \n\
+    form: 0 load\x00 0 8\n\
+    number: +0 load 0 08\n";
 
 /// Texts without an end.
 static ENDLESS: [&[u8]; 7] = [
@@ -296,12 +298,13 @@ static ENDLESS: [&[u8]; 7] = [
 ];
 
 /// Texts, each with the number of the line at fault and what is wrong with it.
-static TEXTS: [(&[u8], u64, LineCause); 13] = [
+static TEXTS: [(&[u8], u64, LineCause); 14] = [
     (b"\n", 1, Form),
     (b"\ntrace 1 512 1 1\nend\n", 1, Form),
     (b"trace 1 512 1 1\n\nend\n", 2, Form),
     (b"trace 1 512 1 1\n0 load 0 8end\n", 2, Number),
     (b"trace 1 512 1 1\n0 load 0 x\n", 2, Number),
+    (b"trace 1 512 2 3\n0 load 0 \xff\nend\n", 2, Number),
     (
         b"trace 1 512 1 1\n0 map 0 0 8 fixed read\n1 load 0 0\n",
         3,
@@ -391,9 +394,6 @@ fn line(number: u64, cause: LineCause) -> TraceFault {
     TraceFault::Line { number, cause }
 }
 
-/// What is said where there is no memory for a test.
-const NO_MEMORY: &str = "no memory";
-
 /// A source of a text that gives at most so many bytes a read, and fails at one read; none is read 0.
 fn source_of<R: Abort + AllocGlobal>(
     rt: &R,
@@ -440,14 +440,16 @@ fn trace_of<R: Abort + AllocGlobal>(rt: &R, words: &[u8]) -> Trace {
 /// A trace of two processors and three spaces has this line alone.
 fn assert_has<R: Abort + AllocGlobal>(rt: &R, trace: &Trace, line: Line) {
     let numbers = (trace.frames(), trace.processors(), trace.spaces());
-    assert_eq!(rt; numbers, (512, 2, 3));
-    assert_eq!(rt; trace.daemon(), None);
-    assert_eq!(rt; trace.calls(), [line].as_slice());
+    assert!(rt; numbers == (512, 2, 3) && trace.daemon().is_none());
+    assert!(rt; trace.calls() == [line].as_slice());
 }
 
-/// What is wrong with a text that is there as a whole.
-fn fault_of<R: Abort + AllocGlobal>(rt: &R, text: &[u8]) -> Option<TraceFault> {
-    parse(rt.alloc(), text).err()
+/// How many calls a text has that is there as a whole.
+fn calls_in<R: Abort + AllocGlobal>(rt: &R, text: &[u8]) -> Result<usize, TraceFault> {
+    match parse(rt.alloc(), text) {
+        Ok(trace) => Ok(trace.calls().len()),
+        Err(fault) => Err(fault),
+    }
 }
 
 #[test]
@@ -456,51 +458,66 @@ fn reads_each_form_to_the_ends_of_its_ranges(rt: HostRuntime) {
         let (processor, call) = (*processor, *call);
         assert_has(&rt, &trace_of(&rt, words), Line { processor, call });
     }
-    assert_eq!(rt; fault_of(&rt, b"trace 1 512 1 1\nend\n"), None);
-    assert_eq!(rt; fault_of(&rt, b"trace 1 32768 16 16\nend\n"), None);
+    assert!(rt; calls_in(&rt, b"trace 1 512 1 1\nend\n") == Ok(0));
+    assert!(rt; calls_in(&rt, b"trace 1 32768 16 16\nend\n") == Ok(0));
+}
+
+/// What is wrong with a line, and the line.
+fn read_row(row: &str) -> (LineCause, &str) {
+    let (cause, line) = row.split_once(": ").unwrap_or(("", row));
+    let cause = match cause {
+        "form" => Form,
+        "number" => Number,
+        "range" => Range,
+        _ => After,
+    };
+    (cause, line)
 }
 
 /// Each of these lines is at fault behind the first ones, which make it the line of this number.
-fn assert_lines_at_fault<R: Abort + AllocGlobal>(
-    rt: &R,
-    first: &[u8],
-    number: u64,
-    lines: &[(&[u8], LineCause)],
-) {
-    for (words, cause) in lines {
-        let fault = fault_in(rt, &between(rt, first, words, END), 4096);
-        assert_eq!(rt; fault, Some(line(number, *cause)), "{words:?}");
-    }
-}
-
-fn assert_texts_at_fault<R: Abort + AllocGlobal>(rt: &R) {
-    for (text, number, cause) in &TEXTS {
-        let fault = fault_in(rt, text, 1);
-        assert_eq!(rt; fault, Some(line(*number, *cause)), "{text:?}");
-    }
-}
-
-fn assert_texts_without_an_end<R: Abort + AllocGlobal>(rt: &R) {
-    for text in &ENDLESS {
-        let fault = fault_in(rt, text, 1);
-        assert_eq!(rt; fault, Some(TraceFault::NoEnd), "{text:?}");
+fn assert_lines_at_fault<R: Abort + AllocGlobal>(rt: &R, first: &[u8], number: u64, rows: &str) {
+    for row in rows.split_terminator("\n") {
+        let (cause, words) = read_row(row);
+        let fault = fault_in(rt, &between(rt, first, words.as_bytes(), END), 4096);
+        assert!(rt; fault == Some(line(number, cause)), "{row}");
     }
 }
 
 #[test]
-fn tells_the_first_line_at_fault_and_its_leftmost_place(rt: HostRuntime) {
-    assert_lines_at_fault(&rt, b"", 1, &FIRST_LINES);
-    assert_lines_at_fault(&rt, FIRST, 2, &CALL_LINES);
-    assert_texts_at_fault(&rt);
-    assert_texts_without_an_end(&rt);
+fn tells_the_leftmost_place_at_fault(rt: HostRuntime) {
+    assert_lines_at_fault(&rt, b"", 1, FIRST_LINES);
+    assert_lines_at_fault(&rt, FIRST, 2, PLACES);
+    assert_lines_at_fault(&rt, FIRST, 2, LEFTMOST);
+    assert_lines_at_fault(&rt, FIRST, 2, MISPLACED);
+    assert_lines_at_fault(&rt, FIRST, 2, BYTES);
+}
+
+#[test]
+fn tells_the_first_line_at_fault(rt: HostRuntime) {
+    for (text, number, cause) in &TEXTS {
+        let fault = fault_in(&rt, text, 1);
+        assert!(rt; fault == Some(line(*number, *cause)), "{text:?}");
+    }
+}
+
+#[test]
+fn misses_an_end(rt: HostRuntime) {
+    for text in &ENDLESS {
+        assert!(rt;
+            fault_in(&rt, text, 1) == Some(TraceFault::NoEnd),
+            "{text:?}"
+        );
+    }
 }
 
 #[test]
 fn misses_the_end_of_a_text_cut_anywhere(rt: HostRuntime) {
-    assert_eq!(rt; fault_of(&rt, WHOLE), None);
+    assert!(rt; calls_in(&rt, WHOLE) == Ok(8));
     for end in 0..WHOLE.len() {
-        let fault = fault_of(&rt, &WHOLE[..end]);
-        assert_eq!(rt; fault, Some(TraceFault::NoEnd), "at {end}");
+        assert!(rt;
+            calls_in(&rt, &WHOLE[..end]) == Err(TraceFault::NoEnd),
+            "at {end}"
+        );
     }
 }
 
@@ -516,17 +533,16 @@ fn longest_text<R: Abort + AllocGlobal>(rt: &R) -> Vec<u8> {
 #[test]
 fn takes_as_many_bytes_as_a_text_may_have(rt: HostRuntime) {
     let mut text = longest_text(&rt);
-    assert_eq!(rt; fault_in(&rt, &text, 4096), Some(line(2, Form)));
+    assert!(rt; fault_in(&rt, &text, 4096) == Some(line(2, Form)));
     push(&rt, &mut text, b"\n");
-    assert_eq!(rt; fault_in(&rt, &text, 4096), Some(TraceFault::TooLong));
+    assert!(rt; fault_in(&rt, &text, 4096) == Some(TraceFault::TooLong));
 }
 
 #[test]
 fn makes_as_many_reads_as_a_text_may_have_bytes_and_one_more(rt: HostRuntime) {
     let mut endless = Endless { reads: 0 };
     let fault = read_trace(rt.alloc(), &mut endless).err();
-    assert_eq!(rt; fault, Some(TraceFault::TooLong));
-    assert_eq!(rt; endless.reads, 16_777_217);
+    assert!(rt; fault == Some(TraceFault::TooLong) && endless.reads == 16_777_217);
 }
 
 /// A first line and as many calls as a trace may have.
@@ -540,21 +556,15 @@ fn full_text<R: Abort + AllocGlobal>(rt: &R) -> Vec<u8> {
     text
 }
 
-/// How many calls the trace of a text has.
-fn calls_in<R: Abort + AllocGlobal>(rt: &R, text: &[u8]) -> Option<usize> {
-    let trace = parse(rt.alloc(), text).ok()?;
-    Some(trace.calls().len())
-}
-
 #[test]
 fn takes_as_many_calls_as_a_trace_may_have(rt: HostRuntime) {
     let full = full_text(&rt);
-    let all = calls_in(&rt, &between(&rt, &full, b"end", b""));
-    assert_eq!(rt; all, Some(MAX_CALLS));
-    let more = fault_of(&rt, &between(&rt, &full, b"0 load 0 0", b"bad\n"));
-    assert_eq!(rt; more, Some(TraceFault::TooManyCalls));
-    let bad = fault_of(&rt, &between(&rt, &full, b"0 load 0 1", b"0 load 0 0\n"));
-    assert_eq!(rt; bad, Some(line(262_146, Range)));
+    let whole = calls_in(&rt, &between(&rt, &full, b"end", b""));
+    assert!(rt; whole == Ok(MAX_CALLS));
+    let more = calls_in(&rt, &between(&rt, &full, b"0 load 0 0", b"bad\n"));
+    assert!(rt; more == Err(TraceFault::TooManyCalls));
+    let bad = calls_in(&rt, &between(&rt, &full, b"0 load 0 1", b"0 load 0 0\n"));
+    assert!(rt; bad == Err(line(262_146, Range)));
 }
 
 /// What is told where one read of a text with a bad line fails.
@@ -568,7 +578,7 @@ fn fault_where_fails<R: Abort + AllocGlobal>(rt: &R, failing: u64) -> Option<Tra
 fn passes_a_failed_read_on(rt: HostRuntime) {
     for failing in 1..=6 {
         let fault = fault_where_fails(&rt, failing);
-        assert_eq!(rt; fault, Some(TraceFault::ReadFault), "at read {failing}");
+        assert!(rt; fault == Some(TraceFault::ReadFault), "at read {failing}");
     }
 }
 
@@ -576,6 +586,6 @@ fn passes_a_failed_read_on(rt: HostRuntime) {
 fn says_what_is_wrong(rt: HostRuntime) {
     for (fault, message) in &MESSAGES {
         let said = format!(in rt.alloc(); "{fault}").expect(&rt, NO_MEMORY);
-        assert_eq!(rt; said.as_str(), *message);
+        assert!(rt; said.as_str() == *message, "{message}");
     }
 }
