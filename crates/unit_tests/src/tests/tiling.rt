@@ -264,9 +264,11 @@ fn goes_alike(both: &mut Beside, alloc: Global, random: &mut Generator) -> Resul
     let before = tiles(alloc, &both.pages)?;
     let moves = both.change(random);
     let after = tiles(alloc, &both.pages)?;
-    Ok(both.is_alike(&after)
-        && are_moves(&moves, &before, &after)
-        && keeps_outside(&moves, &before, &after))
+    Ok(
+        both.is_alike(&after)
+            && are_moves(&moves, &before, &after)
+            && keeps_outside(&moves, &before, &after),
+    )
 }
 
 /// Whether the base has as many tiles as a scan finds, of each size and below page 900.
