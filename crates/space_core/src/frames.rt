@@ -36,9 +36,13 @@ pub fn set_words(frame: &mut Frame, words: &[u64])
     }
 }
 
-/// Whether each word is zero.
+/// Whether each word is zero. It looks at all of them, since without an earlier way out several are looked at at once.
 fn are_zero(words: &[u64]) -> bool
     ensures { result ≡ true → words.now ≡ replicate (length words.now) 0 }
 {
-    words.iter().all(|word| *word == 0)
+    let mut bits = 0;
+    for word in words {
+        bits |= *word;
+    }
+    bits == 0
 }

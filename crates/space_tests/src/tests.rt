@@ -95,7 +95,8 @@ fn begun(
     reads: &[u64],
     writes: &[u64],
 ) -> Result<(Space<MemoryStore>, Vec<Frame>), Fail>
-    requires { (SPARE ≤ frames) × (frames ≤ 32768) }
+    requires number { number < 16 }
+    requires frames { (SPARE ≤ frames) × (frames ≤ 32768) }
     ensures number { IfOk result (λ made. made.0.number ≡ number) }
     ensures spare { IfOk result (λ made. HasSpare made.0 made.1.items) }
 {
