@@ -102,9 +102,7 @@ fn set_copy(
     match copies.get_mut(&page) {
         Some(room) => room.set(copy),
         None => {
-            let mut room = Room::create(alloc)?;
-            room.set(copy);
-            copies.insert(page, room)?;
+            copies.insert(page, Room::of(alloc, copy)?)?;
         }
     }
     Ok(())

@@ -1,6 +1,6 @@
 //! The room for a copy of one page.
 
-ghost use Rattle.std.specs.Prelude.{◌≡◌, length, None, Some, IfOk, IfSome};
+ghost use Rattle.std.specs.Prelude.{◌≡◌, length, IfOk, IfSome};
 ghost use Rattle.std.specs.Option.{option_copied};
 
 use pager_model::NoMemory;
@@ -28,13 +28,18 @@ impl Model for Room {
 }
 
 impl Room {
-    /// Room for a copy, which is unknown so far.
-    pub(super) fn create(alloc: Global) -> Result<Room, NoMemory>
-        ensures { IfOk result (λ room. room ≡ None) }
+    /// Room for these words, or for words that are unknown so far.
+    pub(super) fn of(alloc: Global, copy: Option<&[u64]>) -> Result<Room, NoMemory>
+        requires count { IfSome copy (λ words. length words.now ≡ 1024) }
+        ensures { IfOk result (λ room. room ≡ option_copied copy.entry) }
     {
+        let words = match copy {
+            Some(words) => words.to_vec(alloc)?,
+            None => vec![in alloc; 0; WORDS]?,
+        };
         Ok(Room {
-            words: vec![in alloc; 0; WORDS]?,
-            is_known: false,
+            words,
+            is_known: copy.is_some(),
         })
     }
 
