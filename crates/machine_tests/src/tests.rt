@@ -12,29 +12,36 @@ mod walks;
 
 use io_core::MemorySource;
 use pager_model::Trace;
-use std::alloc::{AllocError, Global};
-use std::test::Fail;
+use std::alloc::Global;
+use std::process::Abort;
 use trace_reader::read_trace;
 
+/// What is said where there is no memory for a test.
+const NO_MEMORY: &str = "no memory";
+
+/// Adds a piece of text.
+fn put(rt: &impl Abort, text: &mut String, piece: &str) {
+    text.push_str(piece).expect(rt, NO_MEMORY)
+}
+
 /// Adds lines that stand one behind another.
-fn put_lines(text: &mut String, lines: &str) -> Result<(), AllocError> {
+fn put_lines(rt: &impl Abort, text: &mut String, lines: &str) {
     for line in lines.split_terminator("; ") {
-        text.push_str(line)?;
-        text.push_str("\n")?;
+        put(rt, text, line);
+        put(rt, text, "\n");
     }
-    Ok(())
 }
 
 /// The trace of a text.
-fn read_text(alloc: Global, text: &str) -> Result<Trace, Fail> {
-    let bytes = text.as_bytes().to_vec(alloc)?;
+fn read_text(rt: &impl Abort, alloc: Global, text: &str) -> Trace {
+    let bytes = text.as_bytes().to_vec(alloc).expect(rt, NO_MEMORY);
     let mut source = MemorySource::of(bytes, 4096, Vec::new(alloc));
-    Ok(read_trace(alloc, &mut source)?)
+    read_trace(alloc, &mut source).ok().expect(rt, "no trace")
 }
 
 /// The trace of these lines.
-fn trace_of(alloc: Global, lines: &str) -> Result<Trace, Fail> {
+fn trace_of(rt: &impl Abort, alloc: Global, lines: &str) -> Trace {
     let mut text = String::new(alloc);
-    put_lines(&mut text, lines)?;
-    read_text(alloc, text.as_str())
+    put_lines(rt, &mut text, lines);
+    read_text(rt, alloc, &text)
 }
