@@ -1,5 +1,5 @@
 -- A run that was made and written, or of whose text a part was written.
-use Rattle.std.proofs.Common.{◌≡◌, ℕ, ◌⊎◌, inl, inr, List, Vec, map, Option, Some, None, ap, subst, ◌∙◌, rules, arith}
+use Rattle.std.proofs.Common.{◌≡◌, ℕ, ◌⊎◌, inl, inr, List, Vec, map, Option, Some, None, ap, subst, rules, arith}
 use Rattle.std.specs.Borrow.{Bor}
 use Rattle.std.specs.declared.alloc.Global.{Global}
 use Rattle.io_core.specs.Faults.{Rose}
@@ -14,7 +14,7 @@ use Rattle.report_text.specs.declared.report.Parts.{Parts}
 use Rattle.report_text.specs.Parts.{has_history}
 use Rattle.report_text.specs.Written.{WroteAll, WrotePart}
 use Rattle.pager_command.specs.declared.form.Form.{Form}
-use Rattle.pager_command.specs.declared.running.Outcome.{Outcome}
+use Rattle.pager_command.specs.declared.outcome.Outcome.{Outcome}
 use Rattle.pager_command.specs.declared.status.TheConstants.{DONE, WRITE_FAULT}
 use Rattle.pager_command.specs.Forms.{AreWords, ComesBy, parts_of}
 use Rattle.pager_command.specs.Runs.{RunsBy, WasRead, run_text}

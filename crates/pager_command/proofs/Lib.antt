@@ -3,3 +3,5 @@ pub mod Completeness
 mod OneForm
 mod PrintedRuns
 mod FormRuns
+mod LargeRuns
+mod Results

@@ -1,12 +1,14 @@
--- Words are of one form.
-use Rattle.std.proofs.Common.{◌≡◌, ℕ, List, [], decimal, get_or, sym, ap, refl, ◌∙◌, arith}
+-- Words are of one command, and of one form of it.
+use Rattle.std.proofs.Common.{◌≡◌, ℕ, ◌<◌, ◌^◌, List, [], decimal, get_or, sym, ap, refl, ◌∙◌, arith}
 use Rattle.std.proofs.lemmas.Fmt.{decimal_injective}
 use Rattle.std.specs.Borrow.{Bor}
 use Rattle.report_text.specs.declared.report.Parts.{Parts}
 use Rattle.report_text.specs.declared.report.Parts.TheVariants.{Answers, AnswersAndHistory}
 use Rattle.pager_command.specs.declared.form.Form.{Form}
 use Rattle.pager_command.specs.declared.form.Form.TheVariants.{Order, Turns, Replay}
-use Rattle.pager_command.specs.Forms.{AreWords, HasSeed, parts_words, words_of}
+use Rattle.pager_command.specs.declared.form.Making.{Making}
+use Rattle.pager_command.specs.Forms.{AreLargeWords, AreMakingWords, AreWords, HasSeed, IsForm, large_words, making_words, parts_words, words_of}
+use Rattle.trace_make.specs.Made.{CanMake}
 
 one_parts : (p q : Parts) → parts_words p ≡ parts_words q → p ≡ q
 one_parts Answers Answers same = refl
@@ -45,3 +47,67 @@ same_form (Replay p) (Turns n q) seed other same letters = absurd (omega (arith,
 
 pub one_form : (words : List (Bor (List ℕ))) (a b : Form) → AreWords words a → AreWords words b → a ≡ b
 one_form words a b is also = (let same = sym is.are ∙ also.are in same_form a b is.seed also.seed same (one_letter a b same))
+
+-- The words of the other commands begin with letters of their own.
+abbrev first_letter : List (List ℕ) → ℕ
+first_letter ws = get_or (get_or ws 0 []) 0 0
+
+later : (form : Form) → 109 < letter form
+later (Order parts) = omega arith
+later (Turns seed parts) = omega arith
+later (Replay parts) = omega arith
+
+pub making_is_no_form : (words : List (Bor (List ℕ))) (m : Making) → AreMakingWords words m → IsForm words → ⊥
+making_is_no_form words m is form =
+    let same : 109 ≡ letter form.0 = ap first_letter (sym is.are ∙ form.1.are) ∙ begins form.0 in
+    omega (arith, same, later form.0)
+
+pub large_is_no_form : (words : List (Bor (List ℕ))) (number seed : ℕ) → AreLargeWords words number seed → IsForm words → ⊥
+large_is_no_form words number seed is form =
+    let same : 108 ≡ letter form.0 = ap first_letter (sym is.are ∙ form.1.are) ∙ begins form.0 in
+    omega (arith, same, later form.0)
+
+pub making_is_not_large : (words : List (Bor (List ℕ))) (m : Making) (number seed : ℕ) → AreMakingWords words m → AreLargeWords words number seed → ⊥
+making_is_not_large words m number seed is large =
+    let same : 109 ≡ 108 = ap first_letter (sym is.are ∙ large.are) in
+    omega (arith, same)
+
+-- digits are of one number
+one_number : (m n : ℕ) → m < 2 ^ 32 → n < 2 ^ 32 → decimal m ≡ decimal n → m ≡ n
+one_number m n below other = decimal_injective m n (omega (arith, below)) (omega (arith, other))
+
+-- what can be made has numbers of at most 32 bits
+pub below_32_bits : (calls processors spaces frames : ℕ) → CanMake calls processors spaces frames → (calls < 2 ^ 32) × (processors < 2 ^ 32) × (spaces < 2 ^ 32) × (frames < 2 ^ 32)
+below_32_bits calls processors spaces frames can =
+    (omega (arith, can.calls_in.1), omega (arith, can.processors_in.1), omega (arith, can.spaces_in.1), omega (arith, can.frames_in.1))
+
+abbrev making_of : (number calls processors spaces frames : ℕ) → Making
+making_of number calls processors spaces frames =
+    record { number = number; calls = calls; processors = processors; spaces = spaces; frames = frames }
+
+-- the same words ask for the same trace
+pub same_making : (a b : Making) → a.number < 2 ^ 64 → b.number < 2 ^ 64 → a.calls < 2 ^ 32 → a.processors < 2 ^ 32 → a.spaces < 2 ^ 32 → a.frames < 2 ^ 32 → CanMake b.calls b.processors b.spaces b.frames → making_words a ≡ making_words b → a ≡ b
+same_making a b number also calls processors spaces frames can same =
+    let below = below_32_bits b.calls b.processors b.spaces b.frames can in
+    let at : (i : ℕ) → get_or (making_words a) i [] ≡ get_or (making_words b) i [] = λ i. ap (λ (ws : List (List ℕ)). get_or ws i []) same in
+    let number_is : a.number ≡ b.number = decimal_injective a.number b.number number also (at 1) in
+    let calls_are : a.calls ≡ b.calls = one_number a.calls b.calls calls below.0 (at 2) in
+    let processors_are : a.processors ≡ b.processors = one_number a.processors b.processors processors below.1 (at 3) in
+    let spaces_are : a.spaces ≡ b.spaces = one_number a.spaces b.spaces spaces below.2 (at 4) in
+    let frames_are : a.frames ≡ b.frames = one_number a.frames b.frames frames below.3 (at 5) in
+    ap (λ n. making_of n a.calls a.processors a.spaces a.frames) number_is
+    ∙ ap (λ n. making_of b.number n a.processors a.spaces a.frames) calls_are
+    ∙ ap (λ n. making_of b.number b.calls n a.spaces a.frames) processors_are
+    ∙ ap (λ n. making_of b.number b.calls b.processors n a.frames) spaces_are
+    ∙ ap (making_of b.number b.calls b.processors b.spaces) frames_are
+
+pub one_making : (words : List (Bor (List ℕ))) (a b : Making) → AreMakingWords words a → AreMakingWords words b → a ≡ b
+one_making words a b is also =
+    let below = below_32_bits a.calls a.processors a.spaces a.frames is.can in
+    same_making a b is.number also.number below.0 below.1 below.2 below.3 also.can (sym is.are ∙ also.are)
+
+-- the same words ask for the same number and seed
+pub one_large : (words : List (Bor (List ℕ))) (number seed number' seed' : ℕ) → AreLargeWords words number seed → AreLargeWords words number' seed' → (number ≡ number') × (seed ≡ seed')
+one_large words number seed number' seed' is also =
+    let at : (i : ℕ) → get_or (large_words number seed) i [] ≡ get_or (large_words number' seed') i [] = λ i. ap (λ (ws : List (List ℕ)). get_or ws i []) (sym is.are ∙ also.are) in
+    (decimal_injective number number' is.number_in also.number_in (at 1), decimal_injective seed seed' is.seed_in also.seed_in (at 2))

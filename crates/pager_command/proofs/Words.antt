@@ -1,10 +1,11 @@
 -- Words one by one.
-use Rattle.std.proofs.Common.{◌≡◌, ℕ, ◌-◌, ◌<◌, ◌≤◌, Bool, IsTrue, List, [], ◌∷◌, length, take, drop, get_or, ap, sym, ◌∙◌, arith}
+use Rattle.std.proofs.Common.{◌≡◌, ℕ, ◌-◌, ◌<◌, ◌≤◌, Bool, IsTrue, List, [], ◌∷◌, decimal, length, take, drop, get_or, ap, sym, ◌∙◌, arith}
 use Rattle.std.specs.Borrow.{Bor}
 use Rattle.std.specs.Str.{bytes_eq}
 use Rattle.std.specs.Cmp.Lexicographic.{bytes_decides}
-use Rattle.std.proofs.lemmas.List.{take_all}
-use Rattle.pager_command.specs.Forms.{are_of}
+use Rattle.std.proofs.lemmas.List.{get_or-map, take_all}
+use Rattle.pager_command.specs.declared.form.Making.{Making}
+use Rattle.pager_command.specs.Forms.{AreMakingWords, are_of}
 
 -- a list of one word is this word exactly where the word's bytes are equal
 pub one_word : (words : List (Bor (List ℕ))) (d : Bor (List ℕ)) (text : List ℕ) (b : Bool) → 1 ≤ length words → length words < 2 → b ≡ bytes_eq (get_or words 0 d).now text → (IsTrue b → are_of words ≡ text ∷ []) × (are_of words ≡ text ∷ [] → IsTrue b)
@@ -30,3 +31,27 @@ two_words (w ∷ x ∷ ws) d e first second b rest some is holds same then =
     ap (λ (l : List ℕ). l ∷ x.now ∷ are_of ws) ((bytes_decides w.now first).0 (sym is ∙ holds))
     ∙ ap (λ (l : List ℕ). first ∷ l ∷ are_of ws) same
     ∙ ap (λ (ls : List (List ℕ)). first ∷ second ∷ ls) (ap are_of (sym all) ∙ then)
+
+-- three words: the bytes of the first are equal to these, and the others are these
+pub three_words : (words : List (Bor (List ℕ))) (d : Bor (List ℕ)) (first second third : List ℕ) (b : Bool) → 3 ≤ length words → length words < 4 → b ≡ bytes_eq (get_or words 0 d).now first → IsTrue b → (get_or words 1 d).now ≡ second → (get_or words 2 d).now ≡ third → are_of words ≡ first ∷ second ∷ third ∷ []
+three_words [] d first second third b some few is holds then last = absurd (omega arith)
+three_words (v ∷ []) d first second third b some few is holds then last = absurd (omega arith)
+three_words (v ∷ w ∷ []) d first second third b some few is holds then last = absurd (omega arith)
+three_words (v ∷ w ∷ x ∷ []) d first second third b some few is holds then last = (let equal = (bytes_decides v.now first).0 (sym is ∙ holds) in cc)
+three_words (v ∷ w ∷ x ∷ y ∷ ws) d first second third b some few is holds then last = absurd (omega arith)
+
+-- and six
+pub six_words : (words : List (Bor (List ℕ))) (d : Bor (List ℕ)) (first second third fourth fifth sixth : List ℕ) (b : Bool) → 6 ≤ length words → length words < 7 → b ≡ bytes_eq (get_or words 0 d).now first → IsTrue b → (get_or words 1 d).now ≡ second → (get_or words 2 d).now ≡ third → (get_or words 3 d).now ≡ fourth → (get_or words 4 d).now ≡ fifth → (get_or words 5 d).now ≡ sixth → are_of words ≡ first ∷ second ∷ third ∷ fourth ∷ fifth ∷ sixth ∷ []
+six_words [] d first second third fourth fifth sixth b some few is holds at1 at2 at3 at4 at5 = absurd (omega arith)
+six_words (u ∷ []) d first second third fourth fifth sixth b some few is holds at1 at2 at3 at4 at5 = absurd (omega arith)
+six_words (u ∷ v ∷ []) d first second third fourth fifth sixth b some few is holds at1 at2 at3 at4 at5 = absurd (omega arith)
+six_words (u ∷ v ∷ w ∷ []) d first second third fourth fifth sixth b some few is holds at1 at2 at3 at4 at5 = absurd (omega arith)
+six_words (u ∷ v ∷ w ∷ x ∷ []) d first second third fourth fifth sixth b some few is holds at1 at2 at3 at4 at5 = absurd (omega arith)
+six_words (u ∷ v ∷ w ∷ x ∷ y ∷ []) d first second third fourth fifth sixth b some few is holds at1 at2 at3 at4 at5 = absurd (omega arith)
+six_words (u ∷ v ∷ w ∷ x ∷ y ∷ z ∷ []) d first second third fourth fifth sixth b some few is holds at1 at2 at3 at4 at5 = (let equal = (bytes_decides u.now first).0 (sym is ∙ holds) in cc)
+six_words (u ∷ v ∷ w ∷ x ∷ y ∷ z ∷ t ∷ ws) d first second third fourth fifth sixth b some few is holds at1 at2 at3 at4 at5 = absurd (omega arith)
+
+-- the last of the words that ask for a trace to be made
+pub frames_word : (words : List (Bor (List ℕ))) (d : Bor (List ℕ)) (m : Making) → 6 ≤ length words → AreMakingWords words m → (get_or words 5 d).now ≡ decimal m.frames
+frames_word words d m some is =
+    sym (get_or-map (λ (w : Bor (List ℕ)). w.now) words 5 d [] (omega (arith, some))) ∙ ap (λ (ws : List (List ℕ)). get_or ws 5 []) is.are

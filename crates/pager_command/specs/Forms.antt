@@ -1,4 +1,4 @@
--- The forms of the program's words.
+-- The forms of the program's words: three that read a trace, and two that make one.
 use Rattle.std.specs.Prelude.{ℕ, ◌≡◌, ◌^◌, ◌<◌, List, [], ◌∷◌, map, codes, decimal}
 use Rattle.std.specs.Borrow.{Bor}
 use Rattle.pager_model.specs.declared.entry.Entry.{Entry}
@@ -9,6 +9,10 @@ use Rattle.report_text.specs.declared.report.Parts.{Parts}
 use Rattle.report_text.specs.declared.report.Parts.TheVariants.{Answers, AnswersAndHistory}
 use Rattle.pager_command.specs.declared.form.Form.{Form}
 use Rattle.pager_command.specs.declared.form.Form.TheVariants.{Order, Turns, Replay}
+use Rattle.pager_command.specs.declared.form.Making.{Making}
+use Rattle.pager_command.specs.declared.form.Command.{Command}
+use Rattle.pager_command.specs.declared.form.Command.TheVariants.{Run, Make, Large}
+use Rattle.trace_make.specs.Made.{CanMake}
 
 -- the words that ask for the parts, behind those of an order
 abbrev pub parts_words : Parts → List (List ℕ)
@@ -58,3 +62,40 @@ abbrev pub ComesBy : Form → Plan → List Entry → Type 0
 ComesBy (Order parts) plan history = IsFiled plan.calls history
 ComesBy (Turns seed parts) plan history = IsSeeded plan seed history
 ComesBy (Replay parts) plan history = Unit {0}
+
+-- the words that ask for a trace to be made: the number that it is made from, and how many calls, processors, spaces and frames it has
+abbrev pub making_words : Making → List (List ℕ)
+making_words m =
+    codes "make" ∷ decimal m.number ∷ decimal m.calls ∷ decimal m.processors ∷ decimal m.spaces ∷ decimal m.frames ∷ []
+
+-- the words that ask for a large trace to be made from a number and run in turns that are drawn from a seed
+abbrev pub large_words : (number seed : ℕ) → List (List ℕ)
+large_words number seed = codes "large" ∷ decimal number ∷ decimal seed ∷ []
+
+-- The words ask for this trace to be made, and it can be.
+pub record AreMakingWords (words : List (Bor (List ℕ))) (m : Making) : Type 0 where
+  pub are : are_of words ≡ making_words m
+  pub number : m.number < 2 ^ 64
+  pub can : CanMake m.calls m.processors m.spaces m.frames
+
+-- The words ask for the large trace of this number to be run in turns that are drawn from this seed.
+pub record AreLargeWords (words : List (Bor (List ℕ))) (number seed : ℕ) : Type 0 where
+  pub are : are_of words ≡ large_words number seed
+  pub number_in : number < 2 ^ 64
+  pub seed_in : seed < 2 ^ 64
+
+abbrev pub IsMaking : List (Bor (List ℕ)) → Type 0
+IsMaking words = (m : Making) × AreMakingWords words m
+
+abbrev pub IsLarge : List (Bor (List ℕ)) → Type 0
+IsLarge words = (number : ℕ) × (seed : ℕ) × AreLargeWords words number seed
+
+-- the words are of this command
+abbrev pub AreOfCommand : List (Bor (List ℕ)) → Command → Type 0
+AreOfCommand words (Run form) = AreWords words form
+AreOfCommand words (Make m) = AreMakingWords words m
+AreOfCommand words (Large number seed) = AreLargeWords words number seed
+
+-- the words are of some command
+abbrev pub IsCommand : List (Bor (List ℕ)) → Type 0
+IsCommand words = (command : Command) × AreOfCommand words command

@@ -13,7 +13,7 @@ use Rattle.replay_core.specs.Replays.{IsReplay}
 use Rattle.report_text.specs.Parts.{has_history}
 use Rattle.report_text.specs.Written.{WroteAll, WrotePart}
 use Rattle.pager_command.specs.declared.form.Form.{Form}
-use Rattle.pager_command.specs.declared.running.Outcome.{Outcome}
+use Rattle.pager_command.specs.declared.outcome.Outcome.{Outcome}
 use Rattle.pager_command.specs.declared.status.TheConstants.{DONE, USAGE, REFUSED, READ_FAULT, MEMORY, WRITE_FAULT}
 use Rattle.pager_command.specs.Forms.{parts_of, ComesBy}
 use Rattle.trace_reader.specs.declared.fault.TraceFault.{TraceFault}

@@ -1,13 +1,31 @@
 //! The forms of the program's words.
 
-ghost use Rattle.std.specs.Prelude.{◌≡◌, ◌≢◌, ℕ, ◌^◌, ◌<◌, IfSome, IfNone, decimal};
+ghost use Rattle.std.specs.Prelude.{◌≡◌, ◌≢◌, ℕ, ◌^◌, ◌<◌, ◌↔◌, IsTrue, IfSome, IfNone, decimal};
 ghost use Rattle.report_text.specs.declared.report.Parts.{Parts as Printed};
-ghost use Rattle.pager_command.specs.Forms.{AreWords, IsForm, are_of, parts_of, parts_words};
+ghost use Rattle.pager_command.specs.Forms.{AreLargeWords, AreMakingWords, AreOfCommand, AreWords, IsCommand, IsForm, IsLarge, IsMaking, are_of, parts_of, parts_words};
+ghost use Rattle.trace_make.specs.Made.{CanMake};
 
 use itoa::Buffer;
 use report_text::Parts;
 
-/// What the program is asked to do, and which parts of the run it prints before the counts.
+/// The most frames of a trace.
+const MOST_FRAMES: u32 = 32_768;
+
+/// The most calls of a trace.
+const MOST_CALLS: u32 = 262_144;
+
+/// What the program is asked to do.
+#[derive(Clone, Copy)]
+pub enum Command {
+    /// To read a trace and run it.
+    Run(Form),
+    /// To make a trace and write its text.
+    Make(Making),
+    /// To make a large trace from this number, run it in turns that are drawn from this seed, and print the counts.
+    Large { number: u64, seed: u64 },
+}
+
+/// In which order the trace that is read is run, and which parts of the run are printed before the counts.
 #[derive(Clone, Copy, Debug, PartialEq, Eq)]
 pub enum Form {
     /// To run a trace in the order of its lines.
@@ -26,6 +44,78 @@ impl Form {
         match *self {
             Form::Order { parts } | Form::Turns { parts, .. } | Form::Replay { parts } => parts,
         }
+    }
+}
+
+/// The number that a trace is made from, and how many calls, processors, spaces and frames it has.
+#[derive(Clone, Copy)]
+pub struct Making {
+    pub number: u64,
+    pub calls: u32,
+    pub processors: u32,
+    pub spaces: u32,
+    pub frames: u32,
+}
+
+impl Making {
+    /// There is such a trace.
+    fn is_possible(&self) -> bool
+        ensures { IsTrue result ↔ CanMake self.now.calls self.now.processors self.now.spaces self.now.frames }
+    {
+        (512..=MOST_FRAMES).contains(&self.frames)
+            && self.frames % 512 == 0
+            && (1..=16).contains(&self.processors)
+            && (1..=16).contains(&self.spaces)
+            && (self.spaces..=MOST_CALLS).contains(&self.calls)
+    }
+}
+
+/// What the words ask for, where they are of a command.
+pub fn command_of(words: &[&str]) -> Option<Command>
+    ensures some { IfSome result (AreOfCommand words.now) }
+    ensures none { IfNone result (IsCommand words.now → ⊥) }
+{
+    if let Some(form) = form_of(words) {
+        return Some(Command::Run(form));
+    }
+    if let Some(making) = making_of(words) {
+        return Some(Command::Make(making));
+    }
+    let (number, seed) = large_of(words)?;
+    Some(Command::Large { number, seed })
+}
+
+/// The trace that the words ask to be made, where they do.
+fn making_of(words: &[&str]) -> Option<Making>
+    ensures some { IfSome result (AreMakingWords words.now) }
+    ensures none { IfNone result (IsMaking words.now → ⊥) }
+{
+    match words {
+        [word, number, calls, processors, spaces, frames] if *word == "make" => {
+            let making = Making {
+                number: number_of(number)?,
+                calls: small_number_of(calls)?,
+                processors: small_number_of(processors)?,
+                spaces: small_number_of(spaces)?,
+                frames: small_number_of(frames)?,
+            };
+            if !making.is_possible() {
+                return None;
+            }
+            Some(making)
+        }
+        _ => None,
+    }
+}
+
+/// The number and the seed of the large trace that the words ask to be run, where they do.
+fn large_of(words: &[&str]) -> Option<(u64, u64)>
+    ensures some { IfSome result (λ pair. AreLargeWords words.now pair.0 pair.1) }
+    ensures none { IfNone result (IsLarge words.now → ⊥) }
+{
+    match words {
+        [word, number, seed] if *word == "large" => Some((number_of(number)?, number_of(seed)?)),
+        _ => None,
     }
 }
 
@@ -73,5 +163,16 @@ fn number_of(word: &str) -> Option<u64>
     if buffer.format(number) != word {
         return None;
     }
+    Some(number)
+}
+
+/// The number of at most 32 bits whose decimal digits the word is, where it is one's.
+fn small_number_of(word: &str) -> Option<u32>
+    ensures some { IfSome result (λ number. word.now ≡ decimal number) }
+    ensures none { IfNone result ((number : ℕ) → number < 2 ^ 32 → word.now ≢ decimal number) }
+{
+    let Ok(number) = u32::try_from(number_of(word)?) else {
+        return None;
+    };
     Some(number)
 }

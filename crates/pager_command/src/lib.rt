@@ -2,8 +2,11 @@
 #![tactic(auto)]
 
 mod form;
+mod making;
+mod outcome;
 mod running;
 mod status;
 
-pub use running::{Outcome, run};
+pub use outcome::Outcome;
+pub use running::run;
 pub use status::{DONE, MEMORY, READ_FAULT, REFUSED, USAGE, WRITE_FAULT, message_of, unread_words};

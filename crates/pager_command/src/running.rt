@@ -1,6 +1,6 @@
 //! A run of the program, from the bytes read to the bytes written.
 
-ghost use Rattle.std.specs.Prelude.{◌≡◌, ◌≢◌, ◌<◌, ◌≤◌, ◌⊎◌, [], None, Some, IfOk, IfErr, IfSome, IsSomeAnd, length, map};
+ghost use Rattle.std.specs.Prelude.{ℕ, ◌≡◌, ◌≢◌, ◌<◌, ◌≤◌, ◌⊎◌, [], None, Some, IfOk, IfErr, IfSome, IsSomeAnd, length, map};
 ghost use Rattle.io_core.specs.Faults.{Rose};
 ghost use Rattle.pager_model.specs.Legal.{entries_in};
 ghost use Rattle.pager_model.specs.PrintedText.{out_text};
@@ -8,13 +8,17 @@ ghost use Rattle.replay_core.specs.Replays.{IsReplay, AreItsCounts};
 ghost use Rattle.report_text.specs.Parts.{has_history};
 ghost use Rattle.report_text.specs.Written.{WroteAll, WrotePart};
 ghost use Rattle.pager_command.specs.declared.form.Form.{Form as Asked};
-ghost use Rattle.pager_command.specs.Forms.{AreWords, IsForm, IsInTurns, ComesBy};
+ghost use Rattle.pager_command.specs.declared.form.Making.{Making as ToMake};
+ghost use Rattle.pager_command.specs.Forms.{AreLargeWords, AreMakingWords, AreWords, IsCommand, IsForm, IsInTurns, ComesBy};
+ghost use Rattle.pager_command.specs.MadeRuns.{MakesText, RunsLarge};
 ghost use Rattle.pager_command.specs.Runs.{IsRunnable, IsRefused, IsStatus, IsStopped, IsTold, RunsBy, WasText, WasRead, run_text, status_of};
 
-use crate::form::{Form, form_of};
+use crate::form::{Command, Form, command_of};
+use crate::making::{run_large, write_made};
+use crate::outcome::{Outcome, status_of_write, stopped};
 use crate::status::{DONE, MEMORY, READ_FAULT, REFUSED, USAGE, WRITE_FAULT};
-use io_core::{Sink, Source, WriteFailed};
-use pager_model::{Numbered, Trace};
+use io_core::{Sink, Source};
+use pager_model::Trace;
 use replay_core::{Gathered, replay, replay_file_order, replay_turns};
 use report_text::{Parts, write_report};
 use std::alloc::Global;
@@ -23,24 +27,9 @@ use std::thread::Threads;
 use store_core::Store;
 use trace_reader::{TraceFault, read_trace};
 
-/// How a run ended.
-#[derive(Drop)]
-pub struct Outcome<S: Store + Send + Drop> {
-    /// The program's exit status: one of this crate's constants.
-    pub status: u8,
-    /// Why no trace was run, where none was: for want of memory only where the reader had none.
-    pub refusal: Option<TraceFault>,
-    /// The trace, where it was run.
-    pub trace: Option<Trace>,
-    /// The history of its run.
-    pub history: Vec<Numbered>,
-    /// The stores that were handed in, in their order.
-    pub stores: Vec<S>,
-}
-
 /// Runs the program with these words over these backing stores, of which each space uses the one of its number: it reads a trace to the end
 /// of the source, runs it in the order that the words' form says, and writes the answers, where the form asks for it the history, and the counts to
-/// the sink.
+/// the sink. Or, by words that read nothing, it makes a trace from a number and writes its text, or runs the large one and writes the counts.
 ///
 /// The handle is for the form `replay` alone, which starts threads and waits for locks: nothing is proved of when such a run returns. A run
 /// of any other form is made by a function that takes no handle, and so is proved to return.
@@ -55,9 +44,9 @@ pub fn run<T: Source, K: Sink, S: Store + Send + Drop, R: Threads + Wait + Sync>
     ensures statuses { IsStatus result.status }
     ensures told { IsTold result.status result.refusal }
 
-    // The words are of no form: nothing was read or written.
-    ensures form { IsForm words.now → result.status ≢ USAGE }
-    ensures usage { (IsForm words.now → ⊥) → result.status ≡ USAGE }
+    // The words are of no command: nothing was read or written.
+    ensures command { IsCommand words.now → result.status ≢ USAGE }
+    ensures usage { (IsCommand words.now → ⊥) → result.status ≡ USAGE }
     ensures unread { result.status ≡ USAGE → source.new ≡ source.old }
 
     // Where no run was made nothing was written, and the stores are as they were.
@@ -66,10 +55,10 @@ pub fn run<T: Source, K: Sink, S: Store + Send + Drop, R: Threads + Wait + Sync>
     ensures same_stores { result.status ≢ DONE → result.status ≢ WRITE_FAULT → map S.seen result.stores.items ≡ map S.seen stores.items }
 
     // The bytes are refused as they should be; a read failed; a write failed; the reader had memory.
-    ensures refused { result.status ≡ REFUSED → IfSome (T.left source.old) (λ bytes. IsSomeAnd result.refusal (IsRefused (length stores.items) bytes)) }
+    ensures refused { IsForm words.now → result.status ≡ REFUSED → IfSome (T.left source.old) (λ bytes. IsSomeAnd result.refusal (IsRefused (length stores.items) bytes)) }
     ensures read_fault { result.status ≡ READ_FAULT → Rose (T.faults source.old) (T.faults source.new) }
     ensures write_fault { result.status ≡ WRITE_FAULT → Rose (K.faults sink.old) (K.faults sink.new) }
-    ensures memory { result.status ≡ MEMORY → result.refusal ≡ None → WasText (T.left source.old) (T.left source.new) }
+    ensures memory { IsForm words.now → result.status ≡ MEMORY → result.refusal ≡ None → WasText (T.left source.old) (T.left source.new) }
 
     // Words of a form, the text of a trace and stores enough give a run, unless there is no memory or a read or a write fails.
     ensures complete { IsForm words.now → IsSomeAnd (T.left source.old) (IsRunnable (length stores.items))
@@ -77,8 +66,8 @@ pub fn run<T: Source, K: Sink, S: Store + Send + Drop, R: Threads + Wait + Sync>
         → (Rose (K.faults sink.old) (K.faults sink.new) → ⊥)
         → (result.status ≡ DONE) ⊎ (result.status ≡ MEMORY) }
 
-    // A run that is done, and one whose text was written in part.
-    ensures trace { (result.status ≡ DONE) ⊎ (result.status ≡ WRITE_FAULT)
+    // A run of a form that is done, and one whose text was written in part.
+    ensures trace { IsForm words.now → (result.status ≡ DONE) ⊎ (result.status ≡ WRITE_FAULT)
         → IsSomeAnd result.trace (λ trace. WasRead trace (T.left source.old) (T.left source.new)
         × IsReplay trace (map S.seen stores.items) result.history.items (map S.seen result.stores.items)) }
     ensures ordered { (form : Asked) → AreWords words.now form → (result.status ≡ DONE) ⊎ (result.status ≡ WRITE_FAULT)
@@ -87,13 +76,23 @@ pub fn run<T: Source, K: Sink, S: Store + Send + Drop, R: Threads + Wait + Sync>
         WroteAll (run_text form trace (map S.seen stores.items) result.history.items) (K.taken sink.old) (K.taken sink.new)) }
     ensures part { (form : Asked) → AreWords words.now form → result.status ≡ WRITE_FAULT → IfSome result.trace (λ trace.
         WrotePart (run_text form trace (map S.seen stores.items) result.history.items) (K.taken sink.old) (K.taken sink.new)) }
+
+    // A trace that is made from a number, and not read.
+    ensures makes { (m : ToMake) → AreMakingWords words.now m
+        → (source.new ≡ source.old) × MakesText K.taken K.faults S.seen m sink.old sink.new stores.items result }
+    ensures large { (number seed : ℕ) → AreLargeWords words.now number seed
+        → (source.new ≡ source.old) × RunsLarge K.taken K.faults S.seen number seed sink.old sink.new stores.items result }
 {
-    let Some(form) = form_of(words) else {
+    let Some(command) = command_of(words) else {
         return stopped(alloc, USAGE, None, stores);
     };
-    match form {
-        Form::Replay { parts } => run_in_threads(rt, alloc, parts, source, sink, stores),
-        _ => run_in_turns(alloc, form, source, sink, stores),
+    match command {
+        Command::Run(Form::Replay { parts }) => {
+            run_in_threads(rt, alloc, parts, source, sink, stores)
+        }
+        Command::Run(form) => run_in_turns(alloc, form, source, sink, stores),
+        Command::Make(making) => write_made(alloc, making, sink, stores),
+        Command::Large { number, seed } => run_large(alloc, number, seed, sink, stores),
     }
 }
 
@@ -136,28 +135,6 @@ fn run_in_threads<T: Source, K: Sink, S: Store + Send + Drop, R: Threads + Wait 
     match replay(rt, alloc, &trace, stores) {
         Ok(gathered) => write_run(sink, trace, gathered, parts),
         Err(stores) => stopped(alloc, MEMORY, None, stores),
-    }
-}
-
-/// An outcome without a run.
-fn stopped<S: Store + Send + Drop>(
-    alloc: Global,
-    status: u8,
-    refusal: Option<TraceFault>,
-    stores: Vec<S>,
-) -> Outcome<S>
-    ensures status { result.status ≡ status }
-    ensures refusal { result.refusal ≡ refusal }
-    ensures trace { result.trace ≡ None }
-    ensures history { result.history.items ≡ [] }
-    ensures stores { result.stores ≡ stores }
-{
-    Outcome {
-        status,
-        refusal,
-        trace: None,
-        history: Vec::new(alloc),
-        stores,
     }
 }
 
@@ -252,12 +229,8 @@ fn write_run<K: Sink, S: Store + Send + Drop>(
         &summary,
         parts,
     );
-    let status = match wrote {
-        Ok(()) => DONE,
-        Err(WriteFailed) => WRITE_FAULT,
-    };
     Outcome {
-        status,
+        status: status_of_write(wrote),
         refusal: None,
         trace: Some(trace),
         history,

@@ -1,4 +1,4 @@
-//! The whole text of a run: its answers, the history where it is asked for, and the counts.
+//! The whole text of a run: its answers, the history where it is asked for, and the counts; and the counts alone.
 #![tactic(auto)]
 
 mod entry_words;
@@ -8,5 +8,5 @@ mod summary_lines;
 mod writing;
 
 pub use line::Line;
-pub use report::{Parts, write_report};
+pub use report::{Parts, write_report, write_summary};
 pub use writing::Room;

@@ -3,7 +3,7 @@
 ghost use Rattle.std.specs.Prelude.{◌≡◌, if◌then◌else◌, [], ◌∷◌, OnOk, OnErr};
 ghost use Rattle.io_core.specs.Faults.{Rose};
 ghost use Rattle.pager_model.specs.Legal.{entries_in};
-ghost use Rattle.pager_model.specs.PrintedText.{answers_of, answers_text, history_text, out_text};
+ghost use Rattle.pager_model.specs.PrintedText.{answers_of, answers_text, history_text, out_text, summary_text};
 ghost use Rattle.report_text.specs.Parts.{has_history};
 ghost use Rattle.report_text.specs.Writing.{Puts, outgoing};
 ghost use Rattle.report_text.specs.Written.{WroteAll, WrotePart};
@@ -40,6 +40,18 @@ pub fn write_report<K: Sink>(
     put_report(&mut room, sink, processors, history, summary, parts)
 }
 
+/// Writes the counts alone. After a failed write the sink has taken a beginning of their text.
+///
+/// It takes no memory.
+pub fn write_summary<K: Sink>(sink: &mut K, summary: &Summary) -> Result<(), WriteFailed>
+    ensures whole { OnOk result (WroteAll (summary_text summary.now) (K.taken sink.old) (K.taken sink.new)) }
+    ensures part { OnErr result (WrotePart (summary_text summary.now) (K.taken sink.old) (K.taken sink.new)) }
+    ensures rose { OnErr result (Rose (K.faults sink.old) (K.faults sink.new)) }
+{
+    let mut room = Room::new();
+    put_summary(&mut room, sink, summary)
+}
+
 /// Puts the whole report, and sends it.
 fn put_report<K: Sink>(
     room: &mut Room,
@@ -57,6 +69,17 @@ fn put_report<K: Sink>(
 {
     put_answers(room, sink, processors, history)?;
     put_history(room, sink, parts, history)?;
+    put_summary(room, sink, summary)
+}
+
+/// Puts the counts, and sends what waits.
+fn put_summary<K: Sink>(room: &mut Room, sink: &mut K, summary: &Summary) -> Result<(), WriteFailed>
+    ensures puts { Puts result
+        (outgoing (K.taken sink.old) (K.faults sink.old) room.old.bytes.items)
+        (outgoing (K.taken sink.new) (K.faults sink.new) room.new.bytes.items)
+        (summary_text summary.now) }
+    ensures empty { OnOk result (room.new.bytes.items ≡ []) }
+{
     room.put_lines(sink, &summary_lines(summary))?;
     room.send(sink)
 }

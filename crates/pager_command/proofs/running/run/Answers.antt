@@ -1,26 +1,56 @@
+use Rattle.std.proofs.Common.{refl, subst}
+use Rattle.pager_command.specs.declared.form.Command.TheVariants.{Run, Make, Large}
+use Rattle.pager_command.specs.Forms.{AreLargeWords, AreMakingWords, AreOfCommand, AreWords}
 use Rattle.pager_command.proofs.FormRuns.{RunsBy-words}
+use Rattle.pager_command.proofs.LargeRuns.{MakesText-words, RunsLarge-words}
+use Rattle.pager_command.proofs.OneForm.{large_is_no_form, making_is_no_form}
 use Rattle.pager_command.proofs.running.run.Goals as goal
 
-pub returns-in_default-form : goal.returns-in_default-form
-returns-in_default-form g c =
+pub returns-in_default-clause-complete : goal.returns-in_default-clause-complete
+returns-in_default-clause-complete g c = λ form. absurd (c.in_default.ensures.none (Run form.0, form.1))
+
+pub returns-in_default-clause-makes : goal.returns-in_default-clause-makes
+returns-in_default-clause-makes g c = λ m is. absurd (c.in_default.ensures.none (Make m, is))
+
+pub returns-in_default-clause-large : goal.returns-in_default-clause-large
+returns-in_default-clause-large g c = λ number seed is. absurd (c.in_default.ensures.none (Large number seed, is))
+
+pub returns-in-Run : goal.returns-in-Run
+returns-in-Run g c =
     let ran = c.run_in_turns.ensures in
-    let words = c.in-Some.ensures.some in
+    let words = c.args.words.now in
+    let form = c.in-Run.form in
+    let are : AreWords words form = subst (AreOfCommand words) c.in-Run.is c.in-Some.ensures.some in
     record {
       statuses = ran.statuses;
       told = ran.told;
-      form = λ _. ran.no_usage;
-      usage = λ none. absurd (none (c.in-Some.form, words));
+      command = λ _. ran.no_usage;
+      usage = λ none. absurd (none (Run form, are));
       unread = λ is. absurd (ran.no_usage is);
       unwritten = ran.unwritten;
       no_trace = ran.no_trace;
       same_stores = ran.same_stores;
-      refused = ran.refused;
+      refused = λ _. ran.refused;
       read_fault = ran.read_fault;
       write_fault = ran.write_fault;
-      memory = ran.memory;
+      memory = λ _. ran.memory;
       complete = λ _. ran.complete;
-      trace = ran.trace;
-      ordered = λ form is. (RunsBy-words c.args.words.now form words is ran).ordered;
-      wrote = λ form is. (RunsBy-words c.args.words.now form words is ran).wrote;
-      part = λ form is. (RunsBy-words c.args.words.now form words is ran).part;
+      trace = λ _. ran.trace;
+      ordered = λ other is. (RunsBy-words words other are is ran).ordered;
+      wrote = λ other is. (RunsBy-words words other are is ran).wrote;
+      part = λ other is. (RunsBy-words words other are is ran).part;
+      makes = λ m is. absurd (making_is_no_form words m is (form, are));
+      large = λ number seed is. absurd (large_is_no_form words number seed is (form, are));
     }
+
+pub returns-in-Make-clause-makes : goal.returns-in-Make-clause-makes
+returns-in-Make-clause-makes g c = λ m is.
+    let words = c.args.words.now in
+    let are : AreMakingWords words c.in-Make.making = subst (AreOfCommand words) c.in-Make.is c.in-Some.ensures.some in
+    (refl, MakesText-words words m are is c.write_made.ensures)
+
+pub returns-in-Large-clause-large : goal.returns-in-Large-clause-large
+returns-in-Large-clause-large g c = λ number seed is.
+    let words = c.args.words.now in
+    let are : AreLargeWords words c.in-Large.number c.in-Large.seed = subst (AreOfCommand words) c.in-Large.is c.in-Some.ensures.some in
+    (refl, RunsLarge-words words number seed are is c.run_large.ensures)

@@ -1,17 +1,13 @@
-use Rattle.std.proofs.Common.{sym, arith}
+use Rattle.std.proofs.Common.{sym}
+use Rattle.pager_command.proofs.Results.{of_ok, of_err}
 use Rattle.pager_command.proofs.running.write_run.Goals as goal
-use Rattle.pager_command.proofs.running.write_run.Goals.{in-Ok, in-Err}
 
 pub returns-clause-wrote : goal.returns-clause-wrote
 returns-clause-wrote g c = λ is.
-    elim c.match-wrote.branch [
-      | in-Ok w ↦ rw (sym c.processors.ensures.processors) (rw (sym c.as_slice.ensures.value) w.in-Ok.ensures.whole)
-      | in-Err w ↦ absurd (omega (arith, is, w.status-is))
-    ]
+    rw (sym c.processors.ensures.processors)
+    (rw (sym c.as_slice.ensures.value) (of_ok c.write_report-wrote.result (c.status_of_write.ensures.done is) c.write_report-wrote.ensures.whole))
 
 pub returns-clause-part : goal.returns-clause-part
 returns-clause-part g c = λ is.
-    elim c.match-wrote.branch [
-      | in-Ok w ↦ absurd (omega (arith, is, w.status-is))
-      | in-Err w ↦ rw (sym c.processors.ensures.processors) (rw (sym c.as_slice.ensures.value) w.in-Err.ensures.part)
-    ]
+    rw (sym c.processors.ensures.processors)
+    (rw (sym c.as_slice.ensures.value) (of_err c.write_report-wrote.result (c.status_of_write.ensures.failed is) c.write_report-wrote.ensures.part))

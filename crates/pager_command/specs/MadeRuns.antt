@@ -1,0 +1,74 @@
+-- What the commands that make a trace promise.
+use Rattle.std.specs.Prelude.{ℕ, ◌≡◌, ◌≢◌, ◌<◌, ◌≤◌, ◌⊎◌, List, [], length, map, Option, Some, None}
+use Rattle.io_core.specs.Faults.{Rose}
+use Rattle.pager_model.specs.declared.entry.Numbered.{Numbered}
+use Rattle.pager_model.specs.Counts.{counts}
+use Rattle.pager_model.specs.Legal.{entries_in}
+use Rattle.pager_model.specs.Plans.{Plan}
+use Rattle.pager_model.specs.PrintedText.{summary_text}
+use Rattle.pager_model.specs.Stored.{Stored}
+use Rattle.pager_model.specs.Stores.{setting_over}
+use Rattle.pager_model.specs.TraceText.{text_of}
+use Rattle.pager_model.specs.TurnOrders.{IsSeeded}
+use Rattle.replay_core.specs.Replays.{IsReplay}
+use Rattle.report_text.specs.Written.{WroteAll, WrotePart}
+use Rattle.trace_make.specs.Made.{made}
+use Rattle.trace_reader.specs.declared.fault.TraceFault.TheVariants.{TooFewStores}
+use Rattle.pager_command.specs.declared.form.Making.{Making}
+use Rattle.pager_command.specs.declared.outcome.Outcome.{Outcome}
+use Rattle.pager_command.specs.declared.status.TheConstants.{DONE, REFUSED, MEMORY, WRITE_FAULT}
+
+-- the text of the trace that is to be made
+abbrev pub made_text : Making → List ℕ
+made_text m = text_of (made m.number m.calls m.processors m.spaces m.frames)
+
+-- the large trace of a number: 100,000 calls of four processors on four spaces, over 8,192 frames
+unfoldable pub large_trace : ℕ → Plan
+large_trace number = made number 100000 4 4 8192
+
+-- the counts of the history of a trace over stores
+abbrev pub counts_text : Plan → List Stored → List Numbered → List ℕ
+counts_text plan stores history = summary_text (counts (setting_over plan stores) (entries_in history))
+
+-- What making a trace and writing its text promises. A sink tells its bytes by `taken` and its faults by `writes`, and a store itself by
+-- `seen`.
+pub record MakesText {K P : Type 0} (taken : K → Option (List ℕ)) (writes : K → ℕ) (seen : P → Stored) (m : Making) (sink sink' : K) (stores : List P) (outcome : Outcome P) : Type 0 where
+  -- it is done, there was no memory, or a write failed
+  pub statuses : (outcome.status ≡ DONE) ⊎ ((outcome.status ≡ MEMORY) ⊎ (outcome.status ≡ WRITE_FAULT))
+  -- unless a write fails, it is done or there was no memory
+  pub complete : (Rose (writes sink) (writes sink') → ⊥) → (outcome.status ≡ DONE) ⊎ (outcome.status ≡ MEMORY)
+  -- no trace was run or refused
+  pub no_run : (outcome.trace ≡ None) × (outcome.history.items ≡ []) × (outcome.refusal ≡ None)
+  -- the stores are as they were
+  pub same_stores : map seen outcome.stores.items ≡ map seen stores
+  -- the sink has gained the text
+  pub wrote : outcome.status ≡ DONE → WroteAll (made_text m) (taken sink) (taken sink')
+  -- the sink failed, and has gained a beginning of the text
+  pub part : outcome.status ≡ WRITE_FAULT → WrotePart (made_text m) (taken sink) (taken sink')
+  pub write_fault : outcome.status ≡ WRITE_FAULT → Rose (writes sink) (writes sink')
+  -- there was no memory, and nothing was written
+  pub unwritten : outcome.status ≡ MEMORY → sink' ≡ sink
+
+-- What making the large trace, running it in drawn turns and writing the counts promises.
+pub record RunsLarge {K P : Type 0} (taken : K → Option (List ℕ)) (writes : K → ℕ) (seen : P → Stored) (number seed : ℕ) (sink sink' : K) (stores : List P) (outcome : Outcome P) : Type 0 where
+  -- it is done, there were too few stores or no memory, or a write failed
+  pub statuses : (outcome.status ≡ DONE) ⊎ ((outcome.status ≡ REFUSED) ⊎ ((outcome.status ≡ MEMORY) ⊎ (outcome.status ≡ WRITE_FAULT)))
+  -- with a store for each space, and unless a write fails, it is done or there was no memory
+  pub complete : 4 ≤ length stores → (Rose (writes sink) (writes sink') → ⊥) → (outcome.status ≡ DONE) ⊎ (outcome.status ≡ MEMORY)
+  -- it is refused exactly where there are fewer stores
+  pub few : length stores < 4 → outcome.status ≡ REFUSED
+  pub refused : outcome.status ≡ REFUSED → (length stores < 4) × (outcome.refusal ≡ Some (TooFewStores (length stores) 4))
+  pub no_refusal : outcome.status ≢ REFUSED → outcome.refusal ≡ None
+  -- where no run was made nothing was written, and the stores are as they were
+  pub unwritten : outcome.status ≢ DONE → outcome.status ≢ WRITE_FAULT → sink' ≡ sink
+  pub no_trace : outcome.status ≢ DONE → outcome.status ≢ WRITE_FAULT → (outcome.trace ≡ None) × (outcome.history.items ≡ [])
+  pub same_stores : outcome.status ≢ DONE → outcome.status ≢ WRITE_FAULT → map seen outcome.stores.items ≡ map seen stores
+  -- a run that was made is of the large trace, in the turns of the seed
+  pub trace : (outcome.status ≡ DONE) ⊎ (outcome.status ≡ WRITE_FAULT) → outcome.trace ≡ Some (large_trace number)
+  pub run : (outcome.status ≡ DONE) ⊎ (outcome.status ≡ WRITE_FAULT) → IsReplay (large_trace number) (map seen stores) outcome.history.items (map seen outcome.stores.items)
+  pub seeded : (outcome.status ≡ DONE) ⊎ (outcome.status ≡ WRITE_FAULT) → IsSeeded (large_trace number) seed (entries_in outcome.history.items)
+  -- the sink has gained the counts of that run
+  pub wrote : outcome.status ≡ DONE → WroteAll (counts_text (large_trace number) (map seen stores) outcome.history.items) (taken sink) (taken sink')
+  -- the sink failed, and has gained a beginning of them
+  pub part : outcome.status ≡ WRITE_FAULT → WrotePart (counts_text (large_trace number) (map seen stores) outcome.history.items) (taken sink) (taken sink')
+  pub write_fault : outcome.status ≡ WRITE_FAULT → Rose (writes sink) (writes sink')
