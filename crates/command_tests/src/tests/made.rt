@@ -21,7 +21,11 @@ const UNREADABLE: Setup = Setup {
 };
 
 /// Runs words that read nothing; the source has no bytes, and would fail.
-fn assert_wrote<R: Abort + AllocGlobal + Threads + Wait + Sync>(rt: &R, words: &[&str], text: &[u8]) {
+fn assert_wrote<R: Abort + AllocGlobal + Threads + Wait + Sync>(
+    rt: &R,
+    words: &[&str],
+    text: &[u8],
+) {
     let ending = ran(rt, words, b"", UNREADABLE);
     assert_eq!(rt; ending.status, DONE);
     assert_eq!(rt; ending.refusal, None);
@@ -127,15 +131,4 @@ fn a_large_run_prints_its_counts_and_reads_nothing(rt: HostRuntime) {
     assert_eq!(rt; ending.calls, Some(100_000));
     assert_eq!(rt; ending.stores, 4);
     assert_eq!(rt; ending.printed(), COUNTS);
-}
-
-#[test]
-fn a_sink_that_fails_has_a_beginning_of_the_counts(rt: HostRuntime) {
-    let setup = Setup {
-        stores: 4,
-        limit: 9,
-        ..UNREADABLE
-    };
-    let ending = ran(&rt, &["large", "7", "3"], b"", setup);
-    assert_cut(&rt, &ending, COUNTS, 9);
 }
