@@ -3,6 +3,7 @@
 mod failing;
 mod frames;
 mod large;
+mod made;
 mod runs;
 mod statuses;
 mod takings;
