@@ -4,7 +4,7 @@ ghost use Rattle.std.specs.Prelude.{◌≡◌, ◌≢◌, ◌<◌, ◌≤◌, �
 ghost use Rattle.tiles.specs.Resident.{mapping_at, frames_in, frame_of_page};
 
 use super::{NO_MEMORY, size};
-use pager_model::{Extent, Generator, Mapping, NoMemory, Rights, Size, Tile};
+use pager_model::{Extent, Generator, Mapping, NoMemory, PageRange, Rights, Size, Tile};
 use std::alloc::Global;
 use std::process::Abort;
 use tiles::{Base, Moves};
