@@ -1,5 +1,5 @@
 -- A run that was made and written, or of whose text a part was written.
-use Rattle.std.proofs.Common.{◌≡◌, ℕ, ◌⊎◌, inl, inr, List, Vec, map, Option, Some, None, ap, subst, rules, arith}
+use Rattle.std.proofs.Common.{◌≡◌, ℕ, ◌≤◌, ◌⊎◌, inl, inr, List, Vec, length, map, Option, Some, None, ap, subst, rules, arith}
 use Rattle.std.specs.Borrow.{Bor}
 use Rattle.std.specs.declared.alloc.Global.{Global}
 use Rattle.io_core.specs.Faults.{Rose}
@@ -27,14 +27,14 @@ module _ {T K P : Type 0} (left : T → Option (List ℕ)) (reads : T → ℕ) (
   text_is parts asked history counted =
       run_text-gathered form plan (map seen stores) parts gathered.history.items outcome.history.items gathered.summary asked counted (ap (λ (v : Vec Numbered Global). v.items) history)
 
-  pub RunsBy-written : (parts : Parts) → parts ≡ parts_of form → WasRead plan (left source) (left source')
+  pub RunsBy-written : (parts : Parts) → parts ≡ parts_of form → WasRead plan (left source) (left source') → plan.spaces ≤ length stores
       → IsReplay plan (map seen stores) gathered.history.items (map seen gathered.stores.items) → ComesBy form plan (entries_in gathered.history.items) → AreItsCounts plan (map seen stores) gathered.history.items gathered.summary
       → (outcome.status ≡ DONE) ⊎ (outcome.status ≡ WRITE_FAULT) → outcome.refusal ≡ None → outcome.trace ≡ Some plan → outcome.history ≡ gathered.history → outcome.stores ≡ gathered.stores
       → (outcome.status ≡ DONE → WroteAll (out_text (has_history parts) plan.processors gathered.history.items gathered.summary) (taken sink) (taken sink'))
       → (outcome.status ≡ WRITE_FAULT → WrotePart (out_text (has_history parts) plan.processors gathered.history.items gathered.summary) (taken sink) (taken sink'))
       → (outcome.status ≡ WRITE_FAULT → Rose (writes sink) (writes sink'))
       → RunsBy left reads taken writes seen form source source' sink sink' stores outcome
-  RunsBy-written parts asked read run ordered counted made refusal trace history kept wrote part rose =
+  RunsBy-written parts asked read enough run ordered counted made refusal trace history kept wrote part rose =
       record {
         statuses = elim made [ inl done ↦ inl done | inr failed ↦ inr (inr (inr (inr (inr failed)))) ];
         no_usage = λ usage. omega (arith, made, usage);
@@ -47,7 +47,7 @@ module _ {T K P : Type 0} (left : T → Option (List ℕ)) (reads : T → ℕ) (
         write_fault = rose;
         memory = λ is _. absurd (omega (arith, is, made));
         complete = λ _ _ no_write. elim made [ inl done ↦ inl done | inr failed ↦ absurd (no_write (rose failed)) ];
-        trace = λ _. rw trace (read, rw (history, kept) run);
+        trace = λ _. rw trace (read, enough, rw (history, kept) run);
         ordered = λ _. rw trace (rw history ordered);
         wrote = λ done. rw trace (subst (λ text. WroteAll text (taken sink) (taken sink')) (text_is parts asked history counted) (wrote done));
         part = λ failed. rw trace (subst (λ text. WrotePart text (taken sink) (taken sink')) (text_is parts asked history counted) (part failed));

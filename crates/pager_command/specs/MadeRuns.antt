@@ -37,8 +37,12 @@ pub record MakesText {K P : Type 0} (taken : K → Option (List ℕ)) (writes : 
   pub statuses : (outcome.status ≡ DONE) ⊎ ((outcome.status ≡ MEMORY) ⊎ (outcome.status ≡ WRITE_FAULT))
   -- unless a write fails, it is done or there was no memory
   pub complete : (Rose (writes sink) (writes sink') → ⊥) → (outcome.status ≡ DONE) ⊎ (outcome.status ≡ MEMORY)
-  -- no trace was run or refused
-  pub no_run : (outcome.trace ≡ None) × (outcome.history.items ≡ []) × (outcome.refusal ≡ None)
+  -- nothing was refused or run
+  pub no_refusal : outcome.refusal ≡ None
+  pub no_history : outcome.history.items ≡ []
+  -- the trace is the one that is made from the number
+  pub trace : (outcome.status ≡ DONE) ⊎ (outcome.status ≡ WRITE_FAULT) → outcome.trace ≡ Some (made m.number m.calls m.processors m.spaces m.frames)
+  pub no_trace : outcome.status ≢ DONE → outcome.status ≢ WRITE_FAULT → outcome.trace ≡ None
   -- the stores are as they were
   pub same_stores : map seen outcome.stores.items ≡ map seen stores
   -- the sink has gained the text

@@ -89,8 +89,8 @@ pub record RunsBy {T K P : Type 0} (left : T → Option (List ℕ)) (reads : T �
   pub write_fault : outcome.status ≡ WRITE_FAULT → Rose (writes sink) (writes sink')
   pub memory : outcome.status ≡ MEMORY → outcome.refusal ≡ None → WasText (left source) (left source')
   pub complete : IsSomeAnd (left source) (IsRunnable (length stores)) → (Rose (reads source) (reads source') → ⊥) → (Rose (writes sink) (writes sink') → ⊥) → (outcome.status ≡ DONE) ⊎ (outcome.status ≡ MEMORY)
-  -- one was made, and its text was written, or a part of it
-  pub trace : (outcome.status ≡ DONE) ⊎ (outcome.status ≡ WRITE_FAULT) → IsSomeAnd outcome.trace (λ plan. WasRead plan (left source) (left source') × IsReplay plan (map seen stores) outcome.history.items (map seen outcome.stores.items))
+  -- one was made, over a store for each space, and its text was written, or a part of it
+  pub trace : (outcome.status ≡ DONE) ⊎ (outcome.status ≡ WRITE_FAULT) → IsSomeAnd outcome.trace (λ plan. WasRead plan (left source) (left source') × (plan.spaces ≤ length stores) × IsReplay plan (map seen stores) outcome.history.items (map seen outcome.stores.items))
   pub ordered : (outcome.status ≡ DONE) ⊎ (outcome.status ≡ WRITE_FAULT) → IfSome outcome.trace (λ plan. ComesBy form plan (entries_in outcome.history.items))
   pub wrote : outcome.status ≡ DONE → IfSome outcome.trace (λ plan. WroteAll (run_text form plan (map seen stores) outcome.history.items) (taken sink) (taken sink'))
   pub part : outcome.status ≡ WRITE_FAULT → IfSome outcome.trace (λ plan. WrotePart (run_text form plan (map seen stores) outcome.history.items) (taken sink) (taken sink'))

@@ -120,7 +120,7 @@ fn large_of(words: &[&str]) -> Option<(u64, u64)>
 }
 
 /// The form of the words, where they are of one.
-pub fn form_of(words: &[&str]) -> Option<Form>
+fn form_of(words: &[&str]) -> Option<Form>
     ensures some { IfSome result (AreWords words.now) }
     ensures none { IfNone result (IsForm words.now → ⊥) }
 {

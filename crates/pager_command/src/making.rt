@@ -55,7 +55,13 @@ pub fn write_made<K: Sink, S: Store + Send + Drop>(
         return stopped(alloc, MEMORY, None, stores);
     };
     let status = status_of_write(write_trace(sink, &trace));
-    stopped(alloc, status, None, stores)
+    Outcome {
+        status,
+        refusal: None,
+        trace: Some(trace),
+        history: Vec::new(alloc),
+        stores,
+    }
 }
 
 /// Makes the large trace from a number, runs it in turns that are drawn from a seed, and writes the counts. It takes no handle, and so is

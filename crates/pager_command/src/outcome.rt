@@ -14,9 +14,9 @@ use trace_reader::TraceFault;
 pub struct Outcome<S: Store + Send + Drop> {
     /// The program's exit status: one of this crate's constants.
     pub status: u8,
-    /// Why no trace was run, where none was: for want of memory only where the reader had none.
+    /// Why a trace was refused, where one was: for want of memory only where the reader had none.
     pub refusal: Option<TraceFault>,
-    /// The trace, where it was run.
+    /// The trace, where it was run, or made and written.
     pub trace: Option<Trace>,
     /// The history of its run.
     pub history: Vec<Numbered>,

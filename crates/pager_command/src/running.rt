@@ -68,7 +68,7 @@ pub fn run<T: Source, K: Sink, S: Store + Send + Drop, R: Threads + Wait + Sync>
 
     // A run of a form that is done, and one whose text was written in part.
     ensures trace { IsForm words.now → (result.status ≡ DONE) ⊎ (result.status ≡ WRITE_FAULT)
-        → IsSomeAnd result.trace (λ trace. WasRead trace (T.left source.old) (T.left source.new)
+        → IsSomeAnd result.trace (λ trace. WasRead trace (T.left source.old) (T.left source.new) × (trace.spaces ≤ length stores.items)
         × IsReplay trace (map S.seen stores.items) result.history.items (map S.seen result.stores.items)) }
     ensures ordered { (form : Asked) → AreWords words.now form → (result.status ≡ DONE) ⊎ (result.status ≡ WRITE_FAULT)
         → IfSome result.trace (λ trace. ComesBy form trace (entries_in result.history.items)) }

@@ -4,7 +4,7 @@ use std::io;
 
 /// The run is done.
 pub const DONE: u8 = 0;
-/// The words are of no form.
+/// The words are of no command.
 pub const USAGE: u8 = 2;
 /// The input is no trace's text, or there are fewer stores than the trace has spaces.
 pub const REFUSED: u8 = 3;

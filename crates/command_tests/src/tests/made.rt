@@ -20,7 +20,7 @@ const UNREADABLE: Setup = Setup {
     ..AMPLE
 };
 
-/// Runs words that read nothing; the source has no bytes, and would fail.
+/// Makes a trace of three calls by these words, which read nothing; the source has no bytes, and would fail.
 fn assert_wrote<R: Abort + AllocGlobal + Threads + Wait + Sync>(
     rt: &R,
     words: &[&str],
@@ -29,7 +29,7 @@ fn assert_wrote<R: Abort + AllocGlobal + Threads + Wait + Sync>(
     let ending = ran(rt, words, b"", UNREADABLE);
     assert_eq!(rt; ending.status, DONE);
     assert_eq!(rt; ending.refusal, None);
-    assert_eq!(rt; ending.calls, None);
+    assert_eq!(rt; ending.calls, Some(3));
     assert_eq!(rt; ending.printed(), text);
 }
 
