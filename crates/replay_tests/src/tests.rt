@@ -5,6 +5,3 @@ mod gates;
 mod one_order;
 mod prepared;
 mod printed;
-
-/// What is said where there is no memory for a test.
-const NO_MEMORY: &str = "no memory";

@@ -60,7 +60,7 @@ fn a_trace_with_more_spaces_than_stores_is_refused(rt: HostRuntime) {
     let (stores, spaces) = (1, 2);
     let fault = TraceFault::TooFewStores { stores, spaces };
     assert_stopped(&rt, &ending, REFUSED, Some(fault));
-    assert!(rt; ending.stores == 1);
+    assert_eq!(rt; ending.stores, 1);
 }
 
 /// One read of the text fails, and nothing is written.
@@ -103,7 +103,8 @@ fn each_read_that_fails_ends_the_run_with_nothing_written(rt: HostRuntime) {
 fn assert_full<R: Abort + AllocGlobal + Threads + Wait + Sync>(rt: &R, limit: usize) {
     let ending = ran_in_order(rt, LAST_PAGE, Setup { limit, ..AMPLE });
     assert_cut(rt, &ending, LAST_PAGE_TEXT, limit);
-    assert!(rt; ending.calls == Some(3) && ending.entries == 4);
+    assert_eq!(rt; ending.calls, Some(3));
+    assert_eq!(rt; ending.entries, 4);
 }
 
 #[test]

@@ -126,7 +126,8 @@ impl Loads {
 
 /// The run made so many calls and entries.
 fn assert_made<R: Abort>(rt: &R, ending: &Ending, calls: usize, entries: usize) {
-    assert!(rt; ending.calls == Some(calls) && ending.entries == entries);
+    assert_eq!(rt; ending.calls, Some(calls));
+    assert_eq!(rt; ending.entries, entries);
 }
 
 /// The run of the trace is done, has so many calls and entries, and prints this.
@@ -172,7 +173,7 @@ fn assert_done_over<R: Abort + AllocGlobal + Threads + Wait + Sync>(
 ) {
     let ending = loads.ran(rt, setup);
     assert_done(rt, &ending, &loads.text(rt));
-    assert!(rt; ending.stores == setup.stores);
+    assert_eq!(rt; ending.stores, setup.stores);
 }
 
 #[test]

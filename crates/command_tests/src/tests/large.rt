@@ -44,7 +44,8 @@ fn the_longest_trace_over_the_most_frames_is_run_to_its_end(rt: HostRuntime) {
         ..AMPLE
     };
     let ending = ran_in_order(&rt, &large_trace(&rt), setup);
+    assert_eq!(rt; ending.status, DONE);
     // Each call has an answer, and each page that was paged out a claim.
-    assert!(rt; ending.status == DONE && (2 * CALLS as usize) < ending.entries);
+    assert!(rt; (2 * CALLS as usize) < ending.entries);
     assert!(rt; ending.printed().ends_with(b"frames 0 0 32768\nend\n"));
 }

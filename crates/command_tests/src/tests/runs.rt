@@ -175,20 +175,25 @@ pub fn ran_in_order<R: Abort + AllocGlobal + Threads + Wait + Sync>(
 
 /// The run is done, and this was printed.
 pub fn assert_done<R: Abort>(rt: &R, ending: &Ending, text: &[u8]) {
-    let told = (ending.status, ending.refusal, ending.unread);
-    assert!(rt; told == (DONE, None, None), "{told:?}");
-    assert!(rt; ending.printed() == text);
+    assert_eq!(rt; ending.status, DONE);
+    assert_eq!(rt; ending.refusal, None);
+    assert_eq!(rt; ending.unread, None);
+    assert_eq!(rt; ending.printed(), text);
 }
 
 /// A write failed, and so many bytes of the text were printed before.
 pub fn assert_cut<R: Abort>(rt: &R, ending: &Ending, text: &[u8], gone: usize) {
-    assert!(rt; ending.status == WRITE_FAULT && ending.refusal.is_none());
-    assert!(rt; Some(ending.printed()) == text.get(..gone));
+    assert_eq!(rt; ending.status, WRITE_FAULT);
+    assert_eq!(rt; ending.refusal, None);
+    let first = text.get(..gone).expect(rt, "a shorter text");
+    assert_eq!(rt; ending.printed(), first);
 }
 
 /// No trace was run, for this reason, and nothing was printed.
 pub fn assert_stopped<R: Abort>(rt: &R, ending: &Ending, status: u8, refusal: Option<TraceFault>) {
-    let told = (ending.status, ending.refusal, ending.calls, ending.entries);
-    assert!(rt; told == (status, refusal, None, 0), "{told:?}");
+    assert_eq!(rt; ending.status, status);
+    assert_eq!(rt; ending.refusal, refusal);
+    assert_eq!(rt; ending.calls, None);
+    assert_eq!(rt; ending.entries, 0);
     assert!(rt; ending.printed().is_empty());
 }

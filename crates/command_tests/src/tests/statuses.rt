@@ -7,8 +7,8 @@ use std::io::ErrorKind;
 
 #[test]
 fn words_that_are_no_text_are_a_usage_fault(rt: HostRuntime) {
-    assert!(rt; unread_words(&ErrorKind::InvalidData.into()) == USAGE);
-    assert!(rt; unread_words(&ErrorKind::OutOfMemory.into()) == MEMORY);
+    assert_eq!(rt; unread_words(&ErrorKind::InvalidData.into()), USAGE);
+    assert_eq!(rt; unread_words(&ErrorKind::OutOfMemory.into()), MEMORY);
 }
 
 static MESSAGES: [(u8, &str); 6] = [
@@ -23,6 +23,6 @@ static MESSAGES: [(u8, &str); 6] = [
 #[test]
 fn each_status_has_its_words(rt: HostRuntime) {
     for (status, message) in &MESSAGES {
-        assert!(rt; message_of(*status) == *message, "{message}");
+        assert_eq!(rt; message_of(*status), *message);
     }
 }

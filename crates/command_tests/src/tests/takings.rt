@@ -17,7 +17,8 @@ const EACH_EIGHTH: &[u8] =
 /// The run is done, and the last page that takes a frame is page 512, which takes this one.
 fn assert_takes<R: Abort + AllocGlobal + Threads + Wait + Sync>(rt: &R, trace: &[u8], frame: u32) {
     let ending = ran_in_order(rt, trace, AMPLE);
-    assert!(rt; ending.status == DONE && ending.taken == Some((512, frame)));
+    assert_eq!(rt; ending.status, DONE);
+    assert_eq!(rt; ending.taken, Some((512, frame)));
 }
 
 #[test]

@@ -67,6 +67,7 @@ fn other_words_read_and_write_nothing(rt: HostRuntime) {
     for words in &OTHER_WORDS {
         let ending = ran(&rt, words, LAST_PAGE, AMPLE);
         assert_stopped(&rt, &ending, USAGE, None);
-        assert!(rt; ending.stores == 1 && ending.unread == Some(b't'));
+        assert_eq!(rt; ending.stores, 1);
+        assert_eq!(rt; ending.unread, Some(b't'));
     }
 }

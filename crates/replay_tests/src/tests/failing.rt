@@ -1,12 +1,12 @@
 //! Runs over stores that fail, with few frames left: each failure that is answered is one that the call met.
 ghost use Rattle.std.specs.Prelude.{◌^◌, ◌<◌};
 
-use super::NO_MEMORY;
 use super::printed::{read_text, run_threads};
 use pager_model::{Generator, Numbered, Reply, What};
 use std::alloc::{AllocError, Global};
 use std::process::Abort;
 use std::sync::Wait;
+use std::test::Fail;
 use std::thread::Threads;
 use store_core::{MemoryStore, Store};
 
@@ -54,119 +54,102 @@ fn page_of(owner: u32, page: u32) -> u64
     u64::from(owner) * REGION + u64::from(page)
 }
 
-/// Adds a line that was made.
-fn put(rt: &impl Abort, text: &mut String, line: Result<String, AllocError>) {
-    let line = line.expect(rt, NO_MEMORY);
-    text.push_str(&line).expect(rt, NO_MEMORY)
-}
-
 /// Adds the lines by which a processor maps its region and touches each page: eight by a store, the next eight by a load, and so on.
-fn put_region(rt: &impl Abort, alloc: Global, text: &mut String, shape: Shape, processor: u32) {
+fn put_region(
+    alloc: Global,
+    text: &mut String,
+    shape: Shape,
+    processor: u32,
+) -> Result<(), AllocError> {
     let (c, space, pages) = (processor, processor % shape.spaces, shape.pages);
     let first = page_of(c, 0);
-    put(
-        rt,
-        text,
-        format!(in alloc; "{c} map {space} {first} {pages} fixed write\n"),
-    );
+    text.push_str(format!(in alloc; "{c} map {space} {first} {pages} fixed write\n")?.as_str())?;
     for page in 0..pages {
         let address = page_of(c, page) * 8192;
         let line = if page / 8 % 2 == 0 {
-            format!(in alloc; "{c} store {space} {address} {page}\n")
+            format!(in alloc; "{c} store {space} {address} {page}\n")?
         } else {
-            format!(in alloc; "{c} load {space} {address}\n")
+            format!(in alloc; "{c} load {space} {address}\n")?
         };
-        put(rt, text, line);
+        text.push_str(line.as_str())?;
     }
+    Ok(())
 }
 
 /// Adds a drawn call to a page of some processor's region.
 fn put_call(
-    rt: &impl Abort,
     alloc: Global,
     text: &mut String,
     shape: Shape,
     random: &mut Generator,
-) {
+) -> Result<(), AllocError> {
     let c = random.draw(shape.processors);
     let owner = random.draw(shape.processors);
     let space = owner % shape.spaces;
     let page = page_of(owner, random.draw(shape.pages));
     let address = page * 8192;
     let line = match random.draw(8) {
-        0..3 => format!(in alloc; "{c} store {space} {address} {page}\n"),
-        3..6 => format!(in alloc; "{c} load {space} {address}\n"),
-        6 => format!(in alloc; "{c} sync {space} {page}\n"),
-        _ => format!(in alloc; "{c} evict {space} {page}\n"),
+        0..3 => format!(in alloc; "{c} store {space} {address} {page}\n")?,
+        3..6 => format!(in alloc; "{c} load {space} {address}\n")?,
+        6 => format!(in alloc; "{c} sync {space} {page}\n")?,
+        _ => format!(in alloc; "{c} evict {space} {page}\n")?,
     };
-    put(rt, text, line);
+    text.push_str(line.as_str())
 }
 
 /// The text of a drawn trace.
-fn draw_text(rt: &impl Abort, alloc: Global, shape: Shape, random: &mut Generator) -> String {
+fn draw_text(alloc: Global, shape: Shape, random: &mut Generator) -> Result<String, AllocError> {
     let (processors, spaces) = (shape.processors, shape.spaces);
-    let mut text = String::new(alloc);
-    put(
-        rt,
-        &mut text,
-        format!(in alloc; "trace 1 512 {processors} {spaces}\n"),
-    );
+    let mut text = format!(in alloc; "trace 1 512 {processors} {spaces}\n")?;
     for processor in 0..processors {
-        put_region(rt, alloc, &mut text, shape, processor);
+        put_region(alloc, &mut text, shape, processor)?;
     }
     for _ in 0..CALLS {
-        put_call(rt, alloc, &mut text, shape, random);
+        put_call(alloc, &mut text, shape, random)?;
     }
-    text.push_str("end\n").expect(rt, NO_MEMORY);
-    text
+    text.push_str("end\n")?;
+    Ok(text)
 }
 
 /// The first numbers, up to this one, and twenty drawn ones behind them.
 fn draw_numbers(
-    rt: &impl Abort,
     alloc: Global,
     first: u64,
     most: u32,
     random: &mut Generator,
-) -> Vec<u64>
+) -> Result<Vec<u64>, AllocError>
     requires { 0 < most }
 {
     let mut numbers = Vec::new(alloc);
     for number in 1..=first {
-        numbers.push(number).expect(rt, NO_MEMORY);
+        numbers.push(number)?;
     }
     for _ in 0..20 {
-        let number = first.saturating_add(u64::from(random.draw(most)));
-        numbers.push(number).expect(rt, NO_MEMORY);
+        numbers.push(first.saturating_add(u64::from(random.draw(most))))?;
     }
-    numbers
+    Ok(numbers)
 }
 
 /// A store that has failed before, fails at its first read of the run and its first write, and at drawn ones.
-fn draw_store(rt: &impl Abort, alloc: Global, random: &mut Generator) -> MemoryStore {
-    let reads = draw_numbers(rt, alloc, FAILED_BEFORE + 1, 400, random);
-    let writes = draw_numbers(rt, alloc, 1, 100, random);
+fn draw_store(alloc: Global, random: &mut Generator) -> Result<MemoryStore, AllocError> {
+    let reads = draw_numbers(alloc, FAILED_BEFORE + 1, 400, random)?;
+    let writes = draw_numbers(alloc, 1, 100, random)?;
     let mut store = MemoryStore::of(alloc, reads, writes);
     for _ in 0..FAILED_BEFORE {
         let _ = store.read(0, &mut [0; 1024]);
     }
-    store
+    Ok(store)
 }
 
 /// A store for each space.
 fn draw_stores(
-    rt: &impl Abort,
     alloc: Global,
     spaces: u32,
     random: &mut Generator,
-) -> Vec<MemoryStore> {
-    let mut stores = Vec::new(alloc);
-    for _ in 0..spaces {
-        stores
-            .push(draw_store(rt, alloc, random))
-            .expect(rt, NO_MEMORY);
-    }
-    stores
+) -> Result<Vec<MemoryStore>, AllocError> {
+    (0..spaces)
+        .map(|_| draw_store(alloc, random))
+        .try_collect(alloc)
 }
 
 /// A store's failure: the space that its entry names, and its count.
@@ -186,8 +169,12 @@ fn meets_failure(rt: &impl Abort, failure: &mut Option<Failure>, numbered: &Numb
             let Reply::StoreFault { space, count } = answered.reply else {
                 return false;
             };
-            let number = numbered.number;
-            assert!(rt; met == Some((Some(space), count)), "entry {number}");
+            assert_eq!(rt;
+                met,
+                Some((Some(space), count)),
+                "entry {}",
+                numbered.number
+            );
             true
         }
         _ => false,
@@ -199,7 +186,7 @@ fn count_failures(rt: &impl Abort, history: &[Numbered]) -> u32 {
     let mut failures = [None; MOST_PROCESSORS];
     let mut answered = 0u32;
     for (place, numbered) in history.iter().enumerate() {
-        assert!(rt; numbered.number == place as u64);
+        assert_eq!(rt; numbered.number, place as u64);
         let Some(failure) = failures.get_mut(numbered.entry.processor as usize) else {
             panic!(rt; "another processor");
         };
@@ -215,22 +202,23 @@ fn run_drawn<R: Abort + Threads + Wait + Sync>(
     rt: &R,
     alloc: Global,
     seed: u64,
-) -> (Vec<Numbered>, u32) {
+) -> Result<(Vec<Numbered>, u32), Fail> {
     let mut random = Generator::of(seed);
     let shape = draw_shape(&mut random);
-    let text = draw_text(rt, alloc, shape, &mut random);
-    let stores = draw_stores(rt, alloc, shape.spaces, &mut random);
-    let trace = read_text(rt, alloc, &text);
-    let gathered = run_threads(rt, alloc, &trace, stores);
-    (gathered.history, shape.spaces)
+    let text = draw_text(alloc, shape, &mut random)?;
+    let stores = draw_stores(alloc, shape.spaces, &mut random)?;
+    let trace = read_text(alloc, text.as_str())?;
+    let gathered = run_threads(rt, alloc, &trace, stores)?;
+    Ok((gathered.history, shape.spaces))
 }
 
 #[test]
-fn a_failure_is_answered_where_the_call_met_it(rt: HostRuntime) {
+fn a_failure_is_answered_where_the_call_met_it(rt: HostRuntime) -> Result<(), Fail> {
     for seed in 0..RUNS {
-        let (history, spaces) = run_drawn(&rt, rt.alloc(), seed);
-        let answered = count_failures(&rt, &history);
+        let (history, spaces) = run_drawn(&rt, rt.alloc(), seed)?;
+        let answered = count_failures(&rt, history.as_slice());
         // The first read of each store fails.
         assert!(rt; answered >= spaces, "seed {seed}");
     }
+    Ok(())
 }

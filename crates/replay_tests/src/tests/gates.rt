@@ -1,10 +1,10 @@
 //! Calls of two processors on two spaces run at once: the store of one waits, in the midst of a call, for a call of the other.
-use super::NO_MEMORY;
 use super::gated::{Gate, Shown, two_stores};
 use super::printed::printed;
 use std::alloc::Global;
 use std::process::Abort;
 use std::sync::Wait;
+use std::test::Fail;
 use std::thread::Threads;
 
 /// How often each of them is run.
@@ -76,27 +76,30 @@ fn prints<R: Abort + Threads + Wait + Sync>(
     alloc: Global,
     trace: &str,
     gates: [Gate; 2],
-    wanted: &str,
-) {
+    text: &str,
+) -> Result<(), Fail> {
     let [first, second] = gates;
     for time in 0..TIMES {
-        let stores = two_stores(alloc, first, second).expect(rt, NO_MEMORY);
-        let text = printed(rt, alloc, trace, stores);
-        assert!(rt; text.as_str() == wanted, "time {time}: {text}");
+        let stores = two_stores(alloc, first, second)?;
+        let printed = printed(rt, alloc, trace, stores)?;
+        assert_eq!(rt; printed.as_str(), text, "time {time}");
     }
+    Ok(())
 }
 
 #[test]
-fn the_stores_of_two_spaces_read_at_once(rt: HostRuntime) {
+fn the_stores_of_two_spaces_read_at_once(rt: HostRuntime) -> Result<(), Fail> {
     let gates = [WAITING_READ, WAITING_READ];
-    prints(&rt, rt.alloc(), TWO_LOADS, gates, TWO_LOADS_TEXT);
+    prints(&rt, rt.alloc(), TWO_LOADS, gates, TWO_LOADS_TEXT)
 }
 
 #[test]
-fn a_store_writes_while_another_reads(rt: HostRuntime) {
+fn a_store_writes_while_another_reads(rt: HostRuntime) -> Result<(), Fail> {
+    let alloc = rt.alloc();
     // The write waits for the read; then each waits for the other.
     for read in [FREE_READ, WAITING_READ] {
         let gates = [WAITING_WRITE, read];
-        prints(&rt, rt.alloc(), EVICT_AND_LOAD, gates, EVICT_AND_LOAD_TEXT);
+        prints(&rt, alloc, EVICT_AND_LOAD, gates, EVICT_AND_LOAD_TEXT)?;
     }
+    Ok(())
 }

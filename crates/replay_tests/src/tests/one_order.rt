@@ -1,9 +1,9 @@
 //! Runs whose answers and counts are the same in every order of the threads' steps.
-use super::NO_MEMORY;
 use super::printed::{memory_stores, printed};
-use std::alloc::Global;
+use std::alloc::{AllocError, Global};
 use std::process::Abort;
 use std::sync::Wait;
+use std::test::Fail;
 use std::thread::Threads;
 
 /// How often each of them is run.
@@ -74,26 +74,16 @@ const ORDINARY_USE_END: &str = "\
 
 /// A trace of two processors on one space. The first maps ten superpages of 4 MiB and stores to each page, and loads a word of the first;
 /// the second has a stack of sixteen pages with a guard page, which grows.
-fn ordinary_use(rt: &impl Abort, alloc: Global) -> String {
+fn ordinary_use(alloc: Global) -> Result<String, AllocError> {
     let mut text = String::new(alloc);
-    put(
-        rt,
-        &mut text,
-        "trace 1 8192 2 1\n0 map 0 0 5120 fixed write\n",
-    );
+    text.push_str("trace 1 8192 2 1\n0 map 0 0 5120 fixed write\n")?;
     for page in 0..u64::from(PAGES) {
         let (address, word) = (page * 8192, page + 1);
-        let line = format!(in alloc; "0 store 0 {address} {word}\n").expect(rt, NO_MEMORY);
-        put(rt, &mut text, &line);
+        text.push_str(format!(in alloc; "0 store 0 {address} {word}\n")?.as_str())?;
     }
-    put(rt, &mut text, "0 load 0 0\n");
-    put(rt, &mut text, SECOND_PROCESSOR);
-    text
-}
-
-/// Adds a piece of text.
-fn put(rt: &impl Abort, text: &mut String, piece: &str) {
-    text.push_str(piece).expect(rt, NO_MEMORY)
+    text.push_str("0 load 0 0\n")?;
+    text.push_str(SECOND_PROCESSOR)?;
+    Ok(text)
 }
 
 /// The size of the translation of the last of so many pages that were stored to, from the first on.
@@ -108,34 +98,39 @@ fn size_of_last(pages: u32) -> u32 {
 }
 
 /// What it prints.
-fn ordinary_use_text(rt: &impl Abort, alloc: Global) -> String {
+fn ordinary_use_text(alloc: Global) -> Result<String, AllocError> {
     let mut text = String::new(alloc);
-    put(rt, &mut text, "0 0 done\n");
+    text.push_str("0 0 done\n")?;
     for pages in 1..=PAGES {
         let size = size_of_last(pages);
-        let line = format!(in alloc; "0 {pages} done miss {size}\n").expect(rt, NO_MEMORY);
-        put(rt, &mut text, &line);
+        text.push_str(format!(in alloc; "0 {pages} done miss {size}\n")?.as_str())?;
     }
-    put(rt, &mut text, ORDINARY_USE_END);
-    text
+    text.push_str(ORDINARY_USE_END)?;
+    Ok(text)
 }
 
 /// Asserts that a trace of one space prints this text, each time that it is run.
-fn prints<R: Abort + Threads + Wait + Sync>(rt: &R, alloc: Global, trace: &str, wanted: &str) {
+fn prints<R: Abort + Threads + Wait + Sync>(
+    rt: &R,
+    alloc: Global,
+    trace: &str,
+    wanted: &str,
+) -> Result<(), Fail> {
     for time in 0..TIMES {
-        let text = printed(rt, alloc, trace, memory_stores(rt, alloc, 1));
-        assert!(rt; text.as_str() == wanted, "time {time}: {text}");
+        let text = printed(rt, alloc, trace, memory_stores(alloc, 1)?)?;
+        assert_eq!(rt; text.as_str(), wanted, "time {time}");
     }
+    Ok(())
 }
 
 #[test]
-fn one_processor_runs_as_in_the_order_of_its_lines(rt: HostRuntime) {
-    prints(&rt, rt.alloc(), EIGHT_PAGES, EIGHT_PAGES_TEXT);
+fn one_processor_runs_as_in_the_order_of_its_lines(rt: HostRuntime) -> Result<(), Fail> {
+    prints(&rt, rt.alloc(), EIGHT_PAGES, EIGHT_PAGES_TEXT)
 }
 
 #[test]
-fn a_table_of_superpages_and_a_stack_are_used_side_by_side(rt: HostRuntime) {
-    let trace = ordinary_use(&rt, rt.alloc());
-    let wanted = ordinary_use_text(&rt, rt.alloc());
-    prints(&rt, rt.alloc(), &trace, &wanted);
+fn a_table_of_superpages_and_a_stack_are_used_side_by_side(rt: HostRuntime) -> Result<(), Fail> {
+    let trace = ordinary_use(rt.alloc())?;
+    let wanted = ordinary_use_text(rt.alloc())?;
+    prints(&rt, rt.alloc(), trace.as_str(), wanted.as_str())
 }
