@@ -12,36 +12,29 @@ mod walks;
 
 use io_core::MemorySource;
 use pager_model::Trace;
-use std::alloc::Global;
-use std::process::Abort;
+use std::alloc::{AllocError, Global};
+use std::test::Fail;
 use trace_reader::read_trace;
 
-/// What is said where there is no memory for a test.
-const NO_MEMORY: &str = "no memory";
-
-/// Adds a piece of text.
-fn put(rt: &impl Abort, text: &mut String, piece: &str) {
-    text.push_str(piece).expect(rt, NO_MEMORY)
-}
-
 /// Adds lines that stand one behind another.
-fn put_lines(rt: &impl Abort, text: &mut String, lines: &str) {
+fn put_lines(text: &mut String, lines: &str) -> Result<(), AllocError> {
     for line in lines.split_terminator("; ") {
-        put(rt, text, line);
-        put(rt, text, "\n");
+        text.push_str(line)?;
+        text.push_str("\n")?;
     }
+    Ok(())
 }
 
 /// The trace of a text.
-fn read_text(rt: &impl Abort, alloc: Global, text: &str) -> Trace {
-    let bytes = text.as_bytes().to_vec(alloc).expect(rt, NO_MEMORY);
+fn read_text(alloc: Global, text: &str) -> Result<Trace, Fail> {
+    let bytes = text.as_bytes().to_vec(alloc)?;
     let mut source = MemorySource::of(bytes, 4096, Vec::new(alloc));
-    read_trace(alloc, &mut source).ok().expect(rt, "no trace")
+    Ok(read_trace(alloc, &mut source)?)
 }
 
 /// The trace of these lines.
-fn trace_of(rt: &impl Abort, alloc: Global, lines: &str) -> Trace {
+fn trace_of(alloc: Global, lines: &str) -> Result<Trace, Fail> {
     let mut text = String::new(alloc);
-    put_lines(rt, &mut text, lines);
-    read_text(rt, alloc, &text)
+    put_lines(&mut text, lines)?;
+    read_text(alloc, text.as_str())
 }

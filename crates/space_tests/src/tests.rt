@@ -231,7 +231,9 @@ fn answers(
 }
 
 /// What a space answers to its first call, which is a load. No region has its page.
-fn first_reply(alloc: Global, number: u32) -> Result<(Reply, Option<u32>), Fail> {
+fn first_reply(alloc: Global, number: u32) -> Result<(Reply, Option<u32>), Fail>
+    requires { number < 16 }
+{
     let (mut space, mut spare) = begun(alloc, number, 32_768, &[], &[])?;
     let call = Call::Load {
         space: number,

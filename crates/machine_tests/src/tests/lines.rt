@@ -1,33 +1,25 @@
 //! The lines of a run's report, as the recorded histories have them: an entry without its number, which is proved to be its place.
-use super::NO_MEMORY;
 use io_core::MemorySink;
 use pager_model::{Numbered, Summary};
 use report_text::{Parts, write_report};
 use std::alloc::Global;
 use std::process::Abort;
 use std::str::Lines;
+use std::test::Fail;
 
 /// More bytes than any of these reports has.
 const MOST_BYTES: usize = 131_072;
 
 /// The lines of a history and of its counts. The answers, which come first, are asked for of no processor: the history has them too.
 pub(super) fn report_of(
-    rt: &impl Abort,
     alloc: Global,
     history: &[Numbered],
     summary: &Summary,
-) -> String {
-    let room = Vec::with_capacity(alloc, MOST_BYTES).expect(rt, NO_MEMORY);
+) -> Result<String, Fail> {
+    let room = Vec::with_capacity(alloc, MOST_BYTES)?;
     let mut sink = MemorySink::of(room, MOST_BYTES, Vec::new(alloc));
-    let wrote = write_report(&mut sink, 0, history, summary, Parts::AnswersAndHistory);
-    assert!(rt; wrote.is_ok(), "a longer report");
-    text_of(rt, alloc, sink.bytes())
-}
-
-/// The text of these bytes.
-fn text_of(rt: &impl Abort, alloc: Global, bytes: &[u8]) -> String {
-    let bytes = bytes.to_vec(alloc).expect(rt, NO_MEMORY);
-    String::from_utf8(bytes).ok().expect(rt, "no text")
+    write_report(&mut sink, 0, history, summary, Parts::AnswersAndHistory)?;
+    Ok(String::from_utf8(sink.bytes().to_vec(alloc)?)?)
 }
 
 /// The line of an entry without its number; any other line as it is.
@@ -58,7 +50,7 @@ pub(super) fn hash_of(lines: &mut Lines<'_>, count: usize) -> u64 {
 fn assert_lines(rt: &impl Abort, lines: &mut Lines<'_>, recorded: &str) {
     for wanted in recorded.split_terminator("; ") {
         let line = lines.next().unwrap_or("");
-        assert!(rt; unnumbered(line) == wanted, "{line} in place of {wanted}");
+        assert_eq!(rt; unnumbered(line), wanted, "{line}");
     }
 }
 
@@ -66,5 +58,5 @@ fn assert_lines(rt: &impl Abort, lines: &mut Lines<'_>, recorded: &str) {
 pub(super) fn assert_recorded(rt: &impl Abort, mut lines: Lines<'_>, history: &str, counts: &str) {
     assert_lines(rt, &mut lines, history);
     assert_lines(rt, &mut lines, counts);
-    assert!(rt; lines.next() == Some("end"));
+    assert_eq!(rt; lines.next(), Some("end"));
 }

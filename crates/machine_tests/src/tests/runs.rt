@@ -1,5 +1,5 @@
 //! Machines with few frames left, over stores that may fail: their histories, entry by entry, and their counts are the recorded ones.
-ghost use Rattle.std.specs.Prelude.{◌<◌};
+ghost use Rattle.std.specs.Prelude.{◌<◌, IfOk};
 ghost use Rattle.std.specs.List.{All};
 
 use super::drawn::{FIRST, FOURTH, SECOND, THIRD};
@@ -7,12 +7,13 @@ use super::fills::FILLS;
 use super::full::Full;
 use super::lines::{assert_recorded, hash_of, report_of};
 use super::named::NAMED;
-use super::{NO_MEMORY, put, put_lines, read_text};
+use super::{put_lines, read_text};
 use pager_model::Trace;
 use replay_core::replay_schedule;
-use std::alloc::Global;
+use std::alloc::{AllocError, Global};
 use std::process::Abort;
 use std::str::Lines;
+use std::test::Fail;
 use store_core::{MemoryStore, Store};
 
 /// Calls of processor 0 that use frames.
@@ -78,14 +79,14 @@ fn read_fill(text: &str) -> Fill<'_> {
 }
 
 /// The calls that use frames of this name.
-fn fill_of(name: &str) -> Option<Fill<'static>> {
+fn fill_of(name: &str) -> Result<Fill<'static>, Fail> {
     for text in FILLS.split("\n\n") {
         let fill = read_fill(text);
         if fill.name == name {
-            return Some(fill);
+            return Ok(fill);
         }
     }
-    None
+    Err(Fail::from("no such fill"))
 }
 
 /// The run of a text.
@@ -104,162 +105,167 @@ pub(super) fn read_run(text: &str) -> Run<'_> {
     }
 }
 
-/// Adds a load of a page.
-fn put_load(rt: &impl Abort, alloc: Global, text: &mut String, page: u32) {
-    let address = u64::from(page) * 8192;
-    let line = format!(in alloc; "0 load 0 {address}\n").expect(rt, NO_MEMORY);
-    put(rt, text, &line);
-}
-
 /// Adds a load of each page behind the first one.
-fn put_loads(rt: &impl Abort, alloc: Global, text: &mut String, pages: u32) {
+fn put_loads(alloc: Global, text: &mut String, pages: u32) -> Result<(), AllocError> {
     for page in 1..pages {
-        put_load(rt, alloc, text, page);
+        let address = u64::from(page) * 8192;
+        text.push_str(format!(in alloc; "0 load 0 {address}\n")?.as_str())?;
     }
+    Ok(())
 }
 
-/// The trace of a run.
-fn trace_of_run(rt: &impl Abort, alloc: Global, run: &Run<'_>, fill: &Fill<'_>) -> Trace {
+/// The text of a run's trace.
+fn text_of(alloc: Global, run: &Run<'_>, fill: &Fill<'_>) -> Result<String, AllocError> {
     let mut text = String::new(alloc);
-    put_lines(rt, &mut text, run.head);
-    put_lines(rt, &mut text, fill.calls);
-    put_loads(rt, alloc, &mut text, fill.pages);
-    put_lines(rt, &mut text, run.calls);
-    put_lines(rt, &mut text, "end");
-    read_text(rt, alloc, &text)
+    put_lines(&mut text, run.head)?;
+    put_lines(&mut text, fill.calls)?;
+    put_loads(alloc, &mut text, fill.pages)?;
+    put_lines(&mut text, run.calls)?;
+    put_lines(&mut text, "end")?;
+    Ok(text)
 }
 
 /// The turns of a run: so many of processor 0, and those that the digits name.
 fn turns_of(
-    rt: &impl Abort,
     alloc: Global,
     before: usize,
     digits: &str,
     processors: u32,
-) -> Vec<u32>
+) -> Result<Vec<u32>, AllocError>
     requires some { 0 < processors }
-    ensures known { All (λ c. c < processors) result.items }
+    ensures known { IfOk result (λ turns. All (λ c. c < processors) turns.items) }
 {
-    let mut turns = vec![in alloc; 0; before].expect(rt, NO_MEMORY);
+    let mut turns = vec![in alloc; 0; before]?;
     for digit in digits.bytes() {
         // The digit 0 is byte 48, a multiple of 16.
-        turns
-            .push(u32::from(digit) % 16 % processors)
-            .expect(rt, NO_MEMORY);
+        turns.push(u32::from(digit) % 16 % processors)?;
     }
-    turns
+    Ok(turns)
 }
 
 /// The numbers of these words, each so much greater.
-fn numbers_of(rt: &impl Abort, alloc: Global, words: &str, more: u32) -> Vec<u64> {
-    let mut numbers = Vec::new(alloc);
-    for word in words.split_whitespace() {
-        let number = number(word).saturating_add(u64::from(more));
-        numbers.push(number).expect(rt, NO_MEMORY);
-    }
-    numbers
+fn numbers_of(alloc: Global, words: &str, more: u32) -> Result<Vec<u64>, AllocError> {
+    words
+        .split_whitespace()
+        .map(|word| number(word).saturating_add(u64::from(more)))
+        .collect(alloc)
 }
 
-/// The store of a space. So many reads of the first space's one use frames.
-fn store_of(rt: &impl Abort, alloc: Global, run: &Run<'_>, before: u32, space: u32) -> MemoryStore {
-    let before = if space == 0 { before } else { 0 };
-    let reads = numbers_of(rt, alloc, run.reads, before);
-    MemoryStore::of(alloc, reads, numbers_of(rt, alloc, run.writes, 0))
+/// A store that fails at these reads, counted behind so many, and at these writes.
+fn store_of(
+    alloc: Global,
+    reads: &str,
+    before: u32,
+    writes: &str,
+) -> Result<MemoryStore, AllocError> {
+    let reads = numbers_of(alloc, reads, before)?;
+    let writes = numbers_of(alloc, writes, 0)?;
+    Ok(MemoryStore::of(alloc, reads, writes))
 }
 
-/// A store for each space.
+/// A store for each space. So many reads of the first one use frames.
 fn stores_of(
-    rt: &impl Abort,
     alloc: Global,
     run: &Run<'_>,
     before: u32,
     spaces: u32,
-) -> Vec<MemoryStore> {
-    let mut stores = Vec::new(alloc);
-    for space in 0..spaces {
-        stores
-            .push(store_of(rt, alloc, run, before, space))
-            .expect(rt, NO_MEMORY);
-    }
-    stores
+) -> Result<Vec<MemoryStore>, AllocError> {
+    (0..spaces)
+        .map(|space| {
+            let before = if space == 0 { before } else { 0 };
+            store_of(alloc, run.reads, before, run.writes)
+        })
+        .try_collect(alloc)
 }
 
 /// A store for each space, none of which finds memory for a copy.
-fn full_stores(rt: &impl Abort, alloc: Global, spaces: u32) -> Vec<Full> {
+fn full_stores(alloc: Global, spaces: u32) -> Result<Vec<Full>, AllocError> {
     let mut stores = Vec::new(alloc);
-    let made = stores.resize_with(spaces as usize, || Full);
-    made.expect(rt, NO_MEMORY);
-    stores
+    stores.resize_with(spaces as usize, || Full)?;
+    Ok(stores)
 }
 
 /// The report of a run over these stores.
 fn report_over<S: Store + Send + Drop>(
-    rt: &impl Abort,
     alloc: Global,
     trace: &Trace,
     stores: Vec<S>,
     turns: &[u32],
-) -> String
+) -> Result<String, Fail>
     requires known { All (λ c. c < trace.now.processors) turns.now }
 {
-    assert!(rt; stores.len() >= trace.spaces() as usize);
-    let gathered = replay_schedule(alloc, trace, stores, turns)
-        .ok()
-        .expect(rt, NO_MEMORY);
-    report_of(rt, alloc, &gathered.history, &gathered.summary)
+    if stores.len() < trace.spaces() as usize {
+        return Err(Fail::from("too few stores"));
+    }
+    match replay_schedule(alloc, trace, stores, turns) {
+        Ok(gathered) => report_of(alloc, &gathered.history, &gathered.summary),
+        Err(_) => Err(Fail::from("no memory for the machine")),
+    }
 }
 
 /// The report of a run.
-fn report_of_run(rt: &impl Abort, alloc: Global, run: &Run<'_>, fill: &Fill<'_>) -> String {
-    let trace = trace_of_run(rt, alloc, run, fill);
+fn report_of_run(alloc: Global, run: &Run<'_>, fill: &Fill<'_>) -> Result<String, Fail> {
+    let text = text_of(alloc, run, fill)?;
+    let trace = read_text(alloc, text.as_str())?;
     let spaces = trace.spaces();
-    let turns = turns_of(rt, alloc, fill.entries, run.turns, trace.processors());
+    let turns = turns_of(alloc, fill.entries, run.turns, trace.processors())?;
     if run.writes == "full" {
-        report_over(rt, alloc, &trace, full_stores(rt, alloc, spaces), &turns)
+        report_over(alloc, &trace, full_stores(alloc, spaces)?, &turns)
     } else {
-        let stores = stores_of(rt, alloc, run, fill.pages, spaces);
-        report_over(rt, alloc, &trace, stores, &turns)
+        let stores = stores_of(alloc, run, fill.pages, spaces)?;
+        report_over(alloc, &trace, stores, &turns)
     }
 }
 
 /// Asserts that a run's report has the recorded history and counts.
 fn assert_report(rt: &impl Abort, run: &Run<'_>, fill: &Fill<'_>, report: &str) {
     let mut lines = report.lines();
-    let hash = hash_of(&mut lines, fill.entries);
-    assert!(rt; hash == fill.hash, "{}", run.name);
+    assert_eq!(rt;
+        hash_of(&mut lines, fill.entries),
+        fill.hash,
+        "{}",
+        run.name
+    );
     assert_recorded(rt, lines, run.history, run.counts);
 }
 
+/// Runs a run, and asserts that.
+fn assert_run(rt: &impl Abort, alloc: Global, run: &Run<'_>) -> Result<(), Fail> {
+    let fill = fill_of(run.fill)?;
+    let report = report_of_run(alloc, run, &fill)?;
+    assert_report(rt, run, &fill, report.as_str());
+    Ok(())
+}
+
 /// Runs the runs of a text, and asserts that of each.
-fn assert_runs(rt: &impl Abort, alloc: Global, runs: &str) {
+fn assert_runs(rt: &impl Abort, alloc: Global, runs: &str) -> Result<(), Fail> {
     for text in runs.split("\n\n") {
-        let run = read_run(text);
-        let fill = fill_of(run.fill).expect(rt, "no such fill");
-        assert_report(rt, &run, &fill, &report_of_run(rt, alloc, &run, &fill));
+        assert_run(rt, alloc, &read_run(text))?;
     }
+    Ok(())
 }
 
 #[test]
-fn runs_show_what_their_names_say(rt: HostRuntime) {
-    assert_runs(&rt, rt.alloc(), NAMED);
+fn runs_show_what_their_names_say(rt: HostRuntime) -> Result<(), Fail> {
+    assert_runs(&rt, rt.alloc(), NAMED)
 }
 
 #[test]
-fn the_first_drawn_runs_make_the_recorded_histories(rt: HostRuntime) {
-    assert_runs(&rt, rt.alloc(), FIRST);
+fn the_first_drawn_runs_make_the_recorded_histories(rt: HostRuntime) -> Result<(), Fail> {
+    assert_runs(&rt, rt.alloc(), FIRST)
 }
 
 #[test]
-fn the_second_drawn_runs_make_the_recorded_histories(rt: HostRuntime) {
-    assert_runs(&rt, rt.alloc(), SECOND);
+fn the_second_drawn_runs_make_the_recorded_histories(rt: HostRuntime) -> Result<(), Fail> {
+    assert_runs(&rt, rt.alloc(), SECOND)
 }
 
 #[test]
-fn the_third_drawn_runs_make_the_recorded_histories(rt: HostRuntime) {
-    assert_runs(&rt, rt.alloc(), THIRD);
+fn the_third_drawn_runs_make_the_recorded_histories(rt: HostRuntime) -> Result<(), Fail> {
+    assert_runs(&rt, rt.alloc(), THIRD)
 }
 
 #[test]
-fn the_fourth_drawn_runs_make_the_recorded_histories(rt: HostRuntime) {
-    assert_runs(&rt, rt.alloc(), FOURTH);
+fn the_fourth_drawn_runs_make_the_recorded_histories(rt: HostRuntime) -> Result<(), Fail> {
+    assert_runs(&rt, rt.alloc(), FOURTH)
 }

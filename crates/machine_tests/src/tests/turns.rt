@@ -1,14 +1,14 @@
 //! A machine by a list of turns: which turns made an entry, waited or found nothing left, and the history, entry by entry as it was
 //! recorded.
-ghost use Rattle.std.specs.Prelude.{◌≡◌, ◌<◌, length};
+ghost use Rattle.std.specs.Prelude.{◌≡◌, ◌<◌, IfOk, length};
 
 use super::lines::{assert_recorded, report_of};
 use super::recorded::{COUNTS, HISTORY, TRACE};
-use super::{NO_MEMORY, trace_of};
+use super::trace_of;
 use pager_core::{Machine, Turn};
 use pager_model::Trace;
 use std::alloc::Global;
-use std::process::Abort;
+use std::test::Fail;
 use store_core::MemoryStore;
 
 /// How many turns are taken, and from where they are drawn.
@@ -24,26 +24,18 @@ struct Counts {
     ended: u32,
 }
 
-/// So many empty stores.
-fn empty_stores(rt: &impl Abort, alloc: Global, count: u32) -> Vec<MemoryStore>
-    ensures { length result.items ≡ count }
+/// A machine at the start of the trace, over empty stores.
+fn machine_of(alloc: Global, trace: &Trace) -> Result<Machine<MemoryStore>, Fail>
+    ensures { IfOk result (λ m. length m.calls ≡ trace.now.processors) }
 {
     let mut stores = Vec::new(alloc);
-    let made = stores.resize_with(count as usize, || {
+    stores.resize_with(trace.spaces() as usize, || {
         MemoryStore::of(alloc, Vec::new(alloc), Vec::new(alloc))
-    });
-    made.expect(rt, NO_MEMORY);
-    stores
-}
-
-/// A machine at the start of the trace, over empty stores.
-fn machine_of(rt: &impl Abort, alloc: Global, trace: &Trace) -> Machine<MemoryStore>
-    ensures { length result.calls ≡ trace.now.processors }
-{
-    let stores = empty_stores(rt, alloc, trace.spaces());
-    Machine::create(alloc, trace, stores)
-        .ok()
-        .expect(rt, NO_MEMORY)
+    })?;
+    match Machine::create(alloc, trace, stores) {
+        Ok(machine) => Ok(machine),
+        Err(_) => Err(Fail::from("no memory for the machine")),
+    }
 }
 
 /// The next number of a generator, below the limit.
@@ -78,29 +70,23 @@ fn take_turns(machine: &mut Machine<MemoryStore>, processors: u32, turns: u32) -
     counts
 }
 
-/// Takes the turns of the trace's machine, and answers how many answered what, and the report.
-fn run(rt: &impl Abort, alloc: Global, trace: &Trace) -> (Counts, String) {
-    let processors = trace.processors();
-    assert!(rt; processors == 4);
-    let mut machine = machine_of(rt, alloc, trace);
-    let counts = take_turns(&mut machine, processors, TURNS);
-    assert!(rt; machine.ended());
-    let gathered = machine.finish();
-    (
-        counts,
-        report_of(rt, alloc, &gathered.history, &gathered.summary),
-    )
-}
-
 #[test]
-fn turns_in_any_order_make_the_recorded_history(rt: HostRuntime) {
-    let trace = trace_of(&rt, rt.alloc(), TRACE);
-    let (counts, report) = run(&rt, rt.alloc(), &trace);
+fn turns_in_any_order_make_the_recorded_history(rt: HostRuntime) -> Result<(), Fail> {
+    let alloc = rt.alloc();
+    let trace = trace_of(alloc, TRACE)?;
+    let processors = trace.processors();
+    assert_eq!(rt; processors, 4);
+    let mut machine = machine_of(alloc, &trace)?;
+    let counts = take_turns(&mut machine, processors, TURNS);
     let wanted = Counts {
         stepped: 1_461,
         waits: 415,
         ended: 124,
     };
-    assert!(rt; counts == wanted, "{counts:?}");
+    assert_eq!(rt; counts, wanted);
+    assert!(rt; machine.ended());
+    let gathered = machine.finish();
+    let report = report_of(alloc, &gathered.history, &gathered.summary)?;
     assert_recorded(&rt, report.lines(), HISTORY, COUNTS);
+    Ok(())
 }

@@ -3,7 +3,7 @@ use Rattle.std.specs.List.{All}
 use Rattle.machine_tests.proofs.tests.runs.turns_of.Given as goal
 
 abbrev pub invariant-loop-digit : goal.invariant-loop-digit
-invariant-loop-digit g l =
+invariant-loop-digit l =
     record {
       some : 0 < l.processors;
       known : All (λ c. c < l.processors) l.turns.items;
