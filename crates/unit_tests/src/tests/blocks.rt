@@ -1,10 +1,10 @@
-//! The free frames beside plain flags that say the same.
+//! The free frames, in worked rows and beside plain flags that say the same.
 ghost use Rattle.std.specs.Prelude.{◌≡◌, ℕ, ◌+◌, ◌%◌, ◌^◌, ◌<◌, ◌≤◌, false, length, slice_index_or};
 ghost use Rattle.std.specs.Bool.{OnTrue};
 
 mod plain;
 
-use super::{NO_MEMORY, size};
+use super::{NO_MEMORY, level_of, number, size, words};
 use buddy_extents::{Free, laws};
 use pager_model::{Extent, Generator, NoMemory, Size, Steps};
 use std::alloc::Global;
@@ -132,6 +132,63 @@ impl Beside {
             }
         }
         true
+    }
+}
+
+/// Steps over 1,024 frames, each with a level: the first frame that is taken, one that is given back, and whether there is an extent, told by
+/// a 1; behind `count` stands how many frames are free.
+const STEPS: &str = "\
+take 3 0
+take 3 512
+has 0 -
+give 1 0
+give 0 17 above a block of eight
+count 0 9
+take 0 17
+take 0 0
+has 1 -
+take 0 1
+take 0 2
+take 0 3
+take 0 4
+count 0 3
+give 1 16
+give 1 24 which makes one of sixteen with that at 16
+give 1 40 above it
+take 1 40
+take 1 16
+has 1 1
+has 2 -
+give 2 128
+give 3 512
+take 0 5
+take 1 24
+take 1 128
+take 2 512
+take 3 -
+count 0 506
+";
+
+impl Beside {
+    /// Whether a step answers what its row says.
+    fn goes(&mut self, row: &str) -> bool {
+        let [call, level, wanted, ..] = words(row);
+        let size = size(level_of(level));
+        let wanted = number(wanted);
+        match call {
+            "take" => self.take(size) == wanted,
+            "give" => wanted.is_some_and(|first| self.give(size, first)),
+            "has" => self.has(size) == wanted.is_some(),
+            _ => Some(self.free.count()) == wanted,
+        }
+    }
+}
+
+#[test]
+fn takes_from_the_least_block_that_holds_the_size(rt: HostRuntime) {
+    let mut both = Beside::create(rt.alloc(), 1024).expect(&rt, NO_MEMORY);
+    for row in STEPS.lines() {
+        assert!(rt; both.goes(row), "{row}");
     }
 }
 

@@ -26,12 +26,19 @@ fn hits(image: &mut Image, page: u32) -> bool {
     hit
 }
 
+/// How many of the pages from `first` to before `end` hit, one after another.
+fn count_hits_from(image: &mut Image, first: u32, end: u32) -> u32 {
+    let mut count = 0u32;
+    for page in first..end {
+        count = count.wrapping_add(u32::from(hits(image, page)));
+    }
+    count
+}
+
 /// An image of so many pages, the last one used last.
 fn image_of(pages: u32) -> Image {
     let mut image = Image::create();
-    for page in 0..pages {
-        hits(&mut image, page);
-    }
+    count_hits_from(&mut image, 0, pages);
     image
 }
 
@@ -84,4 +91,53 @@ fn what_passes_the_test_is_kept(rt: HostRuntime) {
     assert!(rt; image.len() == 4 && count_hits(&mut image, &[0, 2, 4, 6]) == 4);
     keep_clean_below(&mut image, 7);
     assert!(rt; image.len() == 4 && !hits(&mut image, 8));
+}
+
+#[test]
+fn a_tile_hits_from_its_second_use_on(rt: HostRuntime) {
+    let mut image = Image::create();
+    assert!(rt; image.len() == 0 && !hits(&mut image, 5));
+    assert!(rt; count_hits(&mut image, &[5, 5]) == 2 && image.len() == 1);
+}
+
+/// Tiles that differ from a page's in one thing each.
+fn others(tile: Tile) -> [Option<Tile>; 5] {
+    let large = Extent {
+        size: size(1),
+        first: tile.extent.first,
+    };
+    let rights = Rights::Read;
+    let dirty = true;
+    [
+        None,
+        Some(Tile {
+            extent: large,
+            ..tile
+        }),
+        Some(Tile { frame: 512, ..tile }),
+        Some(Tile { rights, ..tile }),
+        Some(Tile { dirty, ..tile }),
+    ]
+}
+
+/// How many of the others an image has.
+fn count_others(image: &Image, tile: Tile) -> usize {
+    let mut count = 0usize;
+    for other in others(tile) {
+        count = count.wrapping_add(usize::from(image.has(other)));
+    }
+    count
+}
+
+#[test]
+fn a_tile_hits_as_a_whole(rt: HostRuntime) {
+    let image = image_of(8);
+    assert!(rt; count_in(&image, &[0, 3]) == 2 && count_others(&image, page_tile(0)) == 0);
+}
+
+#[test]
+fn the_129th_tile_replaces_the_oldest(rt: HostRuntime) {
+    let mut image = image_of(129);
+    assert!(rt; image.len() == 128 && count_hits_from(&mut image, 1, 129) == 128);
+    assert!(rt; !hits(&mut image, 0) && image.len() == 128);
 }

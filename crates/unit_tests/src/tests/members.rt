@@ -1,8 +1,8 @@
-//! The lists of reservations by age, beside a plain list of their members.
+//! The lists of reservations by age, in worked rows and beside a plain list of their members.
 ghost use Rattle.std.specs.Prelude.{◌≡◌, ◌<◌, false, length, slice_index_or};
 ghost use Rattle.unit_tests.specs.Marks.{AreMarked};
 
-use super::{NO_MEMORY, size};
+use super::{NO_MEMORY, count, level_of, number, size, words};
 use pager_model::{Generator, NoMemory, Size};
 use reservation_lists::Lists;
 use std::alloc::{AllocError, Global};
@@ -163,4 +163,68 @@ fn goes_alike(both: &mut Beside, steps: u32) -> Result<bool, AllocError> {
 fn orders_its_members_as_a_plain_list_does(rt: HostRuntime) {
     let mut both = Beside::create(rt.alloc()).expect(&rt, NO_MEMORY);
     assert!(rt; goes_alike(&mut both, 2_000).expect(&rt, NO_MEMORY));
+}
+
+/// Steps on new lists, each with a level, a stamp and a frame: a member that is put in or taken out, and the oldest, which is taken out, where
+/// there is one.
+static STEPS: [&str; 4] = [
+    // The oldest comes first, whatever the order of insertion.
+    "in 0 30 2, in 0 10 8, in 0 40 0, in 0 20 63, next 0 10 8, next 0 20 63, next 0 30 2, next 0 40 0, next 0 - -",
+    // Of equal stamps the lowest frame comes first.
+    "in 1 5 24, in 1 5 8, in 1 4 40, in 1 5 16, next 1 4 40, next 1 5 8, next 1 5 16, next 1 5 24, next 1 - -",
+    // Each size has a list of its own.
+    "in 0 3 1, in 1 2 8, in 2 1 0, next 1 2 8, next 1 - -, next 2 1 0, next 2 - -, next 0 3 1, next 0 - -",
+    // A removal takes only the member of that stamp and frame.
+    "in 0 7 1, in 0 7 2, out 0 7 1, out 0 6 2, out 1 7 2, next 0 7 2, next 0 - -",
+];
+
+impl Marked {
+    /// Whether a step goes as its row says.
+    fn goes(&mut self, step: &str) -> bool {
+        let [call, level, stamp, frame, ..] = words(step);
+        let row = Row {
+            level: level_of(level),
+            stamp: u64::from(count(stamp)),
+            frame: count(frame),
+        };
+        if call == "in" {
+            return self.insert(row);
+        }
+        let oldest = self.oldest(row.level);
+        self.remove(row);
+        call == "out" || oldest == number(frame)
+    }
+}
+
+/// Asserts that the steps go as they say.
+fn go(rt: &impl Abort, lists: &mut Marked, steps: &str) {
+    for step in steps.split(", ") {
+        assert!(rt; lists.goes(step), "{step} of {steps}");
+    }
+}
+
+#[test]
+fn the_oldest_of_a_size_comes_first(rt: HostRuntime) {
+    for steps in STEPS.iter() {
+        let mut lists = Marked::create(rt.alloc()).expect(&rt, NO_MEMORY);
+        go(&rt, &mut lists, steps);
+    }
+}
+
+/// Whether new lists over so many frames are empty.
+fn are_empty(rt: &impl Abort, alloc: Global, frames: u32) -> bool {
+    let lists = Lists::create(alloc, frames).expect(rt, NO_MEMORY);
+    let oldest = [
+        lists.oldest(size(0)),
+        lists.oldest(size(1)),
+        lists.oldest(size(2)),
+    ];
+    oldest == [None; 3]
+}
+
+#[test]
+fn new_lists_are_empty(rt: HostRuntime) {
+    for frames in [0, 1, 64] {
+        assert!(rt; are_empty(&rt, rt.alloc(), frames), "of {frames}");
+    }
 }

@@ -1,11 +1,11 @@
-//! Reservations: what they can give back, and the parts of one that is split.
+//! Reservations: their frames, their used places, and what they can give back.
 ghost use Rattle.std.specs.Prelude.{◌≡◌, ℕ, ◌<◌, ◌≤◌, ◌+◌, ◌^◌, true, false, IfOk, IsSomeAnd, length};
 ghost use Rattle.pager_model.specs.Records.{is_used, none_used};
 ghost use Rattle.pager_model.specs.Agreement.{has_frame};
 ghost use Rattle.pager_model.specs.Layouts.{frame_for};
 ghost use Rattle.reservations.specs.Kept.{reservation_at, CoversPage};
 
-use super::{NO_MEMORY, size};
+use super::{NO_MEMORY, count, level_of, number, size, words};
 use pager_model::Reservation;
 use reservations::{Part, Reservations, frame_for};
 use std::alloc::Global;
@@ -223,4 +223,136 @@ fn a_split_keeps_the_parts_with_a_used_place(rt: HostRuntime) {
     let mut kept = none(&rt, rt.alloc());
     third_eighth(&rt, &mut kept);
     split_all(&rt, &mut kept);
+}
+
+/// Whether a frame is in no reservation.
+fn is_in_none(kept: &Reservations, frame: u32) -> bool {
+    kept.get(frame).is_none() && kept.id_of(frame).is_none() && !kept.used(frame)
+}
+
+/// Whether new reservations over so many frames have none of these.
+fn have_none(rt: &impl Abort, alloc: Global, frames: u32) -> bool {
+    let kept = Reservations::create(alloc, frames).expect(rt, NO_MEMORY);
+    for frame in [0, 1, FRAMES - 1, FRAMES, u32::MAX] {
+        if !is_in_none(&kept, frame) {
+            return false;
+        }
+    }
+    true
+}
+
+#[test]
+fn no_reservation_and_no_used_place_at_first(rt: HostRuntime) {
+    for frames in [0, 1, FRAMES] {
+        assert!(rt; have_none(&rt, rt.alloc(), frames), "of {frames}");
+    }
+}
+
+/// Vacates the place of a page, and says whether it was the last used one.
+fn vacate(rt: &impl Abort, kept: &mut Reservations, id: u32, page: u32) -> bool
+    ensures { IsSomeAnd (reservation_at kept.new id) (λ r. result ≡ none_used (is_used kept.new.used) r.frame (8 ^ r.size)) }
+{
+    let frame = place(rt, kept, id, page);
+    assert!(rt; kept.used(frame));
+    kept.vacate(id, page)
+}
+
+/// Vacates the last used place of a reservation, and dissolves it.
+fn dissolve(rt: &impl Abort, kept: &mut Reservations, id: u32, page: u32) -> bool {
+    let last = vacate(rt, kept, id, page);
+    assert!(rt; last);
+    kept.dissolve(id);
+    last
+}
+
+/// Whether all parts but these two are empty.
+fn are_empty_but(parts: &[Part; 8], kept: [u32; 2]) -> bool {
+    for (i, part) in (0..).zip(parts) {
+        if part.empty == kept.contains(&i) {
+            return false;
+        }
+    }
+    true
+}
+
+/// Reservations that are added, each with a level, its first page and frame, its stamp and the page that is populated first; and then steps,
+/// each with a first frame. A page is populated, or vacated, where a 1 says that it was the last, which may be dissolved; `get` tells the
+/// level, first page and stamp, `yield` a level, and `split` the two parts that aren't empty; `at` tells of a frame which reservation has it,
+/// and whether it is a used place.
+static SCENES: [(&str, &str); 5] = [
+    (
+        "1 24 64 3 29, 0 7 72 4 7",
+        "get 64 1 24 3, get 72 0 7 4, at 63 - 0, at 64 64 0, at 68 64 0, at 69 64 1, at 71 64 0, at 72 72 1, at 73 - 0",
+    ),
+    // A page populated makes that reservation alone younger.
+    (
+        "1 8 0 3 8, 1 0 8 4 0",
+        "fill 0 13 5, get 0 1 8 5, get 8 1 0 4, at 5 0 1, at 13 8 0",
+    ),
+    (
+        "3 512 0 3 600",
+        "fill 0 512 4, fill 0 1023 5, vacate 0 600 0, vacate 0 1023 0, vacate 0 512 1, get 0 3 512 5, yield 0 3",
+    ),
+    // What is dissolved has no frame.
+    (
+        "1 8 0 3 8, 1 0 8 4 0",
+        "dissolve 0 8 1, at 0 - 0, at 7 - 0, at 8 8 1, at 15 8 0, get 0 - - -, get 8 1 0 4",
+    ),
+    // Eight pages are split into pages.
+    (
+        "1 16 8 3 18",
+        "fill 8 23 4, split 8 2 7, get 10 0 18 4, get 15 0 23 4",
+    ),
+];
+
+/// Adds the reservations of a scene.
+fn add_all(rt: &impl Abort, kept: &mut Reservations, rows: &str)
+    requires { length kept.old.records ≡ 1024 }
+{
+    for row in rows.split(", ") {
+        let [level, first, frame, stamp, page, ..] = words(row);
+        let stamp = u64::from(count(stamp));
+        let new = reservation(level_of(level), count(first), count(frame), stamp);
+        add(rt, kept, new, count(page));
+    }
+}
+
+/// Whether the reservation at a frame is this one, where it has a level.
+fn is_at(kept: &Reservations, frame: u32, level: &str, first: u32, stamp: u64) -> bool {
+    let wanted = reservation(level_of(level), first, frame, stamp);
+    kept.get(frame) == number(level).map(|_| wanted)
+}
+
+/// Whether a step goes as it says.
+fn goes(rt: &impl Abort, kept: &mut Reservations, step: &str) -> bool {
+    let [call, id, second, third, fourth, ..] = words(step);
+    let (id, page, told) = (count(id), count(second), third == "1");
+    match call {
+        "at" => (kept.id_of(id), kept.used(id)) == (number(second), told),
+        "get" => is_at(kept, id, second, count(third), u64::from(count(fourth))),
+        "fill" => {
+            populate(rt, kept, id, page, u64::from(count(third)));
+            true
+        }
+        "split" => are_empty_but(&split(rt, kept, id), [page, count(third)]),
+        "yield" => yields(rt, kept, id) == Some(level_of(second)),
+        "vacate" => vacate(rt, kept, id, page) == told,
+        _ => dissolve(rt, kept, id, page) == told,
+    }
+}
+
+/// Asserts that the steps go as they say.
+fn go(rt: &impl Abort, kept: &mut Reservations, steps: &str) {
+    for step in steps.split(", ") {
+        assert!(rt; goes(rt, kept, step), "{step} of {steps}");
+    }
+}
+
+#[test]
+fn each_call_reads_or_changes_one_reservation(rt: HostRuntime) {
+    for &(added, steps) in SCENES.iter() {
+        let mut kept = none(&rt, rt.alloc());
+        add_all(&rt, &mut kept, added);
+        go(&rt, &mut kept, steps);
+    }
 }

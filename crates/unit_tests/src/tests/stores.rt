@@ -101,6 +101,36 @@ fn told_without<S: Store>(store: &mut S, page: u32) -> bool {
     store.told()
 }
 
+/// A store in memory whose second and third write fail.
+fn two_fail(rt: &impl Abort, alloc: Global) -> MemoryStore {
+    let writes = [2, 3].to_vec(alloc).expect(rt, NO_MEMORY);
+    MemoryStore::of(alloc, Vec::new(alloc), writes)
+}
+
+/// Writes three images, of which two fail, and says what the writes answer, and the faults then.
+fn write_three<S: Store>(store: &mut S) -> ([Result<(), WriteRefused>; 3], u64) {
+    let writes = [
+        store.write(7, &image(1)),
+        store.write(7, &image(2)),
+        store.write(8, &image(3)),
+    ];
+    (writes, store.faults())
+}
+
+/// Whether a page that a failed write left can be written again.
+fn rewrites<S: Store>(store: &mut S, page: u32) -> bool {
+    store.write(page, &image(4)).is_ok() && reads_alike(store, page, Ok(Some(4)))
+}
+
+#[test]
+fn a_failed_write_keeps_its_page_with_an_unknown_copy(rt: HostRuntime) {
+    let mut store = two_fail(&rt, rt.alloc());
+    let failed = Err(WriteRefused::Failed);
+    assert!(rt; store.told() && write_three(&mut store) == ([Ok(()), failed, failed], 2));
+    assert!(rt; !told_without(&mut store, 7) && told_without(&mut store, 8));
+    assert!(rt; rewrites(&mut store, 8));
+}
+
 #[test]
 fn a_store_may_find_no_memory(rt: HostRuntime) {
     let mut store = Full;

@@ -1,5 +1,6 @@
 //! Sources and sinks: what each read gives and each write takes, and `write_all`.
 mod adapters;
+mod memory;
 pub(super) mod slow;
 mod writing;
 

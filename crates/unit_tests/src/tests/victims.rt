@@ -1,11 +1,11 @@
-//! Each answer beside that of a walk through a plain list of what is noted.
+//! The used frames in worked rows, and each answer beside that of a walk through a plain list of what is noted.
 
 ghost use Rattle.std.specs.Prelude.{◌≡◌, ℕ, ◌<◌, Some, None, slice_index_or};
 ghost use Rattle.std.specs.Bool.{OnTrue};
 ghost use Rattle.pager_model.specs.declared.reservation.Used.{Used};
 ghost use Rattle.unit_tests.specs.declared.tests.victims.TheConstants.{PROCESSORS};
 
-use super::NO_MEMORY;
+use super::{NO_MEMORY, count, number, words};
 use pager_model::{Generator, NoMemory, Used};
 use std::alloc::Global;
 use std::process::Abort;
@@ -271,4 +271,70 @@ fn drawn_calls_answer_as_a_plain_list_does(rt: HostRuntime) {
         "{:?}",
         tally.made
     );
+}
+
+/// Changes, each with a frame, a processor and an age; then the victim, the frame that this processor claims, and how many frames are wired and
+/// claimed.
+const STEPS: &str = "\
+add 3 0 10 3 - 0 0
+add 0 0 11 3 - 0 0
+add 63 0 40 3 - 0 0
+remove 3 0 0 0 - 0 0
+remove 0 0 0 63 - 0 0
+remove 63 0 0 - - 0 0
+add 0 4 0 0 - 0 0
+add 1 4 1 0 - 0 0
+add 2 4 2 0 - 0 0
+add 3 4 3 0 - 0 0
+claim 0 4 0 1 0 0 1
+claim 1 2 0 2 1 0 2
+unclaim 0 2 0 1 - 0 1
+unclaim 0 4 0 0 - 0 0
+remove 0 0 0 1 - 0 0
+remove 1 0 0 2 - 0 0
+remove 2 0 0 3 - 0 0
+remove 3 0 0 - - 0 0
+wire 1 0 0 - - 1 0
+add 2 0 1 2 - 1 0
+wire 3 0 2 2 - 2 0
+remove 2 0 0 - - 2 0
+remove 1 0 0 - - 1 0
+remove 3 0 0 - - 0 0
+add 9 1 0 9 - 0 0
+claim 9 1 0 - 9 0 1
+remove 9 1 0 - - 0 0
+add 9 1 5 9 - 0 0
+";
+
+/// The change of a name.
+fn change_of(name: &str) -> Change {
+    match name {
+        "add" => Change::Add,
+        "wire" => Change::AddWired,
+        "claim" => Change::Claim,
+        "remove" => Change::Remove,
+        _ => Change::Unclaim,
+    }
+}
+
+impl Beside {
+    /// Whether a step goes, and all is then as its row says.
+    fn goes(&mut self, rt: &impl Abort, row: &str) -> bool {
+        let [name, frame, processor, age, victim, claim, wired, claimed] = words(row);
+        let processor = count(processor);
+        let age = u64::from(count(age));
+        self.change(rt, change_of(name), count(frame), processor, age)
+            && (self.used.victim(), self.used.claimed_by(processor))
+                == (number(victim), number(claim))
+            && (self.used.wired(), self.used.claimed()) == (count(wired), count(claimed))
+    }
+}
+
+#[test]
+fn the_first_in_that_is_neither_wired_nor_claimed_is_the_victim(rt: HostRuntime) {
+    let mut both = Beside::create(rt.alloc()).expect(&rt, NO_MEMORY);
+    assert!(rt; both.used.victim().is_none());
+    for row in STEPS.lines() {
+        assert!(rt; both.goes(&rt, row), "{row}");
+    }
 }

@@ -5,16 +5,26 @@ use std::io;
 use std::io::{Cursor, ErrorKind, Read, Write};
 use std::process::Abort;
 
-/// What three reads into four bytes give.
-fn three_reads<R: Read + Drop>(reader: R) -> [Option<[u8; 4]>; 3] {
+/// What four reads into four bytes give.
+fn four_reads<R: Read + Drop>(reader: R) -> [Option<[u8; 4]>; 4] {
     let mut source = RealSource::of(reader);
-    [given(&mut source), given(&mut source), given(&mut source)]
+    [
+        given(&mut source),
+        given(&mut source),
+        given(&mut source),
+        given(&mut source),
+    ]
 }
 
 #[test]
 fn passes_on_what_a_reader_gives(rt: HostRuntime) {
-    let given = [Some(*b"abcd"), Some(*b"e\0\0\0"), Some([0; 4])];
-    assert!(rt; three_reads(Cursor::new(b"abcde")) == given);
+    let given = [
+        Some(*b"abcd"),
+        Some(*b"e\0\0\0"),
+        Some([0; 4]),
+        Some([0; 4]),
+    ];
+    assert!(rt; four_reads(Cursor::new(b"abcde")) == given);
 }
 
 /// Whether a writer of three bytes takes so many bytes of these pieces, in order, and has these bytes then.
@@ -56,6 +66,6 @@ impl Write for Closed {
 
 #[test]
 fn a_closed_stream_fails_at_each_call(rt: HostRuntime) {
-    assert!(rt; three_reads(Closed) == [None, None, None]);
+    assert!(rt; four_reads(Closed) == [None; 4]);
     assert!(rt; taken(&mut RealSink::of(Closed), b"a").is_none());
 }
