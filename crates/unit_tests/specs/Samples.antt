@@ -4,7 +4,7 @@ use Rattle.pager_model.specs.SizeSets.{all_sizes}
 use Rattle.pager_model.specs.Settings.{Given}
 use Rattle.pager_model.specs.declared.call.Call.TheVariants.{Load, Map}
 use Rattle.pager_model.specs.declared.entry.Entry.{Entry}
-use Rattle.pager_model.specs.declared.entry.What.TheVariants.{Answer, Take}
+use Rattle.pager_model.specs.declared.entry.What.TheVariants.{Answer, Take, Rest}
 use Rattle.pager_model.specs.declared.reply.Reply.TheVariants.{Unmapped, Done}
 use Rattle.pager_model.specs.declared.region.Kind.TheVariants.{Fixed}
 use Rattle.pager_model.specs.declared.region.Rights.TheVariants.{Write}
@@ -51,6 +51,14 @@ taking =
       frames = true;
       what = Take 0 0 (record { low = 0; high = 1; cap = 1; wired = false });
     }
+
+-- a processor that makes calls and a daemon of mark 2, one space whose store isn't told, and eight frames
+abbrev pub watched : Given
+watched = record { sizes = all_sizes; frames = 8; marks = 0 ∷ 2 ∷ []; told = false ∷ []; faults = 0 ∷ [] }
+
+-- the daemon finds enough frames free, and rests
+abbrev pub rest : Entry
+rest = record { processor = 1; space = None; frames = true; what = Rest false }
 
 -- the space has no region, and anyone may make its next entry
 pub record IsEmptySpace (st : SpaceState) : Type 0 where

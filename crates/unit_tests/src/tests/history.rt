@@ -1,8 +1,10 @@
 //! The histories that threads write, and what stands in them.
-ghost use Rattle.std.specs.Prelude.{◌≡◌, ◌<◌, length};
+ghost use Rattle.std.specs.Prelude.{◌≡◌, ◌<◌, length, Some};
 ghost use Rattle.journal_core.specs.Journals.{new_author, new_pass};
+ghost use Rattle.pager_model.specs.Legal.{progress_in, entries_in};
+ghost use Rattle.pager_model.specs.Order.{at_rest};
 ghost use Rattle.pager_model.specs.Settings.{mark_of};
-ghost use Rattle.unit_tests.specs.Samples.{unmapped, sample, Filled, mapped, taking, small};
+ghost use Rattle.unit_tests.specs.Samples.{unmapped, sample, Filled, mapped, taking, small, watched, rest};
 
 use super::NO_MEMORY;
 use journal_core::{
@@ -248,4 +250,62 @@ fn a_taking_stands_behind_the_answer_before_it(rt: HostRuntime) {
     };
     assert!(rt; told == (0, 0, 1, 2));
     assert!(rt; history.as_slice() == [first, second].as_slice());
+}
+
+/// A processor that makes calls and a daemon of mark 2, one space whose store isn't told, and eight frames.
+fn watched_setting(rt: &impl Abort, alloc: Global) -> Setting
+    ensures { result ≡ watched }
+{
+    let marks = vec![in alloc; 0, 2].expect(rt, NO_MEMORY);
+    let told = vec![in alloc; false; 1].expect(rt, NO_MEMORY);
+    let faults = vec![in alloc; 0; 1].expect(rt, NO_MEMORY);
+    Setting::of(8, marks, told, faults)
+}
+
+/// The daemon finds enough frames free.
+fn rest_entry() -> Entry
+    ensures { result ≡ rest }
+{
+    Entry {
+        processor: 1,
+        space: None,
+        frames: true,
+        what: What::Rest { short: false },
+    }
+}
+
+/// A turn with no other entry.
+fn rest_at_once(journal: &Journal, frames: Author, pass: Pass) -> (Author, Pass)
+    requires setting { journal.now.name.setting ≡ watched }
+    requires frames { frames ≡ new_author journal.now.name 1 }
+    requires pass { pass ≡ new_pass journal.now.name 1 1 }
+    ensures journal { (result.0.journal ≡ journal.now.name) × (result.1.journal ≡ journal.now.name) }
+    ensures pass { (result.1.processor ≡ 1) × (result.1.room ≡ 1) }
+    ensures turn { progress_in watched 1 (entries_in result.1.entries) ≡ Some (at_rest 2 1) }
+{
+    let (_, frames, pass) = commit(journal, frames, pass, rest_entry());
+    (frames, pass)
+}
+
+/// The history of a daemon's turn.
+fn rested(rt: &impl Abort, alloc: Global) -> Vec<Numbered> {
+    let opened = create(alloc, watched_setting(rt, alloc), &[0, 1]).expect(rt, NO_MEMORY);
+    let Opened {
+        journal,
+        mut authors,
+        mut passes,
+    } = opened;
+    let (frames, pass) = rest_at_once(&journal, authors.remove(1), passes.remove(1));
+    authors.push(frames).expect(rt, NO_MEMORY);
+    passes.push(pass).expect(rt, NO_MEMORY);
+    close(journal, authors, passes)
+}
+
+#[test]
+fn a_turn_that_rests_at_once_is_one_entry(rt: HostRuntime) {
+    let only = Numbered {
+        number: 0,
+        entry: rest_entry(),
+    };
+    assert!(rt; rested(&rt, rt.alloc()).as_slice() == [only].as_slice());
 }
