@@ -27,7 +27,7 @@ const PAGE_WORDS: u32 = 1024;
 /// stores, syncs, evicts and protects, most of them at the first 512 pages.
 ///
 /// `calls` counts the maps, so it is at least `spaces`, and at most 262,144; `processors` and `spaces` are from 1 to 16, and `frames` is a
-/// multiple of 512 up to 32,768.
+/// multiple of 512 from 512 up to 32,768.
 pub fn make(
     alloc: Global,
     number: u64,
