@@ -111,33 +111,31 @@ module _ (l : Layout) (id : ℕ) (r : Reservation) (laid : IsLaid l) (is : recor
   ]
 
   -- The reservation goes back into the lists as another one may stand in its place, where a frame of it became used or unused.
-  pub IsInOrder-again : (frames f : ℕ) (b : Bool) (o : Option Reservation) (new : Layout) (kept without after : KeptLists) (map mapped : Populations) → IsInOrder frames l kept map → has_frame f (Some r) ≡ true → IsLaid new → new.sizes ≡ l.sizes → length new.free ≡ length l.free → new.used ≡ set l.used f b → new.records ≡ set l.records id o → without.frames ≡ kept.frames → after.frames ≡ without.frames → AreListed l.sizes without.lists l.used (set l.records id None) → ((records : List (Option Reservation)) → get_or records id None ≡ None → id < length records → AreListed l.sizes without.lists new.used records → AreListed l.sizes after.lists new.used (set records id (record_at new id))) → IsMapped mapped new.records → IsInOrder frames new after mapped
-  IsInOrder-again frames f b o new kept without after map mapped order mine laid_after sizes long used records room last are enlists is_mapped =
+  pub IsInOrder-again : (f : ℕ) (b : Bool) (o : Option Reservation) (new : Layout) (kept without after : KeptLists) (map mapped : Populations) → IsInOrder l kept map → has_frame f (Some r) ≡ true → IsLaid new → new.sizes ≡ l.sizes → length new.free ≡ after.frames → new.used ≡ set l.used f b → new.records ≡ set l.records id o → without.frames ≡ kept.frames → after.frames ≡ without.frames → AreListed l.sizes without.lists l.used (set l.records id None) → ((records : List (Option Reservation)) → get_or records id None ≡ None → id < length records → AreListed l.sizes without.lists new.used records → AreListed l.sizes after.lists new.used (set records id (record_at new id))) → IsMapped mapped new.records → IsInOrder new after mapped
+  IsInOrder-again f b o new kept without after map mapped order mine laid_after sizes long used records room last are enlists is_mapped =
       let known = get_or_within l.records id r is in
       let rest = subst (λ u. AreListed l.sizes without.lists u (set l.records id None)) (sym used) (rest_listed without.lists f b mine are) in
       let stands : record_at new id ≡ o = ap (λ rs. get_or rs id None) records ∙ get_or-set_same l.records id o None known in
       let again : set (set l.records id None) id (record_at new id) ≡ new.records =
       set-set l.records id None (record_at new id) ∙ ap (set l.records id) stands ∙ sym records in
       record {
-        known = long ∙ order.known;
-        few = order.few;
+        known = long;
+        few = omega (arith, last, room, order.few);
         laid = laid_after;
         listed = subst (λ z. AreListed z after.lists new.used new.records) (sym sizes) (subst (AreListed l.sizes after.lists new.used) again (enlists (set l.records id None) none_there (omega (arith, known, length-set l.records id None)) rest));
-        room = last ∙ room ∙ order.room;
         mapped = is_mapped;
       }
 
   -- The reservation goes, and a frame of it became unused.
-  pub IsInOrder-gone : (frames f : ℕ) (new : Layout) (kept without : KeptLists) (map mapped : Populations) → IsInOrder frames l kept map → has_frame f (Some r) ≡ true → IsLaid new → new.sizes ≡ l.sizes → length new.free ≡ length l.free → new.used ≡ set l.used f false → new.records ≡ set l.records id None → without.frames ≡ kept.frames → AreListed l.sizes without.lists l.used (set l.records id None) → IsMapped mapped new.records → IsInOrder frames new without mapped
-  IsInOrder-gone frames f new kept without map mapped order mine laid_after sizes long used records room are is_mapped = record {
-    known = long ∙ order.known;
-    few = order.few;
+  pub IsInOrder-gone : (f : ℕ) (new : Layout) (kept without : KeptLists) (map mapped : Populations) → IsInOrder l kept map → has_frame f (Some r) ≡ true → IsLaid new → new.sizes ≡ l.sizes → length new.free ≡ without.frames → new.used ≡ set l.used f false → new.records ≡ set l.records id None → without.frames ≡ kept.frames → AreListed l.sizes without.lists l.used (set l.records id None) → IsMapped mapped new.records → IsInOrder new without mapped
+  IsInOrder-gone f new kept without map mapped order mine laid_after sizes long used records room are is_mapped = record {
+    known = long;
+    few = omega (arith, room, order.few);
     laid = laid_after;
     listed =
         subst (λ z. AreListed z without.lists new.used new.records) (sym sizes)
         (subst (λ u. AreListed l.sizes without.lists u new.records) (sym used)
         (subst (AreListed l.sizes without.lists (set l.used f false)) (sym records) (rest_listed without.lists f false mine are)));
-    room = room ∙ order.room;
     mapped = is_mapped;
   }
 

@@ -13,13 +13,12 @@ use Rattle.frame_pool.specs.Mapped.{IsMapped}
 use Rattle.pager_laws.specs.Listed.{AreListed}
 use Rattle.pager_model.specs.Bounds.{most_frames}
 
--- the layout of so many frames is sound, and the lists and the map are its
-pub record IsInOrder (frames : ℕ) (l : Layout) (kept : KeptLists) (map : Populations) : Type 0 where
-  pub known : length l.free ≡ frames
-  pub few : frames ≤ most_frames
+-- the layout is sound, and the lists and the map are its
+pub record IsInOrder (l : Layout) (kept : KeptLists) (map : Populations) : Type 0 where
+  pub known : length l.free ≡ kept.frames
+  pub few : kept.frames ≤ most_frames
   pub laid : IsLaid l
   pub listed : AreListed l.sizes kept.lists l.used l.records
-  pub room : kept.frames ≡ frames
   pub mapped : IsMapped map l.records
 
 -- From records in which the reservation was none any more, and whose lists these are, the reservation was split.

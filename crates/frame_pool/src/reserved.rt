@@ -33,7 +33,6 @@ const MOST_SPACES: u32 = 16;
 /// Contracts see them as a layout in which no frame is free.
 #[derive(Drop)]
 pub(crate) struct Reserved {
-    frames: u32,
     sizes: Sizes,
     reservations: Reservations,
     lists: Lists,
@@ -49,7 +48,7 @@ impl Model for Reserved {
 
     ghost view = { reserved_in };
 
-    ghost invariant = { λ r. IsInOrder r.frames (reserved_in r) r.lists r.map };
+    ghost invariant = { λ r. IsInOrder (reserved_in r) r.lists r.map };
 }
 
 impl Reserved {
@@ -59,7 +58,6 @@ impl Reserved {
         ensures { IfOk result (λ r. r ≡ none_reserved sizes frames) }
     {
         Ok(Reserved {
-            frames,
             sizes,
             reservations: Reservations::create(alloc, frames)?,
             lists: Lists::create(alloc, frames)?,

@@ -1,4 +1,4 @@
-use Rattle.std.proofs.Common.{true, false, refl}
+use Rattle.std.proofs.Common.{true, false}
 use Rattle.std.proofs.lemmas.List.{length-replicate}
 use Rattle.pager_model.specs.Layouts.{start_layout}
 use Rattle.pager_laws.proofs.StartStates.{IsLaid-start}
@@ -17,6 +17,5 @@ invariant_of-result c =
       few = c.requires;
       laid = IsLaid-none_free (start_layout c.args.sizes frames) frames (IsLaid-start c.args.sizes frames) (length-replicate frames true);
       listed = AreListed-start c.args.sizes frames;
-      room = refl;
       mapped = IsMapped-start c.in_ok-create-3.field-0 frames made.no_extent made.count made.spaces made.frames;
     })

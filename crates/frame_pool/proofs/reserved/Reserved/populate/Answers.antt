@@ -1,4 +1,5 @@
-use Rattle.std.proofs.Common.{◌≡◌, Some, true, false, refl, sym, ap, subst}
+use Rattle.std.proofs.Common.{◌≡◌, ◌∙◌, ℕ, Some, true, false, replicate, refl, sym, ap, subst}
+use Rattle.std.proofs.lemmas.List.{length-replicate}
 use Rattle.pager_model.specs.Layouts.{Layout, frame_for, stamped, record_at}
 use Rattle.pager_model.specs.Records.{Records, is_used}
 use Rattle.reservations.specs.Kept.{with_record, with_used}
@@ -26,9 +27,11 @@ invariant_of-self c =
     let unused : is_used l.used (frame_for page r) ≡ false = rw (← c.self.view_is) at c.requires.unused in
     let laid = IsLaid-populated l r c.args.stamp page c.self.invariant.laid is c.requires.has unused in
     let done : c.populate.new.self ≡ with_used (with_record inside.reservations r.frame (Some (stamped r c.args.stamp))) (frame_for page r) true = rw is at c.populate.ensures in
-    let after : Records → Layout = λ st. record { sizes = l.sizes; free = l.free; records = st.records; used = st.used } in
-    IsInOrder-again l r.frame r c.self.invariant.laid is inside.frames (frame_for page r) true (Some (stamped r c.args.stamp)) (after c.populate.new.self) inside.lists c.unlist.new.lists c.enlist.new.lists inside.map inside.map c.self.invariant (place_has r page c.requires.has)
-    (subst (λ st. IsLaid (after st)) (sym done) laid) refl refl (ap (λ (st : Records). st.used) done) (ap (λ (st : Records). st.records) done)
+    let m = c.enlist.new.lists.frames in
+    let room : m ≡ inside.lists.frames = c.enlist.ensures.room ∙ c.unlist.ensures.room in
+    let after : ℕ → Records → Layout = λ n st. record { sizes = l.sizes; free = replicate n false; records = st.records; used = st.used } in
+    IsInOrder-again l r.frame r c.self.invariant.laid is (frame_for page r) true (Some (stamped r c.args.stamp)) (after m c.populate.new.self) inside.lists c.unlist.new.lists c.enlist.new.lists inside.map inside.map c.self.invariant (place_has r page c.requires.has)
+    (subst (λ n. IsLaid (after n c.populate.new.self)) (sym room) (subst (λ st. IsLaid (after inside.lists.frames st)) (sym done) laid)) refl (length-replicate m false) (ap (λ (st : Records). st.used) done) (ap (λ (st : Records). st.records) done)
     c.unlist.ensures.room c.enlist.ensures.room c.unlist.ensures.listed c.enlist.ensures.listed
     (subst (λ (st : Records). IsMapped inside.map st.records) (sym done) (IsMapped-alike inside.map l.records r.frame r (stamped r c.args.stamp) c.self.invariant.mapped is refl refl refl))
 

@@ -1,6 +1,6 @@
-use Rattle.std.proofs.Common.{◌≡◌, ◌∙◌, ◌<◌, Option, Some, None, true, List, length, get_or, set, sym, arith}
+use Rattle.std.proofs.Common.{◌≡◌, ◌∙◌, ◌<◌, Option, Some, None, true, false, List, length, get_or, set, sym, arith}
 use Rattle.std.proofs.lemmas.Bool.{false≢true}
-use Rattle.std.proofs.lemmas.List.{get_or-set_same}
+use Rattle.std.proofs.lemmas.List.{get_or-set_same, length-replicate}
 use Rattle.pager_model.specs.declared.reservation.Reservation.{Reservation}
 use Rattle.pager_model.specs.Layouts.{frame_for}
 use Rattle.pager_model.proofs.ExtentLemmas.{eight_pos}
@@ -31,7 +31,7 @@ insert-requires c =
     let apart = rw (← c.self.view_is) at c.requires.apart in
     let laid = rw (← c.self.view_is) at c.requires.laid in
     let placed = rw (← c.self.view_is) at c.requires.placed in
-    (l.records, was.mapped, MayEnter-added l r c.args.page was.laid placed c.requires.few c.requires.within apart (IsLaid-with l r c.args.page c.self.inside.frames was.laid was.known laid.0 laid.1))
+    (l.records, was.mapped, MayEnter-added l r c.args.page was.laid placed c.requires.few c.requires.within apart (IsLaid-with l r c.args.page c.self.inside.lists.frames was.laid was.known laid.0 laid.1))
 
 pub invariant_of-self : goal.invariant_of-self
 invariant_of-self c =
@@ -42,7 +42,7 @@ invariant_of-self c =
     let apart = rw (← c.self.view_is) at c.requires.apart in
     let sound = rw (← c.self.view_is) at c.requires.laid in
     let placed = rw (← c.self.view_is) at c.requires.placed in
-    let laid = IsLaid-with l r c.args.page inside.frames was.laid was.known sound.0 sound.1 in
+    let laid = IsLaid-with l r c.args.page inside.lists.frames was.laid was.known sound.0 sound.1 in
     let none = none_begins l.records r.frame was.laid.placed (apart r.frame r.frame (has_frame_from r.frame r (omega arith) (omega (arith, eight_pos r.size)))) in
     let place = frame_for c.args.page r in
     let listed = AreListed-used l.sizes inside.lists.lists l.used l.records place true was.listed (λ id has. false≢true (sym (apart place id (place_has r c.args.page c.requires.has)) ∙ has)) in
@@ -50,10 +50,9 @@ invariant_of-self c =
     let enlists : (rs : List (Option Reservation)) → get_or rs r.frame None ≡ None → r.frame < length rs → AreListed l.sizes inside.lists.lists (set l.used place true) rs → AreListed l.sizes c.enlist.new.lists.lists (set l.used place true) (set rs r.frame (get_or (set l.records r.frame (Some r)) r.frame None)) =
     rw c.add.ensures at c.enlist.ensures.listed in
     rw c.add.ensures (record {
-      known = was.known;
-      few = was.few;
-      laid = laid;
+      known = length-replicate c.enlist.new.lists.frames false;
+      few = omega (arith, c.enlist.ensures.room, was.few);
+      laid = IsLaid-with l r c.args.page c.enlist.new.lists.frames was.laid (was.known ∙ sym c.enlist.ensures.room) sound.0 sound.1;
       listed = rw (get_or-set_same l.records r.frame (Some r) None known) at (enlists l.records none known listed);
-      room = c.enlist.ensures.room ∙ was.room;
       mapped = c.insert.ensures l.records was.mapped (MayEnter-added l r c.args.page was.laid placed c.requires.few c.requires.within apart laid);
     })

@@ -1,4 +1,5 @@
-use Rattle.std.proofs.Common.{◌≡◌, ◌∙◌, ◌<◌, ◌-◌, Some, refl, sym, arith}
+use Rattle.std.proofs.Common.{◌≡◌, ◌∙◌, ◌<◌, ◌-◌, Some, false, refl, sym, arith}
+use Rattle.std.proofs.lemmas.List.{length-replicate}
 use Rattle.pager_model.specs.Layouts.{parted, record_at}
 use Rattle.pager_model.specs.Records.{is_used, parted_records, split_records}
 use Rattle.frame_pool.specs.ReservedState.{reserved_in}
@@ -29,7 +30,7 @@ enlist_parts-requires-clause-split c =
     let w = (goal.at.enlist_parts-requires-clause-split c).After-split-parts in
     let was = c.self.invariant in
     WasSplit-from (reserved_in c.self.inside) c.args.id c.unwrap-whole.result was.laid (stood w) c.unlist.new.lists c.split-parts.new.self
-    (c.unlist.ensures.room ∙ was.room ∙ sym was.known ∙ sym was.laid.records_long) c.unlist.ensures.listed (split w) c.split-parts.ensures.used
+    (c.unlist.ensures.room ∙ sym was.known ∙ sym was.laid.records_long) c.unlist.ensures.listed (split w) c.split-parts.ensures.used
 
 pub insert_parts-requires-clause-split : goal.insert_parts-requires-clause-split
 insert_parts-requires-clause-split c =
@@ -42,17 +43,17 @@ invariant_of-self c =
     let l = reserved_in c.self.inside in
     let was = c.self.invariant in
     let r = c.unwrap-whole.result in
+    let room : c.enlist_parts.new.lists.frames ≡ c.self.inside.lists.frames = c.enlist_parts.ensures.room ∙ c.unlist.ensures.room in
     let settles = Settles-parted (r.size - 1) l c.args.id r was.laid (stood w) (omega arith) in
     rw (eight w, c.split-parts.ensures.used) (record {
-      known = was.known;
-      few = was.few;
-      laid = IsLaid-none_free (parted (r.size - 1) r l) c.self.inside.frames settles.laid (settles.long ∙ was.known);
+      known = length-replicate c.enlist_parts.new.lists.frames false;
+      few = omega (arith, room, was.few);
+      laid = IsLaid-none_free (parted (r.size - 1) r l) c.enlist_parts.new.lists.frames settles.laid (settles.long ∙ was.known ∙ sym room);
       listed = rw (eight w, c.split-parts.ensures.used) at c.enlist_parts.ensures.listed;
-      room = c.enlist_parts.ensures.room ∙ c.unlist.ensures.room ∙ was.room;
       mapped = rw (eight w) at c.insert_parts.ensures;
     })
 
 pub returns-clause-split : goal.returns-clause-split
 returns-clause-split c =
     let w = (goal.at.returns-clause-split c).After-split-parts in
-    rw (← c.self.view_is, stood w, eight w, c.split-parts.ensures.used) refl
+    rw (c.enlist_parts.ensures.room, c.unlist.ensures.room, ← c.self.view_is, stood w, eight w, c.split-parts.ensures.used) refl

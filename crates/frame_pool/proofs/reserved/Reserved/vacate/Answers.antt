@@ -1,7 +1,7 @@
-use Rattle.std.proofs.Common.{◌≡◌, ◌∙◌, Some, None, true, false, refl, sym, ap, subst}
-use Rattle.std.proofs.lemmas.List.{set-get_or}
+use Rattle.std.proofs.Common.{◌≡◌, ◌∙◌, ℕ, Some, None, true, false, replicate, refl, sym, ap, subst}
+use Rattle.std.proofs.lemmas.List.{length-replicate, set-get_or}
 use Rattle.pager_model.specs.Agreement.{has_frame}
-use Rattle.pager_model.specs.Layouts.{record_at, is_last}
+use Rattle.pager_model.specs.Layouts.{Layout, record_at, is_last}
 use Rattle.pager_model.specs.Records.{Records}
 use Rattle.reservations.specs.Kept.{with_record, with_used}
 use Rattle.pager_laws.specs.Laid.{IsLaid}
@@ -28,6 +28,10 @@ tells : (c : After-vacate) → is_last c.args.frame c.unwrap-reservation.result 
 tells c =
     let last = rw ((owner c).0, unused c) at c.vacate.ensures.last in
     sym last
+
+-- the lists are of as many frames then
+by_room : {n m : ℕ} (l : Layout) (st : Records) → m ≡ n → IsLaid (record { sizes = l.sizes; free = replicate n false; records = st.records; used = st.used }) → IsLaid (record { sizes = l.sizes; free = replicate m false; records = st.records; used = st.used })
+by_room l st same laid = subst (λ k. IsLaid (record { sizes = l.sizes; free = replicate k false; records = st.records; used = st.used })) (sym same) laid
 
 laid_without : (c : After-vacate) → IsLaid (without_place c.args.frame c.unwrap-reservation.result (reserved_in c.self.inside))
 laid_without c = IsLaid-without_place (reserved_in c.self.inside) c.args.frame c.unwrap-reservation.result c.self.invariant.laid (owner c).0 (owner c).1 (rw (← c.self.view_is) at c.requires)
@@ -56,8 +60,8 @@ invariant_of-self c =
     let r = c.unwrap-reservation.result in
     let gone = c.dissolve.ensures ∙ ap (λ st. with_record st r.frame None) (unused w) in
     let after = vacated l c.args.frame r true c.dissolve.new.self (tells w ∙ c.if-vacate.true) gone in
-    IsInOrder-gone l r.frame r c.self.invariant.laid (owner w).0 inside.frames c.args.frame _ inside.lists c.unlist.new.lists inside.map c.remove.new.map c.self.invariant (owner w).1
-    (subst IsLaid (sym after) (laid_without w)) refl refl (ap (λ (st : Records). st.used) gone) (ap (λ (st : Records). st.records) gone)
+    IsInOrder-gone l r.frame r c.self.invariant.laid (owner w).0 c.args.frame _ inside.lists c.unlist.new.lists inside.map c.remove.new.map c.self.invariant (owner w).1
+    (by_room l c.dissolve.new.self c.unlist.ensures.room (subst IsLaid (sym after) (laid_without w))) refl (length-replicate c.unlist.new.lists.frames false) (ap (λ (st : Records). st.used) gone) (ap (λ (st : Records). st.records) gone)
     c.unlist.ensures.room c.unlist.ensures.listed
     (subst (λ (st : Records). IsMapped c.remove.new.map st.records) (sym c.dissolve.ensures) c.remove.ensures)
 
@@ -67,7 +71,7 @@ returns-then-vacate c =
     let r = c.unwrap-reservation.result in
     let gone = c.dissolve.ensures ∙ ap (λ st. with_record st r.frame None) (unused w) in
     let last = tells w ∙ c.if-vacate.true in
-    rw (← c.self.view_is) (record { whole = r; stood = (owner w).0; had = (owner w).1; left = vacated (reserved_in c.self.inside) c.args.frame r true c.dissolve.new.self last gone; frames = (last, refl) })
+    rw (c.unlist.ensures.room, ← c.self.view_is) (record { whole = r; stood = (owner w).0; had = (owner w).1; left = vacated (reserved_in c.self.inside) c.args.frame r true c.dissolve.new.self last gone; frames = (last, refl) })
 
 pub invariant_of-self-2 : goal.invariant_of-self-2
 invariant_of-self-2 c =
@@ -76,8 +80,8 @@ invariant_of-self-2 c =
     let l = reserved_in inside in
     let r = c.unwrap-reservation.result in
     let after = vacated l c.args.frame r false c.vacate.new.self (tells w ∙ c.if-vacate.false) (unused w) in
-    IsInOrder-again l r.frame r c.self.invariant.laid (owner w).0 inside.frames c.args.frame false (record_at l r.frame) _ inside.lists c.unlist.new.lists c.enlist.new.lists inside.map inside.map c.self.invariant (owner w).1
-    (subst IsLaid (sym after) (laid_without w)) refl refl (ap (λ (st : Records). st.used) (unused w))
+    IsInOrder-again l r.frame r c.self.invariant.laid (owner w).0 c.args.frame false (record_at l r.frame) _ inside.lists c.unlist.new.lists c.enlist.new.lists inside.map inside.map c.self.invariant (owner w).1
+    (by_room l c.vacate.new.self (c.enlist.ensures.room ∙ c.unlist.ensures.room) (subst IsLaid (sym after) (laid_without w))) refl (length-replicate c.enlist.new.lists.frames false) (ap (λ (st : Records). st.used) (unused w))
     (ap (λ (st : Records). st.records) (unused w) ∙ sym (set-get_or inside.reservations.records r.frame None))
     c.unlist.ensures.room c.enlist.ensures.room c.unlist.ensures.listed c.enlist.ensures.listed
     (subst (λ (st : Records). IsMapped inside.map st.records) (sym (unused w)) c.self.invariant.mapped)
@@ -87,4 +91,4 @@ returns c =
     let w = (goal.at.returns c).After-vacate in
     let r = c.unwrap-reservation.result in
     let keeps = tells w ∙ c.if-vacate.false in
-    rw (← c.self.view_is) (record { whole = r; stood = (owner w).0; had = (owner w).1; left = vacated (reserved_in c.self.inside) c.args.frame r false c.vacate.new.self keeps (unused w); frames = keeps })
+    rw (c.enlist.ensures.room, c.unlist.ensures.room, ← c.self.view_is) (record { whole = r; stood = (owner w).0; had = (owner w).1; left = vacated (reserved_in c.self.inside) c.args.frame r false c.vacate.new.self keeps (unused w); frames = keeps })
