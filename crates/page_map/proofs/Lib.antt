@@ -1,0 +1,4 @@
+pub mod Changes
+pub mod CountChanges
+pub mod Rows
+pub mod TileCounts
