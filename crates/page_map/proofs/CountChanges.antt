@@ -1,13 +1,13 @@
 -- What each change does to the counts of tiles.
-use Rattle.std.proofs.Common.{◌≡◌, ◌≢◌, ℕ, zero, suc, ◌+◌, ◌-◌, ◌*◌, ◌/◌, ◌^◌, ◌<◌, ◌≤◌, cond, eqb, length, List, [], ◌∷◌, Option, Some, None, inl, inr, refl, sym, ap, subst, ◌∙◌, arith}
+use Rattle.std.proofs.Common.{◌≡◌, ℕ, zero, suc, ◌-◌, ◌/◌, ◌^◌, ◌<◌, ◌≤◌, cond, eqb, length, List, [], ◌∷◌, Option, Some, None, inl, inr, refl, sym, ap, subst, ◌∙◌, arith}
 use Rattle.std.specs.List.{slice_index}
 use Rattle.std.proofs.lemmas.Bool.{cases_eq, eq-eqb, ne_eqb}
 use Rattle.pager_model.specs.declared.extent.Extent.{Extent}
 use Rattle.pager_model.specs.declared.tile.Tile.{Tile}
-use Rattle.pager_model.specs.Extents.{IsExtent, extent_start}
+use Rattle.pager_model.specs.Extents.{IsExtent}
 use Rattle.extent_tree.specs.Rows.{Arena}
 use Rattle.page_map.specs.declared.target.Target.{Target}
-use Rattle.page_map.specs.Tiles.{tile_at, tile_count, part_of, AreParts, Maps}
+use Rattle.page_map.specs.Tiles.{tile_at, part_of, AreParts, Maps}
 use Rattle.page_map.specs.Kept.{IsKept, AreCounts, Grows}
 use Rattle.page_map.proofs.Changes.{start_of, parts_at, tile_known}
 use Rattle.page_map.proofs.TileCounts.{HasParts, begun_in, begun_none, begun_parts, begun_other, count_change, count_within, count_most, count_none, maps_inside}

@@ -1,6 +1,6 @@
 -- How many tiles of each size there are after a change of an extent.
-use Rattle.std.proofs.Common.{◌≡◌, ◌≢◌, ℕ, zero, suc, ◌+◌, ◌-◌, ◌*◌, ◌/◌, ◌%◌, ◌^◌, ◌<◌, ◌≤◌, Bool, true, false, ◌&&◌, ◌==◌, cond, eqb, List, Option, Some, None, inl, inr, refl, sym, ap, ◌∙◌, arith}
-use Rattle.std.specs.List.{range_with_len, count_by, slice_index}
+use Rattle.std.proofs.Common.{◌≡◌, ◌≢◌, ℕ, zero, suc, ◌+◌, ◌-◌, ◌*◌, ◌/◌, ◌%◌, ◌^◌, ◌<◌, ◌≤◌, Bool, true, false, ◌&&◌, ◌==◌, cond, eqb, Option, Some, None, refl, sym, ap, ◌∙◌, arith}
+use Rattle.std.specs.List.{range_with_len, count_by}
 use Rattle.std.proofs.Math.Nat.{add-mod_right}
 use Rattle.std.proofs.lemmas.List.FromFn.{length-range_with_len}
 use Rattle.std.proofs.lemmas.List.Sums.{count_by-le-length}
@@ -14,7 +14,7 @@ use Rattle.pager_model.proofs.CountLemmas.{weight, count-suc, count-apart, count
 use Rattle.pager_model.proofs.ExtentLemmas.{eight_pos, eight_split, aligned_part, extent_within, in_extent, of_extent}
 use Rattle.extent_tree.specs.Rows.{Arena}
 use Rattle.page_map.specs.declared.target.Target.{Target}
-use Rattle.page_map.specs.Tiles.{tile_at, begins_tile, tile_count, is_in, Maps}
+use Rattle.page_map.specs.Tiles.{tile_at, begins_tile, tile_count, Maps}
 
 -- ---- numbers of a block that pass a test
 

@@ -1,13 +1,10 @@
 use Rattle.std.specs.List.{slice_index}
-use Rattle.std.proofs.Common.{◌≡◌, [], ◌-◌, ◌≤◌, Some, is_some, refl, sym, ap, ◌∙◌, subst, arith}
-use Rattle.std.proofs.lemmas.Bool.{eq-eqb}
+use Rattle.std.proofs.Common.{◌≡◌, [], ◌≤◌, Some, is_some, sym, ap, ◌∙◌, subst, arith}
 use Rattle.std.proofs.lemmas.Option.{same_Some, none-some}
 use Rattle.extent_tree.specs.Rows.{ChangesEight, row}
-use Rattle.pager_model.specs.declared.extent.Extent.{Extent}
 use Rattle.pager_model.specs.declared.tile.Tile.{Tile}
-use Rattle.pager_model.specs.Extents.{IsExtent}
 use Rattle.page_map.specs.Kept.{IsKept, Grows}
-use Rattle.page_map.specs.Tiles.{tile_at, target_of, part_of, AreParts, Maps}
+use Rattle.page_map.specs.Tiles.{target_of, AreParts, Maps}
 use Rattle.page_map.proofs.Changes.{part_row, join_whole}
 use Rattle.page_map.proofs.CountChanges.{few_between, eight_joined, counts_joined}
 use Rattle.page_map.proofs.Mixed.join.Goals as goal
@@ -58,9 +55,11 @@ invariant_of-self g c =
     let whole = c.requires.parts.0 in
     let made = (goal.at.invariant_of-self g c).After-join in
     let are = parts g (goal.at.invariant_of-self g c).After-at whole c.requires.parts.1 in
-    let is = changed g made whole c.requires.parts.1 in
-    (is.0, counts_joined c.self.inside.tree c.join.new.self c.args.extent whole c.self.inside.counts c.subtract.new.counts c.add.new.counts c.self.invariant.0 c.requires.large c.requires.extent are is.1 c.self.invariant.1
-    (subst (λ k. Grows k 8 c.subtract.new.counts c.self.inside.counts) c.smaller-part.ensures c.subtract.ensures) c.add.ensures)
+    let is = changed g made whole c.requires.parts.1 in (
+      is.0,
+      counts_joined c.self.inside.tree c.join.new.self c.args.extent whole c.self.inside.counts c.subtract.new.counts c.add.new.counts c.self.invariant.0 c.requires.large c.requires.extent are is.1 c.self.invariant.1
+          (subst (λ k. Grows k 8 c.subtract.new.counts c.self.inside.counts) c.smaller-part.ensures c.subtract.ensures) c.add.ensures,
+    )
 
 pub returns-clause-tiles : goal.returns-clause-tiles
 returns-clause-tiles g c whole are =

@@ -1,4 +1,4 @@
-use Rattle.std.proofs.Common.{◌≡◌, Some, ap, sym, ◌∙◌, arith}
+use Rattle.std.proofs.Common.{Some, ap, sym, ◌∙◌, arith}
 use Rattle.extent_tree.specs.Rows.{row}
 use Rattle.page_map.specs.Tiles.{tile_at}
 use Rattle.page_map.proofs.Changes.{found, none_found}

@@ -2,7 +2,7 @@ use Rattle.std.proofs.Common.{◌≡◌, Some, None, is_some, ap, ◌∙◌, sub
 use Rattle.page_map.specs.Kept.{IsKept}
 use Rattle.page_map.specs.Tiles.{tile_at, Maps}
 use Rattle.page_map.proofs.Changes.{has_row, remove_kept, tile_extent, tile_known, tile_of_all}
-use Rattle.page_map.proofs.CountChanges.{Given, one_there, remove_counts}
+use Rattle.page_map.proofs.CountChanges.{one_there, remove_counts}
 use Rattle.page_map.proofs.Mixed.remove.Goals as goal
 use Rattle.page_map.proofs.Mixed.remove.Goals.{After-remove}
 use Rattle.page_map.proofs.Mixed.remove.Given.{Over}

@@ -1,5 +1,4 @@
-use Rattle.std.specs.List.{slice_index}
-use Rattle.std.proofs.Common.{◌≡◌, ◌-◌, ◌*◌, ◌^◌, ◌<◌, Some, is_some, sym, ap, ◌∙◌, subst, arith}
+use Rattle.std.proofs.Common.{◌≡◌, ◌-◌, ◌*◌, ◌^◌, Some, is_some, ap, ◌∙◌, subst, arith}
 use Rattle.extent_tree.proofs.Rows.{row_known}
 use Rattle.pager_model.proofs.ExtentLemmas.{eight_small}
 use Rattle.page_map.specs.Kept.{IsKept, Grows}
@@ -58,9 +57,11 @@ invariant_of-self g c =
     let t = c.self.inside.tree in
     let tile = c.args.tile.now in
     let at = there g (goal.at.invariant_of-self g c).After-self in
-    let is = after g made in
-    (is.0, split_counts t c.split.new.self tile c.self.inside.counts c.subtract.new.counts c.add.new.counts c.requires.large (tile_extent t tile at) (tile_known t tile.extent.first tile c.self.invariant.0 at) (tile_of_all t tile c.self.invariant.0 at)
-    is.1 c.self.invariant.1 c.subtract.ensures (subst (λ k. Grows k 8 c.subtract.new.counts c.add.new.counts) c.smaller-part.ensures c.add.ensures))
+    let is = after g made in (
+      is.0,
+      split_counts t c.split.new.self tile c.self.inside.counts c.subtract.new.counts c.add.new.counts c.requires.large (tile_extent t tile at) (tile_known t tile.extent.first tile c.self.invariant.0 at) (tile_of_all t tile c.self.invariant.0 at)
+          is.1 c.self.invariant.1 c.subtract.ensures (subst (λ k. Grows k 8 c.subtract.new.counts c.add.new.counts) c.smaller-part.ensures c.add.ensures),
+    )
 
 pub returns-clause-tiles : goal.returns-clause-tiles
 returns-clause-tiles g c =
