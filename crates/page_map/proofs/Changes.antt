@@ -310,7 +310,7 @@ join_whole t u extent whole kept large is parts changes splits =
 
 -- ---- no tile
 
-pages_none : (t : Arena Target) → ((size p : ℕ) → row t size p ≡ None) → pages_in t ≡ 0
+pub pages_none : (t : Arena Target) → ((size p : ℕ) → row t size p ≡ None) → pages_in t ≡ 0
 unfolding pages_in
 pages_none t none = count-none (λ p. is_some (tile_at t p)) 0 (512 * t.roots) (λ p _ _. ap is_some (page_none t p (λ other _. none other p)).1)
 

@@ -53,6 +53,7 @@ impl Mixed {
         requires { frames ≤ most_frames }
         ensures frames { IfOk result (λ m. frames_in m ≡ frames) }
         ensures none { IfOk result (λ m. (page : ℕ) → tile_at m page ≡ None) }
+        ensures pages { IfOk result (λ m. pages_in m ≡ 0) }
     {
         let tree = ExtentTree::create(alloc, ROOTS, 3 * frames)?;
         Ok(Mixed {
@@ -90,6 +91,7 @@ impl Mixed {
         requires apart { (page : ℕ) → is_in tile.extent page ≡ true → tile_at self.old page ≡ None }
         requires room { pages_in self.old + 8 ^ tile.extent.size ≤ frames_in self.old }
         ensures tiles { Maps tile.extent (λ _. Some tile) self.old self.new }
+        ensures pages { pages_in self.new ≡ pages_in self.old + 8 ^ tile.extent.size }
         ensures cost { steps.new ≤ steps.old + 10 }
     {
         let target = Target::of(&tile);
@@ -102,6 +104,7 @@ impl Mixed {
     pub fn remove<L: Ledger>(&mut self, tile: &Tile, steps: &mut Steps<L>)
         requires { tile_at self.old tile.now.extent.first ≡ Some tile.now }
         ensures tiles { Maps tile.now.extent (λ _. None) self.old self.new }
+        ensures pages { pages_in self.new + 8 ^ tile.now.extent.size ≡ pages_in self.old }
         ensures cost { steps.new ≤ steps.old + 10 }
     {
         let Extent { size, first } = tile.extent;
@@ -115,6 +118,7 @@ impl Mixed {
         requires there { tile_at self.old tile.now.extent.first ≡ Some tile.now }
         requires frame { tile.now.frame < most_frames }
         ensures tiles { Maps tile.now.extent (λ page. Some (part_of tile.now page)) self.old self.new }
+        ensures pages { pages_in self.new ≡ pages_in self.old }
         ensures cost { steps.new ≤ steps.old + 12 }
     {
         let Extent { size, first } = tile.extent;
@@ -131,6 +135,7 @@ impl Mixed {
         requires extent { IsExtent extent.size extent.first }
         requires parts { (whole : Tile) × AreParts extent whole self.old }
         ensures tiles { (whole : Tile) → AreParts extent whole self.old → Maps extent (λ _. Some whole) self.old self.new }
+        ensures pages { pages_in self.new ≡ pages_in self.old }
         ensures cost { steps.new ≤ steps.old + 16 }
     {
         let part = extent.size.smaller();

@@ -1,4 +1,4 @@
-use Rattle.page_map.proofs.Changes.{none_kept, none_at}
+use Rattle.page_map.proofs.Changes.{none_kept, none_at, pages_none}
 use Rattle.page_map.proofs.CountChanges.{none_counts}
 use Rattle.page_map.proofs.Mixed.create.Goals as goal
 
@@ -10,3 +10,6 @@ invariant_of-result c =
 
 pub returns-clause-none : goal.returns-clause-none
 returns-clause-none c = none_at c.in_ok-tree.tree c.in_ok-tree.ensures.empty
+
+pub returns-clause-pages : goal.returns-clause-pages
+returns-clause-pages c = pages_none c.in_ok-tree.tree c.in_ok-tree.ensures.empty

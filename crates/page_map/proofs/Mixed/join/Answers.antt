@@ -4,9 +4,11 @@ use Rattle.std.proofs.lemmas.Option.{same_Some, none-some}
 use Rattle.extent_tree.specs.Rows.{ChangesEight, row}
 use Rattle.pager_model.specs.declared.tile.Tile.{Tile}
 use Rattle.page_map.specs.Kept.{IsKept, Grows}
-use Rattle.page_map.specs.Tiles.{target_of, AreParts, Maps}
+use Rattle.page_map.specs.Tiles.{pages_in, part_of, target_of, AreParts, Maps}
 use Rattle.page_map.proofs.Changes.{part_row, join_whole}
 use Rattle.page_map.proofs.CountChanges.{few_between, eight_joined, counts_joined}
+use Rattle.std.proofs.lemmas.Bool.{eq-eqb}
+use Rattle.page_map.proofs.PageCounts.{pages_stay}
 use Rattle.page_map.proofs.Mixed.join.Goals as goal
 use Rattle.page_map.proofs.Mixed.join.Goals.{After-at, After-join}
 use Rattle.page_map.proofs.Mixed.join.Given.{Over}
@@ -64,3 +66,10 @@ invariant_of-self g c =
 pub returns-clause-tiles : goal.returns-clause-tiles
 returns-clause-tiles g c whole are =
     subst (λ t. Maps c.args.extent (λ _. Some whole) t c.join.new.self) c.self.view_is (changed g (goal.at.returns-clause-tiles g c).After-join whole are).1
+
+pub returns-clause-pages : goal.returns-clause-pages
+returns-clause-pages g c =
+    let whole = c.requires.parts.0 in
+    let are = parts g (goal.at.returns-clause-pages g c).After-at whole c.requires.parts.1 in
+    let is = changed g (goal.at.returns-clause-pages g c).After-join whole c.requires.parts.1 in
+    pages_stay c.self.inside.tree c.join.new.self c.args.extent (part_of whole) (λ _. whole) c.self.invariant.0 is.0 (λ page at. are.at page (eq-eqb _ _ at)) is.1 ∙ ap pages_in c.self.view_is

@@ -6,6 +6,7 @@ use Rattle.page_map.specs.Kept.{IsKept}
 use Rattle.page_map.specs.Tiles.{tile_at, pages_in, frames_in, Maps}
 use Rattle.page_map.proofs.Changes.{put_kept, put_room}
 use Rattle.page_map.proofs.CountChanges.{Given, few, put_counts}
+use Rattle.page_map.proofs.PageCounts.{pages_put}
 use Rattle.page_map.proofs.Mixed.put.Goals as goal
 use Rattle.page_map.proofs.Mixed.put.Goals.{After-put}
 use Rattle.page_map.proofs.Mixed.put.Given.{Over}
@@ -40,3 +41,9 @@ invariant_of-self g c =
 
 pub returns-clause-tiles : goal.returns-clause-tiles
 returns-clause-tiles g c = subst (λ t. Maps c.args.tile.extent (λ _. Some c.args.tile) t c.put.new.self) c.self.view_is (after g (goal.at.returns-clause-tiles g c).After-put).1
+
+pub returns-clause-pages : goal.returns-clause-pages
+returns-clause-pages g c =
+    let made = (goal.at.returns-clause-pages g c).After-put in
+    let is = after g made in
+    pages_put c.self.inside.tree c.put.new.self c.args.tile c.self.invariant.0 is.0 c.requires.extent c.requires.inside (apart g made) is.1 ∙ ap (λ t. pages_in t + 8 ^ c.args.tile.extent.size) c.self.view_is

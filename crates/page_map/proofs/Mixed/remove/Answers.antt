@@ -1,8 +1,9 @@
 use Rattle.std.proofs.Common.{◌≡◌, Some, None, is_some, ap, ◌∙◌, subst}
 use Rattle.page_map.specs.Kept.{IsKept}
-use Rattle.page_map.specs.Tiles.{tile_at, Maps}
+use Rattle.page_map.specs.Tiles.{tile_at, pages_in, Maps}
 use Rattle.page_map.proofs.Changes.{has_row, remove_kept, tile_extent, tile_known, tile_of_all}
 use Rattle.page_map.proofs.CountChanges.{one_there, remove_counts}
+use Rattle.page_map.proofs.PageCounts.{pages_removed}
 use Rattle.page_map.proofs.Mixed.remove.Goals as goal
 use Rattle.page_map.proofs.Mixed.remove.Goals.{After-remove}
 use Rattle.page_map.proofs.Mixed.remove.Given.{Over}
@@ -36,3 +37,12 @@ invariant_of-self g c =
 
 pub returns-clause-tiles : goal.returns-clause-tiles
 returns-clause-tiles g c = subst (λ t. Maps c.args.tile.now.extent (λ _. None) t c.remove.new.self) c.self.view_is (after g (goal.at.returns-clause-tiles g c).After-remove).1
+
+pub returns-clause-pages : goal.returns-clause-pages
+returns-clause-pages g c =
+    let made = (goal.at.returns-clause-pages g c).After-remove in
+    let t = c.self.inside.tree in
+    let tile = c.args.tile.now in
+    let at = there g made in
+    let is = after g made in
+    pages_removed t c.remove.new.self tile c.self.invariant.0 is.0 (tile_extent t tile at) (tile_known t tile.extent.first tile c.self.invariant.0 at) (tile_of_all t tile c.self.invariant.0 at) is.1 ∙ ap pages_in c.self.view_is

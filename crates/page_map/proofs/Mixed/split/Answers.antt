@@ -2,9 +2,10 @@ use Rattle.std.proofs.Common.{◌≡◌, ◌-◌, ◌*◌, ◌^◌, Some, is_som
 use Rattle.extent_tree.proofs.Rows.{row_known}
 use Rattle.pager_model.proofs.ExtentLemmas.{eight_small}
 use Rattle.page_map.specs.Kept.{IsKept, Grows}
-use Rattle.page_map.specs.Tiles.{tile_at, target_of, moved_to, part_of, Maps}
+use Rattle.page_map.specs.Tiles.{tile_at, target_of, moved_to, part_of, pages_in, Maps}
 use Rattle.page_map.proofs.Changes.{has_row, split_kept, split_room, tile_extent, tile_known, tile_of_all}
 use Rattle.page_map.proofs.CountChanges.{one_there, few_between, split_counts}
+use Rattle.page_map.proofs.PageCounts.{pages_stay}
 use Rattle.page_map.proofs.Mixed.split.Goals as goal
 use Rattle.page_map.proofs.Mixed.split.Goals.{After-pages, After-self, After-split}
 use Rattle.page_map.proofs.Mixed.split.Given.{Over}
@@ -66,3 +67,12 @@ invariant_of-self g c =
 pub returns-clause-tiles : goal.returns-clause-tiles
 returns-clause-tiles g c =
     subst (λ t. Maps c.args.tile.now.extent (λ page. Some (part_of c.args.tile.now page)) t c.split.new.self) c.self.view_is (after g (goal.at.returns-clause-tiles g c).After-split).1
+
+pub returns-clause-pages : goal.returns-clause-pages
+returns-clause-pages g c =
+    let made = (goal.at.returns-clause-pages g c).After-split in
+    let t = c.self.inside.tree in
+    let tile = c.args.tile.now in
+    let at = there g (goal.at.returns-clause-pages g c).After-self in
+    let is = after g made in
+    pages_stay t c.split.new.self tile.extent (λ _. tile) (part_of tile) c.self.invariant.0 is.0 (tile_of_all t tile c.self.invariant.0 at) is.1 ∙ ap pages_in c.self.view_is
