@@ -107,16 +107,6 @@ may_keep r kept page given keeps =
     let has = ap (option_map (λ (m : Mapping). m.frame)) keeps.is in
     record { known = kept.known page keeps.before.frame has; others = λ p other is. other (kept.apart p page keeps.before.frame is has); own = keeps.same }
 
--- where this is said of a page already, nothing changes
-pub maps_same : (r : Resident) (page : ℕ) (m : Option Mapping) → mapping_at r page ≡ m → Maps page m r r
-maps_same r page m is = record {
-  frames = refl;
-  at = λ p. elim (cases_eq p page) [
-    | inl e ↦ ap (mapping_at r) e ∙ is ∙ sym (ap (λ (b : Bool). if b then m else mapping_at r p) (eq-eqb p page e))
-    | inr n ↦ sym (ap (λ (b : Bool). if b then m else mapping_at r p) (ne_eqb p page n))
-  ];
-}
-
 -- ---- nothing is resident
 
 pub fresh_kept : (r : Resident) (frames : ℕ) → ((size p : ℕ) → row r.rows size p ≡ None) → SplitsAreRowsBelow r.rows → r.rows.roots ≡ 2048 → r.rows.room ≡ 3 * frames → r.frames ≡ frames → frames ≤ 32768 → ArePages r
