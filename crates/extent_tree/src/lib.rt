@@ -5,9 +5,9 @@
 //! nodes below. An extent has a node exactly where a smaller one in it has a row. Pages are counted from 0 over all roots.
 #![tactic(auto)]
 
-ghost use Rattle.std.specs.Prelude.{◌≡◌, ℕ, ◌+◌, ◌-◌, ◌*◌, ◌<◌, ◌≤◌, ◌^◌, true, Some, None, IfOk, is_some};
+ghost use Rattle.std.specs.Prelude.{suc, slice_index_or, ◌/◌, ◌%◌, ◌≡◌, [], length, ℕ, ◌+◌, ◌-◌, ◌*◌, ◌<◌, ◌≤◌, ◌^◌, true, Some, None, IfOk, is_some};
 ghost use Rattle.extent_tree.specs.Counts.{splits_with};
-ghost use Rattle.extent_tree.specs.Rows.{ChangesOnly, SplitsAreRowsBelow, is_split, row, spot_of};
+ghost use Rattle.extent_tree.specs.Rows.{ChangesEight, ChangesOnly, SplitsAreRowsBelow, blank, is_split, row, spot_of};
 
 mod spot;
 mod store;
@@ -95,6 +95,19 @@ impl<V: Copy> ExtentTree<V> {
         self.store.spot(place, steps)
     }
 
+    /// What is at the eight parts of an extent, in order, from what is at the extent. Nothing is there where the list ends.
+    pub fn eight<L: Ledger>(&self, over: Spot<V>, steps: &mut Steps<L>) -> &[Spot<V>]
+        requires over { (height page : ℕ) × (height < 3) × (over ≡ spot_of self.now height page) }
+        ensures values { (size page other : ℕ) → size ≤ 2 → over ≡ spot_of self.now (2 - size) page → other / 8 ^ suc size ≡ page / 8 ^ suc size
+            → (slice_index_or result.now (other / 8 ^ size % 8) blank).value ≡ row self.now size other }
+        ensures cost { steps.new ≤ steps.old + 1 }
+    {
+        match over.node {
+            Some(node) => self.store.eight(node, steps),
+            None => &[],
+        }
+    }
+
     /// Gives the extent of a size round a page this value, whether it has a row or not.
     pub fn put<L: Ledger>(&mut self, size: Size, page: u32, value: V, steps: &mut Steps<L>)
         requires page { page < 512 * self.old.roots }
@@ -119,6 +132,38 @@ impl<V: Copy> ExtentTree<V> {
             return;
         };
         self.store.set_value(place, None, steps);
+        walk::trim(&mut self.store, height, place, steps);
+    }
+
+    /// Gives the eight parts of the extent of a size round a page these values, whether they have rows or not, and takes out the row of
+    /// the extent.
+    pub fn split<L: Ledger>(&mut self, size: Size, page: u32, parts: &[V], steps: &mut Steps<L>)
+        requires size { 0 < size }
+        requires page { page < 512 * self.old.roots }
+        requires parts { length parts.now ≡ 8 }
+        requires room { splits_with self.old (size - 1) page ≤ self.old.room }
+        ensures rows { ChangesEight self.old self.new size page None parts.now }
+        ensures splits { SplitsAreRowsBelow self.new }
+        ensures cost { steps.new + 3 * size ≤ steps.old + 15 }
+    {
+        let place = walk::reach(&mut self.store, height_of(size) + 1, page, steps);
+        walk::write_eight(&mut self.store, place, None, parts, steps);
+    }
+
+    /// Takes out the rows of the eight parts of the extent of a size round a page, and gives the extent this value, whether it has a row or
+    /// not.
+    pub fn join<L: Ledger>(&mut self, size: Size, page: u32, value: V, steps: &mut Steps<L>)
+        requires size { 0 < size }
+        requires parts { is_some (row self.old (size - 1) page) ≡ true }
+        ensures rows { ChangesEight self.old self.new size page (Some value) [] }
+        ensures splits { SplitsAreRowsBelow self.new }
+        ensures cost { steps.new + 3 * size ≤ steps.old + 15 }
+    {
+        let height = height_of(size) + 1;
+        let Some(place) = walk::find(&self.store, height, page, steps) else {
+            return;
+        };
+        walk::write_eight(&mut self.store, place, Some(value), &[], steps);
         walk::trim(&mut self.store, height, place, steps);
     }
 }

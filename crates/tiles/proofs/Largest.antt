@@ -192,17 +192,3 @@ tile_absent pages page at = elim (tiles pages page) [
       let zero_whole = smaller pages 0 (size_at pages page) page (omega arith) tile.low tile.has in
       absurd (none-some _ (sym at ∙ page_in pages 0 page page zero_whole (omega arith) refl))
 ]
-
--- the tile of a page as the code makes it
-module _ (pages : ℕ → Option Mapping) (page : ℕ) (m : Mapping) (size length : ℕ) (at : pages page ≡ Some m) (is : size ≡ size_at pages page) (long : length ≡ 8 ^ size) where
-  length_is : length ≡ 8 ^ size_at pages page
-  length_is = long ∙ ap (λ k. 8 ^ k) is
-
-  pub tile_found : Some (record { extent = record { size = size; first = page - page % length }; frame = m.frame - page % length; rights = m.rights; dirty = m.dirty }) ≡ tile_of pages page
-  tile_found =
-      ap (λ (k : ℕ). let t : Tile = record { extent = record { size = k; first = page - page % length }; frame = m.frame - page % length; rights = m.rights; dirty = m.dirty } in Some t) is
-      ∙ ap (λ (n : ℕ). let t : Tile = record { extent = record { size = size_at pages page; first = page - page % n }; frame = m.frame - page % n; rights = m.rights; dirty = m.dirty } in Some t) length_is
-      ∙ sym (tile_by_own pages page m at).is
-
-  pub offset_within : page % length ≤ m.frame
-  offset_within = subst (λ (n : ℕ). page % n ≤ m.frame) (sym length_is) (tile_by_own pages page m at).from_frame

@@ -5,11 +5,11 @@ pub mod Counting
 pub mod CutTiles
 pub mod Eligible
 pub mod Extents
+pub mod Heads
 pub mod KeptPages
 pub mod Largest
 pub mod Meeting
 pub mod Numbering
 pub mod MoveCounts
-pub mod SettledSizes
 pub mod TileLaws
 pub mod TouchedTiles

@@ -9,9 +9,8 @@ use Rattle.pager_model.specs.Tiles.{tile_of, is_that_tile, is_tile, begins_at, s
 use Rattle.pager_model.proofs.CountLemmas.{weight}
 use Rattle.pager_model.proofs.ExtentLemmas.{coarser}
 use Rattle.tiles.specs.declared.moves.Moves.{Moves}
-use Rattle.tiles.specs.Beside.{AreKeptBut, SamePages, whole}
+use Rattle.tiles.specs.Beside.{OthersSame, whole}
 use Rattle.tiles.specs.Blocks.{OutsideSame, is_grown_at}
-use Rattle.tiles.specs.Kept.{AreSizes, SizesBut, SameSizes}
 use Rattle.tiles.specs.Resident.{Resident, mapping_at, Maps, AreMoves}
 use Rattle.tiles.specs.Touched.{IsInSpace, KeepsOutside, extent_range, is_touched}
 use Rattle.tiles.proofs.SizeChanges.{others_back, promotions_one, promotions_same}
@@ -23,43 +22,34 @@ use Rattle.tiles.proofs.TouchedTiles.{extent_in_space, outside_larger, outside_n
 
 -- ---- one page
 
--- one page changed, and of the others the sizes are kept
-pub kept_but : (r s : Resident) (page : ℕ) (given : Option Mapping) → AreSizes r → Maps page given r s → SizesBut page r s → AreKeptBut page (mapping_at r) s
-kept_but r s page given sizes maps but = record {
-  others = λ p apart. maps.at p ∙ ap (λ (b : Bool). if b then given else mapping_at r p) (ne_eqb p page apart);
-  sizes = λ p apart. but p apart ∙ sizes p;
-}
+pub others_same : (r s : Resident) (page : ℕ) (given : Option Mapping) → Maps page given r s → OthersSame page (mapping_at r) (mapping_at s)
+others_same r s page given maps p apart = maps.at p ∙ ap (λ (b : Bool). if b then given else mapping_at r p) (ne_eqb p page apart)
 
-pub same_sizes_but : (r s : Resident) (page : ℕ) → SameSizes r s → SizesBut page r s
-same_sizes_but r s page same p apart = same p
-
-pub moves_one : (r s t : Resident) (page before after : ℕ) (moves : Moves) → AreKeptBut page (mapping_at r) s → SamePages s t → page < 1048576 → before ≡ size_at (mapping_at r) page → after ≡ size_at (mapping_at s) page
-    → moves.promotions ≡ (if nat_lt before after then 1 else 0) → moves.demotions ≡ (if nat_lt after before then 1 else 0) → IsInSpace moves.touched → KeepsOutside moves.touched (mapping_at r) (mapping_at s) → AreMoves r t moves
-moves_one r s t page before after moves kept same in_space had has promoted demoted in_range outside =
-    let one : mapping_at t ≡ mapping_at s = λ i p. same.at p i in
+moves_one : (r s : Resident) (page before after : ℕ) (given : Option Mapping) (moves : Moves) → Maps page given r s → page < 1048576 → before ≡ size_at (mapping_at r) page → after ≡ size_at (mapping_at s) page
+    → moves.promotions ≡ (if nat_lt before after then 1 else 0) → moves.demotions ≡ (if nat_lt after before then 1 else 0) → IsInSpace moves.touched → KeepsOutside moves.touched (mapping_at r) (mapping_at s) → AreMoves r s moves
+moves_one r s page before after given moves maps in_space had has promoted demoted in_range outside =
+    let others = others_same r s page given maps in
     record {
       in_space = in_range;
-      outside = λ u is out. ap (λ (pages : ℕ → Option Mapping). is_tile pages u) one ∙ outside u is out;
-      promotions = promoted ∙ ap (λ n. cond (ltb n after) 1 0) had ∙ ap (λ n. cond (ltb (size_at (mapping_at r) page) n) 1 0) has ∙ sym (promotions_one (mapping_at r) (mapping_at s) page kept.others in_space)
-          ∙ sym (ap (λ (pages : ℕ → Option Mapping). promotions_between (mapping_at r) pages) one);
+      outside = outside;
+      promotions = promoted ∙ ap (λ n. cond (ltb n after) 1 0) had ∙ ap (λ n. cond (ltb (size_at (mapping_at r) page) n) 1 0) has ∙ sym (promotions_one (mapping_at r) (mapping_at s) page others in_space);
       demotions = demoted ∙ ap (λ n. cond (ltb n before) 1 0) has ∙ ap (λ n. cond (ltb (size_at (mapping_at s) page) n) 1 0) had
-          ∙ sym (promotions_one (mapping_at s) (mapping_at r) page (others_back (mapping_at r) (mapping_at s) page kept.others) in_space)
-          ∙ sym (ap (λ (pages : ℕ → Option Mapping). promotions_between pages (mapping_at r)) one);
+          ∙ sym (promotions_one (mapping_at s) (mapping_at r) page (others_back (mapping_at r) (mapping_at s) page others) in_space);
     }
 
 -- in the larger of the page's two tiles
-pub moves_in_larger : (r s t : Resident) (page before after : ℕ) (moves : Moves) → AreKeptBut page (mapping_at r) s → SamePages s t → page < 1048576 → before ≡ size_at (mapping_at r) page → after ≡ size_at (mapping_at s) page
-    → moves.promotions ≡ (if nat_lt before after then 1 else 0) → moves.demotions ≡ (if nat_lt after before then 1 else 0) → moves.touched ≡ extent_range (max before after) page → AreMoves r t moves
-moves_in_larger r s t page before after moves kept same in_space had has promoted demoted touched =
-    moves_one r s t page before after moves kept same in_space had has promoted demoted (extent_in_space before after page (mapping_at r) (mapping_at s) moves.touched had has in_space touched)
-    (outside_larger (mapping_at r) (mapping_at s) page kept.others before after moves.touched had has touched)
+pub moves_in_larger : (r s : Resident) (page before after : ℕ) (given : Option Mapping) (moves : Moves) → Maps page given r s → page < 1048576 → before ≡ size_at (mapping_at r) page → after ≡ size_at (mapping_at s) page
+    → moves.promotions ≡ (if nat_lt before after then 1 else 0) → moves.demotions ≡ (if nat_lt after before then 1 else 0) → moves.touched ≡ extent_range (max before after) page → AreMoves r s moves
+moves_in_larger r s page before after given moves maps in_space had has promoted demoted touched =
+    moves_one r s page before after given moves maps in_space had has promoted demoted (extent_in_space before after page (mapping_at r) (mapping_at s) moves.touched had has in_space touched)
+    (outside_larger (mapping_at r) (mapping_at s) page (others_same r s page given maps) before after moves.touched had has touched)
 
 -- nothing moves where a page came that makes no larger tile
-pub moves_none : (r s t : Resident) (page : ℕ) (moves : Moves) → AreKeptBut page (mapping_at r) s → SamePages s t → page < 1048576 → mapping_at r page ≡ None → 0 ≡ size_at (mapping_at s) page
-    → moves.promotions ≡ 0 → moves.demotions ≡ 0 → IsInSpace moves.touched → AreMoves r t moves
-moves_none r s t page moves kept same in_space absent has promoted demoted in_range =
-    moves_one r s t page 0 0 moves kept same in_space (sym (size_absent (mapping_at r) page absent)) has promoted demoted in_range
-    (outside_none (mapping_at r) (mapping_at s) page kept.others moves.touched absent (sym has))
+pub moves_none : (r s : Resident) (page : ℕ) (given : Option Mapping) (moves : Moves) → Maps page given r s → page < 1048576 → mapping_at r page ≡ None → 0 ≡ size_at (mapping_at s) page
+    → moves.promotions ≡ 0 → moves.demotions ≡ 0 → IsInSpace moves.touched → AreMoves r s moves
+moves_none r s page given moves maps in_space absent has promoted demoted in_range =
+    moves_one r s page 0 0 given moves maps in_space (sym (size_absent (mapping_at r) page absent)) has promoted demoted in_range
+    (outside_none (mapping_at r) (mapping_at s) page (others_same r s page given maps) moves.touched absent (sym has))
 
 -- nothing moves where nothing changes
 pub moves_same : (r s : Resident) (moves : Moves) → ((p : ℕ) → mapping_at s p ≡ mapping_at r p) → moves.promotions ≡ 0 → moves.demotions ≡ 0 → IsInSpace moves.touched → AreMoves r s moves

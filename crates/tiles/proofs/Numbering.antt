@@ -1,11 +1,10 @@
 -- How many pages have numbers: no more than there are numbers, where no two pages have one. So three nodes for each number are room enough.
-use Rattle.std.proofs.Common.{◌≡◌, ◌≢◌, ℕ, zero, suc, ◌+◌, ◌*◌, ◌<◌, ◌≤◌, Bool, true, false, eqb, ltb, if◌then◌else◌, Option, Some, None, is_some, inl, inr, refl, sym, ap, ◌∙◌, arith}
-use Rattle.std.proofs.lemmas.Bool.{cases_eq, cases_lt, cases_Bool, false≢true, false_from_ne_true, eq-eqb, eqb-true, lt-ltb}
+use Rattle.std.proofs.Common.{◌≡◌, ◌≢◌, ℕ, zero, suc, ◌+◌, ◌<◌, ◌≤◌, Bool, true, false, ◌||◌, eqb, ltb, if◌then◌else◌, Option, Some, None, is_some, inl, inr, refl, sym, ap, ◌∙◌, arith}
+use Rattle.std.proofs.lemmas.Bool.{cases_eq, cases_lt, cases_Bool, false≢true, false_from_ne_true, eq-eqb, ne_eqb, eqb-true, lt-ltb}
 use Rattle.std.proofs.lemmas.Bool.Decides.{nat_tests}
 use Rattle.pager_model.proofs.CountLemmas.{weight}
-use Rattle.extent_tree.specs.Counts.{splits_with}
-use Rattle.extent_tree.specs.Rows.{Arena, row, SplitsAreRowsBelow}
-use Rattle.extent_tree.proofs.Rooms.{RowsIn, room_for}
+use Rattle.extent_tree.proofs.Counting.{count_le}
+use Rattle.std.specs.List.{range_with_len, count_by}
 use Rattle.tiles.proofs.Counting.{count, count-is, count-zero, count-suc, count-none}
 
 -- no two pages have one number
@@ -61,9 +60,8 @@ count-few numbers pages (suc many) apart =
     let last = count-one (λ p. is_number (numbers p) many) 0 pages (λ p q has also. apart p q many (number-true (numbers p) many has) (number-true (numbers q) many also)) in
     omega (arith, last, count-few numbers pages many apart, count-either (λ p. is_below (numbers p) (suc many)) (λ p. is_below (numbers p) many) (λ p. is_number (numbers p) many) 0 pages (λ p. below-suc (numbers p) many))
 
--- The rows of a tree are of pages that have numbers, and a page is to have one that no other page has.
-module _ (t : Arena ℕ) (numbers : ℕ → Option ℕ) (many page number : ℕ) (splits : SplitsAreRowsBelow t) (rows : (size p : ℕ) → size ≤ 3 → is_some (row t size p) ≡ true → (size ≡ 0) × (numbers p ≢ None))
-    (room : t.room ≡ 3 * many) (known : number < many) (others : (p : ℕ) → p ≢ page → numbers p ≢ Some number) (within : (p n : ℕ) → numbers p ≡ Some n → n < many) (apart : AreApart numbers) where
+-- The pages have numbers, and a page is to have one that no other page has.
+module _ (numbers : ℕ → Option ℕ) (many page number : ℕ) (known : number < many) (others : (p : ℕ) → p ≢ page → numbers p ≢ Some number) (within : (p n : ℕ) → numbers p ≡ Some n → n < many) (apart : AreApart numbers) where
   after : ℕ → Option ℕ
   after p = if eqb p page then Some number else numbers p
 
@@ -74,16 +72,6 @@ module _ (t : Arena ℕ) (numbers : ℕ → Option ℕ) (many page number : ℕ)
   after-other : (p : ℕ) → p ≢ page → after p ≡ numbers p
   unfolding after
   after-other p n = let t : eqb p page ≡ false = grind (arith, nat_tests) in ap (λ (b : Bool). if b then Some number else numbers p) t
-
-  after-within : (p : ℕ) → numbers p ≢ None → is_below (after p) many ≡ true
-  after-within p has = elim (cases_eq p page) [
-    | inl e ↦ ap (λ o. is_below o many) (after-page p e) ∙ lt-ltb number many known
-    | inr other ↦ ap (λ o. is_below o many) (after-other p other) ∙ of (numbers p) refl has
-  ]
-    where
-      of : (o : Option ℕ) → numbers p ≡ o → o ≢ None → is_below o many ≡ true
-      of None is some = absurd (some refl)
-      of (Some n) is some = lt-ltb n many (within p n is)
 
   after-apart : AreApart after
   after-apart p q n at_p at_q = elim (cases_eq p page) [
@@ -97,13 +85,27 @@ module _ (t : Arena ℕ) (numbers : ℕ → Option ℕ) (many page number : ℕ)
     ]
   ]
 
-  rows_in : RowsIn t (λ p. is_below (after p) many)
-  rows_in = record {
-    splits = splits;
-    pages = λ size p small has. let is = rows size p small has in (p, refl, after-within p is.1);
-  }
+  -- a page that has a number, or is this one, passes
+  after-within : (p : ℕ) → (is_some (numbers p) || eqb p page) ≡ true → is_below (after p) many ≡ true
+  after-within p has = elim (cases_eq p page) [
+    | inl e ↦ ap (λ o. is_below o many) (after-page p e) ∙ lt-ltb number many known
+    | inr other ↦ ap (λ o. is_below o many) (after-other p other) ∙ of (numbers p) refl (sym (or_off (is_some (numbers p)) (eqb p page) (ne_eqb p page other)) ∙ has)
+  ]
+    where
+      or_off : (b c : Bool) → c ≡ false → (b || c) ≡ b
+      or_off true c off = refl
+      or_off false c off = off
 
-  pub room_for_one : splits_with t 0 page ≤ t.room
-  room_for_one =
-      let passes = ap (λ o. is_below o many) (after-page page refl) ∙ lt-ltb number many known in
-      omega (arith, room, room_for t (λ p. is_below (after p) many) 0 page rows_in passes, count-is (λ p. is_below (after p) many) 0 (512 * t.roots), count-few after (512 * t.roots) many after-apart)
+      of : (o : Option ℕ) → numbers p ≡ o → is_some o ≡ true → is_below o many ≡ true
+      of None is some = absurd (false≢true some)
+      of (Some n) is some = lt-ltb n many (within p n is)
+
+  -- so they are no more than the numbers
+  pub few_with : (pages : ℕ) → count_by (λ p. is_some (numbers p) || eqb p page) (range_with_len 0 pages) ≤ many
+  few_with pages =
+      omega (
+        arith,
+        count_le (λ p. is_some (numbers p) || eqb p page) (λ p. is_below (after p) many) 0 pages after-within,
+        count-is (λ p. is_below (after p) many) 0 pages,
+        count-few after pages many after-apart,
+      )

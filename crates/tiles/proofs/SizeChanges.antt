@@ -1,12 +1,12 @@
 -- What a change of one page does to the sizes of the tiles.
-use Rattle.std.proofs.Common.{◌≡◌, ◌≢◌, ℕ, suc, ◌*◌, ◌/◌, ◌^◌, ◌<◌, ◌≤◌, Bool, true, false, ◌&&◌, eqb, ltb, cond, Option, refl, sym, ap, inl, inr, ◌∙◌, ◌⊎◌, arith, subst}
+use Rattle.std.proofs.Common.{◌≡◌, ◌≢◌, ℕ, ◌*◌, ◌/◌, ◌^◌, ◌<◌, ◌≤◌, Bool, true, false, ◌&&◌, eqb, ltb, cond, max, Option, refl, sym, ap, inl, inr, ◌∙◌, ◌⊎◌, arith, subst}
 use Rattle.std.proofs.lemmas.Bool.{cases_eq, cases_lt}
 use Rattle.std.proofs.lemmas.Bool.Decides.{nat_tests}
 use Rattle.pager_model.specs.declared.tile.Mapping.{Mapping}
 use Rattle.pager_model.specs.Tiles.{size_at, tile_of, begins_at, is_promoted, promotions_between, count_pages}
 use Rattle.pager_model.specs.Extents.{extent_start}
 use Rattle.pager_model.proofs.ExtentLemmas.{coarser, first_of_extent}
-use Rattle.tiles.specs.Beside.{OthersSame, size_beside, whole}
+use Rattle.tiles.specs.Beside.{OthersSame, whole}
 use Rattle.tiles.proofs.Eligible.{whole_alike, whole_local}
 use Rattle.tiles.proofs.Counting.{count_pages_at, count_pages_none}
 use Rattle.tiles.proofs.Extents.{starts_below}
@@ -29,16 +29,6 @@ size_shared pages page other same =
     (λ positive. whole_alike pages s page other same ∙ whole_within pages page s positive (omega arith))
     (λ k more at. whole_alike pages k page other (coarser s k other page (omega arith) at same) ∙ whole_beyond pages page k more at)
 
--- the tile that broke leaves a page beside the changed one the largest part that hasn't that one
-size_left : (old new : ℕ → Option Mapping) (page other l : ℕ) → OthersSame page old new → size_at new page ≤ l → l < size_at old page → other / 8 ^ l ≢ page / 8 ^ l → other / 8 ^ suc l ≡ page / 8 ^ suc l → size_at new other ≡ l
-size_left old new page other l others less broken apart joined =
-    let b = size_at old page in
-    let low = size_small old page in
-    let whole_size : size_at old other ≡ b = size_shared old page other (coarser (suc l) b other page (omega arith) low joined) in
-    size_is new other l (omega arith)
-    (λ positive. sym (whole_other old new page l other others (omega arith) apart) ∙ whole_within old other l positive (omega arith))
-    (λ k more at. whole_alike new k page other (coarser (suc l) k other page (omega arith) at joined) ∙ whole_beyond new page k (omega arith) at)
-
 -- a page in neither tile, the one before and the one after, keeps its tile's size
 pub size_far : (old new : ℕ → Option Mapping) (page other : ℕ) → OthersSame page old new → other / 8 ^ size_at old page ≢ page / 8 ^ size_at old page → other / 8 ^ size_at new page ≢ page / 8 ^ size_at new page → size_at new other ≡ size_at old other
 size_far old new page other others before after =
@@ -56,65 +46,19 @@ size_far old new page other others before after =
       ]
     ])
 
--- ---- the sizes beside a page
-
-pub beside_same : (page other s : ℕ) → other / 8 ^ s ≡ page / 8 ^ s → size_beside page other s ≡ s
-unfolding size_beside
-beside_same page other s same = grind (arith, nat_tests)
-
-pub beside_zero : (page other s : ℕ) → other / 8 ^ s ≢ page / 8 ^ s → other / 8 ≡ page / 8 → size_beside page other s ≡ 0
-unfolding size_beside
-beside_zero page other s apart same = grind (arith, nat_tests)
-
-pub beside_one : (page other s : ℕ) → other / 8 ^ s ≢ page / 8 ^ s → other / 8 ≢ page / 8 → other / 64 ≡ page / 64 → size_beside page other s ≡ 1
-unfolding size_beside
-beside_one page other s apart eight same = grind (arith, nat_tests)
-
-pub beside_two : (page other s : ℕ) → other / 8 ^ s ≢ page / 8 ^ s → other / 8 ≢ page / 8 → other / 64 ≢ page / 64 → size_beside page other s ≡ 2
-unfolding size_beside
-beside_two page other s apart eight sixty_four = grind (arith, nat_tests)
-
 -- the larger of a page's sizes before and after
 pub record IsOver (before after over : ℕ) : Type 0 where
   pub before_in : before ≤ over
   pub after_in : after ≤ over
   pub one : (over ≡ before) ⊎ (over ≡ after)
 
--- the pages of the larger of a page's tiles, the one before and the one after, have the sizes beside it
-pub size_settled : (old new : ℕ → Option Mapping) (page other over : ℕ) → OthersSame page old new → IsOver (size_at old page) (size_at new page) over → other / 8 ^ over ≡ page / 8 ^ over → size_at new other ≡ size_beside page other (size_at new page)
-size_settled old new page other over others is joined =
-    let b = size_at old page in
-    let s = size_at new page in
-    let b_low : b ≤ 3 = size_small old page in
-    let s_low : s ≤ 3 = size_small new page in
-    let at_b : over ≡ b → other / 8 ^ b ≡ page / 8 ^ b = λ e. subst (λ (k : ℕ). other / 8 ^ k ≡ page / 8 ^ k) e joined in
-    let at_s : over ≡ s → other / 8 ^ s ≡ page / 8 ^ s = λ e. subst (λ (k : ℕ). other / 8 ^ k ≡ page / 8 ^ k) e joined in
-    elim (cases_eq (other / 8 ^ s) (page / 8 ^ s)) [
-      | inl same ↦ size_shared new page other same ∙ sym (beside_same page other s same)
-      | inr apart ↦ elim is.one [
-        | inr e ↦ absurd (apart (at_s e))
-        | inl e ↦
-            let whole_b : other / 8 ^ b ≡ page / 8 ^ b = at_b e in
-            let less : s < b = elim (cases_lt s b) [ inl l ↦ l | inr from ↦ absurd (apart (coarser b s other page from s_low whole_b)) ] in
-            elim (cases_eq (other / 8) (page / 8)) [
-              | inl eight ↦
-                  let none : s ≤ 0 = elim (cases_lt 0 s) [ inl l ↦ absurd (apart (coarser 1 s other page l s_low eight)) | inr from ↦ from ] in
-                  let here : other / 8 ^ 0 ≢ page / 8 ^ 0 = λ same. apart (coarser 0 s other page (omega arith) s_low same) in
-                  size_left old new page other 0 others none (omega arith) here eight ∙ sym (beside_zero page other s apart eight)
-              | inr eight ↦ elim (cases_eq (other / 64) (page / 64)) [
-                | inl sixty_four ↦
-                    let one : s ≤ 1 = elim (cases_lt 1 s) [ inl l ↦ absurd (apart (coarser 2 s other page l s_low sixty_four)) | inr from ↦ from ] in
-                    let broken : 1 < b = elim (cases_lt 1 b) [ inl l ↦ l | inr from ↦ absurd (eight (coarser b 1 other page from (omega arith) whole_b)) ] in
-                    size_left old new page other 1 others one broken eight sixty_four ∙ sym (beside_one page other s apart eight sixty_four)
-                | inr sixty_four ↦
-                    let broken : 2 < b = elim (cases_lt 2 b) [ inl l ↦ l | inr from ↦ absurd (sixty_four (coarser b 2 other page from (omega arith) whole_b)) ] in
-                    size_left old new page other 2 others (omega arith) broken sixty_four (coarser b 3 other page b_low (omega arith) whole_b) ∙ sym (beside_two page other s apart eight sixty_four)
-              ]
-            ]
-      ]
-    ]
+pub over_max : (b s over : ℕ) → over ≡ max b s → IsOver b s over
+over_max b s over e = elim (cases_lt b s) [
+  | inl less ↦ record { before_in = omega arith; after_in = omega arith; one = inr (omega arith) }
+  | inr from ↦ record { before_in = omega arith; after_in = omega arith; one = inl (omega arith) }
+]
 
--- and the others have those that they had
+-- a page outside of the larger of the two has a tile of the size that it had
 pub size_stays : (old new : ℕ → Option Mapping) (page other over : ℕ) → OthersSame page old new → IsOver (size_at old page) (size_at new page) over → over ≤ 3 → other / 8 ^ over ≢ page / 8 ^ over → size_at new other ≡ size_at old other
 size_stays old new page other over others is low apart =
     size_far old new page other others (λ same. apart (coarser (size_at old page) over other page is.before_in low same)) (λ same. apart (coarser (size_at new page) over other page is.after_in low same))

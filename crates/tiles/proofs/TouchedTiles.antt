@@ -13,8 +13,7 @@ use Rattle.tiles.specs.Beside.{OthersSame}
 use Rattle.tiles.specs.Touched.{IsInSpace, KeepsOutside, extent_range, is_touched}
 use Rattle.tiles.proofs.Extents.{starts_below}
 use Rattle.tiles.proofs.Largest.{size_absent, size_small, tile_absent, tile_by, tile_by_own}
-use Rattle.tiles.proofs.SettledSizes.{over_max}
-use Rattle.tiles.proofs.SizeChanges.{IsOver, size_stays}
+use Rattle.tiles.proofs.SizeChanges.{IsOver, over_max, size_stays}
 
 -- a page has its tile as before, where its mapping and its tile's size are as before
 pub tile_same : (old new : ℕ → Option Mapping) (q : ℕ) → new q ≡ old q → size_at new q ≡ size_at old q → tile_of new q ≡ tile_of old q

@@ -1,52 +1,73 @@
 -- What is kept of the resident pages.
-use Rattle.std.specs.Prelude.{ℕ, ◌≡◌, ◌≢◌, ◌*◌, ◌<◌, ◌≤◌, ◌==◌, if◌then◌else◌, List, length, slice_index_or, Option, Some, None}
-use Rattle.extent_tree.specs.Rows.{row, SplitsAreRowsBelow}
+use Rattle.std.specs.Prelude.{ℕ, suc, ◌≡◌, ◌≢◌, ◌*◌, ◌/◌, ◌%◌, ◌^◌, ◌<◌, ◌≤◌, ◌||◌, ◌==◌, if◌then◌else◌, count_by, is_some, List, slice_index_or, Option, Some, None}
+use Rattle.std.specs.List.{range_with_len}
+use Rattle.extent_tree.specs.declared.spot.Spot.{Spot}
+use Rattle.extent_tree.specs.Rows.{Arena, blank, row, SplitsAreRowsBelow}
 use Rattle.pager_model.specs.declared.tile.Mapping.{Mapping}
-use Rattle.pager_model.specs.Tiles.{size_at}
-use Rattle.tiles.specs.declared.pages.Place.{Place}
-use Rattle.tiles.specs.Resident.{Resident, number_at, mapping_at}
 use Rattle.pager_model.specs.Bounds.{most_frames}
+use Rattle.pager_model.specs.Extents.{extent_start}
+use Rattle.pager_model.specs.Tiles.{moved_by}
+use Rattle.tiles.specs.Beside.{whole}
+use Rattle.tiles.specs.Resident.{Resident, mapping_at, frame_of_page}
 
-abbrev pub size_in_place : Option Place → ℕ
-size_in_place None = 0
-size_in_place (Some place) = place.size
+-- the mapping of each page, by its row
+abbrev pub pages_of : Arena Mapping → ℕ → Option Mapping
+pages_of t page = row t 0 page
 
-abbrev pub size_of_number : List (Option Place) → Option ℕ → ℕ
-size_of_number places None = 0
-size_of_number places (Some number) = size_in_place (slice_index_or places number None)
+-- the mapping of the first page of the extent of a size round a page, where the extent is eligible
+unfoldable pub head_of : (ℕ → Option Mapping) → ℕ → ℕ → Option Mapping
+head_of pages size page = if whole pages size page then pages (extent_start size page) else None
 
--- the size that is kept of a page's tile, and 0 where the page isn't resident
-unfoldable pub size_kept : Resident → ℕ → ℕ
-size_kept pages page = size_of_number pages.places (number_at pages page)
+-- the rows of a size in the extent of the next one round a page are the heads
+abbrev pub AreHeads : Arena Mapping → ℕ → ℕ → Type 0
+AreHeads t size page = (other : ℕ) → other / 8 ^ suc size ≡ page / 8 ^ suc size → row t size other ≡ head_of (pages_of t) size other
 
--- a size is kept of a resident page alone
-abbrev pub sized : Option Mapping → ℕ → ℕ
-sized None size = 0
-sized (Some m) size = size
+abbrev pub value_of : List (Spot Mapping) → ℕ → Option Mapping
+value_of parts part = (slice_index_or parts part blank).value
 
--- the size of one page is changed, where it is resident
-abbrev pub Sizes : ℕ → ℕ → Resident → Resident → Type 0
-Sizes page size old new = (p : ℕ) → size_kept new p ≡ (if p == page then sized (mapping_at old page) size else size_kept old p)
+-- eight parts of so many pages continue each other, from this mapping on
+pub record Joins (parts : List (Spot Mapping)) (length : ℕ) (head : Mapping) : Type 0 where
+  pub begins : value_of parts 0 ≡ Some head
+  pub aligned : head.frame % (8 * length) ≡ 0
+  pub follow : (part : ℕ) → part < 8 → value_of parts part ≡ Some (moved_by (part * length) head)
 
--- The number of a resident page names a place where it is kept what is said of it, and no two pages have one number. Each row is a
--- page's, under one of 2,048 roots, and there is room for three nodes for each number.
+-- the extents round a page have no row from one level on and below another; all other extents of size 1 to 3 have the right one
+pub record IsRightBut (t : Arena Mapping) (page from to : ℕ) : Type 0 where
+  pub cleared : (k p : ℕ) → k ≤ 3 → from ≤ k → k < to → p / 8 ^ k ≡ page / 8 ^ k → row t k p ≡ None
+  pub right : (k p : ℕ) → 0 < k → k ≤ 3 → (p / 8 ^ k ≡ page / 8 ^ k → from ≤ k → k < to → ⊥) → row t k p ≡ head_of (pages_of t) k p
+
+-- there is room for three nodes for each resident page
+pub record HasRoom (t : Arena Mapping) : Type 0 where
+  pub splits : SplitsAreRowsBelow t
+  pub room : 3 * count_by (λ p. is_some (pages_of t p)) (range_with_len 0 (512 * t.roots)) ≤ t.room
+
+-- each extent of size 1 to 3 has the right row
+abbrev pub AreRight : Arena Mapping → Type 0
+AreRight t = (k p : ℕ) → 0 < k → k ≤ 3 → row t k p ≡ head_of (pages_of t) k p
+
+-- how many pages are resident, with this one
+unfoldable pub resident_with : Arena Mapping → ℕ → ℕ
+resident_with t page = count_by (λ p. is_some (pages_of t p) || (p == page)) (range_with_len 0 (512 * t.roots))
+
+-- Each extent of size 1 to 3 has its first page's mapping as its row where it is eligible. The rows are under 2,048 roots, there is room
+-- for three nodes for each frame, each resident page has a frame, and no two have one.
 pub record ArePages (pages : Resident) : Type 0 where
-  pub splits : SplitsAreRowsBelow pages.numbers
-  pub of_pages : (size page : ℕ) → 0 < size → size ≤ 3 → row pages.numbers size page ≡ None
-  pub roots : pages.numbers.roots ≡ 2048
-  pub room : pages.numbers.room ≡ 3 * length pages.places
-  pub few : length pages.places ≤ most_frames
-  pub found : (p number : ℕ) → number_at pages p ≡ Some number → slice_index_or pages.places number None ≢ None
-  pub apart : (p q number : ℕ) → number_at pages p ≡ Some number → number_at pages q ≡ Some number → p ≡ q
+  pub right : AreRight pages.rows
+  pub has_room : HasRoom pages.rows
+  pub roots : pages.rows.roots ≡ 2048
+  pub room : pages.rows.room ≡ 3 * pages.frames
+  pub few : pages.frames ≤ most_frames
+  pub known : (p number : ℕ) → frame_of_page pages p ≡ Some number → number < pages.frames
+  pub apart : (p q number : ℕ) → frame_of_page pages p ≡ Some number → frame_of_page pages q ≡ Some number → p ≡ q
 
--- the sizes that are kept are those of the tiles
-abbrev pub AreSizes : Resident → Type 0
-AreSizes pages = (p : ℕ) → size_kept pages p ≡ size_at (mapping_at pages) p
+-- A page's frame after a change is this one, which no other page has, or it has none.
+pub record MayHave (pages : Resident) (page number : ℕ) (given : Option Mapping) : Type 0 where
+  pub known : number < pages.frames
+  pub others : (p : ℕ) → p ≢ page → frame_of_page pages p ≢ Some number
+  pub own : (m : Mapping) → given ≡ Some m → m.frame ≡ number
 
--- no other page's size is changed
-abbrev pub SizesBut : ℕ → Resident → Resident → Type 0
-SizesBut page old new = (p : ℕ) → p ≢ page → size_kept new p ≡ size_kept old p
-
--- no page's size is changed
-abbrev pub SameSizes : Resident → Resident → Type 0
-SameSizes old new = (p : ℕ) → size_kept new p ≡ size_kept old p
+-- The page is resident, and is in the same frame with this mapping, where it has one.
+pub record KeepsFrame (page : ℕ) (given : Option Mapping) (pages : Resident) : Type 0 where
+  pub before : Mapping
+  pub is : mapping_at pages page ≡ Some before
+  pub same : (m : Mapping) → given ≡ Some m → m.frame ≡ before.frame

@@ -1,39 +1,26 @@
 -- The resident pages of a space. Contracts look at them only through the mapping of a page, where it is resident.
-use Rattle.std.specs.Prelude.{ℕ, ◌≡◌, ◌≢◌, ◌<◌, ◌≤◌, ◌+◌, ◌%◌, ◌^◌, Bool, ◌&&◌, ◌==◌, not, nat_lt, if◌then◌else◌, List, slice_index_or, length, option_map, Option, Some, None}
+use Rattle.std.specs.Prelude.{ℕ, ◌≡◌, ◌≢◌, ◌<◌, ◌≤◌, ◌+◌, ◌%◌, ◌^◌, Bool, ◌&&◌, ◌==◌, not, nat_lt, if◌then◌else◌, option_map, Option, None}
 use Rattle.extent_tree.specs.Rows.{Arena, row}
 use Rattle.pager_model.specs.declared.region.Rights.{Rights}
 use Rattle.pager_model.specs.declared.tile.Mapping.{Mapping}
 use Rattle.pager_model.specs.Regions.{in_range}
 use Rattle.pager_model.specs.Tiles.{tile_of, size_at, begins_at, count_pages, promotions_between, demotions_between}
 use Rattle.tiles.specs.declared.moves.Moves.{Moves}
-use Rattle.tiles.specs.declared.pages.Place.{Place}
 use Rattle.tiles.specs.Touched.{IsInSpace, KeepsOutside}
 
 pub record Resident : Type 0 where
-  -- the numbers of frames: each is the row of the page that has the frame
-  pub numbers : Arena ℕ
-  -- of each number what is said of the page that has the frame
-  pub places : List (Option Place)
-
-abbrev pub mapping_in : ℕ → Option Place → Option Mapping
-mapping_in number None = None
-mapping_in number (Some place) = Some (record { frame = number; region = place.region; rights = place.rights; dirty = place.dirty })
-
-abbrev pub mapping_of_number : List (Option Place) → Option ℕ → Option Mapping
-mapping_of_number places None = None
-mapping_of_number places (Some number) = mapping_in number (slice_index_or places number None)
-
--- the number of a page's frame, where it is resident
-unfoldable pub number_at : Resident → ℕ → Option ℕ
-number_at pages page = row pages.numbers 0 page
+  -- what is said of each resident page, as its row, and of the first page of each eligible extent of size 1 to 3, as the extent's
+  pub rows : Arena Mapping
+  -- how many frames there are
+  pub frames : ℕ
 
 -- what is said of a page, where it is resident
 unfoldable pub mapping_at : Resident → ℕ → Option Mapping
-mapping_at pages page = mapping_of_number pages.places (number_at pages page)
+mapping_at pages page = row pages.rows 0 page
 
 -- how many frames there are
 abbrev pub frames_in : Resident → ℕ
-frames_in pages = length pages.places
+frames_in pages = pages.frames
 
 -- the frame of a page, where it is resident
 abbrev pub frame_of_page : Resident → ℕ → Option ℕ

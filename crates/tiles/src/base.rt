@@ -4,6 +4,7 @@ ghost use Rattle.std.specs.Prelude.{◌≡◌, ◌≢◌, ◌∷◌, [], ℕ, �
 ghost use Rattle.pager_model.specs.Tiles.{tile_of, is_tile, size_at, tiles_of_size};
 ghost use Rattle.pager_model.specs.declared.tile.Mapping.{Mapping};
 ghost use Rattle.tiles.specs.Resident.{mapping_at, frames_in, frame_of_page, Maps, Protects, AreMoves, IsNextResident, NoneResident, with_flag, with_rights, begins_large, begins_before, large_tiles_begun, large_tiles_meeting};
+ghost use Rattle.tiles.specs.Kept.{KeepsFrame};
 ghost use Rattle.tiles.specs.Blocks.{KeepsRights, ProtectsTo, ProtectsInBlock, AreSizesOfBlock, OutsideSame, AreMovesOf, begun_at};
 ghost use Rattle.pager_model.specs.Bounds.{most_frames, space_pages};
 
@@ -24,13 +25,10 @@ pub struct Base {
 
 impl Model for Base {
     ghost use Rattle.tiles.specs.Resident.{Resident};
-    ghost use Rattle.tiles.specs.Kept.{AreSizes};
 
     ghost Value = { Resident };
 
     ghost view = { λ b. b.pages };
-
-    ghost invariant = { λ b. AreSizes b.pages };
 }
 
 impl Base {
@@ -76,24 +74,17 @@ impl Base {
     fn size(&self, page: u32) -> Size
         ensures { result ≡ size_at (mapping_at self.now) page }
     {
-        self.pages.size(page)
+        match self.pages.tile_of(page) {
+            Some(tile) => tile.extent.size,
+            None => Size::at_level(0),
+        }
     }
 
     /// The tile of a page, where it is resident.
     pub fn tile_of(&self, page: u32) -> Option<Tile>
         ensures { result ≡ tile_of (mapping_at self.now) page }
     {
-        let (mapping, size) = self.pages.mapping_and_size(page)?;
-        let offset = page % size.pages();
-        Some(Tile {
-            extent: Extent {
-                size,
-                first: page - offset,
-            },
-            frame: mapping.frame - offset,
-            rights: mapping.rights,
-            dirty: mapping.dirty,
-        })
+        self.pages.tile_of(page)
     }
 
     /// Whether it is a tile of the pages as they are.
@@ -112,8 +103,8 @@ impl Base {
         ensures maps { Maps page (Some mapping) self.old self.new }
         ensures moves { AreMoves self.old self.new result }
     {
-        self.pages.put(page, mapping);
-        let size = self.pages.settle(page, Size::at_level(0));
+        self.pages.fill(page, mapping);
+        let size = self.size(page);
         if size.level() == 0 {
             return Moves::NONE;
         }
@@ -125,12 +116,10 @@ impl Base {
         ensures maps { Maps page None self.old self.new }
         ensures moves { AreMoves self.old self.new result }
     {
-        let Some((_, before)) = self.pages.mapping_and_size(page) else {
-            return Moves::NONE;
-        };
-        self.pages.remove(page);
-        let size = self.pages.settle(page, before);
-        Moves::of_one(page, before, size)
+        match self.pages.mapping(page) {
+            Some(_) => self.change(page, None),
+            None => Moves::NONE,
+        }
     }
 
     /// A page has this dirty flag, where it is resident.
@@ -138,22 +127,24 @@ impl Base {
         ensures maps { Maps page (option_map (with_flag dirty) (mapping_at self.old page)) self.old self.new }
         ensures moves { AreMoves self.old self.new result }
     {
-        let Some(before) = self.size_of_other_flag(page, dirty) else {
-            return Moves::NONE;
-        };
-        self.pages.set_dirty(page, dirty);
-        let size = self.pages.settle(page, before);
-        Moves::of_one(page, before, size)
+        match self.pages.mapping(page) {
+            Some(mapping) if mapping.dirty != dirty => {
+                self.change(page, Some(Mapping { dirty, ..mapping }))
+            }
+            _ => Moves::NONE,
+        }
     }
 
-    /// The size of a page's tile, where the page is resident with another dirty flag.
-    fn size_of_other_flag(&self, page: u32, dirty: bool) -> Option<Size>
-        ensures in_space { IfSome result (λ _. page < space_pages) }
-        ensures size { IfSome result (λ size. size ≡ size_at (mapping_at self.now) page) }
-        ensures keeps { IfNone result (option_map (with_flag dirty) (mapping_at self.now page) ≡ mapping_at self.now page) }
+    /// A resident page has this mapping, in the frame that it has, or is resident no more.
+    fn change(&mut self, page: u32, mapping: Option<Mapping>) -> Moves
+        requires page { page < space_pages }
+        requires keeps { KeepsFrame page mapping self.old }
+        ensures maps { Maps page mapping self.old self.new }
+        ensures moves { AreMoves self.old self.new result }
     {
-        let (mapping, size) = self.pages.mapping_and_size(page)?;
-        (mapping.dirty != dirty).then_some(size)
+        let before = self.size(page);
+        self.pages.change(page, mapping);
+        Moves::of_one(page, before, self.size(page))
     }
 
     /// Whether a page is resident with other rights.
@@ -186,14 +177,12 @@ impl Base {
     fn after_rights_of_one(&mut self, page: u32, rights: Rights)
         ensures { Maps page (option_map (with_rights rights) (mapping_at self.old page)) self.old self.new }
     {
-        let Some((mapping, before)) = self.pages.mapping_and_size(page) else {
-            return;
-        };
-        if mapping.rights == rights {
-            return;
+        match self.pages.mapping(page) {
+            Some(mapping) if mapping.rights != rights => {
+                self.pages.change(page, Some(Mapping { rights, ..mapping }));
+            }
+            _ => {}
         }
-        self.pages.set_rights(page, rights);
-        self.pages.settle(page, before);
     }
 
     /// The resident pages of a range have these rights.

@@ -6,11 +6,11 @@
 #![tactic(auto)]
 
 mod base;
+mod counted;
 pub mod laws;
 mod moves;
-mod numbers;
 mod pages;
-mod sizes;
+mod rows;
 
 pub use base::Base;
 pub use moves::Moves;

@@ -4,6 +4,7 @@ ghost use Rattle.std.specs.Prelude.{◌≡◌, min};
 mod blocks;
 mod history;
 mod images;
+mod mapped;
 mod members;
 mod numbers;
 mod populations;

@@ -92,6 +92,54 @@ impl Beside {
         }
     }
 
+    /// Gives the parts of an extent of more than a page these values in place of its own, in both.
+    fn split<L: Ledger>(
+        &mut self,
+        whole: &Extent,
+        value: u32,
+        steps: &mut Steps<L>,
+    ) -> Result<(), AllocError> {
+        if whole.size.level() > 0 && whole.first < PAGES {
+            let values = [0, 1, 2, 3, 4, 5, 6, 7].map(|part| value.wrapping_add(part));
+            self.tree.split(whole.size, whole.first, &values, steps);
+            self.forget(whole);
+            let size = whole.size.smaller();
+            for part in 0..8_u32 {
+                let page = whole.first.wrapping_add(part.wrapping_mul(size.pages()));
+                let extent = extent(size, page);
+                self.forget(&extent);
+                self.rows.push(Row {
+                    extent,
+                    value: value.wrapping_add(part),
+                })?;
+            }
+        }
+        Ok(())
+    }
+
+    /// Gives an extent of more than a page this value in place of its parts', in both, where its first part has one.
+    fn join<L: Ledger>(
+        &mut self,
+        whole: &Extent,
+        value: u32,
+        steps: &mut Steps<L>,
+    ) -> Result<(), AllocError> {
+        if whole.size.level() == 0 {
+            return Ok(());
+        }
+        let size = whole.size.smaller();
+        if self.tree.at(size, whole.first, steps).value().is_some() {
+            self.tree.join(whole.size, whole.first, value, steps);
+            self.rows.retain(|row| row.extent.size != size || !is_part(&row.extent, whole));
+            self.forget(whole);
+            self.rows.push(Row {
+                extent: *whole,
+                value,
+            })?;
+        }
+        Ok(())
+    }
+
     /// Whether the tree and the list say the same of the extent of a size round a page.
     fn is_alike<L: Ledger>(&self, size: Size, page: u32, steps: &mut Steps<L>) -> bool {
         let spot = self.tree.at(size, page, steps);
@@ -119,7 +167,7 @@ fn near(random: &mut Generator) -> u32 {
     }
 }
 
-/// Puts a row in or leaves it, and takes one out.
+/// Puts a row in or leaves it, and takes one out; now and then splits an extent, or joins one.
 fn change<L: Ledger>(
     both: &mut Beside,
     value: u32,
@@ -133,7 +181,11 @@ fn change<L: Ledger>(
         both.put(size, pages.0, value, steps)?;
     }
     both.remove(size, pages.1, steps);
-    Ok(())
+    match random.draw(8) {
+        0 => both.split(&extent(size, pages.0), value, steps),
+        1..=2 => both.join(&extent(size, pages.0), value, steps),
+        _ => Ok(()),
+    }
 }
 
 fn goes_through<L: Ledger>(

@@ -1,15 +1,9 @@
-use Rattle.std.proofs.Common.{refl, option_map, arith}
-use Rattle.tiles.specs.Resident.{mapping_at, with_flag}
-use Rattle.tiles.proofs.MoveCounts.{kept_but, same_sizes_but, moves_in_larger, moves_same}
+use Rattle.std.proofs.Common.{refl, arith}
+use Rattle.tiles.proofs.MoveCounts.{moves_same}
 use Rattle.tiles.proofs.base.Base.after_dirty.Goals as goal
 
 pub returns-in_default-clause-moves : goal.returns-in_default-clause-moves
 returns-in_default-clause-moves c = moves_same c.args.self.now c.args.self.now _ (λ p. refl) refl refl (omega arith)
 
-pub returns-clause-moves : goal.returns-clause-moves
-returns-clause-moves c =
-    let r = c.self.inside.pages in
-    let kept = kept_but r c.set_dirty.new.self c.args.page (option_map (with_flag c.args.dirty) (mapping_at r c.args.page)) c.self.invariant c.set_dirty.ensures.maps (same_sizes_but r c.set_dirty.new.self c.args.page c.set_dirty.ensures.sizes) in
-    rw (← c.self.view_is)
-    (moves_in_larger r c.set_dirty.new.self c.settle-size.new.self c.args.page _ c.settle-size.result c.of_one.result kept c.settle-size.ensures.same
-    c.in-Some.ensures.in_space (rw (← c.self.view_is) at c.in-Some.ensures.size) (c.settle-size.ensures.size (mapping_at r) kept) c.of_one.ensures.promotions c.of_one.ensures.demotions c.of_one.ensures.touched)
+pub returns-in_default-2-clause-moves : goal.returns-in_default-2-clause-moves
+returns-in_default-2-clause-moves c = moves_same c.args.self.now c.args.self.now _ (λ p. refl) refl refl (omega arith)

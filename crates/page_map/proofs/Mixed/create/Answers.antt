@@ -1,0 +1,15 @@
+use Rattle.page_map.proofs.Changes.{none_kept, none_at, pages_none}
+use Rattle.page_map.proofs.CountChanges.{none_counts}
+use Rattle.page_map.proofs.Mixed.create.Goals as goal
+
+pub invariant_of-result : goal.invariant_of-result
+invariant_of-result c =
+    let made = c.in_ok-tree.ensures in
+    let tree = c.in_ok-tree.tree in
+    (none_kept tree c.args.frames made.empty made.splits made.roots made.room, none_counts tree (none_at tree made.empty))
+
+pub returns-clause-none : goal.returns-clause-none
+returns-clause-none c = none_at c.in_ok-tree.tree c.in_ok-tree.ensures.empty
+
+pub returns-clause-pages : goal.returns-clause-pages
+returns-clause-pages c = pages_none c.in_ok-tree.tree c.in_ok-tree.ensures.empty

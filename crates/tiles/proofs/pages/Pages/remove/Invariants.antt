@@ -1,4 +1,0 @@
-use Rattle.tiles.proofs.pages.Pages.remove.Given as goal
-
-abbrev pub ghosts-remove : goal.ghosts-remove
-ghosts-remove a = record { name = a.blank.name; parts = a.blank.parts }

@@ -1,0 +1,79 @@
+//! The calls of the rows, each with a counter of steps of its own that begins at 0.
+
+ghost use Rattle.std.specs.Prelude.{◌≡◌, ℕ, ◌*◌, ◌<◌, ◌≤◌, ◌==◌, if◌then◌else◌};
+ghost use Rattle.extent_tree.specs.Rows.{is_split};
+ghost use Rattle.pager_model.specs.Tiles.{tile_of};
+ghost use Rattle.tiles.specs.Kept.{AreRight, HasRoom, pages_of, resident_with};
+
+use crate::rows;
+use extent_tree::ExtentTree;
+use pager_model::{Mapping, Size, Steps, Tile};
+use std::sync::ledger::{Blank, Ledger};
+
+/// The mapping of a page, where it is resident.
+pub(crate) fn find<L: Ledger>(
+    tree: &ExtentTree<Mapping>,
+    page: u32,
+    blank: Blank,
+) -> Option<Mapping>
+    requires name { blank.name ≡ L.name }
+    requires parts { blank.parts ≡ L.parts }
+    requires share { 0 < blank.parts }
+    ensures { result ≡ pages_of tree.now page }
+{
+    let (book, share) = blank.open::<L>();
+    tree.at(Size::at_level(0), page, &mut Steps::begin(book, share))
+        .value()
+}
+
+/// Whether a smaller extent in the extent of 512 pages round a page has a row.
+pub(crate) fn has_any<L: Ledger>(tree: &ExtentTree<Mapping>, page: u32, blank: Blank) -> bool
+    requires name { blank.name ≡ L.name }
+    requires parts { blank.parts ≡ L.parts }
+    requires share { 0 < blank.parts }
+    ensures { result ≡ is_split tree.now 3 page }
+{
+    let (book, share) = blank.open::<L>();
+    tree.at(Size::at_level(3), page, &mut Steps::begin(book, share))
+        .is_split()
+}
+
+/// The tile of a page, where it is resident.
+pub(crate) fn tile_of<L: Ledger>(
+    tree: &ExtentTree<Mapping>,
+    page: u32,
+    blank: Blank,
+) -> Option<Tile>
+    requires name { blank.name ≡ L.name }
+    requires parts { blank.parts ≡ L.parts }
+    requires share { 0 < blank.parts }
+    requires right { AreRight tree.now }
+    ensures { result ≡ tile_of (pages_of tree.now) page }
+{
+    let (book, share) = blank.open::<L>();
+    rows::tile_of(tree, page, &mut Steps::begin(book, share))
+}
+
+/// The page has this mapping, or none, and each extent of size 1 to 3 that is eligible then has its row.
+pub(crate) fn change<L: Ledger>(
+    tree: &mut ExtentTree<Mapping>,
+    page: u32,
+    mapping: Option<Mapping>,
+    blank: Blank,
+)
+    requires name { blank.name ≡ L.name }
+    requires parts { blank.parts ≡ L.parts }
+    requires share { 0 < blank.parts }
+    requires page { page < 512 * tree.old.roots }
+    requires right { AreRight tree.old }
+    requires room { HasRoom tree.old }
+    requires few { 3 * resident_with tree.old page ≤ tree.old.room }
+    ensures right { AreRight tree.new }
+    ensures pages { (p : ℕ) → pages_of tree.new p ≡ (if p == page then mapping else pages_of tree.old p) }
+    ensures roots { tree.new.roots ≡ tree.old.roots }
+    ensures capacity { tree.new.room ≡ tree.old.room }
+    ensures room { HasRoom tree.new }
+{
+    let (book, share) = blank.open::<L>();
+    rows::change(tree, page, mapping, &mut Steps::begin(book, share));
+}
