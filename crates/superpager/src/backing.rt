@@ -1,8 +1,9 @@
 //! Where the copies of pages are kept, by the program's words.
 
-ghost use Rattle.std.specs.Prelude.{◌≡◌, ◌≢◌, ℕ, List, IfOk, length};
+ghost use Rattle.std.specs.Prelude.{◌≡◌, ℕ, List, IfOk, length};
 ghost use Rattle.std.specs.Borrow.{Bor};
-ghost use Rattle.superpager.specs.Asked.{AsksFolder, are_of};
+ghost use Rattle.pager_command.specs.Forms.{are_of};
+ghost use Rattle.superpager.specs.Asked.{AsksFolder};
 
 use pager_model::NoMemory;
 use std::alloc::{AllocError, Global};
