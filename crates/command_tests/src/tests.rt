@@ -1,6 +1,7 @@
-//! Whole runs: what is printed, and the status where nothing is, over stores that fail where a test says so. The program's own stores
-//! never fail. The examples of the folder `examples/` are run by the script there.
+//! Whole runs: what is printed, and the status where nothing is, over stores that fail where a test says so; and stores in files. The
+//! examples of the folder `examples/` are run by the script there.
 mod failing;
+mod folders;
 mod frames;
 mod large;
 mod made;

@@ -1,3 +1,4 @@
 pub mod Forms
 pub mod Runs
 pub mod MadeRuns
+pub mod Messages

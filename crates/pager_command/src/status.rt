@@ -1,6 +1,10 @@
 //! The program's exit statuses.
 
-use std::io;
+ghost use Rattle.std.specs.Prelude.{◌≡◌, ◌≢◌};
+ghost use Rattle.std.specs.IoError.{error_kind};
+ghost use Rattle.pager_command.specs.Messages.{message_text};
+
+use std::io::{self, ErrorKind};
 
 /// The run is done.
 pub const DONE: u8 = 0;
@@ -16,15 +20,20 @@ pub const MEMORY: u8 = 5;
 pub const WRITE_FAULT: u8 = 6;
 
 /// The status where no run began: the words were no text, or there was no memory for them or for the stores.
-pub fn unread_words(error: &io::Error) -> u8 {
+pub fn unread_words(error: &io::Error) -> u8
+    ensures no_text { error_kind error.now ≡ ErrorKind.InvalidData → result ≡ USAGE }
+    ensures memory { error_kind error.now ≢ ErrorKind.InvalidData → result ≡ MEMORY }
+{
     match error.kind() {
-        io::ErrorKind::InvalidData => USAGE,
+        ErrorKind::InvalidData => USAGE,
         _ => MEMORY,
     }
 }
 
 /// What is said of a status where no fault is told.
-pub fn message_of(status: u8) -> &'static str {
+pub fn message_of(status: u8) -> &'static str
+    ensures { result.now ≡ message_text status }
+{
     match status {
         DONE => "done",
         USAGE => "usage",

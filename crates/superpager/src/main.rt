@@ -2,19 +2,19 @@
 //! counts of its run.
 #![tactic(auto)]
 
+mod backing;
+
+use backing::{Backing, file_stores, memory_stores, stores_of};
 use io_core::{RealSink, RealSource, Sink, Source};
-use pager_command::{DONE, message_of, run, unread_words};
-use std::alloc::{AllocError, Global};
+use pager_command::{DONE, MEMORY, message_of, run, unread_words};
+use std::fs::File;
 use std::process::ExitCode;
-use std::rt::Env;
+use std::rt::{Env, Files};
 use std::sync::Wait;
 use std::thread::Threads;
 use std::{env, io};
-use store_core::MemoryStore;
+use store_core::Store;
 use trace_reader::TraceFault;
-
-/// The most spaces of a trace.
-const MOST_SPACES: usize = 16;
 
 fn main(rt: HostRuntime) -> ExitCode {
     let mut source = RealSource::of(rt.stdin());
@@ -30,7 +30,7 @@ fn main(rt: HostRuntime) -> ExitCode {
 }
 
 /// Runs with the words after the program's name, and answers the status and why no trace was run.
-fn run_words<R: AllocGlobal + Env + Threads + Wait + Sync, T: Source, K: Sink>(
+fn run_words<R: AllocGlobal + Env + Files<File = File> + Threads + Wait + Sync, T: Source, K: Sink>(
     rt: &R,
     source: &mut T,
     sink: &mut K,
@@ -38,18 +38,29 @@ fn run_words<R: AllocGlobal + Env + Threads + Wait + Sync, T: Source, K: Sink>(
     let alloc = rt.alloc();
     let arguments: Vec<String> = env::args(rt)?.skip(1).collect(alloc)?;
     let words: Vec<&str> = arguments.iter().map(|word| word.as_str()).collect(alloc)?;
-    let stores = empty_stores(alloc)?;
-    let outcome = run(rt, alloc, words.as_slice(), source, sink, stores);
-    Ok((outcome.status, outcome.refusal))
+    let (backing, words) = stores_of(words.as_slice());
+    match backing {
+        Backing::Memory => {
+            let stores = memory_stores(alloc)?;
+            Ok(run_over(rt, words, source, sink, stores))
+        }
+        Backing::Folder(folder) => match file_stores(rt, alloc, folder) {
+            Ok(stores) => Ok(run_over(rt, words, source, sink, stores)),
+            Err(_) => Ok((MEMORY, None)),
+        },
+    }
 }
 
-/// A store in memory for each space that a trace may have, with no copy yet. None of them is to fail.
-fn empty_stores(alloc: Global) -> Result<Vec<MemoryStore>, AllocError> {
-    let mut stores = Vec::new(alloc);
-    stores.resize_with(MOST_SPACES, || {
-        MemoryStore::of(alloc, Vec::new(alloc), Vec::new(alloc))
-    })?;
-    Ok(stores)
+/// Runs with these words over these stores, and answers the status and why no trace was run.
+fn run_over<R: AllocGlobal + Threads + Wait + Sync, T: Source, K: Sink, S: Store + Send + Drop>(
+    rt: &R,
+    words: &[&str],
+    source: &mut T,
+    sink: &mut K,
+    stores: Vec<S>,
+) -> (u8, Option<TraceFault>) {
+    let outcome = run(rt, rt.alloc(), words, source, sink, stores);
+    (outcome.status, outcome.refusal)
 }
 
 /// Says on standard error why the program ends with this status.
