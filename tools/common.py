@@ -3,6 +3,8 @@ import argparse
 import os
 import re
 import sys
+from contextlib import suppress
+from subprocess import SubprocessError
 from typing import Callable, NoReturn, Optional
 
 TOP = os.path.dirname(os.path.dirname(os.path.abspath(__file__)))
@@ -38,8 +40,10 @@ def number_in(low: int, high: int, step: int = 1) -> Callable[[str], int]:
 
 
 def say(why: object) -> None:
-    """Says on standard error why the tool can't go on."""
-    print('%s: %s' % (tool_name(), why), file=sys.stderr)
+    """Says something on standard error, where that is open."""
+    if sys.stderr is not None:
+        with suppress(OSError):
+            print('%s: %s' % (tool_name(), why), file=sys.stderr)
 
 
 def status_of(main: Callable[[], int]) -> int:
@@ -48,7 +52,7 @@ def status_of(main: Callable[[], int]) -> int:
         return main()
     except SystemExit as ended:
         return ended.code if isinstance(ended.code, int) else 0
-    except (Stopped, OSError) as why:
+    except (Stopped, OSError, SubprocessError) as why:
         say(why)
         return 1
     except KeyboardInterrupt:
