@@ -118,5 +118,14 @@ compare scattered $? 1 'from-lackey: the 2100 touched pages have no room in a sp
 
 runs_of comparisons table tool ../tools/compare --program "$program"
 
+# All frames are under these pages. The first is used again, so that it stands in the image when it is paged out for a page of space 1.
+awk 'BEGIN {
+    print "trace 1 512 1 2\n0 map 0 0 512 fixed read\n0 map 1 0 1 fixed read"
+    for (i = 0; i < 512; i++) print "0 load 0 " i * 8192
+    print "0 load 0 0\n0 load 1 0\n0 load 0 0\nend"
+}' >"$made/in-use"
+tool "$made/in-use" told ../tools/compare --program "$program" --csv /dev/stdin
+compare compared-in-use $? 0 '' compared-in-use.table
+
 printf '%s passed, %s failed\n' "$passed" "$failed"
 [ "$failed" = 0 ] && [ "$passed" != 0 ]
