@@ -47,11 +47,14 @@ def say(why: object) -> None:
 
 
 def status_of(main: Callable[[], int]) -> int:
-    """The status of `main`, or that with which argparse ends it: 1 with a message where it stopped, and 130 where it was interrupted."""
+    """The status of `main`, or that which argparse ended it with: 1 with a message where it stopped, and 130 where it was interrupted."""
     try:
         return main()
     except SystemExit as ended:
-        return ended.code if isinstance(ended.code, int) else 0
+        if ended.code is None or isinstance(ended.code, int):
+            return ended.code or 0
+        say(ended.code)
+        return 1
     except (Stopped, OSError, SubprocessError) as why:
         say(why)
         return 1
