@@ -1,15 +1,15 @@
 #!/bin/sh
 # Runs the built program on every example, and on words, inputs and outputs that it must not take, and compares its output, status
-# and message with what stands here. Then it does the same with tools/from-lackey, which needs Python.
+# and message with what stands here. Then it does the same with tools/from-lackey and tools/compare, which need Python.
 #
 #     examples/check.sh [PROGRAM]
 #
 # Each NAME.trace is run with the word `order`, ends with status 0, says nothing and prints NAME.text, unless a line of `cases` has
 # it as a run of the same name; that file has the other runs too. To add an example, add its two files; to add another run, add a
-# line to `cases`, or to `conversions` where it is one of tools/from-lackey.
+# line to `cases`, or to `conversions` where it is one of tools/from-lackey, or to `comparisons` where it is one of tools/compare.
 #
 # PROGRAM is crates/superpager/out/superpager where it isn't given. `rt ci` at the top leaves it there, built of what it proved, also
-# where nothing was kept from an earlier run, and then these runs take a few seconds. Where it isn't there, `rt run` proves and builds it.
+# where nothing was kept from an earlier run, and then these runs take a few seconds. Where it isn't there no run is made.
 #
 # The last line is `N passed, M failed`. The status is 1 where a run failed, or none was made.
 
@@ -18,6 +18,13 @@ case ${1-} in
     *) program=$PWD/$1 ;;
 esac
 cd "$(dirname "$0")" || exit 1
+[ -n "$program" ] || program=$(cd .. && pwd)/crates/superpager/out/superpager
+if [ ! -x "$program" ] || [ -d "$program" ]; then
+    printf 'check.sh: no program at %s. Build it: `cd crates/superpager && rt run -- order <../../examples/preempted.trace`\n' "$program" >&2
+    printf '0 passed, 0 failed\n'
+    exit 1
+fi
+
 made=$(mktemp -d) || exit 1
 trap 'rm -rf "$made"' EXIT
 trap 'exit 1' HUP INT TERM
@@ -26,25 +33,18 @@ failed=0
 # A word that is no UTF-8, for `cases`.
 not_utf_8=$(printf '\377')
 
-if [ -z "$program" ]; then
-    program=$(cd .. && pwd)/crates/superpager/out/superpager
-    if [ ! -x "$program" ]; then
-        (cd ../crates/superpager && rt run -- order <../../examples/zero-pages.trace >/dev/null)
-    fi
-fi
-
-# Runs the program with these words on an input and an output, and answers its status.
+# Runs a command on an input and an output, and answers its status.
 run() {
     input=$1
     output=$2
     shift 2
     case $input,$output in
-        closed,closed) "$program" "$@" <&- >&- ;;
-        closed,full) "$program" "$@" <&- >/dev/full ;;
-        closed,*) "$program" "$@" <&- ;;
-        *,closed) "$program" "$@" <"$input" >&- ;;
-        *,full) "$program" "$@" <"$input" >/dev/full ;;
-        *) "$program" "$@" <"$input" ;;
+        closed,closed) "$@" <&- >&- ;;
+        closed,full) "$@" <&- >/dev/full ;;
+        closed,*) "$@" <&- ;;
+        *,closed) "$@" <"$input" >&- ;;
+        *,full) "$@" <"$input" >/dev/full ;;
+        *) "$@" <"$input" ;;
     esac >"$made/output" 2>"$made/message"
 }
 
@@ -71,47 +71,61 @@ compare() {
     fi
 }
 
+# Runs a tool as `run` does. Its message becomes one line, without that of its usage.
+tool() {
+    run "$@"
+    status_of_run=$?
+    line=$(sed '/^usage: /d' "$made/message" | paste -s -d ' ' -)
+    if [ -n "$line" ]; then printf '%s\n' "$line"; fi >"$made/message"
+    return "$status_of_run"
+}
+
 # The lines of a table of runs.
 lines_of() {
     sed -e '/^#/d' -e '/^$/d' -e 's/ *| */|/g' "$1"
 }
 
+# Makes the runs of a table by `run` or `tool`: of this command, with the words of each line behind it. Their outputs are NAME.ENDING.
+runs_of() {
+    table=$1
+    ending=$2
+    how=$3
+    shift 3
+    lines_of "$table" >"$made/lines"
+    while IFS='|' read -r name words input output status message; do
+        eval "$how \"\$input\" \"\$output\" \"\$@\" $words"
+        compare "$name" $? "$status" "$message" "$name.$ending"
+    done <"$made/lines"
+}
+
+runs_of cases text run "$program"
+
 lines_of cases >"$made/cases"
-lines_of conversions >"$made/conversions"
-
-while IFS='|' read -r name words input output status message; do
-    eval "run \"\$input\" \"\$output\" $words"
-    compare "$name" $? "$status" "$message" "$name.text"
-done <"$made/cases"
-
 for trace in *.trace; do
     name=${trace%.trace}
     if ! grep -q "^$name|" "$made/cases"; then
-        run "$trace" told order
+        run "$trace" told "$program" order
         compare "$name" $? 0 '' "$name.text"
     fi
 done
 
-program=../tools/from-lackey
-
-# Runs the converter as `run` does. Its message becomes one line, without that of its usage.
-convert() {
-    run "$@"
-    status_of_run=$?
-    sed '/^usage: /d' "$made/message" | paste -s -d ' ' - >"$made/line"
-    mv "$made/line" "$made/message"
-    return "$status_of_run"
-}
-
-while IFS='|' read -r name words input output status message; do
-    eval "convert \"\$input\" \"\$output\" $words"
-    compare "$name" $? "$status" "$message" "$name.trace"
-done <"$made/conversions"
+runs_of conversions trace tool ../tools/from-lackey
 
 # As many pages as these, each at the start of its 4 MiB, need more than a space.
 awk 'BEGIN { for (i = 100000; i < 102100; i++) printf " L %d000000,1\n", i }' >"$made/scattered"
-convert "$made/scattered" told
+tool "$made/scattered" told ../tools/from-lackey
 compare scattered $? 1 'from-lackey: the 2100 touched pages have no room in a space of 1048576' scattered.trace
+
+runs_of comparisons table tool ../tools/compare --program "$program"
+
+# All frames are under these pages. The first is used again, so that it stands in the image when it is paged out for a page of space 1.
+awk 'BEGIN {
+    print "trace 1 512 1 2\n0 map 0 0 512 fixed read\n0 map 1 0 1 fixed read"
+    for (i = 0; i < 512; i++) print "0 load 0 " i * 8192
+    print "0 load 0 0\n0 load 1 0\n0 load 0 0\nend"
+}' >"$made/in-use"
+tool "$made/in-use" told ../tools/compare --program "$program" --csv /dev/stdin
+compare compared-in-use $? 0 '' compared-in-use.table
 
 printf '%s passed, %s failed\n' "$passed" "$failed"
 [ "$failed" = 0 ] && [ "$passed" != 0 ]

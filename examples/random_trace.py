@@ -3,15 +3,23 @@
     python3 examples/random_trace.py SEED CALLS FRAMES PROCESSORS SPACES LOADS >random.trace
 
 It begins with LOADS loads of as many pages, so that few frames are left, and has CALLS more calls, and a few beyond them where the last
-draw is a run of loads. Equal words give equal bytes.
+draw is a run of loads. Equal words give equal bytes. CALLS and LOADS are at most 130000 each, so that there are no more calls than a trace
+may have.
 """
+import argparse
+import os
 import random
 import sys
+
+sys.path.insert(0, os.path.join(os.path.dirname(os.path.abspath(__file__)), os.pardir, 'tools'))
+from common import end, number_in  # noqa: E402: it stands beside the tools
 
 PAGE = 8192
 PAGES = 700
 REGION = 60
 LAST_PAGE = 1048575
+# The most calls, and the most loads before them: with the maps, they are fewer than a trace may have.
+MOST = 130000
 
 
 def write_trace(seed, calls, frames, processors, spaces, loads):
@@ -61,5 +69,19 @@ def some_calls(r, processor, space):
     return [call('load', min(first + i, LAST_PAGE) * PAGE) for i in range(r.randrange(8, 60))]
 
 
+def main():
+    """Prints the trace that the words draw."""
+    parser = argparse.ArgumentParser('random_trace.py', description=__doc__, formatter_class=argparse.RawDescriptionHelpFormatter)
+    parser.add_argument('seed', metavar='SEED', type=number_in(0, 2 ** 64 - 1))
+    parser.add_argument('calls', metavar='CALLS', type=number_in(0, MOST))
+    parser.add_argument('frames', metavar='FRAMES', type=number_in(512, 32768, 512))
+    parser.add_argument('processors', metavar='PROCESSORS', type=number_in(1, 16))
+    parser.add_argument('spaces', metavar='SPACES', type=number_in(1, 16))
+    parser.add_argument('loads', metavar='LOADS', type=number_in(0, MOST))
+    words = parser.parse_args()
+    print('\n'.join(write_trace(words.seed, words.calls, words.frames, words.processors, words.spaces, words.loads)))
+    return 0
+
+
 if __name__ == '__main__':
-    print('\n'.join(write_trace(*map(int, sys.argv[1:]))))
+    end(main)

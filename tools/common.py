@@ -1,6 +1,10 @@
-"""What the tools share: where the built program is, and how a tool ends that can't go on."""
+"""What the tools share: where the built program is, the numbers of their words, and how a tool ends that can't go on."""
+import argparse
 import os
+import re
 import sys
+from contextlib import suppress
+from subprocess import SubprocessError
 from typing import Callable, NoReturn, Optional
 
 TOP = os.path.dirname(os.path.dirname(os.path.abspath(__file__)))
@@ -24,22 +28,52 @@ def program_at(given: Optional[str] = None) -> str:
     return program
 
 
-def end(main: Callable[[], int]) -> NoReturn:
-    """Ends with the status of `main`: 1 with a message where it stopped, and 130 where it was interrupted."""
+def number_in(low: int, high: int, step: int = 1) -> Callable[[str], int]:
+    """Reads a number among the words, for argparse: one of this range, and a multiple of the step."""
+    kind = 'a number' if step == 1 else 'a multiple of %d' % step
+
+    def number(text: str) -> int:
+        if not re.fullmatch('0|[1-9][0-9]{0,19}', text) or not low <= int(text) <= high or int(text) % step:
+            raise argparse.ArgumentTypeError('%r is not %s from %d to %d' % (text, kind, low, high))
+        return int(text)
+    return number
+
+
+def say(why: object) -> None:
+    """Says something on standard error, where that is open."""
+    if sys.stderr is not None:
+        with suppress(OSError):
+            print('%s: %s' % (tool_name(), why), file=sys.stderr)
+
+
+def status_of(main: Callable[[], int]) -> int:
+    """The status of `main`, or that which argparse ended it with: 1 with a message where it stopped, and 130 where it was interrupted."""
     try:
-        status = main()
-        sys.stdout.flush()
-    except Stopped as stopped:
-        print('%s: %s' % (tool_name(), stopped), file=sys.stderr)
-        status = 1
+        return main()
+    except SystemExit as ended:
+        if ended.code is None or isinstance(ended.code, int):
+            return ended.code or 0
+        say(ended.code)
+        return 1
+    except (Stopped, OSError, SubprocessError) as why:
+        say(why)
+        return 1
     except KeyboardInterrupt:
-        print('%s: interrupted' % tool_name(), file=sys.stderr)
-        status = 130
-    except BrokenPipeError:
-        # Whoever read the output has gone; the interpreter must not meet that again when it flushes.
+        say('interrupted')
+        return 130
+
+
+def end(main: Callable[[], int]) -> NoReturn:
+    """Ends with the status of `main`, or with 1 and a message where its output can't be written."""
+    if sys.stdout is None:
+        sys.exit('%s: standard output is closed' % tool_name())
+    status = status_of(main)
+    try:
+        sys.stdout.flush()
+    except OSError as why:
+        if status == 0:
+            say(why)
+            status = 1
+        # The interpreter must not try again to write what couldn't be written.
         os.dup2(os.open(os.devnull, os.O_WRONLY), sys.stdout.fileno())
-        status = 1
-    except OSError as fault:
-        print('%s: %s' % (tool_name(), fault), file=sys.stderr)
-        status = 1
     sys.exit(status)
