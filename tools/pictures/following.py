@@ -4,7 +4,7 @@ from typing import Callable, Dict, List, NamedTuple, Optional, Tuple
 
 from common import Stopped
 from pictures import words
-from pictures.frames import (CLAIMED, FREE, HELD, UNUSED, USED, WIRED, Astray, Frames, Reservation, Taken, Want)
+from pictures.frames import CLAIMED, FREE, LARGEST, UNUSED, USED, WIRED, Astray, Frames, Reservation, Want, begin_of
 from pictures.spaces import Region, Space, Tile
 
 # A reservation as it is drawn: its size, its space and its first page.
@@ -65,15 +65,22 @@ def run(program: str, order: List[str], trace: bytes) -> Run:
     if done.returncode != 0:
         said = done.stderr.decode(errors='replace').strip()
         raise Stopped('the program ends with status %d%s' % (done.returncode, ': ' + said if said else ''))
-    lines = trace.decode().split('\n')
-    _, version, frames, processors, spaces = lines[0].split(' ')
-    if version != '1':
-        raise Stopped('a trace of version %s has what this tool cannot follow' % version)
+    try:
+        return read(trace.decode(), done.stdout.decode())
+    except (ValueError, IndexError, StopIteration):
+        raise Stopped('what the program prints is no text of a run with its history') from None
+
+
+def read(trace: str, text: str) -> Run:
+    """A trace that the program took, and what it printed of it."""
+    lines = trace.split('\n')
+    _, _, frames, processors, spaces = lines[0].split(' ')
     calls: List[List[str]] = [[] for _ in range(int(processors))]
     for line in lines[1:-2]:
         processor, call = line.split(' ', 1)
         calls[int(processor)].append(call)
-    printed = done.stdout.decode().split('\n')[len(lines) - 3:]
+    # An answer for each call comes first.
+    printed = text.split('\n')[len(lines) - 3:]
     end = next(at for at, line in enumerate(printed) if line.startswith('tiles '))
     counts = {line.split(' ')[0]: [int(word) for word in line.split(' ')[1:]] for line in printed[end:] if line}
     return Run(int(frames), int(spaces), calls, printed[:end], counts)
@@ -253,6 +260,11 @@ class State:
             self.regions[space] = regions
         self.counts = self.counts.plus(change.counts)
 
+    def tile_of(self, space: int, page: int) -> Optional[Tile]:
+        """The tile that has the page."""
+        found = ((size, self.tiles[space].get(begin_of(size, page))) for size in range(LARGEST + 1))
+        return next((tile for size, tile in found if tile is not None and tile.size >= size), None)
+
     def shares(self) -> List[int]:
         """How many frames are free, unused places, and under a page."""
         roles = [code % 16 for code in self.codes]
@@ -261,7 +273,7 @@ class State:
     def sizes(self) -> List[int]:
         """How many tiles there are of each size."""
         sizes = [tile.size for tiles in self.tiles for tile in tiles.values()]
-        return [sizes.count(size) for size in range(4)]
+        return [sizes.count(size) for size in range(LARGEST + 1)]
 
 
 def replace(table: Dict, by: Dict) -> None:

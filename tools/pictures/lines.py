@@ -3,7 +3,7 @@ from itertools import groupby
 from typing import Dict, Iterator, List, NamedTuple, Set, Tuple
 
 from pictures.following import Change, Run, State
-from pictures.frames import LARGEST, pages_of
+from pictures.frames import LARGEST
 from pictures.spaces import Region
 
 # The most pages of small regions that a line shows of a space, and the most pages of others.
@@ -50,7 +50,7 @@ def row_text(state: State, space: int, shown: Shown) -> str:
     """The pages of a space: the size of each one's tile, and which are dirty; and where others are resident how many tiles there are of each size."""
     tiles = state.tiles[space]
     marks: Dict[int, str] = {page: NO_FRAME for region in state.regions[space] for page in shown.pages if region.first <= page < region.end}
-    covered = {page: tile for first, tile in tiles.items() for page in range(first, first + pages_of(tile.size))}
+    covered = {page: tile for page, tile in ((page, state.tile_of(space, page)) for page in shown.pages) if tile is not None}
     marks.update({page: str(tile.size) for page, tile in covered.items()})
     parts = [' '.join(''.join(marks.get(page, UNMAPPED) for page in range(first, last + 1)) for first, last in runs_of(shown.pages))]
     dirty = [page for page in shown.pages if page in covered and covered[page].dirty]
@@ -90,6 +90,6 @@ def text(run: Run, changes: List[Change]) -> str:
     shown = shown_pages(run, changes)
     rows = list(calls_and_rows(run, changes, shown))
     wide = [max((len(row[at]) for row in rows), default=0) for at in (0, 1)]
-    lines = ['%-*s  %-*s  %s' % (wide[0], call, wide[1], reply, pages) for call, reply, pages in rows]
+    lines = [('%-*s  %-*s  %s' % (wide[0], call, wide[1], reply, pages)).rstrip() for call, reply, pages in rows]
     counts = [' '.join([name] + [str(number) for number in numbers]) for name, numbers in run.counts.items() if numbers]
     return '\n'.join(legend(shown) + [''] + lines + [''] + counts + [''])
