@@ -12,7 +12,7 @@ MARGIN = 14
 LINE = 17
 # How many letters of a sentence a line takes, and how wide a letter is at most, in pixels.
 LETTERS = 120
-LETTER = 6.2
+LETTER = 6.8
 
 STYLE = ('text{font:12px sans-serif;fill:#1d2733}.t{font-size:11px;fill:#5a6572}.h{font-size:15px;font-weight:bold}.n{font-size:9px;text-anchor:middle}'
          'path{fill:none}.l{stroke:#fff}.g{stroke:%s}.b,.k{stroke:%s}.o{stroke:%s;stroke-width:1.6}.f{stroke:%s;stroke-width:2.6}'
@@ -110,7 +110,7 @@ def legend(entries: List[Tuple[str, str]], y: int) -> Tuple[List[str], int]:
     """Colours with their names, in rows, and how far down they reach. No colour is an outline."""
     out, x = [], 0
     for colour, name in entries:
-        wide = 17 + LETTER * len(name) + 14
+        wide = 17 + LETTER * len(name) + 12
         if x and x + wide > layout.WIDTH:
             x, y = 0, y + LINE
         kind = 'k' if colour else 'o'
