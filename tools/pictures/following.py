@@ -36,8 +36,9 @@ class Counts(NamedTuple):
 class Change(NamedTuple):
     """An entry: its line, the call that it is a step of, what it means, and what is another from it on.
 
-    `page` is the space and the page that it is about; `paints` are runs of frames with their code, a later one over an earlier one; `outlines` tells of first frames which reservation begins
-    there, and `tiles` of spaces and first pages which tile does; `regions` are all regions of spaces.
+    `page` is the space and the page that it is about; `paints` are runs of frames with their code, a later one over an earlier one; `outlines`
+    tells of first frames which reservation begins there, and `tiles` of spaces and first pages which tile does; `regions` are all regions of
+    spaces.
     """
     line: str
     call: str
@@ -246,19 +247,22 @@ class State:
         self.codes = [FREE] * run.frames
         self.outlines: Dict[int, Outline] = {}
         self.tiles: List[Dict[int, Tile]] = [{} for _ in range(run.spaces)]
-        self.regions: List[List[Region]] = [[] for _ in range(run.spaces)]
+        self.regions: Dict[int, List[Region]] = {space: [] for space in range(run.spaces)}
         self.counts = Counts()
 
     def apply(self, change: Change) -> None:
         """The state after one entry more."""
-        for first, length, code in change.paints:
-            self.codes[first:first + length] = [code] * length
+        self.paint(change.paints)
         replace(self.outlines, change.outlines)
         for space, tiles in change.tiles.items():
             replace(self.tiles[space], tiles)
-        for space, regions in change.regions.items():
-            self.regions[space] = regions
+        self.regions.update(change.regions)
         self.counts = self.counts.plus(change.counts)
+
+    def paint(self, paints: List[Tuple[int, int, int]]) -> None:
+        """The frames of these runs have these codes."""
+        for first, length, code in paints:
+            self.codes[first:first + length] = [code] * length
 
     def tile_of(self, space: int, page: int) -> Optional[Tile]:
         """The tile that has the page."""

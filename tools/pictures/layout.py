@@ -98,14 +98,13 @@ def frame_grid(run: Run) -> Grid:
     return placed([Box(-1, first, BOX, ROW, 0, 0, run_of('frame', first, BOX)) for first in range(0, run.frames, BOX)])
 
 
-def drawn_rows(run: Run, changes: List[Change]) -> Dict[Tuple[int, int], Set[int]]:
+def drawn_rows(changes: List[Change]) -> Dict[Tuple[int, int], Set[int]]:
     """By space and box the rows of pages that are drawn: those with a page that is resident once, and those where a region begins."""
+    some = {(space, page // ROW) for change in changes for space, tiles in change.tiles.items() for page in tiles}
+    some |= {(space, region.first // ROW) for change in changes for space, regions in change.regions.items() for region in regions}
     rows: Dict[Tuple[int, int], Set[int]] = {}
-    for change in changes:
-        some = [(space, page) for space, tiles in change.tiles.items() for page in tiles]
-        some += [(space, region.first) for space, regions in change.regions.items() for region in regions]
-        for space, page in some:
-            rows.setdefault((space, page // BOX), set()).add(page // ROW)
+    for space, row in some:
+        rows.setdefault((space, row * ROW // BOX), set()).add(row)
     return rows
 
 
@@ -119,10 +118,10 @@ def lengths(changes: List[Change]) -> Dict[Tuple[int, int], int]:
     return reach
 
 
-def page_grid(run: Run, changes: List[Change]) -> Tuple[Grid, int]:
+def page_grid(changes: List[Change]) -> Tuple[Grid, int]:
     """The pages that are drawn, in boxes of rows of one extent of 512 pages; and how many boxes are left out."""
     boxes, rows_left, reach = [], MOST_ROWS, lengths(changes)
-    rows = drawn_rows(run, changes)
+    rows = drawn_rows(changes)
     for (space, _), some in sorted(rows.items()):
         low, count = min(some), max(some) - min(some) + 1
         rows_left -= count

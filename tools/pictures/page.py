@@ -1,6 +1,7 @@
-"""A run as one self-contained HTML file: page.html with the states that it steps through, each as what its entry changes."""
+"""A run as one self-contained HTML file: page.html, with its style, its script, and what each entry of the run changes."""
 import json
 import os
+import re
 from html import escape
 from typing import Any, Dict, List
 
@@ -9,7 +10,7 @@ from pictures.following import Change, Counts, Run
 from pictures.frames import FREE
 from pictures.layout import Grid
 
-TEMPLATE = os.path.join(os.path.dirname(os.path.abspath(__file__)), 'page.html')
+FOLDER = os.path.dirname(os.path.abspath(__file__))
 # What is marked below the slider: which count, and the colour. The rarest come last, over the others.
 MARKS = (('promotions', '#2f9e44'), ('demotions', '#d62828'), ('claims', '#f08c00'), ('preemptions', '#16181d'))
 
@@ -49,7 +50,7 @@ def told(run: Run) -> List[Any]:
 
 def page(run: Run, changes: List[Change], name: str, about: str) -> str:
     """The text of the page."""
-    pages, left = layout.page_grid(run, changes)
+    pages, left = layout.page_grid(changes)
     codes = codes_seen(run, changes)
     data = {
         'name': name, 'about': about, 'count': run.frames, 'spaces': run.spaces,
@@ -63,8 +64,12 @@ def page(run: Run, changes: List[Change], name: str, about: str) -> str:
         'changes': [short(change) for change in changes],
     }
     # No text in it may end the element that it stands in.
-    text = json.dumps(data, separators=(',', ':')).replace('<', '\\u003c')
-    with open(TEMPLATE, encoding='utf-8') as source:
-        whole = source.read()
-    before, _, behind = whole.replace('TITLE', escape(name), 1).partition('DATA')
-    return before + text + behind
+    parts = {'TITLE': escape(name), 'STYLE': part('page.css'), 'SCRIPT': part('page.js'),
+             'DATA': json.dumps(data, separators=(',', ':')).replace('<', '\\u003c')}
+    return re.sub('TITLE|STYLE|SCRIPT|DATA', lambda found: parts[found.group()], part('page.html'))
+
+
+def part(name: str) -> str:
+    """A file beside this one."""
+    with open(os.path.join(FOLDER, name), encoding='utf-8') as source:
+        return source.read()

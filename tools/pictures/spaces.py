@@ -174,7 +174,8 @@ def size_at(kinds: List[Optional[Kind]], at: int) -> Optional[int]:
 
 def outside(some: Dict[int, Tile], others: Dict[int, Tile]) -> List[Tuple[int, int]]:
     """First page and size of the superpages among some tiles whose extents lie in none of the others."""
-    return [(first, tile.size) for first, tile in some.items() if tile.size > 0 and others.get(first) != tile and not lies_in(first, tile.size, others)]
+    superpages = ((first, tile.size) for first, tile in some.items() if tile.size > 0 and others.get(first) != tile)
+    return [(first, size) for first, size in superpages if not lies_in(first, size, others)]
 
 
 def lies_in(first: int, size: int, tiles: Dict[int, Tile]) -> bool:

@@ -14,7 +14,8 @@ LINE = 17
 LETTERS = 120
 LETTER = 6.8
 
-STYLE = ('text{font:12px sans-serif;fill:#1d2733}.t{font-size:11px;fill:#5a6572}.h{font-size:15px;font-weight:bold}.n{font-size:9px;text-anchor:middle}'
+STYLE = ('text{font:12px sans-serif;fill:#1d2733}.t{font-size:11px;fill:#5a6572}.h{font-size:15px;font-weight:bold}'
+         '.n{font-size:9px;text-anchor:middle}'
          'path{fill:none}.l{stroke:#fff}.g{stroke:%s}.b,.k{stroke:%s}.o{stroke:%s;stroke-width:1.6}.f{stroke:%s;stroke-width:2.6}'
          % (layout.GRID, layout.BORDER, layout.OUTLINE, layout.FOCUS))
 
@@ -78,17 +79,22 @@ def frames_of(grid: Grid, state: State) -> List[str]:
     return out + [outlines(grid, -1, [(frame, pages_of(size)) for frame, (size, _, _) in sorted(state.outlines.items())])]
 
 
+def mapped(box: Box, state: State) -> List[str]:
+    """The colour of each page of a box without a frame."""
+    colours = [layout.UNMAPPED] * box.count
+    for region in state.regions[box.space]:
+        low, high = max(0, region.first - box.first), min(box.count, region.end - box.first)
+        colours[low:max(low, high)] = [layout.MAPPED] * max(0, high - low)
+    return colours
+
+
 def page_colours(box: Box, state: State) -> Tuple[List[str], List[str]]:
     """The colour of each page of a box, by its tile, and the colour of its mark where it is dirty."""
-    colours, marks = [layout.UNMAPPED] * box.count, [''] * box.count
-    for region in state.regions[box.space]:
-        low, high = max(region.first, box.first) - box.first, min(region.end, box.first + box.count) - box.first
-        colours[low:max(low, high)] = [layout.MAPPED] * max(0, high - low)
-    for first, tile in state.tiles[box.space].items():
-        if box.first <= first < box.first + box.count:
-            at, count = first - box.first, pages_of(tile.size)
-            colours[at:at + count] = [layout.TILES[tile.size]] * count
-            marks[at:at + count] = [layout.DIRTY if tile.dirty else ''] * count
+    colours, marks = mapped(box, state), [''] * box.count
+    for at in range(box.count):
+        tile = state.tile_of(box.space, box.first + at)
+        if tile is not None:
+            colours[at], marks[at] = layout.TILES[tile.size], layout.DIRTY * tile.dirty
     return colours, marks
 
 
@@ -128,7 +134,8 @@ def roles_seen(state: State) -> List[Tuple[str, str]]:
 def tiles_seen(state: State) -> List[Tuple[str, str]]:
     """The colours of the pages with their names, of those that are there."""
     sizes = {tile.size for tiles in state.tiles for tile in tiles.values()}
-    out = [(layout.MAPPED, 'mapped, without a frame'), (layout.UNMAPPED, 'unmapped')] + [(layout.TILES[size], 'translation of ' + layout.TILE_NAMES[size]) for size in sorted(sizes)]
+    out = [(layout.MAPPED, 'mapped, without a frame'), (layout.UNMAPPED, 'unmapped')]
+    out += [(layout.TILES[size], 'translation of ' + layout.TILE_NAMES[size]) for size in sorted(sizes)]
     dirty = any(tile.dirty for tiles in state.tiles for tile in tiles.values())
     return out + [(layout.DIRTY, 'dirty')] * dirty + [('', 'extent of one translation')]
 
@@ -164,7 +171,7 @@ def heading(name: str, changes: List[Change], entries: int) -> Tuple[List[str], 
 def drawing(run: Run, changes: List[Change], name: str, entries: int) -> str:
     """The SVG text of the picture after so many entries."""
     state = state_after(run, changes, entries)
-    frames, (some, left) = layout.frame_grid(run), layout.page_grid(run, changes)
+    frames, (some, left) = layout.frame_grid(run), layout.page_grid(changes)
     marks = focus(state, changes[entries - 1], frames, some) if entries else ('', '')
     roles, tiles = legend(roles_seen(state), frames.height + 9), legend(tiles_seen(state), some.height + 9)
     last = [text(0, 8, counts_text(state), 't')] + [text(0, 24, 'Boxes of pages that are not drawn: %d' % left, 't')] * (left > 0)
