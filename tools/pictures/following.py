@@ -125,12 +125,11 @@ class Follower:
         except (Astray, KeyError, IndexError, StopIteration, ValueError) as fault:
             raise Stopped("entry %s of the history doesn't follow from those before it: %s" % (line, fault))
         tiles = {}
-        for number, one in enumerate(self.spaces):
-            moves = one.moves()
+        for other, moves in enumerate([one.moves() for one in self.spaces]):
             if moves.tiles:
-                tiles[number] = moves.tiles
+                tiles[other] = moves.tiles
             self.counts = self.counts.plus(Counts(promotions=len(moves.promoted), demotions=len(moves.demoted)))
-            self.meaning += words.moved(number, moves.promoted, moves.demoted)
+            self.meaning += words.moved(other, moves.promoted, moves.demoted)
         return Change(line, '%d %s' % (c, call) if call else '', self.meaning, self.page, self.paints, self.outlines, tiles, self.regions,
                       self.counts)
 

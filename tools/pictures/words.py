@@ -48,10 +48,6 @@ def run_of(name: str, first: int, count: int) -> str:
     return '%s %d' % (name, first) if count == 1 else '%ss %d to %d' % (name, first, first + count - 1)
 
 
-def capital(text: str) -> str:
-    return text[:1].upper() + text[1:]
-
-
 def called(words: List[str]) -> str:
     """What a call asks for."""
     name, space, numbers = words[0], words[1], words[2:]
