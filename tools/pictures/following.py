@@ -1,0 +1,310 @@
+"""A run of the program, and what each entry of its history changes, worked out by the rules of docs/model.md and docs/steps.md."""
+import subprocess
+from typing import Callable, Dict, List, NamedTuple, Optional, Tuple
+
+from common import Stopped
+from pictures import words
+from pictures.frames import CLAIMED, FREE, LARGEST, UNUSED, USED, WIRED, Astray, Frames, Reservation, Want, begin_of
+from pictures.spaces import Region, Space, Tile
+
+# A reservation as it is drawn: its size, its space and its first page.
+Outline = Tuple[int, int, int]
+
+
+class Run(NamedTuple):
+    """A trace and what the program printed of it: the calls of each processor, the lines of the history, and the counts by their names."""
+    frames: int
+    spaces: int
+    calls: List[List[str]]
+    history: List[str]
+    counts: Dict[str, List[int]]
+
+
+class Counts(NamedTuple):
+    """What is counted, of one entry or of many."""
+    hits: int = 0
+    misses: int = 0
+    promotions: int = 0
+    demotions: int = 0
+    preemptions: int = 0
+    claims: int = 0
+
+    def plus(self, other: 'Counts') -> 'Counts':
+        return Counts(*(one + more for one, more in zip(self, other)))
+
+
+class Change(NamedTuple):
+    """An entry: its line, the call that it is a step of, what it means, and what is another from it on.
+
+    `page` is the space and the page that it is about; `paints` are runs of frames with their code, a later one over an earlier one; `outlines`
+    tells of first frames which reservation begins there, and `tiles` of spaces and first pages which tile does; `regions` are all regions of
+    spaces.
+    """
+    line: str
+    call: str
+    meaning: List[str]
+    page: Optional[Tuple[int, int]]
+    paints: List[Tuple[int, int, int]]
+    outlines: Dict[int, Optional[Outline]]
+    tiles: Dict[int, Dict[int, Optional[Tile]]]
+    regions: Dict[int, List[Region]]
+    counts: Counts
+
+
+def with_frames(trace: bytes, frames: Optional[int]) -> bytes:
+    """The trace over so many frames. What isn't a first line of a trace is left for the program to refuse."""
+    first, line_feed, rest = trace.partition(b'\n')
+    parts = first.split(b' ')
+    if frames is None or len(parts) != 5:
+        return trace
+    return b' '.join(parts[:2] + [b'%d' % frames] + parts[3:]) + line_feed + rest
+
+
+def run(program: str, order: List[str], trace: bytes) -> Run:
+    """Runs the program on the trace in this order of its calls."""
+    done = subprocess.run([program] + order + ['--history'], input=trace, stdout=subprocess.PIPE, stderr=subprocess.PIPE)
+    if done.returncode != 0:
+        said = done.stderr.decode(errors='replace').strip()
+        raise Stopped('the program ends with status %d%s' % (done.returncode, ': ' + said if said else ''))
+    try:
+        return read(trace.decode(), done.stdout.decode())
+    except (ValueError, IndexError, StopIteration):
+        raise Stopped('what the program prints is no text of a run with its history') from None
+
+
+def read(trace: str, text: str) -> Run:
+    """A trace that the program took, and what it printed of it."""
+    lines = trace.split('\n')
+    _, _, frames, processors, spaces = lines[0].split(' ')
+    calls: List[List[str]] = [[] for _ in range(int(processors))]
+    for line in lines[1:-2]:
+        processor, call = line.split(' ', 1)
+        calls[int(processor)].append(call)
+    # An answer for each call comes first.
+    printed = text.split('\n')[len(lines) - 3:]
+    end = next(at for at, line in enumerate(printed) if line.startswith('tiles '))
+    counts = {line.split(' ')[0]: [int(word) for word in line.split(' ')[1:]] for line in printed[end:] if line}
+    return Run(int(frames), int(spaces), calls, printed[:end], counts)
+
+
+def page_of(call: List[str]) -> int:
+    """The page that a call names, or that its address lies in."""
+    return int(call[2]) // (words.PAGE_BYTES if call[0] in ('load', 'store') else 1)
+
+
+class Follower:
+    """The frames and spaces of a run, after the entries so far."""
+
+    def __init__(self, run: Run) -> None:
+        self.calls = run.calls
+        self.frames = Frames(run.frames, lambda *painted: self.paints.append(painted), self.outline)
+        self.spaces = [Space() for _ in range(run.spaces)]
+        self.answered = [0] * len(run.calls)
+        self.begin()
+
+    def begin(self) -> None:
+        """Nothing changed yet."""
+        self.paints: List[Tuple[int, int, int]] = []
+        self.outlines: Dict[int, Optional[Outline]] = {}
+        self.regions: Dict[int, List[Region]] = {}
+        self.meaning: List[str] = []
+        self.page: Optional[Tuple[int, int]] = None
+        self.counts = Counts()
+
+    def outline(self, frame: int, r: Optional[Reservation]) -> None:
+        self.outlines[frame] = None if r is None else (r.size, r.space, r.first)
+
+    def entry(self, line: str) -> Change:
+        """Follows an entry."""
+        self.begin()
+        number, processor, part, kind, *rest = line.split(' ')
+        c, space = int(processor), int(part[1:].split('+')[0]) if part[0] == 's' else None
+        call = self.calls[c][self.answered[c]] if self.answered[c] < len(self.calls[c]) else ''
+        try:
+            self.made(kind)(int(number), c, space, rest)
+        except (Astray, KeyError, IndexError, StopIteration, ValueError) as fault:
+            raise Stopped("entry %s of the history doesn't follow from those before it: %s" % (line, fault))
+        tiles = {}
+        for other, moves in enumerate([one.moves() for one in self.spaces]):
+            if moves.tiles:
+                tiles[other] = moves.tiles
+            self.counts = self.counts.plus(Counts(promotions=len(moves.promoted), demotions=len(moves.demoted)))
+            self.meaning += words.moved(other, moves.promoted, moves.demoted)
+        return Change(line, '%d %s' % (c, call) if call else '', self.meaning, self.page, self.paints, self.outlines, tiles, self.regions,
+                      self.counts)
+
+    def made(self, kind: str) -> Callable[[int, int, Optional[int], List[str]], None]:
+        """What follows an entry of this kind."""
+        return {'answer': self.answer, 'take': self.take, 'use': self.use, 'give': self.give, 'clear': self.clear, 'out': self.out,
+                'failed': self.failed, 'claim': self.claim, 'got': self.got, 'drop': self.drop, 'unclaim': self.unclaim,
+                'refused': self.refused}[kind]
+
+    def answer(self, _: int, c: int, space: int, rest: List[str]) -> None:
+        call = self.calls[c][self.answered[c]].split(' ')
+        self.answered[c] += 1
+        hit = size = None
+        reply = rest[1:]
+        if reply[-2:-1] in (['hit'], ['miss']):
+            hit, size, reply = reply[-2] == 'hit', int(reply[-1]), reply[:-2]
+            self.counts = self.counts.plus(Counts(hits=int(hit), misses=int(not hit)))
+        if call[0] in ('load', 'store', 'sync', 'evict'):
+            self.page = (space, page_of(call))
+        if reply[0] in ('done', 'written', 'clean'):
+            self.does(self.spaces[space], space, call[0], page_of(call), call[3:])
+        self.meaning += words.answered(words.Answered(c, call, reply, hit, size))
+
+    def does(self, one: Space, space: int, name: str, page: int, more: List[str]) -> None:
+        """What a call that was done changes in its space, and of the frames where it evicts a resident page."""
+        if name == 'map':
+            one.map(Region(page, int(more[0]), more[1], more[2]))
+        elif name == 'grow':
+            one.grow(page, int(more[0]))
+        elif name == 'unmap':
+            one.unmap(page)
+        elif name == 'protect':
+            one.protect(page, int(more[0]), more[1])
+        elif name == 'store':
+            one.set_dirty(page, True)
+        elif name == 'sync' and page in one.frames:
+            one.set_dirty(page, False)
+        elif name == 'evict' and page in one.frames:
+            self.lose(space, page)
+        if name in ('map', 'grow', 'unmap'):
+            self.regions[space] = list(one.regions)
+
+    def lose(self, space: int, page: int) -> None:
+        """The page gives its frame up."""
+        self.page = (space, page)
+        frame = self.spaces[space].frames[page]
+        self.spaces[space].remove(page)
+        holder = self.frames.give(space, page)
+        went = 'becomes free, or an unused place of its reservation' if holder is None else 'goes to processor %d, which had claimed it' % holder
+        self.meaning.append('Page %d of space %d gives frame %d up, which %s.' % (page, space, frame, went))
+
+    def take(self, number: int, c: int, space: int, rest: List[str]) -> None:
+        page, frame, low, high, cap, wired = map(int, rest)
+        how = self.frames.take(number, space, page, frame, Want(low, high, cap, wired == 1))
+        self.counts = self.counts.plus(Counts(preemptions=int(how.broken is not None)))
+        self.spaces[space].fill(page, frame)
+        self.page = (space, page)
+        self.meaning += words.taken(space, page, frame, how)
+
+    def use(self, number: int, c: int, space: int, rest: List[str]) -> None:
+        self.meaning.append('The frame that processor %d held goes free, and a page takes one by the rules.' % c)
+        self.frames.drop(c)
+        self.take(number, c, space, rest)
+
+    def give(self, _: int, c: int, space: int, rest: List[str]) -> None:
+        self.lose(space, int(rest[0]))
+
+    def clear(self, _: int, c: int, space: int, rest: List[str]) -> None:
+        first, length = map(int, rest)
+        pages = self.spaces[space].resident(first, length)
+        for page in pages:
+            self.spaces[space].remove(page)
+            self.frames.give(space, page)
+        self.meaning.append('The region of %s of space %d is unmapped: %s frames up.' % (
+            words.run_of('page', first, length), space, 'no page has to give' if not pages else words.pages(len(pages)) + ' give their'))
+
+    def out(self, _: int, c: int, space: int, rest: List[str]) -> None:
+        page = int(rest[0])
+        self.page = (space, page)
+        self.spaces[space].set_dirty(page, False)
+        self.meaning.append('Page %d of space %d is about to be paged out: it %s.' % (page, space, {
+            'written': 'is written to its copy', 'clean': 'is equal to its copy'}[rest[1]]))
+
+    def failed(self, _: int, c: int, space: int, rest: List[str]) -> None:
+        self.meaning.append("The store of space %d failed at a %s of page %s." % (space, rest[1], rest[0]))
+
+    def claim(self, _: int, c: int, space: int, rest: List[str]) -> None:
+        other, page, frame = map(int, rest[:3])
+        self.frames.claim(c, other, page, frame)
+        self.page = (other, page)
+        self.counts = self.counts.plus(Counts(claims=1))
+        self.meaning.append('No frame is free or unused. Processor %d claims frame %d, of page %d of space %d, which was filled first, for page %s '
+                            'of space %d.' % (c, frame, page, other, rest[4], space))
+
+    def got(self, _: int, c: int, space: Optional[int], rest: List[str]) -> None:
+        self.meaning.append('Processor %d finds frame %s, which it claimed, in its hand.' % (c, rest[0]))
+
+    def drop(self, _: int, c: int, space: Optional[int], rest: List[str]) -> None:
+        self.frames.drop(c)
+        self.meaning.append('Processor %d needs frame %s no longer, which is free now.' % (c, rest[0]))
+
+    def unclaim(self, _: int, c: int, space: int, rest: List[str]) -> None:
+        self.frames.unclaim(c, space)
+        self.meaning.append('Processor %d claims frame %s no longer.' % (c, rest[0]))
+
+    def refused(self, _: int, c: int, space: Optional[int], rest: List[str]) -> None:
+        self.meaning.append('No frame can be had, nor claimed: %s are wired, %s claimed, and %s held.' % tuple(rest))
+
+
+class State:
+    """What is drawn: the code of each frame, reservations by first frame, tiles and regions by space, and the counts."""
+
+    def __init__(self, run: Run) -> None:
+        self.codes = [FREE] * run.frames
+        self.outlines: Dict[int, Outline] = {}
+        self.tiles: List[Dict[int, Tile]] = [{} for _ in range(run.spaces)]
+        self.regions: Dict[int, List[Region]] = {space: [] for space in range(run.spaces)}
+        self.counts = Counts()
+
+    def apply(self, change: Change) -> None:
+        """The state after one entry more."""
+        self.paint(change.paints)
+        replace(self.outlines, change.outlines)
+        for space, tiles in change.tiles.items():
+            replace(self.tiles[space], tiles)
+        self.regions.update(change.regions)
+        self.counts = self.counts.plus(change.counts)
+
+    def paint(self, paints: List[Tuple[int, int, int]]) -> None:
+        """The frames of these runs have these codes."""
+        for first, length, code in paints:
+            self.codes[first:first + length] = [code] * length
+
+    def tile_of(self, space: int, page: int) -> Optional[Tile]:
+        """The tile that has the page."""
+        found = ((size, self.tiles[space].get(begin_of(size, page))) for size in range(LARGEST + 1))
+        return next((tile for size, tile in found if tile is not None and tile.size >= size), None)
+
+    def shares(self) -> List[int]:
+        """How many frames are free, unused places, and under a page."""
+        roles = [code % 16 for code in self.codes]
+        return [roles.count(FREE), roles.count(UNUSED), sum(roles.count(role) for role in (USED, WIRED, CLAIMED))]
+
+    def sizes(self) -> List[int]:
+        """How many tiles there are of each size."""
+        sizes = [tile.size for tiles in self.tiles for tile in tiles.values()]
+        return [sizes.count(size) for size in range(LARGEST + 1)]
+
+
+def replace(table: Dict, by: Dict) -> None:
+    """What is there by these keys from now on; None takes it away."""
+    for key, value in by.items():
+        if value is None:
+            table.pop(key, None)
+        else:
+            table[key] = value
+
+
+def state_after(run: Run, changes: List[Change], entries: int) -> State:
+    """The state after so many entries."""
+    state = State(run)
+    for change in changes[:entries]:
+        state.apply(change)
+    return state
+
+
+def follow(run: Run) -> List[Change]:
+    """What each entry changes. At the end it has to come to the counts that the program printed."""
+    follower = Follower(run)
+    changes = [follower.entry(line) for line in run.history]
+    end = state_after(run, changes, len(changes))
+    found = {'tiles': end.sizes(), 'promotions': [end.counts.promotions], 'demotions': [end.counts.demotions],
+             'preemptions': [end.counts.preemptions], 'images': [end.counts.hits, end.counts.misses], 'frames': end.shares(), 'end': []}
+    for name, numbers in run.counts.items():
+        if found.get(name) != numbers:
+            raise Stopped("the history leads to `%s %s`, and the program printed `%s %s`" % (
+                name, ' '.join(map(str, found.get(name, []))), name, ' '.join(map(str, numbers))))
+    return changes
