@@ -28,12 +28,11 @@ class Latest:
     def has(self, access: Access) -> bool:
         """Whether the access may be folded. Its page is the latest afterwards."""
         stores, page, _ = access
-        known = page in self.stored
-        stored = self.stored.pop(page, False)
-        self.stored[page] = stored or stores
-        if len(self.stored) > self.most:
+        was = self.stored.pop(page, None)
+        self.stored[page] = was or stores
+        if was is None and len(self.stored) > self.most:
             del self.stored[next(iter(self.stored))]
-        return known and (stored or not stores)
+        return was is not None and (was or not stores)
 
     def forget(self, first: int, last: int) -> None:
         """Forgets the pages from the first to the last: a change was made of them."""
@@ -60,10 +59,11 @@ class Reading:
         self.progressed = time.monotonic()
 
     def read(self, source: BinaryIO) -> None:
-        """Reads the lines, until there would be more accesses than are wanted."""
+        """Reads the lines, until there would be more accesses than are wanted. Of the first lines, as --skip says, the changes alone."""
         skip, progress = self.options.skip, self.options.progress
         for line in source:
-            if not self.take(line, self.lines < skip):
+            told = self.told(line) if self.lines >= skip else None
+            if not (self.other(line) if told is None else self.access(told, len(line))):
                 self.left = self.lines, self.bytes
                 break
             self.lines += 1
@@ -71,42 +71,41 @@ class Reading:
             if progress and self.lines % LOOKS == 0:
                 self.progress()
 
-    def take(self, line: bytes, early: bool) -> bool:
-        """Takes a line, of an early one the changes alone. Whether there is room for its accesses."""
-        told = None if early else self.told(line)
-        if told is not None:
-            return self.access(told, len(line))
+    def other(self, line: bytes) -> bool:
+        """Takes a line that begins with no access, or one of the first. Whether there is room for the access that may stand in it."""
         if line.startswith(SYSTEM_CALL) and self.options.form == 'lackey':
-            return self.system_call(line, early)
+            return self.system_call(line)
         if line.startswith(MESSAGE):
             self.messages += 1
-        elif not early:
+        elif self.lines >= self.options.skip:
             self.skipped += 1
         return True
 
-    def system_call(self, line: bytes, early: bool) -> bool:
+    def system_call(self, line: bytes) -> bool:
         """Takes a line of system calls, and the access that may stand behind them."""
         known = len(self.changes.made)
         rest = self.changes.read(len(self.accesses), line)
         self.system_calls += 1
         for change in self.changes.made[known:]:
             self.latest.forget(change.first // PAGE, (change.end - 1) // PAGE)
-        told = None if early else self.told(rest)
+        told = self.told(rest) if self.lines >= self.options.skip else None
         return told is None or self.access(told, len(line))
 
     def access(self, told: Told, length: int) -> bool:
         """Takes the accesses of a line, but for what is folded, unless they are more than are wanted."""
         accesses, instructions = told
-        if self.options.no_instructions and instructions:
+        if instructions and self.options.no_instructions:
             accesses = accesses[instructions:]
             self.instructions += 1
-        kept = [access for access in accesses if not self.latest.has(access)] if self.latest.most else accesses
-        if len(self.accesses) + len(kept) > self.options.calls:
-            return False
+        has = self.latest.has
+        kept = [access for access in accesses if not has(access)] if self.latest.most else accesses
+        if kept:
+            if len(self.accesses) + len(kept) > self.options.calls:
+                return False
+            self.accesses += kept
+            self.lines_of.extend([self.lines + 1] * len(kept))
+            self.bytes_of.extend([self.bytes + length] * len(kept))
         self.folded += len(accesses) - len(kept)
-        self.accesses += kept
-        self.lines_of.extend([self.lines + 1] * len(kept))
-        self.bytes_of.extend([self.bytes + length] * len(kept))
         return True
 
     def cut(self, most: int) -> None:
