@@ -1,5 +1,5 @@
 """Lays the pages out in a space and prints the trace."""
-from typing import Callable, Dict, Iterator, List, Tuple
+from typing import Dict, Iterator, List, Tuple
 
 from common import Stopped
 

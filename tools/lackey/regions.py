@@ -1,9 +1,9 @@
 """Makes regions of what the changes told, and guesses the others."""
 from bisect import bisect_left, insort
 from heapq import heappop, heappush
-from typing import Callable, Dict, Iterable, Iterator, List, Optional, Sequence, Tuple, TypeVar
+from typing import Callable, Dict, Iterable, List, Optional, Sequence, Set, Tuple, TypeVar
 
-from lackey.lines import GUESSED, NONE, READ, Access, Change
+from lackey.lines import GUESSED, READ, Access, Change
 from lackey.lives import START, Life, Lives, Since, lives_of
 
 # The most regions of a space, and the fewest untouched pages that split two guessed ones.
@@ -81,19 +81,31 @@ def told_regions(lives: Lives) -> List[Region]:
     return [region for group, region in regions if any(life.touched for _, life in group)]
 
 
-def guessed_regions(lives: Lives, told: List[Region]) -> List[Region]:
-    """The regions of what is accessed and no change mapped: there is a split where another region lies between, and at the widest gaps."""
-    history: History = {(stretch.first, stretch.last): stretch.always() for stretch in lives.stretches if stretch.guessed()}
-    known = [stretch for stretch in lives.stretches if stretch.guessed()]
-    inside = {page for page in lives.alone for stretch in [lives.at(page)] if stretch is not None and stretch.guessed()}
-    history.update({(page, page): [Since(START, GUESSED, needed)] for page, needed in lives.alone.items() if page not in inside})
-    pages = sorted(history)
+def guessed_history(lives: Lives) -> History:
+    """What those pages have that no change mapped before they were accessed: stretches of changes, and else the pages alone."""
+    guessed = [stretch for stretch in lives.stretches if stretch.guessed()]
+    history: History = {(stretch.first, stretch.last): stretch.always() for stretch in guessed}
+    others = {page: needed for page, needed in lives.alone.items() if lives.at(page) not in guessed}
+    history.update({(page, page): [Since(START, GUESSED, needed)] for page, needed in others.items()})
+    return history
+
+
+def splits_of(pages: List[Pages], told: List[Region]) -> Set[Pages]:
+    """Before which of these pages a new region begins: where a told one lies between, and at the widest gaps; of equally wide ones at those
+    of lower pages."""
     firsts = sorted(region.first for region in told)
-    gaps = {after: after[0] - before[1] - 1 for before, after in zip(pages, pages[1:])}
     parted = {after for before, after in zip(pages, pages[1:]) if bisect_left(firsts, before[1]) != bisect_left(firsts, after[0])}
-    widest = sorted((pages for pages in gaps if gaps[pages] >= GAP and pages not in parted), key=lambda pages: (-gaps[pages], pages))
-    splits = parted.union(widest[:REGIONS - 1])
-    groups = runs(pages, lambda _, pages: pages not in splits)
+    gaps = ((before[1] - after[0] + 1, after) for before, after in zip(pages, pages[1:]) if after not in parted)
+    widest = sorted(gap for gap in gaps if -gap[0] >= GAP)[:REGIONS - 1]
+    return parted.union(after for _, after in widest)
+
+
+def guessed_regions(lives: Lives, told: List[Region]) -> List[Region]:
+    """The regions of what is accessed and no change mapped."""
+    history = guessed_history(lives)
+    pages = sorted(history)
+    splits = splits_of(pages, told)
+    groups = runs(pages, lambda _, after: after not in splits)
     return [Region({pages: history[pages] for pages in group}, START, None) for group in groups]
 
 
