@@ -98,11 +98,15 @@ class Stretch:
         return touched and self.alone != NONE
 
     def always(self) -> List[Since]:
-        """What the pages have since when, where they are there always."""
-        since = [one for life in self.lives for one in life.since if one.rights != GUESSED]
-        ends = {life.death for life in self.lives} - {life.birth for life in self.lives} - {None}
-        guesses = [Since(time, GUESSED, self.alone) for time in {START, *ends} if time is not None]
-        return sorted(since + guesses)
+        """What the pages have since when, where they are there always: what nothing tells is guessed, for the accesses without a life."""
+        births = {life.birth for life in self.lives}
+        guessed = {START, *(life.death for life in self.lives if life.death is not None)} - (births - {START})
+        since = [one for life in self.lives for one in life.since if one.time not in guessed]
+        return sorted(since + [Since(time, GUESSED, max(self.alone, self.needed_at(time))) for time in guessed])
+
+    def needed_at(self, time: int) -> int:
+        """The rights that accesses of a life need from this time on."""
+        return max((one.needed for life in self.lives for one in life.since if one.time == time), default=NONE)
 
 
 class Lives:

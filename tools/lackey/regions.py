@@ -30,7 +30,7 @@ class Region:
         self.death = death
         self.grows = grows
         guesses = [one.needed for since in history.values() for one in since if one.rights == GUESSED]
-        self.guess = max(guesses, default=READ)
+        self.guess = max([READ] + guesses)
 
     def rights(self, since: Since) -> int:
         """The rights that the trace gives: those that changes told or that are guessed, and at least those that are needed."""
