@@ -1,6 +1,6 @@
 """Follows the changes of regions: when each page is mapped and with which rights, and what accesses need."""
 from bisect import bisect_right
-from typing import Dict, List, NamedTuple, Optional, Tuple
+from typing import Dict, List, NamedTuple, Optional
 
 from lackey.lines import GROW, GUESSED, NONE, PAGE, PROTECT, READ, SMALL, UNMAP, WRITE, Access, Change
 
@@ -40,8 +40,9 @@ class Life:
 
 
 class Stretch:
-    """Pages side by side to which the same happens, from the first to the last: the lives, and the rights that accesses without a life need.
-    A page is two halves, of which a change may be of one. Then the stretch is that page alone; else both halves of all pages are alike."""
+    """Pages side by side to which the same happens, from the first to the last: the lives, and the rights that accesses without a life
+    need. A page is two halves, of which a change may be of one. Then the stretch is that page alone; else both halves of all pages are
+    alike."""
 
     def __init__(self, first: int, last: int) -> None:
         self.first = first

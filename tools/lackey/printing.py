@@ -67,26 +67,22 @@ class Calls:
             counts[self.at_first((first, last))] += last - first + 1
         return max(range(len(RIGHTS)), key=lambda rights: (counts[rights], rights))
 
-    def turns(self, rights: int) -> Dict[int, Dict[int, int]]:
-        """By times, which pieces get which rights, where the region was mapped with these."""
-        turns: Dict[int, Dict[int, int]] = {self.region.birth: {}}
-        for number, pages in enumerate(self.pieces):
-            now = self.at_first(pages)
-            steps = [(self.region.birth, rights, now)] if now != rights else []
-            later = [one for one in self.region.history[pages] if one.time > self.region.birth]
-            after = [self.region.rights(one) for one in later]
-            steps += [(one.time, before, new) for one, before, new in zip(later, [now] + after, after) if before != new]
-            for time, _, new in steps:
-                turns.setdefault(time, {})[number] = new
-        return turns
+    def turns(self, pages: Pages, rights: int) -> List[Tuple[int, int]]:
+        """When these pages get which other rights, where the region was mapped with these."""
+        now = self.at_first(pages)
+        later = [one for one in self.region.history[pages] if one.time > self.region.birth]
+        after = [self.region.rights(one) for one in later]
+        steps = [(self.region.birth, rights, now)] + [(one.time, old, new) for one, old, new in zip(later, [now] + after, after)]
+        return [(time, new) for time, old, new in steps if old != new]
 
     def protects(self, rights: int) -> Iterator[Call]:
         """The changes of rights: one for pieces that lie behind each other and get the same."""
-        for time, turn in self.turns(rights).items():
-            for run in runs(sorted(turn), lambda before, number: before + 1 == number and turn[before] == turn[number]):
-                first, last = self.pieces[run[0]][0], self.pieces[run[-1]][1]
-                length = self.places[last] - self.places[first] + 1
-                yield time, PROTECTS, first, 'protect 0 %d %d %s' % (self.places[first], length, RIGHTS[turn[run[0]]])
+        turns = sorted((time, number, new) for number, pages in enumerate(self.pieces) for time, new in self.turns(pages, rights))
+        for run in runs(turns, lambda before, turn: (before[0], before[1] + 1, before[2]) == turn):
+            time, number, new = run[0]
+            first, last = self.pieces[number][0], self.pieces[run[-1][1]][1]
+            length = self.places[last] - self.places[first] + 1
+            yield time, PROTECTS, first, 'protect 0 %d %d %s' % (self.places[first], length, RIGHTS[new])
 
 
 def trace_of(accesses: List[Access], changes: List[Change], regions: List[Region], frames: int, processors: int) -> List[str]:
