@@ -110,8 +110,9 @@ class Machine:
         return space is not None and any(f and f.processor != c and f.keeps == space for f in self.flights)
 
     def turn(self, c: int) -> bool:
-        """A turn of a processor is its next steps up to one that makes an entry. It makes none, and answers so, where it waits or has ended."""
-        flight, before = self.flights[c], len(self.pager.history)
+        """A turn of a processor is its next steps up to one that makes an entry. It makes none, and answers so, where it waits or has ended, or is no
+        processor."""
+        flight, before = self.flights[c] if c < len(self.flights) else None, len(self.pager.history)
         if flight is None or self.waits(c):
             return False
         while len(self.pager.history) == before:
@@ -347,5 +348,9 @@ class Machine:
         """The processors of the list have a turn each, and then the lowest that can."""
         for c in schedule:
             self.turn(c)
+        self.end_all()
+
+    def end_all(self) -> None:
+        """The lowest processor that can has a turn, until none has a call left."""
         while self.left():
             next(c for c in self.left() if self.turn(c))
