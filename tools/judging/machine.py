@@ -110,8 +110,8 @@ class Machine:
         return space is not None and any(f and f.processor != c and f.keeps == space for f in self.flights)
 
     def turn(self, c: int) -> bool:
-        """A turn of a processor is its next steps up to one that makes an entry. It makes none, and answers so, where it waits or has ended, or is no
-        processor."""
+        """A turn of a processor is its next steps up to one that makes an entry. It makes none, and answers so,
+        where it waits or has ended, or is no processor."""
         flight, before = self.flights[c] if c < len(self.flights) else None, len(self.pager.history)
         if flight is None or self.waits(c):
             return False
