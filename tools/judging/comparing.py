@@ -1,0 +1,135 @@
+"""Comparing the program's texts with the checker's, on traces that examples/random_trace.py draws."""
+import multiprocessing
+import os
+import signal
+import subprocess
+import sys
+from typing import Iterator, List, NamedTuple, Optional, Tuple
+
+from common import TOP, Stopped
+
+from .legal import Illegal, after_history
+from .machine import Machine, MemoryStore
+from .printed import BadLine, history_in, text_of_run
+from .showing import wrong_with_answers, wrong_with_filing, wrong_with_turns
+from .trace_text import Refusal, trace_of
+from .values import Trace, setting_of
+
+RANDOM_TRACE = os.path.join(TOP, 'examples', 'random_trace.py')
+FORMS = ('order', 'turns', 'replay')
+# The first seeds draw traces over frames enough, and those above them traces in which few frames are left.
+LAST_WITH_FRAMES = 250
+SECONDS = 600
+
+
+class Job(NamedTuple):
+    """One run: of the trace of a seed, by a form of the program."""
+    program: str
+    seed: int
+    form: str
+    laws: bool
+
+
+class Outcome(NamedTuple):
+    """Of a run how many lines it printed, and what is wrong, if something is."""
+    job: Job
+    lines: int
+    wrong: Optional[str]
+
+
+def trace_words(seed: int) -> List[int]:
+    """The words of examples/random_trace.py for a seed: the seed, how many calls, frames, processors and spaces, and how many loads come
+    first."""
+    spaces = 1 + seed // 4 % 3
+    if seed <= LAST_WITH_FRAMES:
+        return [seed, 150 + 37 * seed % 350, 1024 if seed % 5 == 4 else 512, 1 + seed % 4, spaces, 0]
+    return [seed, 100 + 37 * seed % 200, 512, 2 + seed % 3, spaces, 560]
+
+
+def output_of(words: List[str], text: bytes) -> bytes:
+    """What a command prints for this input; `Stopped` where it fails, or doesn't end."""
+    try:
+        done = subprocess.run(words, input=text, stdout=subprocess.PIPE, stderr=subprocess.PIPE, timeout=SECONDS)
+    except subprocess.TimeoutExpired:
+        raise Stopped('%s has not ended after %d s' % (' '.join(words), SECONDS))
+    if done.returncode != 0:
+        message = done.stderr.decode('utf-8', 'replace').strip()
+        raise Stopped('%s ended with status %d: %s' % (' '.join(words), done.returncode, message))
+    return done.stdout
+
+
+def checked_text(trace: Trace, form: str, seed: int) -> bytes:
+    """The text, with its history, that the slow machine prints."""
+    machine = Machine(trace, [MemoryStore() for _ in range(trace.spaces)])
+    if form == 'order':
+        machine.run_in_order()
+    else:
+        machine.run_in_turns(seed)
+    return text_of_run(machine.pager, True).encode()
+
+
+def first_difference(expected: bytes, text: bytes) -> Optional[str]:
+    """The first line in which the text isn't the expected one, or None."""
+    if expected == text:
+        return None
+    wanted, got = expected.split(b'\n'), text.split(b'\n')
+    n = next((n for n, (a, b) in enumerate(zip(wanted, got)) if a != b), min(len(wanted), len(got)))
+    lines = [(rows[n] if n < len(rows) else b'(nothing)').decode('utf-8', 'replace') for rows in (got, wanted)]
+    return 'line %d is `%s` and should be `%s`' % (n + 1, *lines)
+
+
+def wrong_with_text(trace: Trace, form: str, seed: int, text: bytes, laws: bool) -> Optional[str]:
+    """What is wrong with a text that was printed with its history, or None: the history is legal, of the trace and in the order of the form,
+    and the text is that of the history and its counts. Where `laws` are asked for they hold at each place of the history."""
+    try:
+        pager = after_history(setting_of(trace), history_in(trace, text), laws)
+    except (BadLine, Illegal) as fault:
+        return str(fault)
+    wrong = wrong_with_answers(trace, pager)
+    if wrong is None and form == 'order':
+        wrong = wrong_with_filing(trace, pager.history)
+    if wrong is None and form == 'turns':
+        wrong = wrong_with_turns(trace, seed, pager.history)
+    return wrong or first_difference(text_of_run(pager, True).encode(), text)
+
+
+def run(job: Job) -> Outcome:
+    """One run, compared: by `order` and `turns` with the text of the slow machine, by `replay` its history is judged."""
+    text = output_of([sys.executable, RANDOM_TRACE, *map(str, trace_words(job.seed))], b'')
+    words = [job.form, str(job.seed)] if job.form == 'turns' else [job.form]
+    try:
+        printed = output_of([job.program, *words, '--history'], text)
+        trace = trace_of(text)
+        if job.form == 'replay' or job.laws:
+            wrong = wrong_with_text(trace, job.form, job.seed, printed, job.laws)
+        else:
+            wrong = first_difference(checked_text(trace, job.form, job.seed), printed)
+    except (Stopped, Refusal, Illegal) as fault:
+        return Outcome(job, 0, str(fault))
+    return Outcome(job, printed.count(b'\n'), wrong)
+
+
+def ignore_interrupts() -> None:
+    """An interrupt is for the process that gave out the work, which then ends the others."""
+    signal.signal(signal.SIGINT, signal.SIG_IGN)
+
+
+def outcomes(jobs: List[Job], processes: int) -> Iterator[Outcome]:
+    """What the runs come to, as they end, so many side by side."""
+    with multiprocessing.Pool(processes, ignore_interrupts) as pool:
+        yield from pool.imap_unordered(run, jobs)
+
+
+def compare(jobs: List[Job], processes: int) -> Tuple[int, int]:
+    """Runs and compares, prints a line for each run that differs, and answers how many runs are as they should be and how many lines they
+    printed. Where standard error is a terminal the count so far is shown there."""
+    alike = lines = 0
+    shows = sys.stderr.isatty()
+    for n, outcome in enumerate(outcomes(jobs, processes), 1):
+        if outcome.wrong:
+            print('seed %d, %s: %s' % (outcome.job.seed, outcome.job.form, outcome.wrong), flush=True)
+        else:
+            alike, lines = alike + 1, lines + outcome.lines
+        if shows:
+            print('\r%d of %d runs' % (n, len(jobs)), end='\n' if n == len(jobs) else '', file=sys.stderr, flush=True)
+    return alike, lines

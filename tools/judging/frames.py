@@ -1,0 +1,362 @@
+"""The frames' state: which are free, which reservations there are, which of their places are used, who claims and holds frames; which entries
+this allows, and what each does (FrameStates.antt, Layouts.antt, Records.antt, FreeBlocks.antt, PreferredSize.antt, Ages.antt)."""
+from typing import Dict, List, Optional, Set, Tuple
+
+from .values import (Answer, Claim, Clear, DropHeld, Entry, Evict, Give, Got, Refused, Rest, Take, Unclaim, UseHeld, Want, extent_start, pages_of)
+
+# The largest free block has 2^9 frames, which is an extent of size 3.
+LARGEST_ORDER = 9
+
+
+class Reservation:
+    """An extent of pages of one space with an extent of frames of the same size: its place i joins page first + i and frame frame + i. Its
+    stamp is the number of entries on the frames before its latest page allocation. (Records.antt)"""
+
+    def __init__(self, space: int, first: int, size: int, frame: int, stamp: int, used: Set[int]):
+        self.space, self.first, self.size, self.frame, self.stamp = space, first, size, frame, stamp
+        # The used places, by their numbers i.
+        self.used = used
+
+    @property
+    def count(self) -> int:
+        """How many places it has."""
+        return pages_of(self.size)
+
+    def covers(self, space: int, page: int) -> bool:
+        """It has the page of the space. (Layouts.antt)"""
+        return self.space == space and self.first <= page < self.first + self.count
+
+    def has_frame(self, frame: int) -> bool:
+        """The frame is a place of it, used or not. (Agreement.antt)"""
+        return self.frame <= frame < self.frame + self.count
+
+
+class Used:
+    """Of a used place its age, whether its page's region is wired, and the processor that claims it, if one does."""
+
+    def __init__(self, age: int, wired: bool):
+        self.age, self.wired = age, wired
+        self.claim: Optional[int] = None
+
+
+class Frames:
+    """The frames' state. At first all frames are free. (FrameStates.antt: start_frames)"""
+
+    def __init__(self, count: int, sizes: Tuple[int, ...]):
+        self.count, self.sizes = count, tuple(sorted(sizes))
+        self.free: Set[int] = set(range(count))
+        self.reservations: List[Reservation] = []
+        self.used: Dict[int, Used] = {}
+        self.held: Dict[int, int] = {}
+        self.entries = 0
+        self.preemptions = 0
+
+    def covering(self, space: int, page: int) -> Optional[Reservation]:
+        """The reservation that has the page, where one has it. (Layouts.antt)"""
+        return next((r for r in self.reservations if r.covers(space, page)), None)
+
+    def frame_of(self, space: int, page: int) -> Optional[int]:
+        """The frame that is the used place of the page, where there is one. (FrameStates.antt)"""
+        r = self.covering(space, page)
+        return r.frame + page - r.first if r is not None and page - r.first in r.used else None
+
+    def used_pages(self) -> Dict[Tuple[int, int], int]:
+        """Of each space and page that has a used place its frame."""
+        return {(r.space, r.first + i): r.frame + i for r in self.reservations for i in r.used}
+
+    def claimed_by(self, processor: int) -> List[int]:
+        """The frames that the processor claims."""
+        return [frame for frame, u in self.used.items() if u.claim == processor]
+
+    def has_nothing(self, processor: int) -> bool:
+        """The processor neither holds a frame nor claims one. (FrameStates.antt: HasNothing)"""
+        return processor not in self.held and not self.claimed_by(processor)
+
+    def reserved_count(self) -> int:
+        """How many unused places there are. (FrameStates.antt)"""
+        return sum(r.count for r in self.reservations) - len(self.used)
+
+    def is_short(self, mark: int) -> bool:
+        """Free frames and unused places are fewer than a low mark. (FrameStates.antt)"""
+        return len(self.free) + self.reserved_count() < mark
+
+    def refusal(self) -> Refused:
+        """The numbers of a refusal: the wired places, the claimed ones and the held frames. (FrameStates.antt: IsRefused)"""
+        wired = sum(u.wired for u in self.used.values())
+        claimed = sum(u.claim is not None for u in self.used.values())
+        return Refused(wired, claimed, len(self.held))
+
+
+def copy_of(state: Frames) -> Frames:
+    """The same state, to try on it what a taking would do."""
+    copy = Frames(state.count, state.sizes)
+    copy.free = set(state.free)
+    copy.reservations = [Reservation(r.space, r.first, r.size, r.frame, r.stamp, set(r.used)) for r in state.reservations]
+    copy.used, copy.held = dict(state.used), dict(state.held)
+    copy.entries, copy.preemptions = state.entries, state.preemptions
+    return copy
+
+
+def maximal_blocks(free: Set[int], order: int) -> List[int]:
+    """The first frames of the maximal free blocks of an order n: aligned runs of 2^n free frames, n at most 9, in no larger such run.
+    (FreeBlocks.antt)"""
+    def is_free(n: int, first: int) -> bool:
+        return all(f in free for f in range(first, first + 2 ** n))
+
+    starts = sorted({f - f % 2 ** order for f in free})
+    wide = order + 1
+    return [f for f in starts if is_free(order, f) and not (order < LARGEST_ORDER and is_free(wide, f - f % 2 ** wide))]
+
+
+def choice(free: Set[int], size: int) -> Optional[int]:
+    """The choice for size k, by its first frame: the lowest 8^k frames of the lowest-numbered maximal free block of the least order that is
+    at least 3k. (FreeBlocks.antt)"""
+    blocks = (maximal_blocks(free, order) for order in range(3 * size, LARGEST_ORDER + 1))
+    return next((found[0] for found in blocks if found), None)
+
+
+def yield_in(sizes: Tuple[int, ...], r: Reservation) -> Optional[int]:
+    """The yield of a reservation is the largest size of an extent inside it without a used place; a full one has none. (Records.antt)"""
+    def has_empty(size: int) -> bool:
+        return len({i // pages_of(size) for i in r.used}) < r.count // pages_of(size)
+
+    return max((k for k in sizes if k <= r.size and has_empty(k)), default=None)
+
+
+def list_of(state: Frames, size: int) -> List[Reservation]:
+    """The list by age of a yield: in order of stamp and then of first frame. (Ages.antt, Layouts.antt)"""
+    return sorted((r for r in state.reservations if yield_in(state.sizes, r) == size), key=lambda r: (r.stamp, r.frame))
+
+
+def to_break(state: Frames, size: int) -> Optional[Reservation]:
+    """The reservation that is broken for an extent of this size: the oldest of the first list that isn't empty, from the list of this size
+    up. (Layouts.antt)"""
+    lists = (list_of(state, k) for k in range(size, 3))
+    return next((found[0] for found in lists if found), None)
+
+
+def split(state: Frames, r: Reservation) -> List[Reservation]:
+    """The reservation becomes its parts of the next smaller size, which keep its stamp; those without a used place are free. All parts, in
+    order. (Layouts.antt: split_layout)"""
+    size = max(k for k in state.sizes if k < r.size)
+    n = pages_of(size)
+    parts = [Reservation(r.space, r.first + a, size, r.frame + a, r.stamp, {i - a for i in r.used if a <= i < a + n})
+             for a in range(0, r.count, n)]
+    state.reservations.remove(r)
+    state.reservations += [p for p in parts if p.used]
+    state.free.update(f for p in parts if not p.used for f in range(p.frame, p.frame + n))
+    return parts
+
+
+def break_reservation(state: Frames, r: Reservation) -> None:
+    """A reservation that is broken becomes its parts. While no part was empty, the lowest part with its yield is broken in the same way.
+    (Layouts.antt: break_layout; Records.antt: goes_on_at)"""
+    wide = yield_in(state.sizes, r)
+    parts = split(state, r)
+    while all(p.used for p in parts):
+        parts = split(state, next(p for p in parts if yield_in(state.sizes, p) == wide))
+
+
+def is_full(state: Frames) -> bool:
+    """No frame is free and every reservation is full. (Layouts.antt)"""
+    return not state.free and all(len(r.used) == r.count for r in state.reservations)
+
+
+def fits(state: Frames, space: int, page: int, want: Want, size: int) -> bool:
+    """The extent round the page lies where the region allows, has at most as many pages as the region, and meets no reservation of the
+    space. (PreferredSize.antt)"""
+    first, n = extent_start(size, page), pages_of(size)
+    free_of_others = not any(r.space == space and r.first < first + n and first < r.first + r.count for r in state.reservations)
+    return want.low <= first and first + n <= want.high and n <= want.cap and free_of_others
+
+
+def preferred_size(state: Frames, space: int, page: int, want: Want) -> int:
+    """The preferred size: the largest size whose extent round the page fits. (PreferredSize.antt)"""
+    return max((k for k in state.sizes if k and fits(state, space, page, want, k)), default=0)
+
+
+def extent_for(state: Frames, size: int) -> Optional[int]:
+    """The choice for the size; where there is none, the choice after the reservation to break for it is broken. (Layouts.antt: extent_of)"""
+    first = choice(state.free, size)
+    if first is None:
+        old = to_break(state, size)
+        if old is not None:
+            break_reservation(state, old)
+            state.preemptions += 1
+            first = choice(state.free, size)
+    return first
+
+
+def place(state: Frames, space: int, page: int, want: Want) -> Tuple[Reservation, int]:
+    """The reservation and the place for a page that has none, where the frames aren't full: its place in the reservation that has the page,
+    or else in a new one, of the largest size, from the preferred one down, for which an extent can be had. (Layouts.antt: placing)"""
+    r = state.covering(space, page)
+    if r is None:
+        best = preferred_size(state, space, page, want)
+        tried = ((k, extent_for(state, k)) for k in reversed(state.sizes) if k <= best)
+        size, frame = next((k, f) for k, f in tried if f is not None)
+        r = Reservation(space, extent_start(size, page), size, frame, state.entries, set())
+        state.reservations.append(r)
+        state.free.difference_update(range(frame, frame + r.count))
+    return r, page - r.first
+
+
+def take(state: Frames, space: int, page: int, want: Want) -> Optional[int]:
+    """Taking a frame for a page: its place is used, and the reservation is as young as this taking. None where no frame can be had.
+    (FrameStates.antt: take_frame)"""
+    if state.covering(space, page) is None and is_full(state):
+        return None
+    r, i = place(state, space, page, want)
+    r.used.add(i)
+    r.stamp = state.entries
+    state.used[r.frame + i] = Used(state.entries, want.wired)
+    return r.frame + i
+
+
+def give(state: Frames, space: int, page: int) -> None:
+    """Giving a frame up: an unclaimed frame becomes an unused place, and a reservation without a used place is free. A claimed frame is
+    carved out of its reservation, and its claimer then holds it. (FrameStates.antt: give_page)"""
+    r = state.covering(space, page)
+    frame = r.frame + page - r.first
+    claim = state.used[frame].claim
+    if claim is not None:
+        r = carved_down_to(state, r, frame)
+    del state.used[frame]
+    r.used.remove(page - r.first)
+    if not r.used:
+        state.reservations.remove(r)
+        state.free.update(range(r.frame, r.frame + r.count))
+    if claim is not None:
+        state.free.remove(frame)
+        state.held[claim] = frame
+
+
+def carved_down_to(state: Frames, r: Reservation, frame: int) -> Reservation:
+    """The reservation is split into its parts of the next smaller size, and the part with the frame again, down to the frame.
+    (Layouts.antt: carve_layout)"""
+    while r.size > 0:
+        r = next(p for p in split(state, r) if p.has_frame(frame))
+    return r
+
+
+def drop(state: Frames, processor: int) -> None:
+    """The frame that the processor holds is free. (FrameStates.antt: dropped)"""
+    state.free.add(state.held.pop(processor))
+
+
+def victim(state: Frames) -> Optional[Tuple[int, int, int]]:
+    """The victim is the used place of least age that is neither wired nor claimed: its space, its page and its frame.
+    (FrameStates.antt: IsVictim)"""
+    evictable = [frame for frame, u in state.used.items() if not u.wired and u.claim is None]
+    if not evictable:
+        return None
+    frame = min(evictable, key=lambda f: state.used[f].age)
+    r = next(r for r in state.reservations if r.has_frame(frame))
+    return r.space, r.first + frame - r.frame, frame
+
+
+def may_claim(state: Frames, mark: int) -> bool:
+    """A processor that makes calls claims where no frame can be had, and a daemon where frames are short by its mark.
+    (FrameStates.antt: MayClaim)"""
+    return state.is_short(mark) if mark else is_full(state)
+
+
+def taken_as(state: Frames, e: Entry) -> Optional[str]:
+    """A taking, or the use of a held frame, which is dropped first: the page has no used place, and the frame is the one that the rule
+    takes. (FrameStates.antt: FramesAllow)"""
+    w, c = e.what, e.processor
+    held = isinstance(w, UseHeld)
+    if state.frame_of(e.space, w.page) is not None:
+        return 'the page has a used place'
+    if (c not in state.held) if held else not state.has_nothing(c):
+        return 'the processor holds no frame' if held else 'the processor claims or holds a frame'
+    if held:
+        drop(state, c)
+    frame = take(state, e.space, w.page, w.want)
+    return None if frame == w.frame else 'the frame that is taken is %s' % frame
+
+
+def given_as(state: Frames, e: Entry) -> Optional[str]:
+    """A giving, or the answer of an evict that names the frames: the page has this used place, and gives it up.
+    (FrameStates.antt: FramesAllow, AllowsAnswer)"""
+    w = e.what
+    if isinstance(w, Answer):
+        if not isinstance(w.call, Evict) or state.frame_of(e.space, w.call.page) is None:
+            return 'an answer that names the frames is of an evict whose page has a frame'
+        give(state, e.space, w.call.page)
+        return None
+    if state.frame_of(e.space, w.page) != w.frame:
+        return "the frame isn't the page's"
+    give(state, e.space, w.page)
+    return None
+
+
+def cleared_as(state: Frames, e: Entry) -> Optional[str]:
+    """Each page of a range that has a frame gives it up, ascending by page. (FrameStates.antt: give_range)"""
+    first, end = e.what.first, e.what.first + e.what.length
+    for page in sorted(p for s, p in state.used_pages() if s == e.space and first <= p < end):
+        give(state, e.space, page)
+    return None
+
+
+def claimed_as(state: Frames, e: Entry, mark: int) -> Optional[str]:
+    """A claim is of the victim, by a processor that has nothing and may claim. (FrameStates.antt: FramesAllow)"""
+    w = e.what
+    if not state.has_nothing(e.processor):
+        return 'the processor claims or holds a frame'
+    if victim(state) != (w.space, w.page, w.frame):
+        return 'the victim is %s' % (victim(state),)
+    if not may_claim(state, mark):
+        return 'frames are not short'
+    state.used[w.frame].claim = e.processor
+    return None
+
+
+def unclaimed_as(state: Frames, e: Entry) -> Optional[str]:
+    """A claim's end: the frame is under a page of the space, and the processor claims it. (FrameStates.antt: FramesAllow)"""
+    frame = e.what.frame
+    if state.claimed_by(e.processor) != [frame] or not any(r.space == e.space and r.has_frame(frame) for r in state.reservations):
+        return 'the processor claims no such frame of this space'
+    state.used[frame].claim = None
+    return None
+
+
+def found_as(state: Frames, e: Entry, mark: int) -> Optional[str]:
+    """What a processor finds: the frame in its hand, that no frame can be had, or how its turn ends. (FrameStates.antt: FramesAllow)"""
+    w, c = e.what, e.processor
+    if isinstance(w, (Got, DropHeld)):
+        if state.held.get(c) != w.frame:
+            return "the processor doesn't hold the frame"
+        if isinstance(w, DropHeld):
+            drop(state, c)
+        return None
+    if not state.has_nothing(c):
+        return 'the processor claims or holds a frame'
+    if isinstance(w, Refused):
+        if not is_full(state) or victim(state) is not None:
+            return 'a frame can be had, or claimed'
+        return None if w == state.refusal() else 'the numbers are those of %s' % (state.refusal(),)
+    short = mark > 0 and state.is_short(mark) and victim(state) is not None
+    return None if mark > 0 and w.short == short else 'a turn ends with short %d' % short
+
+
+def frames_after(state: Frames, mark: int, e: Entry) -> Optional[str]:
+    """What is wrong where the frames don't allow the entry of a processor with this mark; else None, and the state is the one after it.
+    (FrameStates.antt: FramesAllow, frames_after)"""
+    w = e.what
+    if isinstance(w, (Take, UseHeld)):
+        wrong = taken_as(state, e)
+    elif isinstance(w, (Give, Answer)):
+        wrong = given_as(state, e)
+    elif isinstance(w, Clear):
+        wrong = cleared_as(state, e)
+    elif isinstance(w, Claim):
+        wrong = claimed_as(state, e, mark)
+    elif isinstance(w, Unclaim):
+        wrong = unclaimed_as(state, e)
+    elif isinstance(w, (Got, DropHeld, Refused, Rest)):
+        wrong = found_as(state, e, mark)
+    else:
+        wrong = 'the frames have no such entry'
+    state.entries += 1
+    return wrong

@@ -1,0 +1,194 @@
+"""What a space's list of entries leads to, and which entries a space in that state allows (SpaceStates.antt)."""
+from typing import Dict, Optional, Set, Tuple
+
+from . import flat as flats
+from .flat import Flat
+from .tiles import Tiles
+from .values import (DONE, LAST_COUNT, NO_MEMORY, WANTS, WRITTEN, Answer, Call, Claim, Clear, Entry, Evict, Failed, Give, Load, Out, Protect, Reply,
+                     Store, Sync, Take, Unclaim, Unmap, UseHeld, has_size, is_access, page_of, page_of_call, word_of)
+
+
+class Space:
+    """The state of a space: its flat memory, the frame of each resident page, who makes the next entry, what answers said of words, the
+    highest count of its store's faults, and its tiles and images. A space begins empty. (SpaceStates.antt: empty_state)"""
+
+    def __init__(self, sizes: Tuple[int, ...], told: bool, faults: int):
+        self.flat = Flat()
+        self.base: Dict[int, int] = {}
+        # The processor that makes the next entry, where it isn't anyone, and the range that it just cleared.
+        self.only: Optional[int] = None
+        self.cleared: Optional[Clear] = None
+        self.told = told
+        # Of each page, each word: what the latest answer on it said since the page was filled.
+        self.tied: Dict[int, Dict[int, int]] = {}
+        self.highest = faults
+        self.tiles = Tiles(sizes)
+
+    def resident_in(self, first: int, length: int) -> Set[int]:
+        """The resident pages of a range."""
+        return {page for page in self.base if first <= page < first + length}
+
+    def after(self, e: Entry) -> None:
+        """The state becomes the one after the entry. (SpaceStates.antt: space_after)"""
+        w = e.what
+        touched = self.change(e)
+        self.only, self.cleared = next_after(e)
+        if isinstance(w, Failed):
+            self.highest = max(self.highest, w.count)
+        self.tiles.settle(self.flat, self.base, touched)
+        if isinstance(w, Answer) and has_size(w.call, w.reply):
+            self.tiles.touch(e.processor, page_of(w.call.address))
+
+    def change(self, e: Entry) -> Set[int]:
+        """What an entry does to the flat memory and to the resident pages, and which pages' tiles that may change.
+        (SpaceStates.antt: flat_after, base_after)"""
+        w = e.what
+        if isinstance(w, Answer):
+            return self.answered(e.frames, w)
+        if isinstance(w, Clear):
+            gone = self.resident_in(w.first, w.length)
+            for page in gone:
+                del self.base[page]
+            return gone
+        if isinstance(w, (Take, UseHeld)):
+            self.base[w.page] = w.frame
+            self.tied[w.page] = {}
+        elif isinstance(w, Give):
+            self.base.pop(w.page, None)
+        elif isinstance(w, Out):
+            flats.out(self.flat, w.page)
+        elif isinstance(w, Failed) and w.writing:
+            flats.lost(self.flat, w.page)
+        return {w.page} if isinstance(w, (Take, UseHeld, Give, Out)) else set()
+
+    def answered(self, frames: bool, w: Answer) -> Set[int]:
+        """An answer for want of a frame, of a store or of memory changes nothing, and any other does what its call does; that of an evict
+        which names the frames gives its page's frame up. (SpaceStates.antt: answered_flat, base_after_answer, tied_after)"""
+        if w.reply[0] in WANTS:
+            return set()
+        call = w.call
+        flats.after_call(self.flat, call)
+        if has_size(call, w.reply):
+            said = call.word if isinstance(call, Store) else w.reply[1]
+            self.tied.setdefault(page_of(call.address), {})[word_of(call.address)] = said
+        if isinstance(call, Evict) and frames:
+            self.base.pop(call.page, None)
+        if isinstance(call, Protect):
+            return self.resident_in(call.page, call.length)
+        return {page_of_call(call)} if isinstance(call, (Store, Sync, Evict)) else set()
+
+
+def next_after(e: Entry) -> Tuple[Optional[int], Optional[Clear]]:
+    """Who makes the next entry of a space: after a taking, a paging out and a failed read the same processor, and after a clearing that
+    processor's unmap of the range; after any other entry anyone. (SpaceStates.antt: next_after)"""
+    w = e.what
+    if isinstance(w, Clear):
+        return e.processor, w
+    goes_on = isinstance(w, (Take, UseHeld, Out)) or (isinstance(w, Failed) and not w.writing)
+    return (e.processor if goes_on else None), None
+
+
+def may_go_on(space: Space, e: Entry) -> bool:
+    """The processor may make the next entry of the space. (SpaceStates.antt: MayGoOn)"""
+    w = e.what
+    if space.only not in (None, e.processor):
+        return False
+    if space.cleared is None:
+        return True
+    is_unmap = isinstance(w, Answer) and isinstance(w.call, Unmap) and w.reply == DONE
+    return is_unmap and space.cleared.first <= w.call.page < space.cleared.first + space.cleared.length
+
+
+def wrong_with(space: Space, e: Entry) -> Optional[str]:
+    """What is wrong where the space doesn't allow the entry, else None. (SpaceStates.antt: SpaceAllows, WhatAllowed)"""
+    w, base, flat = e.what, space.base, space.flat
+    if not may_go_on(space, e):
+        return 'another entry has to come next in the space'
+    if isinstance(w, Answer):
+        return wrong_with_answer(space, e)
+    if isinstance(w, (Take, UseHeld)):
+        fine = w.page not in base and w.want == flats.wanted(flat, w.page)
+    elif isinstance(w, Give):
+        fine = base.get(w.page) == w.frame and w.page not in flat.dirty
+    elif isinstance(w, Clear):
+        region = flat.region_at(w.first)
+        fine = region is not None and (region.first, region.length) == (w.first, w.length)
+    elif isinstance(w, Out):
+        fine = w.page in base and w.written == (w.page in flat.dirty)
+    elif isinstance(w, Failed):
+        rises = w.count > space.highest or w.count == LAST_COUNT
+        fine = w.page in base and w.writing == (w.page in flat.dirty) and rises
+    elif isinstance(w, Unclaim):
+        fine = any(frame == w.frame and page in flat.dirty for page, frame in base.items())
+    else:
+        fine = isinstance(w, Claim) and is_needed(space, w)
+    return None if fine else 'the space is in no state for it'
+
+
+def is_needed(space: Space, w: Claim) -> bool:
+    """The access that needs a frame has the right, and its page isn't resident. (SpaceStates.antt: IsNeeded)"""
+    page, flat = w.need.page, space.flat
+    return flat.region_at(page) is not None and flats.has_right(w.need.writing, flat.rights_of(page)) and page not in space.base
+
+
+def wrong_with_answer(space: Space, e: Entry) -> Optional[str]:
+    """The reply is allowed, the frames are named where a page gives its frame up, and a hit and a size are told of a load that found its word
+    and of a store that was done: the hit as the tile was before, the size as it is then. (SpaceStates.antt: AnswerAllowed)"""
+    w = e.what
+    if not reply_allowed(space, e.processor, w.call, w.reply):
+        return "the reply isn't allowed: the flat memory's is %s" % ' '.join(map(str, flats.reply_of(space.flat, w.call)))
+    frees = isinstance(w.call, Evict) and flats.is_lawful(w.reply) and w.call.page in space.base
+    if e.frames != frees:
+        return 'an answer names the frames exactly where the resident page of an evict goes with it'
+    hit, size = hit_and_size(space, e.processor, w.call, w.reply)
+    return None if (w.hit, w.size) == (hit, size) else 'hit and size are %s and %s' % (hit, size)
+
+
+def hit_and_size(space: Space, processor: int, call: Call, reply: Reply) -> Tuple[bool, Optional[int]]:
+    """Whether the page's tile, as it is before the access, stands in its processor's image; and the size of the tile as it is after it, where
+    a store has made its page dirty. (SpaceStates.antt: is_hit, size_after)"""
+    if not has_size(call, reply):
+        return False, None
+    page = page_of(call.address)
+    hit = space.tiles.is_hit(processor, page)
+    tile = space.tiles.tile_of(page)
+    makes_dirty = isinstance(call, Store) and page not in space.flat.dirty
+    if not makes_dirty or tile is None:
+        return hit, None if tile is None else tile.size
+    space.flat.dirty.add(page)
+    after = Tiles(space.tiles.sizes)
+    after.settle(space.flat, space.base, {page})
+    space.flat.dirty.discard(page)
+    return hit, after.tile_of(page).size
+
+
+def reply_allowed(space: Space, processor: int, call: Call, reply: Reply) -> bool:
+    """A space allows: that no frame can be had, where the access is lawful and its page isn't resident; a fault or want of memory, where it
+    may come; and any other reply where the flat memory gives it and the call finds its pages. (SpaceStates.antt: ReplyAllowed)"""
+    asked = flats.reply_of(space.flat, call)
+    if reply[0] == 'noframes':
+        return flats.is_lawful(asked) and is_access(call) and page_of(call.address) not in space.base
+    if reply[0] == 'storefault' or reply == NO_MEMORY:
+        return is_access(call) or (isinstance(call, (Sync, Evict)) and asked == WRITTEN)
+    return is_asked(space, call, asked, reply) and (not flats.is_lawful(reply) or has_its_pages(space, processor, call))
+
+
+def is_asked(space: Space, call: Call, asked: Reply, reply: Reply) -> bool:
+    """The reply is the flat memory's. A word of a space that isn't told is bound by what answers said of it while its page stays, and by
+    nothing where no answer did. (SpaceStates.antt: IsAsked, IsWord)"""
+    if space.told or not isinstance(call, Load) or reply[0] != 'value':
+        return reply == asked
+    tied = space.tied.get(page_of(call.address), {}).get(word_of(call.address))
+    return asked[0] == 'value' and tied in (None, reply[1])
+
+
+def has_its_pages(space: Space, processor: int, call: Call) -> bool:
+    """The page of an access is resident, and the region of an unmap was cleared just before by its processor.
+    (SpaceStates.antt: HasItsPages)"""
+    if is_access(call):
+        return page_of(call.address) in space.base
+    if not isinstance(call, Unmap):
+        return True
+    region = space.flat.region_at(call.page)
+    cleared = space.only == processor and space.cleared == Clear(region.first, region.length)
+    return cleared and not space.resident_in(region.first, region.length)
