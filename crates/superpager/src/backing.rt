@@ -38,7 +38,7 @@ pub fn stores_of<'a>(words: &'a [&'a str]) -> (Backing<'a>, &'a [&'a str])
 
 /// A store in memory for each space that a trace may have, with no copy yet. None of them is to fail.
 pub fn memory_stores(alloc: Global) -> Result<Vec<MemoryStore>, AllocError>
-    ensures { IfOk result (λ stores. length stores.items ≡ MOST_SPACES) }
+    ensures { IfOk result (λ stores. length stores.items ≡ 16) }
 {
     let mut stores = Vec::new(alloc);
     stores.resize_with(MOST_SPACES as usize, || {
@@ -53,7 +53,7 @@ pub fn file_stores<R: Files<File = File>>(
     alloc: Global,
     folder: &str,
 ) -> Result<Vec<FileStore<File>>, NoMemory>
-    ensures { IfOk result (λ stores. length stores.items ≡ MOST_SPACES) }
+    ensures { IfOk result (λ stores. length stores.items ≡ 16) }
 {
     let mut stores = Vec::with_capacity(alloc, MOST_SPACES as usize)?;
     for number in 0..MOST_SPACES {

@@ -65,25 +65,25 @@ fn does_all<S: Store>(store: &mut S, steps: &[Step]) -> bool {
     true
 }
 
-/// Pages that are written, again, and dropped, some of them in one word of 64 pages; and one past the space.
+/// Pages that are written, again, and dropped, round the ends of words of 64 pages; and one past the space.
 static KEPT: [Step; 19] = [
-    Step::Reads(5, 0),
-    Step::Writes(5, 1),
+    Step::Reads(62, 0),
+    Step::Writes(62, 1),
     Step::Writes(63, 2),
     Step::Writes(64, 3),
     Step::Writes(127, 4),
-    Step::Writes(130, 5),
+    Step::Writes(128, 5),
     Step::Writes(1_048_575, 6),
-    Step::Reads(5, 1),
+    Step::Reads(62, 1),
     Step::Reads(1_048_575, 6),
-    Step::Writes(5, 7),
-    Step::Reads(5, 7),
-    Step::Reads(6, 0),
+    Step::Writes(62, 7),
+    Step::Reads(62, 7),
+    Step::Reads(61, 0),
     Step::Drops(63, 65),
     Step::Reads(63, 0),
     Step::Reads(127, 0),
-    Step::Reads(130, 5),
-    Step::Reads(5, 7),
+    Step::Reads(128, 5),
+    Step::Reads(62, 7),
     Step::FailsToWrite(1_048_576, 1),
     Step::Reads(1_048_576, 0),
 ];
