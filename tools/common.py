@@ -64,9 +64,10 @@ def status_of(main: Callable[[], int]) -> int:
 
 
 def end(main: Callable[[], int]) -> NoReturn:
-    """Ends with the status of `main`, or with 1 and a message where its output can't be written."""
+    """Ends with the status of `main`, or with 1 and a message where its output is closed or can't be written."""
     if sys.stdout is None:
-        sys.exit('%s: standard output is closed' % tool_name())
+        say('the output is closed')
+        sys.exit(1)
     status = status_of(main)
     try:
         sys.stdout.flush()
