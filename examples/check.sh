@@ -1,12 +1,14 @@
 #!/bin/sh
 # Runs the built program on every example, and on words, inputs and outputs that it must not take, and compares its output, status
-# and message with what stands here. Then it does the same with tools/from-lackey and tools/compare, which need Python.
+# and message with what stands here. Then it does the same with tools/from-lackey, tools/compare and tools/explain, which need Python,
+# and ends with the runs of check-folders.sh.
 #
 #     examples/check.sh [PROGRAM]
 #
 # Each NAME.trace is run with the word `order`, ends with status 0, says nothing and prints NAME.text, unless a line of `cases` has
 # it as a run of the same name; that file has the other runs too. To add an example, add its two files; to add another run, add a
-# line to `cases`, or to `conversions` where it is one of tools/from-lackey, or to `comparisons` where it is one of tools/compare.
+# line to `cases`, or where it is one of tools/from-lackey to `conversions`, of tools/compare to `comparisons`, of tools/explain to
+# `explanations`.
 #
 # PROGRAM is crates/superpager/out/superpager where it isn't given. `rt ci` at the top leaves it there, built of what it proved, also
 # where nothing was kept from an earlier run, and then these runs take a few seconds. Where it isn't there no run is made.
@@ -80,12 +82,29 @@ tool() {
     return "$status_of_run"
 }
 
+# Runs a tool as `tool` does, on a text as printf writes it. All that is printed becomes one line of the message, with what the program
+# says of the text where that differs.
+explain() {
+    printf "$1" >"$made/text"
+    shift
+    tool "$made/text" "$@"
+    status_of_run=$?
+    "$program" order <"$made/text" 2>&1 >/dev/null | sed 's/^superpager: //' >"$made/told"
+    if [ "$status_of_run" = 3 ] && ! head -n 1 "$made/output" | cmp -s - "$made/told"; then
+        cat "$made/told" >>"$made/output"
+    fi
+    cat "$made/message" "$made/output" | paste -s -d ' ' - >"$made/line"
+    mv "$made/line" "$made/message"
+    : >"$made/output"
+    return "$status_of_run"
+}
+
 # The lines of a table of runs.
 lines_of() {
     sed -e '/^#/d' -e '/^$/d' -e 's/ *| */|/g' "$1"
 }
 
-# Makes the runs of a table by `run` or `tool`: of this command, with the words of each line behind it. Their outputs are NAME.ENDING.
+# Makes the runs of a table by `run`, `tool` or `explain`: of this command, with the words of each line behind it. Their outputs are NAME.ENDING.
 runs_of() {
     table=$1
     ending=$2
@@ -126,6 +145,17 @@ awk 'BEGIN {
 }' >"$made/in-use"
 tool "$made/in-use" told ../tools/compare --program "$program" --csv /dev/stdin
 compare compared-in-use $? 0 '' compared-in-use.table
+
+runs_of explanations none explain ../tools/explain
+
+# The runs over folders are counted with the others.
+./check-folders.sh "$program" >"$made/folders" 2>&1
+sed '$d' "$made/folders"
+read -r over_folders _ not_so _ <<END
+$(tail -n 1 "$made/folders")
+END
+passed=$((passed + over_folders))
+failed=$((failed + not_so))
 
 printf '%s passed, %s failed\n' "$passed" "$failed"
 [ "$failed" = 0 ] && [ "$passed" != 0 ]
