@@ -10,7 +10,9 @@ pub mod Lists
 pub mod ClearSteps
 pub mod TakenFrames
 pub mod ClaimSteps
+pub mod Evictions
 pub mod VictimPages
+pub mod TurnSteps
 pub mod HeldFrames
 pub mod LegalSteps
 pub mod NextFlights

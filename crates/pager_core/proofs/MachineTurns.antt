@@ -25,15 +25,16 @@ use Rattle.pager_laws.proofs.LegalHistories.{IsKept-legal, Agrees-legal}
 use Rattle.space_core.specs.Standing.{Kept, CanBegin}
 use Rattle.pager_core.specs.declared.flight.Flight.{Flight}
 use Rattle.pager_core.specs.declared.flight.Phase.TheVariants.{Out}
-use Rattle.pager_core.specs.Flights.{Fits, IsReady, IsAtRest, LeftBy}
+use Rattle.pager_core.specs.Flights.{Fits, IsReady, IsAtRest, LeftBy, is_of_turns}
 use Rattle.pager_core.specs.Machines.{CanFly, all_left, IsFlying, IsSpaceOf, IsMachine}
-use Rattle.pager_core.specs.Rows.{Outcome, Going, TurnEnded, Answered, call_in, mark_in, own_space, reply_in, row_of, row_in, is_between, space_under}
+use Rattle.pager_core.specs.Rows.{Outcome, Going, TurnEnded, Answered, call_in, is_of_call, mark_in, own_space, reply_in, row_of, row_in, is_between, space_under}
 use Rattle.pager_core.specs.Running.{Running, calls_at, flight_at, progress_by_flight, progress_of_actor, kept_by, IsKeptByOther, entries_left, left_at, IsNumbered, IsLawful}
 use Rattle.pager_core.specs.Steps.{Makes, after_named, answer_made}
 use Rattle.pager_core.proofs.Lists.{slice_get-set_same, slice_get-set_other, enumerate-push, sum_by-lower}
 use Rattle.pager_core.proofs.LegalSteps.{MayFollow-step, space_at-elsewhere, space_at-here, frames_at-step, victim_resident}
 use Rattle.pager_laws.proofs.UnknownSpaces.{base-unknown}
-use Rattle.pager_core.proofs.NextFlights.{Lands, made_going, under_cases, keeps_under, ended_by, turn_goes_on}
+use Rattle.pager_core.proofs.EntrySteps.{Fits-left}
+use Rattle.pager_core.proofs.NextFlights.{Lands, made_going, under_cases, keeps_under, ended_by, of_calls, turn_goes_on}
 use Rattle.pager_core.proofs.Purposes.{mark_in-zero}
 
 -- one entry more of the actor, after which this is its flight
@@ -82,9 +83,9 @@ calls-more calls n call at =
     ap (enumerate_from 0) more ∙ enumerate-push 0 (take n calls) call ∙ ap (λ (k : ℕ). enumerate_from 0 (take n calls) ++ (k, call) ∷ []) count
 
 -- a flight's answer is one more, and its other entries are none
-answers-step : (calls : List Call) (f f' : Flight) (o : Outcome) (entries : List Entry) (e : Entry) → (row_of f).outcome ≡ Going → f'.number ≡ f.number → call_in f'.purpose ≡ call_in f.purpose → slice_get calls f.number ≡ Some (call_in f.purpose) → (row_of f').outcome ≡ o → answer_in e.what ≡ answer_made f' (reply_in o)
+answers-step : (calls : List Call) (f f' : Flight) (o : Outcome) (entries : List Entry) (e : Entry) → (row_of f).outcome ≡ Going → f'.number ≡ f.number → call_in f'.purpose ≡ call_in f.purpose → slice_get calls f.number ≡ Some (call_in f.purpose) → is_of_turns f'.phase ≡ false → (row_of f').outcome ≡ o → answer_in e.what ≡ answer_made f' (reply_in o)
     → answers_in entries ≡ enumerate_from 0 (take (row_of f).progress.made calls) → answers_in (entries ++ e ∷ []) ≡ enumerate_from 0 (take (row_of f').progress.made calls)
-answers-step calls f f' Going entries e going number call of_call outcome answer so_far =
+answers-step calls f f' Going entries e going number call of_call calls_alone outcome answer so_far =
     let was = made_going f going in
     let now = made_going f' outcome in
     answers-push entries e
@@ -92,9 +93,9 @@ answers-step calls f f' Going entries e going number call of_call outcome answer
     ∙ append-nil (answers_in entries)
     ∙ so_far
     ∙ ap (λ n. enumerate_from 0 (take n calls)) (was ∙ sym number ∙ sym now)
-answers-step calls f f' TurnEnded entries e going number call of_call outcome answer so_far =
-    absurd (turn_goes_on f' outcome)
-answers-step calls f f' (Answered r) entries e going number call of_call outcome answer so_far =
+answers-step calls f f' TurnEnded entries e going number call of_call calls_alone outcome answer so_far =
+    absurd (turn_goes_on f' calls_alone outcome)
+answers-step calls f f' (Answered r) entries e going number call of_call calls_alone outcome answer so_far =
     let was = made_going f going in
     let phase = ended_by f' r outcome in
     let now : (row_of f').progress.made ≡ f.number + 1 = ap (λ p. (row_in f'.processor f'.number (own_space f'.purpose) f'.purpose p).progress.made) phase ∙ ap (λ n. n + 1) number in
@@ -146,7 +147,14 @@ module _ (run : Running) (spaces : List Kept) (pool after : FrameState) (capacit
 
   -- the setting gives each processor the mark of its calls
   marks : M → T → mark_of run.given f.processor ≡ mark_in f.purpose
-  marks machine turns = mark-zero run.given (length run.calls) f.processor machine.marks ∙ sym (mark_in-zero f.purpose (flying machine turns).fits.of_call)
+  marks machine turns = mark-zero run.given (length run.calls) f.processor machine.marks ∙ sym (mark_in-zero f.purpose (flying machine turns).is_call)
+
+  -- it is of a call still, and its phase fits that
+  is_call : M → T → is_of_call f'.purpose ≡ true
+  is_call machine turns = turns.makes.entry.same_work.same_kind ∙ (flying machine turns).is_call
+
+  fits : M → T → Fits f'
+  fits machine turns = Fits-left f' now (after_named was.number (space_at run.given h s) e) (row_of f').keeps turns.makes.space.left
 
   -- where the actor was
   progress_was : M → T → progress_at run.given h c ≡ Some (row_of f).progress
@@ -200,7 +208,7 @@ module _ (run : Running) (spaces : List Kept) (pool after : FrameState) (capacit
       let flies = flying machine turns in
       let same = turns.makes.entry.same_work in
       ap answers_in (filter-push_in (is_of c) h e (eq-eqb e.processor c (own_entry machine turns)))
-      ∙ answers-step (calls_at run.calls c) f f' (row_of f').outcome (entries_of c h) e flies.going same.number same.call flies.of_call refl turns.makes.entry.answer
+      ∙ answers-step (calls_at run.calls c) f f' (row_of f').outcome (entries_of c h) e flies.going same.number same.call flies.of_call (of_calls f' (is_call machine turns) (fits machine turns)) refl turns.makes.entry.answer
       (machine.lawful.answers c (processor_in machine turns) ∙ ap (λ x. enumerate_from 0 (take (progress_by_flight (calls_at run.calls c) x).made (calls_at run.calls c))) turns.flies)
       ∙ ap (λ (p : Progress). enumerate_from 0 (take p.made (calls_at run.calls c))) (sym turns.lands.progress)
       ∙ ap (λ x. enumerate_from 0 (take (progress_by_flight (calls_at run.calls c) x).made (calls_at run.calls c))) (sym (flight_own machine turns))
@@ -242,14 +250,6 @@ module _ (run : Running) (spaces : List Kept) (pool after : FrameState) (capacit
   is_at_rest machine turns keeps =
       subst (IsAtRest now) (state_here machine turns) (subst (λ x. LeftBy x f' now (after_named was.number (space_at run.given h s) e)) keeps turns.makes.space.left).1
 
-  -- its phase fits its call
-  fits : M → T → Fits f'
-  fits machine turns =
-      elim (row_of f').keeps as (λ x. LeftBy x f' now (after_named was.number (space_at run.given h s) e) → Fits f') [
-        | None ↦ λ left. left.0
-        | Some t ↦ λ left. left.1.fits
-      ] turns.makes.space.left
-
   -- and its next step is made under a space that is there
   victim_within : M → T → (v : Victim) → f'.phase ≡ Out v → v.space < length spaces
   victim_within machine turns v is =
@@ -262,7 +262,7 @@ module _ (run : Running) (spaces : List Kept) (pool after : FrameState) (capacit
 
   under_within : M → T → (t : ℕ) → space_under (row_of f').needs ≡ Some t → t < length spaces
   under_within machine turns t under =
-      elim (under_cases f' t (fits machine turns) under) [
+      elim (under_cases f' t (is_call machine turns) under) [
         | inl own ↦ subst (λ n. n < length spaces) (sym (ap space_of_call turns.makes.entry.same_work.call) ∙ own) (flying machine turns).on
         | inr other ↦ elim other [
           | inl keeps ↦ subst (λ n. n < length spaces) (sym (keeps_here machine turns t keeps)) (space_in turns)
@@ -286,11 +286,15 @@ module _ (run : Running) (spaces : List Kept) (pool after : FrameState) (capacit
   flying_own machine turns g is =
       record {
         processor = turns.lands.processor g is ∙ turns.makes.entry.same_work.processor ∙ (flying machine turns).processor;
+        is_call = elim (turns.lands.same g is) [
+          | inl same ↦ ap (λ (x : Flight). is_of_call x.purpose) same ∙ is_call machine turns
+          | inr start ↦ ap (λ (x : Flight). is_of_call x.purpose) start.2
+        ];
         of_call = turns.lands.of_call g is;
         on = (can_fly machine turns c g.number (call_in g.purpose) (turns.lands.of_call g is)).on;
         fits = elim (turns.lands.same g is) [
           | inl same ↦ subst Fits (sym same) (fits machine turns)
-          | inr start ↦ subst Fits (sym start.2) (record { of_call = refl; can = subst (λ (x : Flight). CanBegin (call_in x.purpose)) start.2 (can_fly machine turns c g.number (call_in g.purpose) (turns.lands.of_call g is)).can; phase = refl })
+          | inr start ↦ subst Fits (sym start.2) (record { kind = refl; can = subst (λ (x : Flight). CanBegin (call_in x.purpose)) start.2 (can_fly machine turns c g.number (call_in g.purpose) (turns.lands.of_call g is)).can; phase = refl })
         ];
         under = λ t under. subst (λ n. t < n) (sym (length-set spaces s now)) (elim (turns.lands.same g is) [
           | inl same ↦ under_within machine turns t (subst (λ (x : Flight). space_under (row_of x).needs ≡ Some t) same under)
@@ -314,6 +318,7 @@ module _ (run : Running) (spaces : List Kept) (pool after : FrameState) (capacit
       let before = machine.flights d g flies in
       record {
         processor = before.processor;
+        is_call = before.is_call;
         of_call = before.of_call;
         on = subst (λ n. space_of_call (call_in g.purpose) < n) (sym (length-set spaces s now)) before.on;
         fits = before.fits;
@@ -402,12 +407,12 @@ module _ (run : Running) (spaces : List Kept) (pool after : FrameState) (capacit
             ]);
         between = λ d g flies. elim (flight_after machine turns d g flies) [
           | inl own ↦ elim (turns.lands.same g own.1) [
-            | inl same ↦ subst (λ (x : Flight). is_between x.phase ≡ true) (sym same) turns.makes.entry.between
-            | inr start ↦ ap (λ (x : Flight). is_between x.phase) start.2
+            | inl same ↦ subst (λ (x : Flight). is_between x.purpose x.phase ≡ true) (sym same) turns.makes.entry.between
+            | inr start ↦ ap (λ (x : Flight). is_between x.purpose x.phase) start.2
           ]
           | inr other ↦ machine.lawful.between d g other.1
         ];
-        flying = λ d g flies. (let is = flights_after machine turns d g flies in record { is_call = is.fits.of_call; call = is.of_call; going = is.going });
+        flying = λ d g flies. (let is = flights_after machine turns d g flies in record { is_call = is.is_call; call = is.of_call; going = is.going });
         one_keeper = one_keeper_after machine turns;
       }
 

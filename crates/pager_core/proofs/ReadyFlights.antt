@@ -22,6 +22,7 @@ use Rattle.pager_core.specs.Machines.{IsMachine}
 use Rattle.pager_core.specs.Rows.{call_in, row_of, space_under}
 use Rattle.pager_core.specs.Running.{Running, calls_at, flight_at, progress_by_flight, IsKeptByOther}
 use Rattle.pager_core.specs.Steps.{AreAgreed, Makes}
+use Rattle.pager_core.proofs.EntrySteps.{calls_left}
 use Rattle.pager_core.proofs.NextFlights.{under_some, keeps_under, anywhere, lands}
 use Rattle.pager_core.proofs.MachineTurns.{Turns, marked, all_left-turn}
 
@@ -41,7 +42,7 @@ module _ (run : Running) (spaces : List Kept) (pool : FrameState) (capacity c s 
   processor_within = (let at = get_or_within run.flights c f flies in let known = machine.known in omega (arith, at, known))
 
   pub is_under : (t : ℕ) × (space_under (row_of f).needs ≡ Some t)
-  is_under = (let flying = machine.flights c f flies in under_some f flying.fits flying.going)
+  is_under = (let flying = machine.flights c f flies in under_some f flying.is_call flying.going)
 
   -- the number of a call is small
   pub number-few : f.number + 1 ≤ 262144
@@ -103,7 +104,7 @@ module _ (run : Running) (spaces : List Kept) (pool : FrameState) (capacity c s 
       ready_by None keeps =
           let flying = machine.flights c f flies in
           let rest = rests keeps in
-          let found = anywhere f was flying.fits flying.going keeps rest.resting in
+          let found = anywhere f was flying.is_call flying.fits flying.going keeps rest.resting in
           record {
             under = under ∙ ap Some (sym (machine.space_is s was at).number);
             fits = flying.fits;
@@ -142,7 +143,7 @@ module _ (run : Running) (spaces : List Kept) (pool : FrameState) (capacity c s 
       room_left f' now after e makes =
           let flying = machine.flights c f flies in
           let of_call : slice_get (calls_at run.calls c) f'.number ≡ Some (call_in f'.purpose) = ap (slice_get (calls_at run.calls c)) makes.entry.same_work.number ∙ flying.of_call ∙ ap Some (sym makes.entry.same_work.call) in
-          let on = lands (calls_at run.calls c) f' of_call in
+          let on = lands (calls_at run.calls c) f' (calls_left f f' was now (space_at run.given (entries_in run.history) s) pool after e makes flying.is_call) of_call in
           let turns : Turns run spaces pool after c s (length run.history) f f' was now e on.0 = record { flies = flies; under = under; at = at; unkept = unkept; makes = makes; lands = on.1; counted = refl } in
           let less = all_left-turn run spaces pool after capacity c s (length run.history) f f' was now e on.0 machine turns in
           let room = machine.room in

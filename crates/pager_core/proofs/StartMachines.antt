@@ -196,9 +196,10 @@ module _ (plan : Plan) (trace : HasText plan) (stores : List Stored) (enough : p
       let flying : IsFlying start spaces c (new_flight c 0 is.0) =
       record {
         processor = refl;
+        is_call = refl;
         of_call = is.1;
         on = can.on;
-        fits = record { of_call = refl; can = can.can; phase = refl };
+        fits = record { kind = refl; can = can.can; phase = refl };
         under = λ s under. subst (λ n. n < length spaces) (same_Some (space_of_call is.0) s under) can.on;
         going = refl;
         keeps = λ s kept keeps at. (let e : None ≡ Some s = keeps in cc);
@@ -237,8 +238,8 @@ module _ (plan : Plan) (trace : HasText plan) (stores : List Stored) (enough : p
         agrees = Agrees-legal start.given [] tt;
         progress = λ c below. ap (λ m. Some (at_rest m 0)) (mark-zero start.given (length calls) c marks) ∙ ap Some (sym (first_progress c (calls_at calls c)) ∙ ap (progress_by_flight (calls_at calls c)) (sym (first_flight c below)));
         answers = λ c below. ap (λ (p : Progress). enumerate_from 0 (take p.made (calls_at calls c))) (sym (first_progress c (calls_at calls c)) ∙ ap (progress_by_flight (calls_at calls c)) (sym (first_flight c below)));
-        between = λ c f flies. ap (λ (x : Flight). is_between x.phase) (sym (first c f flies).2);
-        flying = λ c f flies. (let is = flights c f flies in record { is_call = is.fits.of_call; call = is.of_call; going = is.going });
+        between = λ c f flies. ap (λ (x : Flight). is_between x.purpose x.phase) (sym (first c f flies).2);
+        flying = λ c f flies. (let is = flights c f flies in record { is_call = is.is_call; call = is.of_call; going = is.going });
         one_keeper = λ s c d f g flies flies' keeps keeps'. absurd (keeps_none c f s flies keeps);
       }
 

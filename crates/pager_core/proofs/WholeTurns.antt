@@ -16,6 +16,7 @@ use Rattle.pager_core.specs.Machines.{IsMachine}
 use Rattle.pager_core.specs.Rows.{Going, call_in, reply_in, row_of, space_under}
 use Rattle.pager_core.specs.Running.{Running, calls_at, flight_at, flight_of, IsKeptByOther, entries_left, left_at, WentOn, OneMore, IsLawful}
 use Rattle.pager_core.specs.Steps.{AreAgreed, Makes}
+use Rattle.pager_core.proofs.EntrySteps.{calls_left}
 use Rattle.pager_core.proofs.NextFlights.{Lands-on}
 use Rattle.pager_core.proofs.ReadyFlights.{space_within, IsReady-machine, AreAgreed-machine, image-machine, room_left}
 use Rattle.pager_core.proofs.MachineTurns.{Turns, run_after, left_own, IsMachine-turn}
@@ -74,7 +75,7 @@ module _ (run : Running) (spaces : List Kept) (pool after : FrameState) (capacit
         at = found.at;
         unkept = found.unkept;
         makes = makes;
-        lands = Lands-on (calls_at run.calls c) f' o of_call going (λ replied. next replied ∙ ap (flight_of f'.processor (f'.number + 1)) own);
+        lands = Lands-on (calls_at run.calls c) f' o (calls_left f f' was now (space_at run.given (entries_in run.history) s) pool after e makes flying.is_call) of_call going (λ replied. next replied ∙ ap (flight_of f'.processor (f'.number + 1)) own);
         counted = counted;
       }
 

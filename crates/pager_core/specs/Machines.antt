@@ -7,7 +7,7 @@ use Rattle.pager_model.specs.Flat.{space_of_call}
 use Rattle.pager_model.specs.Legal.{space_at, frames_at, entries_in}
 use Rattle.space_core.specs.Standing.{Kept, CanBegin}
 use Rattle.pager_core.specs.declared.flight.Flight.{Flight}
-use Rattle.pager_core.specs.Rows.{call_in, row_of, space_under, Going}
+use Rattle.pager_core.specs.Rows.{call_in, is_of_call, row_of, space_under, Going}
 use Rattle.pager_core.specs.Flights.{Fits, IsReady, IsAtRest}
 use Rattle.pager_core.specs.Running.{Running, calls_at, flight_at, left_at, IsLawful}
 use Rattle.pager_model.specs.Bounds.{most_calls}
@@ -23,6 +23,7 @@ all_left run = sum_by (left_at run) (range_with_len 0 (length run.calls))
 -- a processor's flight: it is of this processor's call of its number, and isn't ended; and where it keeps a space it is ready there
 pub record IsFlying (run : Running) (spaces : List Kept) (c : ℕ) (f : Flight) : Type 0 where
   pub processor : f.processor ≡ c
+  pub is_call : is_of_call f.purpose ≡ true
   pub of_call : slice_get (calls_at run.calls c) f.number ≡ Some (call_in f.purpose)
   pub on : space_of_call (call_in f.purpose) < length spaces
   pub fits : Fits f

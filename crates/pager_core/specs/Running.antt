@@ -117,7 +117,7 @@ pub record IsLawful (run : Running) : Type 0 where
   pub agrees : Agrees run.given (entries_in run.history)
   pub progress : (c : ℕ) → c < length run.calls → progress_at run.given (entries_in run.history) c ≡ Some (progress_of_actor run c)
   pub answers : (c : ℕ) → c < length run.calls → answers_in (entries_of c (entries_in run.history)) ≡ enumerate_from 0 (take (progress_of_actor run c).made (calls_at run.calls c))
-  pub between : (c : ℕ) (f : Flight) → flight_at run.flights c ≡ Some f → is_between f.phase ≡ true
+  pub between : (c : ℕ) (f : Flight) → flight_at run.flights c ≡ Some f → is_between f.purpose f.phase ≡ true
   pub flying : (c : ℕ) (f : Flight) → flight_at run.flights c ≡ Some f → IsOfCall (calls_at run.calls c) f
   pub one_keeper : (s c d : ℕ) (f g : Flight) → flight_at run.flights c ≡ Some f → flight_at run.flights d ≡ Some g → (row_of f).keeps ≡ Some s → (row_of g).keeps ≡ Some s → c ≡ d
 
