@@ -202,7 +202,7 @@ impl Pool {
         ensures { result ≡ is_short self.now mark }
     {
         let counts = self.counts();
-        counts.free + counts.reserved < mark
+        u64::from(counts.free) + u64::from(counts.reserved) < u64::from(mark)
     }
 
     /// Takes the frame of a page back, which is the page's used place. Answers the processor that claimed it and holds it now, and

@@ -39,6 +39,7 @@ Passes-evicting f page written was now st ready begins = record {
   };
   same_progress = refl;
   going = refl;
+  memory = tt;
   no_more = omega arith;
 }
   where

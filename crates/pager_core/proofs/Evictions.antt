@@ -16,7 +16,7 @@ use Rattle.pager_core.specs.Flights.{Fits, IsFor, LeftBy, PhaseFits, TurnFits, i
 use Rattle.pager_core.specs.Rows.{Going, access_of, at, call_in, claims_for, faulted, given_up, is_between, left_by, reply_in, row_of, won}
 use Rattle.pager_core.proofs.EntrySteps.{LeftBy-left, keeps_own_if}
 use Rattle.pager_core.proofs.NextFlights.{copies_none, keeps_faulted}
-use Rattle.pager_core.proofs.Purposes.{with_phase}
+use Rattle.pager_core.proofs.Purposes.{in_its_phase, with_phase}
 
 -- a phase of an eviction, which is one of a call or of a turn
 abbrev pub in_eviction : Phase → Bool
@@ -123,6 +123,17 @@ given_up-row_in c n (OfTurn mark evictions) v phase (Some count) access = record
 
 pub given_up-row : (f : Flight) (v : Victim) (fault : Option ℕ) → is_access (call_in f.purpose) ≡ true → IsGivenUp f v fault
 given_up-row f v = given_up-row_in f.processor f.number f.purpose v f.phase
+
+-- and it is nearer to its end
+given_up-nearer_in : (c n : ℕ) (purpose : Purpose) (v : Victim) (fault : Option ℕ) → (row_of (flight_in c n purpose (given_up purpose v fault))).steps < (row_of (flight_in c n purpose (Unclaim v fault))).steps
+given_up-nearer_in c n (OfCall call claimed) v None = omega arith
+given_up-nearer_in c n (OfCall call claimed) v (Some count) = omega arith
+given_up-nearer_in c n (OfTurn mark evictions) v None = omega arith
+given_up-nearer_in c n (OfTurn mark evictions) v (Some count) = omega arith
+
+pub given_up-nearer : (f : Flight) (v : Victim) (fault : Option ℕ) → f.phase ≡ Unclaim v fault → (row_of (with_phase f (given_up f.purpose v fault))).steps < (row_of f).steps
+given_up-nearer f v fault phase =
+    in_its_phase f (Unclaim v fault) phase (λ g. (row_of (with_phase f (given_up f.purpose v fault))).steps < (row_of g).steps) (given_up-nearer_in f.processor f.number f.purpose v fault)
 
 -- how it leaves the victim's space
 LeftBy-given_up_in :

@@ -1,20 +1,21 @@
--- The steps of a daemon's turn under the frames' lock alone.
-use Rattle.std.proofs.Common.{◌≡◌, ℕ, suc, ◌+◌, ◌-◌, ◌*◌, ◌<◌, ◌≤◌, Bool, true, false, not, ◌&&◌, ◌||◌, cond, eqb, nat_lt, Option, Some, None, refl, ap, sym, subst, ◌∙◌, arith}
-use Rattle.std.proofs.lemmas.Bool.{eq-eqb}
+-- A daemon's turn claims the victim's frame.
+use Rattle.std.proofs.Common.{◌≡◌, ℕ, zero, suc, ◌<◌, Bool, true, false, Some, None, refl, ap, sym, subst, arith}
+use Rattle.std.proofs.lemmas.Bool.{false≢true, lt-ltb}
 use Rattle.pager_model.specs.declared.entry.Entry.{Entry}
 use Rattle.pager_model.specs.declared.entry.Victim.{Victim}
-use Rattle.pager_model.specs.declared.entry.What.TheVariants.{Claim, DropHeld, Rest}
+use Rattle.pager_model.specs.declared.entry.What.TheVariants.{Claim}
 use Rattle.pager_model.specs.Agreement.{OwnsBy}
-use Rattle.pager_model.specs.FrameStates.{FrameState, HasNothing, IsVictim, MayClaim, claimed, counted, dropped, has_evictable, held_by, is_short}
-use Rattle.pager_model.specs.Order.{ForTurn, Claiming, Looking, dropped_for, leads}
-use Rattle.space_core.specs.Standing.{CanBegin}
+use Rattle.pager_model.specs.FrameStates.{FrameState, HasNothing, IsVictim, MayClaim, claimed, counted, is_short}
+use Rattle.pager_model.specs.Order.{ForTurn, Claiming, leads}
 use Rattle.pager_core.specs.declared.flight.Flight.{Flight}
 use Rattle.pager_core.specs.declared.flight.Phase.{Phase}
-use Rattle.pager_core.specs.declared.flight.Phase.TheVariants.{Out, Drop, Look, Rested}
-use Rattle.pager_core.specs.declared.flight.Purpose.TheVariants.{Turn as OfTurn}
+use Rattle.pager_core.specs.declared.flight.Phase.TheVariants.{Out, Look}
+use Rattle.pager_core.specs.declared.flight.Purpose.{Purpose}
+use Rattle.pager_core.specs.declared.flight.Purpose.TheVariants.{Call as OfCall, Turn as OfTurn}
 use Rattle.pager_core.specs.Flights.{Fits}
-use Rattle.pager_core.specs.Rows.{row_of}
+use Rattle.pager_core.specs.Rows.{evictions_in, is_of_call, mark_in, row_of}
 use Rattle.pager_core.specs.Steps.{MakesOnFrames}
+use Rattle.pager_core.proofs.Purposes.{with_phase}
 
 -- a flight of a turn
 abbrev pub turn : ℕ → ℕ → ℕ → ℕ → Phase → Flight
@@ -24,80 +25,41 @@ pub turn-is : (f : Flight) (mark evictions : ℕ) (phase : Phase) → f.purpose 
 turn-is f mark evictions phase purpose is = λ i. record { processor = f.processor; number = f.number; purpose = purpose i; phase = is i }
 
 may_claim : (st : FrameState) (mark : ℕ) → 0 < mark → is_short st mark ≡ true → MayClaim st mark
-may_claim st 0 some short = absurd (omega (arith, some))
+may_claim st zero some short = absurd (omega (arith, some))
 may_claim st (suc n) some short = short
 
-abbrev pub rest_entry : ℕ → Bool → Entry
-rest_entry c short = record { processor = c; space = None; frames = true; what = Rest short }
+of_turn-is : (p : Purpose) → is_of_call p ≡ false → p ≡ OfTurn (mark_in p) (evictions_in p)
+of_turn-is (OfCall call claimed) is = absurd (false≢true (sym is))
+of_turn-is (OfTurn mark evictions) is = refl
 
 abbrev pub claim_entry : ℕ → Victim → Entry
 claim_entry c v = record { processor = c; space = None; frames = true; what = Claim v.space v.page v.frame None }
 
-abbrev pub drop_entry : ℕ → ℕ → Entry
-drop_entry c frame = record { processor = c; space = None; frames = true; what = DropHeld frame }
+claims : (c n mark evictions : ℕ) (before : FrameState) (v : Victim) → Fits (turn c n mark evictions Look) → HasNothing before c → IsVictim before v.space v.page v.frame → is_short before mark ≡ true → evictions < mark
+    → MakesOnFrames (turn c n mark evictions Look) (turn c n mark evictions (Out v)) before (counted (claimed before v.frame (Some c))) (claim_entry c v)
+claims c n mark evictions before v fits nothing victim short fewer = record {
+  entry = record {
+    same_work = record { processor = refl; number = refl; same_kind = refl; call = refl; mark = refl };
+    processor = refl;
+    parts = (refl, refl);
+    frames_allow = λ named. (nothing, victim, may_claim before mark (omega (arith, fewer)) short);
+    frames_after = refl;
+    in_order = ap (λ b. leads b n (Claiming (ForTurn mark evictions) v)) (lt-ltb evictions mark fewer);
+    reply = refl;
+    answer = refl;
+    between = refl;
+    fewer = omega (arith, fewer);
+  };
+  no_space = refl;
+  fits = record { kind = fewer; can = fits.can; phase = refl };
+  keeps_none = refl;
+}
 
-module _ (c n mark evictions : ℕ) (before : FrameState) where
-  -- the turn ends
-  pub rests : (short : Bool) → Fits (turn c n mark evictions Look) → HasNothing before c → short ≡ (is_short before mark && has_evictable before) → (not short || eqb evictions mark) ≡ true
-      → MakesOnFrames (turn c n mark evictions Look) (turn c n mark evictions Rested) before (counted before) (rest_entry c short)
-  rests short fits nothing is ordered = record {
-    entry = record {
-      same_work = record { processor = refl; number = refl; same_kind = refl; call = refl; mark = refl };
-      processor = refl;
-      parts = (refl, refl);
-      frames_allow = λ named. (nothing, (let one = fits.kind.0 in omega (arith, one)), is);
-      frames_after = refl;
-      in_order = ap (λ b. leads b (n + 1) (Looking mark 0)) ordered;
-      reply = refl;
-      answer = refl;
-      between = refl;
-      fewer = omega arith;
-    };
-    no_space = refl;
-    fits = record { kind = fits.kind.0; can = fits.can; phase = tt };
-    keeps_none = refl;
-  }
-
-  -- it claims the victim's frame
-  pub claims : (v : Victim) → Fits (turn c n mark evictions Look) → HasNothing before c → IsVictim before v.space v.page v.frame → is_short before mark ≡ true → evictions < mark → nat_lt evictions mark ≡ true
-      → MakesOnFrames (turn c n mark evictions Look) (turn c n mark evictions (Out v)) before (counted (claimed before v.frame (Some c))) (claim_entry c v)
-  claims v fits nothing victim short fewer less = record {
-    entry = record {
-      same_work = record { processor = refl; number = refl; same_kind = refl; call = refl; mark = refl };
-      processor = refl;
-      parts = (refl, refl);
-      frames_allow = λ named. (nothing, victim, may_claim before mark (omega (arith, fewer)) short);
-      frames_after = refl;
-      in_order = ap (λ b. leads b n (Claiming (ForTurn mark evictions) v)) less;
-      reply = refl;
-      answer = refl;
-      between = refl;
-      fewer = omega (arith, fewer);
-    };
-    no_space = refl;
-    fits = record { kind = fewer; can = fits.can; phase = refl };
-    keeps_none = refl;
-  }
-
-  -- it lets the frame go that it holds
-  pub lets_go : (v : Victim) (frame : ℕ) → Fits (turn c n mark evictions (Drop v)) → OwnsBy before c (row_of (turn c n mark evictions (Drop v))).progress.doing → held_by before c ≡ Some frame
-      → MakesOnFrames (turn c n mark evictions (Drop v)) (turn c n mark (evictions + 1) Look) before (counted (dropped before c)) (drop_entry c frame)
-  lets_go v frame fits owns holds =
-      let own : v.frame ≡ frame = (let e : Some v.frame ≡ Some frame = sym owns ∙ holds in cc) in
-      record {
-        entry = record {
-          same_work = record { processor = refl; number = refl; same_kind = refl; call = refl; mark = refl };
-          processor = refl;
-          parts = (refl, refl);
-          frames_allow = λ named. holds;
-          frames_after = refl;
-          in_order = ap (λ b. cond b (dropped_for n (ForTurn mark evictions)) None) (eq-eqb frame v.frame (sym own));
-          reply = refl;
-          answer = refl;
-          between = refl;
-          fewer = omega arith;
-        };
-        no_space = refl;
-        fits = record { kind = (let less = fits.kind in (omega (arith, less), omega (arith, less))); can = fits.can; phase = tt };
-        keeps_none = refl;
-      }
+-- so it does of a flight of a turn
+pub claimed_for_turn :
+    (f : Flight) (before : FrameState) (v : Victim) → is_of_call f.purpose ≡ false → f.phase ≡ Look → Fits f → OwnsBy before f.processor (row_of f).progress.doing → IsVictim before v.space v.page v.frame → is_short before (mark_in f.purpose) ≡ true → evictions_in f.purpose < mark_in f.purpose
+    → MakesOnFrames f (with_phase f (Out v)) before (counted (claimed before v.frame (Some f.processor))) (claim_entry f.processor v)
+claimed_for_turn f before v of_turn phase fits owns victim short fewer =
+    subst (λ (g : Flight). Fits g → OwnsBy before f.processor (row_of g).progress.doing → MakesOnFrames g (with_phase g (Out v)) before (counted (claimed before v.frame (Some f.processor))) (claim_entry f.processor v))
+    (sym (turn-is f (mark_in f.purpose) (evictions_in f.purpose) Look (of_turn-is f.purpose of_turn) phase))
+    (λ fits owns. claims f.processor f.number (mark_in f.purpose) (evictions_in f.purpose) before v fits owns victim short fewer) fits owns

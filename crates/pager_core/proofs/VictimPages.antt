@@ -1,22 +1,21 @@
 -- A victim's page is paged out, and gives its frame up.
 use Rattle.std.proofs.Common.{◌≡◌, ℕ, Bool, true, false, Some, None, refl, ap, sym, ◌∙◌, inl, arith}
-use Rattle.pager_model.specs.declared.entry.Entry.{Entry}
 use Rattle.std.proofs.lemmas.Bool.{and_from, eq-eqb, false≢true}
 use Rattle.std.proofs.lemmas.Option.{same_Some}
 use Rattle.pager_model.specs.declared.entry.Victim.{Victim}
-use Rattle.pager_model.specs.declared.entry.What.TheVariants.{Out as OutEntry, Failed, Give, Got}
-use Rattle.pager_model.specs.FrameStates.{FrameState, counted, frame_of, give_page, held_by}
+use Rattle.pager_model.specs.declared.entry.What.TheVariants.{Out as OutEntry, Failed, Give}
+use Rattle.pager_model.specs.FrameStates.{FrameState, counted, frame_of, give_page}
 use Rattle.pager_model.specs.Order.{Emptied, Holding, Unwritten, is_victim, leads}
 use Rattle.pager_model.specs.SpaceStates.{SpaceState}
 use Rattle.space_core.specs.Beginning.{FailsToWrite, LeavesUnwritten, Removes, SameFrames, WritesOut}
-use Rattle.space_core.specs.Standing.{Kept, IsResting, frame_at}
+use Rattle.space_core.specs.Standing.{Kept, IsResting}
 use Rattle.pager_model.specs.CallEntries.{failed_entry, give_entry, out_entry}
 use Rattle.pager_core.specs.declared.flight.Flight.{Flight}
-use Rattle.pager_core.specs.declared.flight.Phase.TheVariants.{Out, Write, Hand, Unclaim}
+use Rattle.pager_core.specs.declared.flight.Phase.TheVariants.{Write, Hand, Unclaim}
 use Rattle.pager_core.specs.Flights.{HasVictim, IsReady}
 use Rattle.pager_core.specs.Rows.{claims_for, reply_in, won}
 use Rattle.pager_core.specs.Steps.{AreAgreed, Makes, Passes, answer_made}
-use Rattle.pager_core.proofs.EntrySteps.{Leaves-by, Leaves-on, same_space, unchanged}
+use Rattle.pager_core.proofs.EntrySteps.{Leaves-by, Leaves-on, same_space}
 use Rattle.pager_core.proofs.Evictions.{Fits-on, LeftBy-won, won-row}
 use Rattle.pager_core.proofs.Purposes.{in_its_phase, left_by-less, same_kind_of_work, with_phase}
 
@@ -104,6 +103,7 @@ module _ (f : Flight) (v : Victim) (was now : Kept) (st : SpaceState) where
         };
         same_progress = refl;
         going = refl;
+        memory = leaves.lacks;
         no_more = (let less = left_by-less f.purpose 6 7 2 3 4 (omega arith) (omega arith) in omega (arith, less));
       }
 
@@ -154,60 +154,3 @@ pub frame_handed : (f : Flight) (v : Victim) (frame : ℕ) (was now : Kept) (bef
 frame_handed f v frame was now before phase agree removes st =
     in_its_phase f (Hand v) phase (λ g. IsReady g was st → Makes g (with_phase f (won f.purpose v)) was now st before (counted (give_page before v.space v.page)) (give_entry f.processor v.space v.page frame))
     (λ ready. Makes-hand f v frame was now st before ready agree removes)
-
--- Out: the frame came to the hand of the flight's processor meanwhile
-abbrev pub got_entry : ℕ → ℕ → Entry
-got_entry c frame = record { processor = c; space = None; frames = true; what = Got frame }
-
-module _ (f : Flight) (v : Victim) (kept : Kept) (st : SpaceState) (before : FrameState) where
-  Makes-got : IsReady (with_phase f (Out v)) kept st → held_by before f.processor ≡ Some v.frame → Makes (with_phase f (Out v)) (with_phase f (won f.purpose v)) kept kept st before (counted before) (got_entry f.processor v.frame)
-  Makes-got ready holds =
-      let row = won-row f v in
-      record {
-        entry = record {
-          same_work = same_kind_of_work f (Out v) (won f.purpose v);
-          processor = refl;
-          parts = (refl, refl);
-          frames_allow = λ named. holds;
-          frames_after = refl;
-          in_order = ap (λ b. leads b f.number (Holding (claims_for f.purpose) v)) (eq-eqb v.frame v.frame refl) ∙ ap Some (sym row.progress);
-          reply = ap reply_in (sym row.going);
-          answer = ap (λ o. answer_made (with_phase f (won f.purpose v)) (reply_in o)) (sym row.going);
-          between = row.between;
-          fewer = (let less = row.fewer in let more = left_by-less f.purpose 6 7 2 3 4 (omega arith) (omega arith) in omega (arith, less, more));
-        };
-        space = record {
-          same_space = unchanged kept;
-          own_space = tt;
-          space_allows = tt;
-          left = LeftBy-won f v kept st (Out v) refl ready.fits ready.fits.phase (same_Some _ _ ready.under) ready.found ready.stands ready.next;
-        };
-      }
-
-  Passes-claimed : IsReady (with_phase f (Out v)) kept st → frame_at kept v.page ≡ Some v.frame → Passes (with_phase f (Out v)) (with_phase f (Write v)) kept kept st
-  Passes-claimed ready place = record {
-    same_work = same_kind_of_work f (Out v) (Write v);
-    same_space = unchanged kept;
-    same_frames = λ page. refl;
-    keeps = ready.under;
-    ready = record {
-      under = ready.under;
-      fits = Fits-on f (Out v) (Write v) refl refl ready.fits ready.fits.phase;
-      stands = ready.stands;
-      next = ready.next;
-      found = record { resting = ready.found; place = place };
-    };
-    same_progress = refl;
-    going = refl;
-    no_more = omega arith;
-  }
-
-pub frame_got : (f : Flight) (v : Victim) (kept : Kept) (st : SpaceState) (before : FrameState) → f.phase ≡ Out v → held_by before f.processor ≡ Some v.frame → IsReady f kept st → Makes f (with_phase f (won f.purpose v)) kept kept st before (counted before) (got_entry f.processor v.frame)
-frame_got f v kept st before phase holds =
-    in_its_phase f (Out v) phase (λ g. IsReady g kept st → Makes g (with_phase f (won f.purpose v)) kept kept st before (counted before) (got_entry f.processor v.frame))
-    (λ ready. Makes-got f v kept st before ready holds)
-
-pub still_claimed : (f : Flight) (v : Victim) (kept : Kept) (st : SpaceState) → f.phase ≡ Out v → frame_at kept v.page ≡ Some v.frame → IsReady f kept st → Passes f (with_phase f (Write v)) kept kept st
-still_claimed f v kept st phase place =
-    in_its_phase f (Out v) phase (λ g. IsReady g kept st → Passes g (with_phase f (Write v)) kept kept st)
-    (λ ready. Passes-claimed f v kept st ready place)

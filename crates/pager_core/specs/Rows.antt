@@ -88,8 +88,8 @@ given_up (OfCall call claimed) v None = Lack v.space
 given_up (OfCall call claimed) v (Some count) = Fault v.space count
 given_up (OfTurn mark evictions) v fault = Rested
 
--- How much is left: of a call so much; of a turn so much of the eviction that it is in, as much for each one that it may make after that,
--- and one for its end.
+-- How much is left at most: of a call so much; of a turn so much of the eviction that it is in, that of a whole one for each that it may make
+-- after this, and one for its end.
 abbrev pub left_by : Purpose → ℕ → ℕ → ℕ → ℕ
 left_by (OfCall call claimed) of_call of_eviction each = of_call
 left_by (OfTurn mark evictions) of_call of_eviction each = of_eviction + each * (mark - (evictions + 1)) + 1

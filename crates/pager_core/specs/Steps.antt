@@ -11,10 +11,12 @@ use Rattle.pager_model.specs.FrameStates.{FrameState, frames_after, frame_of, Fr
 use Rattle.pager_model.specs.Order.{progress_after}
 use Rattle.pager_model.specs.Showing.{answer_in}
 use Rattle.pager_model.specs.SpaceStates.{SpaceState, space_after, SpaceAllows}
+use Rattle.space_core.specs.Beginning.{LacksMemory}
 use Rattle.space_core.specs.Standing.{Kept, frame_at}
 use Rattle.pager_laws.specs.Laid.{IsSound}
 use Rattle.pager_core.specs.declared.flight.Flight.{Flight}
-use Rattle.pager_core.specs.declared.flight.Phase.TheVariants.{Short, Fault, Lack}
+use Rattle.pager_core.specs.declared.flight.Phase.{Phase}
+use Rattle.pager_core.specs.declared.flight.Phase.TheVariants.{Short, Unclaim, Fault, Lack}
 use Rattle.pager_core.specs.Rows.{call_in, is_of_call, mark_in, row_of, is_between, Going, reply_in}
 use Rattle.pager_core.specs.Flights.{Fits, IsReady, LeftBy}
 
@@ -98,14 +100,20 @@ pub record MakesOnFrames (old new : Flight) (before after : FrameState) (e : Ent
   pub fits : Fits new
   pub keeps_none : (row_of new).keeps ≡ None
 
+-- the page whose claim is given up since there was no memory to write it
+abbrev pub lacking_page : Phase → Option ℕ
+lacking_page (Unclaim v None) = Some v.page
+lacking_page phase = None
+
 -- A step that makes no entry: the flight keeps the space and is ready for its next step there, and each page has the frame that it
--- had.
+-- had. Where it found no memory to write a page, the page is dirty and its store doesn't keep it.
 pub record Passes (old new : Flight) (was now : Kept) (st : SpaceState) : Type 0 where
   pub same_work : SameWork old new
   pub same_space : SameSpace was now
   pub same_frames : (page : ℕ) → frame_at now page ≡ frame_at was page
   pub keeps : (row_of new).keeps ≡ Some was.number
   pub ready : IsReady new now st
+  pub memory : IfSome (lacking_page new.phase) (LacksMemory was)
   pub same_progress : (row_of new).progress ≡ (row_of old).progress
   pub going : (row_of new).outcome ≡ Going
   pub no_more : (row_of new).entries ≤ (row_of old).entries

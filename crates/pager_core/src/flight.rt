@@ -80,7 +80,7 @@ pub enum Phase {
     Back {
         victim: Victim,
     },
-    /// The held frame isn't needed any more.
+    /// The held frame has to go free: a call doesn't need it any more, and a turn holds it for nothing else.
     Drop {
         victim: Victim,
     },
@@ -159,7 +159,7 @@ impl Flight {
         }
     }
 
-    /// The processor's turn of this number, counted from 0, of a paging daemon with this low mark, of which nothing was done.
+    /// The processor's turn of this number, counted from 0, of a paging daemon with this low mark, 1 at least, of which nothing was done.
     pub fn of_turn(processor: u32, number: u32, mark: u32) -> Flight
         ensures { result ≡ new_turn processor number mark }
     {
@@ -830,6 +830,7 @@ impl Flight {
     fn claim_for_turn(&mut self, pool: &mut Pool) -> Entry
         requires phase { self.old.phase ≡ Phase.Look }
         requires turn { is_of_call self.old.purpose ≡ false }
+        requires fits { Fits self.old }
         requires fewer { evictions_in self.old.purpose < mark_in self.old.purpose }
         requires short { is_short pool.old (mark_in self.old.purpose) ≡ true }
         requires victim { has_evictable pool.old ≡ true }

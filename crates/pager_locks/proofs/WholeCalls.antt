@@ -18,9 +18,9 @@ use Rattle.pager_core.specs.declared.flight.Flight.{Flight}
 use Rattle.pager_core.specs.declared.flight.Purpose.TheVariants.{Call as OfCall}
 use Rattle.pager_core.specs.Flights.{Fits}
 use Rattle.pager_core.specs.Machines.{CanFly}
-use Rattle.pager_core.specs.Rows.{Outcome, Going, TurnEnded, Answered, call_in, new_flight, own_space, reply_in, row_of, row_in, space_under}
+use Rattle.pager_core.specs.Rows.{Outcome, Going, TurnEnded, Answered, call_in, is_of_call, new_flight, own_space, reply_in, row_of, row_in, space_under}
 use Rattle.pager_core.specs.Steps.{answer_made}
-use Rattle.pager_core.proofs.NextFlights.{ended_by, turn_goes_on, under_some}
+use Rattle.pager_core.proofs.NextFlights.{ended_by, of_calls, turn_goes_on, under_some}
 use Rattle.pager_core.proofs.Purposes.{of_call-is}
 use Rattle.pager_locks.specs.Calls.{MakesCall, IsNextFlight}
 use Rattle.pager_locks.specs.Locked.{Departure, IsFlying}
@@ -28,12 +28,12 @@ use Rattle.pager_locks.specs.Prepared.{MayCall}
 use Rattle.pager_locks.proofs.CountedCalls.{counted}
 
 -- a flight that needs no space is ended
-pub answered : (f : Flight) → Fits f → space_under (row_of f).needs ≡ None → IsSome (reply_in (row_of f).outcome)
-answered f fits none = by (row_of f).outcome refl
+pub answered : (f : Flight) → is_of_call f.purpose ≡ true → Fits f → space_under (row_of f).needs ≡ None → IsSome (reply_in (row_of f).outcome)
+answered f is_call fits none = by (row_of f).outcome refl
   where
     by : (o : Outcome) → (row_of f).outcome ≡ o → IsSome (reply_in o)
-    by Going is = (let some = under_some f fits is in absurd (none-some some.0 (sym none ∙ some.1)))
-    by TurnEnded is = absurd (turn_goes_on f is)
+    by Going is = (let some = under_some f is_call is in absurd (none-some some.0 (sym none ∙ some.1)))
+    by TurnEnded is = absurd (turn_goes_on f (of_calls f is_call fits) is)
     by (Answered r) is = refl
 
 -- a pass's processor is one of its journal's
@@ -66,12 +66,13 @@ module _ (j : JournalName) (p : PassState) (f : Flight) (may : MayCall j p) (nex
     same_processor = refl;
     same_room = refl;
     number = refl;
+    is_call = refl;
     call = refl;
     known = subst (λ k. k < length j.setting.marks) (sym next.processor) known;
     mark = own_mark;
     progress = ap (λ m. progress_of m (entries_in p.entries)) own_mark ∙ may.whole.1 ∙ ap (λ k. Some (at_rest 0 k)) made;
     room = may.room;
-    fits = record { of_call = refl; can = can.can; phase = refl };
+    fits = record { kind = refl; can = can.can; phase = refl };
     on = can.on;
     under = λ s under. subst (λ k. k < length j.setting.told) (same_Some (space_of_call (call_in f.purpose)) s under) can.on;
     piece = [];

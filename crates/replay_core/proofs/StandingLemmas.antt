@@ -105,7 +105,7 @@ module _ (plan : Plan) (stores : List Stored) (run : Running) (is : IsRunOf plan
       ∙ ap (λ l. standing_by l (progress_of_actor run c)) (sym (calls_known plan run.calls is.calls c known))
       ∙ standing_flight (calls_at run.calls c) (flight_at run.flights c) (λ f flies. is.lawful.flying c f flies)
 
-  kept_is : (space : ℕ) (o : Option Flight) → ((f : Flight) → o ≡ Some f → (is_between f.phase ≡ true) × (is_of_call f.purpose ≡ true)) → is_kept_by space (standing_of o) ≡ is_that space (kept_by o)
+  kept_is : (space : ℕ) (o : Option Flight) → ((f : Flight) → o ≡ Some f → (is_between f.purpose f.phase ≡ true) × (is_of_call f.purpose ≡ true)) → is_kept_by space (standing_of o) ≡ is_that space (kept_by o)
   kept_is space None fits = refl
   kept_is space (Some f) fits =
       ap (is_that space) (sym (keeps_by_place f (fits f refl).0 ∙ ap (λ own. keeps_in own (row_of f).progress.doing) (own_space-is f.purpose (fits f refl).1)))

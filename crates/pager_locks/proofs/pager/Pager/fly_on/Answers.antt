@@ -12,4 +12,4 @@ loop-space-preserved g c =
     }
 
 pub returns-clause-ended : goal.returns-clause-ended
-returns-clause-ended g c = answered c.loop-space.flight c.loop-space.invariant.some.1.fits (sym c.under.ensures ∙ c.in_default.is)
+returns-clause-ended g c = answered c.loop-space.flight c.loop-space.invariant.some.1.is_call c.loop-space.invariant.some.1.fits (sym c.under.ensures ∙ c.in_default.is)
