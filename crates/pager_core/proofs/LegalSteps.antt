@@ -190,29 +190,41 @@ victim_placed f f' before after e v entry is =
 pub victim_resident : (f f' : Flight) (was now : Kept) (st : SpaceState) (before after : FrameState) (e : Entry) (v : Victim) → Makes f f' was now st before after e → f'.phase ≡ OutPhase v → frame_of before v.space v.page ≡ Some v.frame
 victim_resident f f' was now st before after e v makes is = victim_placed f f' before after e v makes.entry is
 
-module _ (g : Given) (h : List Entry) (f f' : Flight) (was now : Kept) (before after : FrameState) (e : Entry) (s : ℕ) where
+module _ (g : Given) (h : List Entry) (f f' : Flight) (before after : FrameState) (e : Entry) (makes : MakesEntry f f' before after e) where
   -- the entry of a step may follow
-  pub MayFollow-step : Makes f f' was now (space_at g h s) before after e → was.number ≡ s → mark_of g f.processor ≡ mark_in f.purpose → f.processor < length g.marks → s < length g.told → before ≡ frames_at g h → progress_at g h f.processor ≡ Some (row_of f).progress → MayFollow g h e
-  MayFollow-step makes at mark processor space frames progress =
+  pub MayFollow-step : IfSome e.space (λ s. s < length g.told) → IfSome e.space (λ s. SpaceAllows (space_at g h s) e) → mark_of g f.processor ≡ mark_in f.purpose → f.processor < length g.marks → before ≡ frames_at g h → progress_at g h f.processor ≡ Some (row_of f).progress → MayFollow g h e
+  MayFollow-step space allows mark processor frames progress =
       record {
-        parts = makes.entry.parts;
-        processor = subst (λ c. c < length g.marks) (sym makes.entry.processor) processor;
-        space = both_some e.space (λ t named again. subst (λ n. n < length g.told) (sym (named ∙ at)) space) makes.space.own_space makes.space.own_space;
-        by_space = at_named (λ t. SpaceAllows (space_at g h t) e) e.space was.number s at makes.space.own_space makes.space.space_allows;
+        parts = makes.parts;
+        processor = subst (λ c. c < length g.marks) (sym makes.processor) processor;
+        space = space;
+        by_space = allows;
         by_frames = λ is.
             subst (λ st. FramesAllow st (mark_of g e.processor) e.processor e.space e.what) frames
-            (subst (λ m. FramesAllow before m e.processor e.space e.what) (sym (ap (mark_of g) makes.entry.processor ∙ mark))
-            (makes.entry.frames_allow is));
-        ordered = ((row_of f').progress, subst (λ c. progress_by (progress_in g c (entries_of c h)) e ≡ Some (row_of f').progress) (sym makes.entry.processor) (ap (λ p. progress_by p e) progress ∙ makes.entry.in_order));
+            (subst (λ m. FramesAllow before m e.processor e.space e.what) (sym (ap (mark_of g) makes.processor ∙ mark))
+            (makes.frames_allow is));
+        ordered = ((row_of f').progress, subst (λ c. progress_by (progress_in g c (entries_of c h)) e ≡ Some (row_of f').progress) (sym makes.processor) (ap (λ p. progress_by p e) progress ∙ makes.in_order));
       }
 
+  pub frames_at-step : before ≡ frames_at g h → after ≡ frames_at g (h ++ e ∷ [])
+  frames_at-step frames = makes.frames_after ∙ ap (λ st. after_frames st e) frames ∙ sym (frames_at-after g h e)
+
+-- A step under a space's lock.
+module _ (g : Given) (h : List Entry) (f f' : Flight) (was now : Kept) (before after : FrameState) (e : Entry) (s : ℕ) (makes : Makes f f' was now (space_at g h s) before after e) (at : was.number ≡ s) where
+  pub space_known : s < length g.told → IfSome e.space (λ t. t < length g.told)
+  space_known space = both_some e.space (λ t named again. subst (λ n. n < length g.told) (sym (named ∙ at)) space) makes.space.own_space makes.space.own_space
+
+  pub space_allows : IfSome e.space (λ t. SpaceAllows (space_at g h t) e)
+  space_allows = at_named (λ t. SpaceAllows (space_at g h t) e) e.space was.number s at makes.space.own_space makes.space.space_allows
+
   -- a space that the step isn't made under stays as it is
-  pub space_at-elsewhere : Makes f f' was now (space_at g h s) before after e → was.number ≡ s → (t : ℕ) → t ≢ s → space_at g (h ++ e ∷ []) t ≡ space_at g h t
-  space_at-elsewhere makes at t other = space_at-other g h e t (unnamed e.space was.number t makes.space.own_space (λ is. other (is ∙ at)))
+  pub space_at-elsewhere : (t : ℕ) → t ≢ s → space_at g (h ++ e ∷ []) t ≡ space_at g h t
+  space_at-elsewhere t other = space_at-other g h e t (unnamed e.space was.number t makes.space.own_space (λ is. other (is ∙ at)))
 
   -- and that which it is made under goes on by its entry
-  pub space_at-here : was.number ≡ s → after_named was.number (space_at g h s) e ≡ space_at g (h ++ e ∷ []) s
-  space_at-here at = ap (λ n. after_named n (space_at g h s) e) at ∙ sym (space_at-after g h e s)
+  pub space_at-here : after_named was.number (space_at g h s) e ≡ space_at g (h ++ e ∷ []) s
+  space_at-here = ap (λ n. after_named n (space_at g h s) e) at ∙ sym (space_at-after g h e s)
 
-  pub frames_at-step : Makes f f' was now (space_at g h s) before after e → before ≡ frames_at g h → after ≡ frames_at g (h ++ e ∷ [])
-  frames_at-step makes frames = makes.entry.frames_after ∙ ap (λ st. after_frames st e) frames ∙ sym (frames_at-after g h e)
+-- an entry that names no space leaves all as they are
+pub space_at-unnamed : (g : Given) (h : List Entry) (e : Entry) (t : ℕ) → e.space ≡ None → space_at g (h ++ e ∷ []) t ≡ space_at g h t
+space_at-unnamed g h e t none = space_at-other g h e t (ap (is_that t) none)

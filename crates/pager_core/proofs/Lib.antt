@@ -16,7 +16,10 @@ pub mod TurnSteps
 pub mod HeldFrames
 pub mod LegalSteps
 pub mod NextFlights
+pub mod Lands
 pub mod MachineTurns
+pub mod SpaceTurns
+pub mod FrameTurns
 pub mod SilentSteps
 pub mod ReadyFlights
 pub mod WholeTurns

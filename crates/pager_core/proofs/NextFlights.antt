@@ -1,5 +1,5 @@
--- How a processor goes on after a step: in its call, or where that was answered, with its next call.
-use Rattle.std.proofs.Common.{◌≡◌, ◌≢◌, ℕ, ◌+◌, ◌-◌, ◌*◌, ◌<◌, ◌≤◌, true, false, eqb, List, length, slice_get, Option, Some, None, option_map, refl, ap, sym, subst, ◌∙◌, arith, inl, inr, ◌⊎◌}
+-- What the row of a flight says, phase by phase.
+use Rattle.std.proofs.Common.{Bool, ◌≡◌, ◌≢◌, ℕ, ◌+◌, ◌-◌, ◌*◌, ◌<◌, ◌≤◌, true, false, eqb, List, length, slice_get, Option, Some, None, option_map, refl, ap, sym, subst, ◌∙◌, arith, inl, inr, ◌⊎◌}
 use Rattle.std.proofs.lemmas.Bool.{cases_Bool, cond-true, cond-false, eqb-true, eq-eqb, false≢true}
 use Rattle.std.proofs.lemmas.Option.{none-some, same_Some, slice_get_within, slice_get_cases}
 use Rattle.pager_model.specs.declared.entry.Victim.{Victim}
@@ -14,11 +14,12 @@ use Rattle.space_core.specs.Standing.{Kept, IsResting, copied_page}
 use Rattle.pager_core.specs.declared.flight.Flight.{Flight}
 use Rattle.pager_core.specs.declared.flight.Phase.{Phase}
 use Rattle.pager_core.specs.declared.flight.Phase.TheVariants.{Start, Evict, Clear, Frame, Out, Write, Hand, Unclaim, Back, Drop, Use, Fault, Lack, Look, Rested, Ended}
+use Rattle.pager_core.specs.declared.flight.Needs.{Needs}
+use Rattle.pager_core.specs.declared.flight.Needs.TheVariants.{Space, Both, Frames, Ended as NoneNeeded}
 use Rattle.pager_core.specs.declared.flight.Purpose.{Purpose}
 use Rattle.pager_core.specs.declared.flight.Purpose.TheVariants.{Call as OfCall, Turn as OfTurn}
-use Rattle.pager_core.specs.Flights.{Fits, IsFor, PhaseFits, PhaseStands, is_of_turns}
+use Rattle.pager_core.specs.Flights.{Fits, IsFor, PhaseFits, PhaseStands, TurnFits, is_of_turns}
 use Rattle.pager_core.specs.Rows.{Outcome, Going, TurnEnded, Answered, access_in, alone, at, call_in, claimed_in, faulted, is_between, is_of_call, looking, Row, new_flight, own_space, reply_in, row_of, row_in, space_under}
-use Rattle.pager_core.specs.Running.{flight_of, progress_by_flight, kept_by, entries_left}
 use Rattle.pager_core.proofs.Purposes.{of_call-is, own_space-is}
 
 -- Of a row.
@@ -233,97 +234,57 @@ under_some f is_call =
     subst (λ own. (row_on f own).outcome ≡ Going → (t : ℕ) × (space_under (row_on f own).needs ≡ Some t)) (sym (own_space-is f.purpose is_call))
     (under_some_in f.processor f.number (space_of_call (call_in f.purpose)) f.purpose f.phase)
 
-pub under_cases : (f : Flight) (t : ℕ) → is_of_call f.purpose ≡ true → space_under (row_of f).needs ≡ Some t → (space_of_call (call_in f.purpose) ≡ t) ⊎ (((row_of f).keeps ≡ Some t) ⊎ ((v : Victim) × (f.phase ≡ Out v) × (t ≡ v.space)))
-under_cases f t is_call under = elim (under_cases_in f.processor f.number (own_space f.purpose) t f.purpose f.phase under) [
-  | inl own ↦ inl (same_Some _ _ (sym (own_space-is f.purpose is_call) ∙ own))
-  | inr other ↦ inr other
-]
+pub under_cases : (f : Flight) (t : ℕ) → space_under (row_of f).needs ≡ Some t → (own_space f.purpose ≡ Some t) ⊎ (((row_of f).keeps ≡ Some t) ⊎ ((v : Victim) × (f.phase ≡ Out v) × (t ≡ v.space)))
+under_cases f t = under_cases_in f.processor f.number (own_space f.purpose) t f.purpose f.phase
 
-pub anywhere : (f : Flight) (kept : Kept) → is_of_call f.purpose ≡ true → Fits f → (row_of f).outcome ≡ Going → (row_of f).keeps ≡ None → IsResting kept → ((row_of f).next ≡ Anyone) × PhaseStands (call_in f.purpose) kept f.phase
-anywhere f kept is_call fits =
-    subst (λ own. (row_on f own).outcome ≡ Going → (row_on f own).keeps ≡ None → IsResting kept → ((row_on f own).next ≡ Anyone) × PhaseStands (call_in f.purpose) kept f.phase) (sym (own_space-is f.purpose is_call))
-    (λ going none rest. anywhere_in f.processor f.number (space_of_call (call_in f.purpose)) f.purpose f.phase kept is_call refl going none fits.phase rest)
+-- a turn that goes on in a space without keeping it is about to page its victim out
+anywhere_turn_in : (c n s mark evictions : ℕ) (p : Phase) (kept : Kept) → TurnFits mark evictions p → space_under (row_in c n None (OfTurn mark evictions) p).needs ≡ Some s → (row_in c n None (OfTurn mark evictions) p).keeps ≡ None → IsResting kept
+    → ((row_in c n None (OfTurn mark evictions) p).next ≡ Anyone) × PhaseStands (call_in (OfTurn mark evictions)) kept p
+anywhere_turn_in c n s mark evictions (Out v) kept fits under none rest = (refl, rest)
+anywhere_turn_in c n s mark evictions (Write v) kept fits under none rest = absurd (none-some _ (sym none))
+anywhere_turn_in c n s mark evictions (Hand v) kept fits under none rest = absurd (none-some _ (sym none))
+anywhere_turn_in c n s mark evictions (Unclaim v None) kept fits under none rest = absurd (none-some _ (sym none))
+anywhere_turn_in c n s mark evictions (Unclaim v (Some count)) kept fits under none rest = absurd (none-some _ (sym none))
+anywhere_turn_in c n s mark evictions (Drop v) kept fits under none rest = absurd (none-some s under)
+anywhere_turn_in c n s mark evictions Look kept fits under none rest = absurd (none-some s under)
+anywhere_turn_in c n s mark evictions Rested kept fits under none rest = absurd (none-some s under)
+anywhere_turn_in c n s mark evictions p kept fits under none rest = absurd fits
 
--- what comes of a flight's processor, among whose calls the flight's is
-pub record Lands (calls : List Call) (f : Flight) (o : Option Flight) : Type 0 where
-  pub progress : progress_by_flight calls o ≡ (row_of f).progress
-  pub left : entries_left calls o ≤ (row_of f).entries + 8 * (length calls - (f.number + 1))
-  pub keeps : kept_by o ≡ (row_of f).keeps
-  pub keeper : (g : Flight) (s : ℕ) → o ≡ Some g → (row_of g).keeps ≡ Some s → g ≡ f
-  pub processor : (g : Flight) → o ≡ Some g → g.processor ≡ f.processor
-  pub of_call : (g : Flight) → o ≡ Some g → slice_get calls g.number ≡ Some (call_in g.purpose)
-  pub going : (g : Flight) → o ≡ Some g → (row_of g).outcome ≡ Going
-  pub same : (g : Flight) → o ≡ Some g → (g ≡ f) ⊎ ((n : ℕ) × (k : Call) × (g ≡ new_flight f.processor n k))
-  pub goes : ((o ≡ Some f) × ((row_of f).outcome ≡ Going)) ⊎ (o ≡ flight_of f.processor (f.number + 1) calls)
+anywhere_by : (c n s : ℕ) (purpose : Purpose) (p : Phase) (kept : Kept) → space_under (row_in c n (own_space purpose) purpose p).needs ≡ Some s → IsFor purpose p → PhaseFits purpose p → (row_in c n (own_space purpose) purpose p).outcome ≡ Going → (row_in c n (own_space purpose) purpose p).keeps ≡ None → IsResting kept
+    → ((row_in c n (own_space purpose) purpose p).next ≡ Anyone) × PhaseStands (call_in purpose) kept p
+anywhere_by c n s (OfCall call claimed) p kept under kind fits going none rest = anywhere_in c n (space_of_call call) (OfCall call claimed) p kept refl refl going none fits rest
+anywhere_by c n s (OfTurn mark evictions) p kept under kind fits going none rest = anywhere_turn_in c n s mark evictions p kept kind under none rest
 
--- it goes on in its call
-pub Lands-going : (calls : List Call) (f : Flight) → slice_get calls f.number ≡ Some (call_in f.purpose) → (row_of f).outcome ≡ Going → Lands calls f (Some f)
-Lands-going calls f of_call going =
-    record {
-      progress = refl;
-      left = omega arith;
-      keeps = refl;
-      keeper = λ g s is keeps. sym (same_Some f g is);
-      processor = λ g is. ap (λ (x : Flight). x.processor) (sym (same_Some f g is));
-      of_call = λ g is. subst (λ (x : Flight). slice_get calls x.number ≡ Some (call_in x.purpose)) (same_Some f g is) of_call;
-      going = λ g is. subst (λ (x : Flight). (row_of x).outcome ≡ Going) (same_Some f g is) going;
-      same = λ g is. inl (sym (same_Some f g is));
-      goes = inl (refl, going);
-    }
+pub anywhere : (f : Flight) (kept : Kept) (s : ℕ) → space_under (row_of f).needs ≡ Some s → Fits f → (row_of f).outcome ≡ Going → (row_of f).keeps ≡ None → IsResting kept → ((row_of f).next ≡ Anyone) × PhaseStands (call_in f.purpose) kept f.phase
+anywhere f kept s under fits = anywhere_by f.processor f.number s f.purpose f.phase kept under fits.kind fits.phase
 
--- the next call, where there is one
-lands_in : (calls : List Call) (c n : ℕ) (purpose : Purpose) (r : Reply) (next : Option Call) → slice_get calls n ≡ Some (call_in purpose) → slice_get calls (n + 1) ≡ next → Lands calls (record { processor = c; number = n; purpose = purpose; phase = Ended r }) (option_map (new_flight c (n + 1)) next)
-lands_in calls c n purpose r None at next =
-    let below = slice_get_within calls n (call_in purpose) at in
-    let past : length calls ≤ n + 1 = (elim (slice_get_cases calls (n + 1)).1 [ inl some ↦ (let e : Some some.0 ≡ None = sym some.2 ∙ next in cc) | inr none ↦ none.0 ]) in
-    let all : length calls ≡ n + 1 = omega (arith, below, past) in
-    record {
-      progress = ap (at_rest 0) all;
-      left = omega arith;
-      keeps = refl;
-      keeper = λ g s is keeps. absurd (none-some g is);
-      processor = λ g is. absurd (none-some g is);
-      of_call = λ g is. absurd (none-some g is);
-      going = λ g is. absurd (none-some g is);
-      same = λ g is. absurd (none-some g is);
-      goes = inr (ap (option_map (new_flight c (n + 1))) (sym next));
-    }
-lands_in calls c n purpose r (Some k) at next =
-    let below = slice_get_within calls (n + 1) k next in
-    let first : Flight = new_flight c (n + 1) k in
-    record {
-      progress = refl;
-      left = omega (arith, below);
-      keeps = refl;
-      keeper = λ g s is keeps. absurd (none-some s (ap (λ (x : Flight). (row_of x).keeps) (same_Some first g is) ∙ keeps));
-      processor = λ g is. ap (λ (x : Flight). x.processor) (sym (same_Some first g is));
-      of_call = λ g is. subst (λ (x : Flight). slice_get calls x.number ≡ Some (call_in x.purpose)) (same_Some first g is) next;
-      going = λ g is. subst (λ (x : Flight). (row_of x).outcome ≡ Going) (same_Some first g is) refl;
-      same = λ g is. inr (n + 1, k, sym (same_Some first g is));
-      goes = inr (ap (option_map (new_flight c (n + 1))) (sym next));
-    }
+-- A flight that goes on needs some lock, and where it needs no space's that of the frames.
 
--- where the call was answered it goes on with the next
-pub Lands-answered : (calls : List Call) (f : Flight) (r : Reply) → slice_get calls f.number ≡ Some (call_in f.purpose) → (row_of f).outcome ≡ Answered r → Lands calls f (flight_of f.processor (f.number + 1) calls)
-Lands-answered calls f r of_call answered =
-    let phase = ended_by f r answered in
-    subst (λ p. Lands calls (record { processor = f.processor; number = f.number; purpose = f.purpose; phase = p }) (flight_of f.processor (f.number + 1) calls)) (sym phase)
-    (lands_in calls f.processor f.number f.purpose r (slice_get calls (f.number + 1)) of_call refl)
+abbrev is_over : Needs → Bool
+is_over (Space s) = false
+is_over (Both s) = false
+is_over Frames = false
+is_over NoneNeeded = true
 
--- either way
-pub Lands-on : (calls : List Call) (f : Flight) (o : Option Flight) → is_of_turns f.phase ≡ false → slice_get calls f.number ≡ Some (call_in f.purpose) → ((row_of f).outcome ≡ Going → o ≡ Some f) → (reply_in (row_of f).outcome ≢ None → o ≡ flight_of f.processor (f.number + 1) calls) → Lands calls f o
-Lands-on calls f o calls_alone of_call going next = by (row_of f).outcome refl
+alone_goes : (own : Option ℕ) → is_over (alone own) ≡ false
+alone_goes None = refl
+alone_goes (Some s) = refl
+
+goes_in : (c n : ℕ) (own : Option ℕ) (purpose : Purpose) (p : Phase) → (row_in c n own purpose p).outcome ≡ Going → is_over (row_in c n own purpose p).needs ≡ false
+goes_in c n own purpose (Ended reply) is = absurd (not_going reply is)
+goes_in c n own purpose Rested is = absurd (not_ended is)
+goes_in c n own purpose (Unclaim v None) is = refl
+goes_in c n own purpose (Unclaim v (Some count)) is = refl
+goes_in c n own purpose (Fault space count) is =
+    ap (λ u. is_over (alone u)) (under_faulted own (access_in purpose) space count (copied_page (call_in purpose))) ∙ alone_goes own
+goes_in c n None purpose p is = refl
+goes_in c n (Some s) purpose p is = refl
+
+pub frames_needed : (f : Flight) → (row_of f).outcome ≡ Going → space_under (row_of f).needs ≡ None → (row_of f).needs ≡ Frames
+frames_needed f going none = by (row_of f).needs refl
   where
-    by : (r : Outcome) → (row_of f).outcome ≡ r → Lands calls f o
-    by Going is = subst (Lands calls f) (sym (going is)) (Lands-going calls f of_call is)
-    by TurnEnded is = absurd (turn_goes_on f calls_alone is)
-    by (Answered r) is = subst (Lands calls f) (sym (next (λ none. none-some r (sym none ∙ ap reply_in is)))) (Lands-answered calls f r of_call is)
-
--- and there is always a way
-pub lands : (calls : List Call) (f : Flight) → is_of_turns f.phase ≡ false → slice_get calls f.number ≡ Some (call_in f.purpose) → (o : Option Flight) × Lands calls f o
-lands calls f calls_alone of_call = by (row_of f).outcome refl
-  where
-    by : (r : Outcome) → (row_of f).outcome ≡ r → (o : Option Flight) × Lands calls f o
-    by Going is = (Some f, Lands-going calls f of_call is)
-    by TurnEnded is = absurd (turn_goes_on f calls_alone is)
-    by (Answered r) is = (flight_of f.processor (f.number + 1) calls, Lands-answered calls f r of_call is)
+    by : (n : Needs) → (row_of f).needs ≡ n → (row_of f).needs ≡ Frames
+    by (Space s) is = absurd (none-some s (sym none ∙ ap space_under is))
+    by (Both s) is = absurd (none-some s (sym none ∙ ap space_under is))
+    by Frames is = is
+    by NoneNeeded is = absurd (false≢true (sym (goes_in f.processor f.number (own_space f.purpose) f.purpose f.phase going) ∙ ap is_over is))

@@ -106,6 +106,11 @@ pub data Outcome : Type 0 where
   TurnEnded : Outcome
   Answered : Reply → Outcome
 
+abbrev pub has_ended : Outcome → Bool
+has_ended Going = false
+has_ended TurnEnded = true
+has_ended (Answered reply) = true
+
 -- the reply, once the call was answered
 abbrev pub reply_in : Outcome → Option Reply
 reply_in Going = None

@@ -8,7 +8,7 @@ ghost use Rattle.space_core.specs.Beginning.{Removes};
 ghost use Rattle.space_core.specs.Standing.{Kept, dirty_at, frame_at};
 ghost use Rattle.pager_model.specs.CallEntries.{answer_entry, give_entry};
 ghost use Rattle.pager_core.specs.Flights.{Fits, IsReady};
-ghost use Rattle.pager_core.specs.Rows.{alone, both, call_in, evictions_in, given_up, is_of_call, mark_in, new_flight, new_turn, own_space, reply_in, row_of, space_under, won};
+ghost use Rattle.pager_core.specs.Rows.{alone, both, call_in, evictions_in, given_up, has_ended, is_of_call, mark_in, new_flight, new_turn, own_space, reply_in, row_of, space_under, won};
 ghost use Rattle.pager_model.specs.Flat.{space_of_call};
 ghost use Rattle.pager_model.specs.Locks.{own_if};
 ghost use Rattle.pager_core.specs.Steps.{AreAgreed, Makes, MakesOnFrames, Passes, Refuses};
@@ -244,6 +244,13 @@ impl Flight {
             Phase::Fault { space, .. } | Phase::Lack { space } => own_if(own, space),
             _ => own,
         }
+    }
+
+    /// Whether the call was answered, or the turn has ended.
+    pub fn has_ended(&self) -> bool
+        ensures { result ≡ has_ended (row_of self.now).outcome }
+    {
+        matches!(self.phase, Phase::Ended { .. } | Phase::Rested)
     }
 
     /// What the call was answered, once it was.

@@ -1,4 +1,5 @@
 ghost use Rattle.std.specs.Prelude.{◌≡◌, ◌≤◌, All, length};
+ghost use Rattle.pager_model.specs.Showing.{actors};
 ghost use Rattle.pager_model.specs.TraceText.{HasText, IsLine};
 ghost use Rattle.pager_model.specs.Bounds.{most_calls};
 
@@ -94,6 +95,17 @@ impl Trace {
         ensures text { HasText self.now }
     {
         self.daemon
+    }
+
+    /// How many processors there are, with the daemon, which is the last.
+    pub fn actors(&self) -> u32
+        ensures actors { result ≡ actors self.now }
+        ensures text { HasText self.now }
+    {
+        match self.daemon {
+            Some(_) => self.processors + 1,
+            None => self.processors,
+        }
     }
 
     /// The calls, in the order of their lines.
