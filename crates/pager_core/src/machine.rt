@@ -203,10 +203,12 @@ impl<S: Store + Send + Drop> Machine<S> {
 
     /// Whether the actor has a job left.
     pub fn has_left(&self, actor: u32) -> bool
-        requires { actor < length self.now.jobs }
         ensures { IsTrue result ↔ (flight_at self.now.flights actor ≢ None) }
     {
-        self.flights[actor as usize].is_some()
+        match self.flights.get(actor as usize) {
+            Some(flight) => flight.is_some(),
+            None => false,
+        }
     }
 
     /// Whether no processor has a job left.
