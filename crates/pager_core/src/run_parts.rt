@@ -334,7 +334,7 @@ fn jobs_of(alloc: Global, trace: &Trace, processor: u32) -> Result<Vec<Job>, NoM
 }
 
 /// One processor's calls, in the order of the lines.
-fn calls_of(alloc: Global, processor: u32, lines: &[Line]) -> Result<Vec<Call>, NoMemory>
+pub fn calls_of(alloc: Global, processor: u32, lines: &[Line]) -> Result<Vec<Call>, NoMemory>
     ensures { IfOk result (λ calls. calls.items ≡ calls_of processor lines.now) }
 {
     Ok(
