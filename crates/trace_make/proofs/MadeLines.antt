@@ -86,7 +86,7 @@ HasText-made number calls processors spaces frames can =
       frames_whole = can.frames_whole;
       processors_in = can.processors_in;
       spaces_in = can.spaces_in;
-      no_daemon = refl;
+      daemon_in = tt;
       lines = All-append (IsLine processors spaces) maps lines
           (All-from_get_or (IsLine processors spaces) maps (map_line processors 0) (λ i below.
           subst (IsLine processors spaces) (sym (get_or-map-range_with_len (map_line processors) 0 spaces i i (map_line processors 0) (omega (arith, below, long)) (omega arith))) (map_is processors spaces i some (omega (arith, below, long)))))

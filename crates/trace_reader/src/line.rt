@@ -94,14 +94,9 @@ pub fn daemon_numbers(line: &[u8]) -> Option<(&[u8], &[u8])>
         ≡ codes "daemon" ∷ numbers.0.now ∷ numbers.1.now ∷ []) }
     ensures none { IfNone result (fits daemon_form (words_of line.now) ≡ false) }
 {
-    let words = words(line)?;
-    let [name, low, turns] = words.as_slice() else {
-        return None;
-    };
-    if *name == DAEMON {
-        Some((low, turns))
-    } else {
-        None
+    match words(line)?.as_slice() {
+        [name, low, turns] if *name == DAEMON => Some((low, turns)),
+        _ => None,
     }
 }
 

@@ -14,8 +14,8 @@ three (a ∷ b ∷ []) some few = absurd (omega arith)
 three (a ∷ b ∷ c ∷ []) some few = refl
 three (a ∷ b ∷ c ∷ d ∷ words) some few = absurd (omega arith)
 
-pub returns-then-eq-clause-some : goal.returns-then-eq-clause-some
-returns-then-eq-clause-some c =
+pub returns-in-len3-clause-some : goal.returns-in-len3-clause-some
+returns-in-len3-clause-some c =
     let words = c.as_slice.result.now in
     let name : word_at words 0 ≡ codes "daemon" = (bytes_eq-Decides (word_at words 0) (codes "daemon")).0 (sym c.if-eq.ensures) in
     sym c.in_ok-words.ensures.words ∙ ap seen (sym c.as_slice.ensures.value) ∙ three words c.in-len3.len_at_least c.in-len3.len_below ∙ ap (λ (w : List ℕ). w ∷ word_at words 1 ∷ word_at words 2 ∷ []) name
