@@ -43,7 +43,11 @@ fn put_trace<K: Sink>(room: &mut Room, sink: &mut K, trace: &Trace) -> Result<()
 }
 
 /// Puts the daemon's line, where there is one.
-fn put_daemon<K: Sink>(room: &mut Room, sink: &mut K, daemon: Option<Daemon>) -> Result<(), WriteFailed>
+fn put_daemon<K: Sink>(
+    room: &mut Room,
+    sink: &mut K,
+    daemon: Option<Daemon>,
+) -> Result<(), WriteFailed>
     ensures { Puts result
         (outgoing (K.taken sink.old) (K.faults sink.old) room.old.bytes.items)
         (outgoing (K.taken sink.new) (K.faults sink.new) room.new.bytes.items)

@@ -11,8 +11,10 @@ use trace_reader::{LineCause, MAX_BYTES, MAX_CALLS, TraceFault, parse, read_trac
 /// A first line of two processors and three spaces.
 const FIRST: &[u8] = b"trace 1 512 2 3\n";
 
-/// The same with a daemon's line behind it, and with a call's.
+/// The same with a daemon's line behind it.
 const WITH_DAEMON: &[u8] = b"trace 1 512 2 3\ndaemon 8 4\n";
+
+/// The same with a call's line behind it.
 const WITH_CALL: &[u8] = b"trace 1 512 2 3\n0 load 0 8\n";
 
 const END: &[u8] = b"end\n";
