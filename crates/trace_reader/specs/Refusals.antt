@@ -36,7 +36,7 @@ calls_refusal forms number calls (line ∷ next ∷ lines) =
     (if calls == most_calls then Some TooManyCalls else calls_refusal forms (number + 1) (calls + 1) (next ∷ lines))
 calls_refusal forms number calls lines = Some NoEnd
 
--- from the second line on, which alone may be a daemon's. That is no call line, and no line fits its form and that of a call.
+-- from the second line on, which alone may be a daemon's; that is no call, and no line fits both forms
 abbrev pub second_refusal : List (List Place) → List (List ℕ) → Option TraceFault
 second_refusal forms (line ∷ next ∷ lines) =
     if fits daemon_form (words_of line)
