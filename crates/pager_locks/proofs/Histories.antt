@@ -29,7 +29,7 @@ use Rattle.pager_core.specs.RunParts.{most_in_history}
 use Rattle.pager_core.specs.Steps.{AreAgreed, MakesEntry}
 use Rattle.pager_laws.proofs.UnknownSpaces.{base-unknown}
 use Rattle.pager_core.proofs.LegalSteps.{victim_placed}
-use Rattle.pager_locks.specs.Locked.{Departure, StandsAt, IsPoolAt, IsFlying, state_by}
+use Rattle.pager_locks.specs.Locked.{Departure, StandsAt, IsPoolAt, IsFlying, later, state_by}
 
 -- each entry on the frames is counted once
 fold-entries : (es : List Entry) (st : FrameState) → (fold frames_after st es).entries ≡ st.entries + length es
@@ -94,7 +94,7 @@ module _ (j : JournalName) (frames : AuthorState) (p : PassState) (h : List Entr
       ]
 
   module _ (from : Departure) (f : Flight) (flying : IsFlying j from f p) where
-    progress : progress_at j.setting h f.processor ≡ Some (row_of f).progress
+    progress : progress_at j.setting h f.processor ≡ Some (later from.before (row_of f).progress)
     progress =
         ap (λ c. progress_in j.setting f.processor (entries_of c h)) (sym flying.processor)
         ∙ ap (progress_in j.setting f.processor) (sym met.2.1)
@@ -103,7 +103,7 @@ module _ (j : JournalName) (frames : AuthorState) (p : PassState) (h : List Entr
     pub OwnsBy-met : OwnsBy pool f.processor (row_of f).progress.doing
     OwnsBy-met =
         subst (λ st. OwnsBy st f.processor (row_of f).progress.doing) (sym frames_are)
-        (OwnsBy-legal j.setting h legal f.processor (row_of f).progress flying.known progress)
+        (OwnsBy-legal j.setting h legal f.processor (later from.before (row_of f).progress) flying.known progress)
 
     pub known-met : f.processor < length pool.held
     known-met = (let known = flying.known in let held = sound.processors_known in omega (arith, known, held))

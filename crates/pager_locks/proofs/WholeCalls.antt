@@ -28,18 +28,10 @@ use Rattle.pager_core.proofs.Lands.{Fits-for, Starts, Starts-for, ended_progress
 use Rattle.pager_core.proofs.NextFlights.{ended_by, of_calls, turn_goes_on}
 use Rattle.pager_core.proofs.Purposes.{of_call-is}
 use Rattle.pager_locks.specs.Calls.{MakesCall, MakesTurn, IsNextFlight}
-use Rattle.pager_locks.specs.Locked.{Departure, IsFlying}
+use Rattle.pager_locks.specs.Locked.{Departure, IsFlying, later}
 use Rattle.pager_locks.specs.Prepared.{MayCall, MayTurn}
 use Rattle.pager_locks.proofs.CountedCalls.{counted}
-
--- a flight that hasn't ended goes on
-pub still_going : (f : Flight) → has_ended (row_of f).outcome ≡ false → (row_of f).outcome ≡ Going
-still_going f not = by (row_of f).outcome not
-  where
-    by : (o : Outcome) → has_ended o ≡ false → o ≡ Going
-    by Going not = refl
-    by TurnEnded not = absurd (false≢true (sym not))
-    by (Answered r) not = absurd (false≢true (sym not))
+use Rattle.pager_locks.proofs.Later.{later_none}
 
 -- a flight of a call
 of_call_job : (p : Purpose) (call : Call) → job_in p ≡ CallJob call → (is_of_call p ≡ true) × (call_in p ≡ call)
@@ -67,7 +59,7 @@ module _ (j : JournalName) (p : PassState) (f : Flight) (may : MayCall j p) (nex
       (sym (of_call-is f.purpose next.is_call ∙ ap (OfCall (call_in f.purpose)) next.unclaimed))
 
   abbrev from : Departure
-  from = record { pass = p; number = f.number; job = CallJob (call_in f.purpose) }
+  from = record { pass = p; before = 0; number = f.number; job = CallJob (call_in f.purpose) }
 
   pub IsFlying-start : IsFlying j from f p
   IsFlying-start = subst (λ (x : Flight). IsFlying j from x p) is_start (record {
@@ -77,9 +69,10 @@ module _ (j : JournalName) (p : PassState) (f : Flight) (may : MayCall j p) (nex
     same_room = refl;
     number = refl;
     job = refl;
+    none_before = λ _. refl;
     known = subst (λ k. k < length j.setting.marks) (sym next.processor) known;
     mark = own_mark;
-    progress = ap (λ m. progress_of m (entries_in p.entries)) own_mark ∙ may.whole.1 ∙ ap (λ k. Some (at_rest 0 k)) made;
+    progress = ap (λ m. progress_of m (entries_in p.entries)) own_mark ∙ may.whole.1 ∙ ap (λ k. Some (at_rest 0 k)) made ∙ ap Some (sym (later_none (at_rest 0 f.number)));
     room = may.room;
     fits = record { kind = refl; can = can.can; phase = refl };
     on = can.on;
@@ -104,7 +97,7 @@ module _ (j : JournalName) (p : PassState) (f : Flight) (may : MayCall j p) (nex
       let called : call_in g.purpose ≡ call_in f.purpose = (of_call_job g.purpose (call_in f.purpose) flying.job).1 in
       let ended : (row_of g).progress ≡ at_rest 0 (f.number + 1) = ap (λ x. (row_in g.processor g.number (own_space g.purpose) g.purpose x).progress) phase ∙ ap (λ k. at_rest 0 (k + 1)) flying.number in
       let all : progress_of 0 (entries_in q.entries) ≡ Some (at_rest 0 (f.number + 1)) =
-      ap (λ m. progress_of m (entries_in q.entries)) (sym (ap (mark_of j.setting) own ∙ own_mark)) ∙ flying.progress ∙ ap Some ended in
+      ap (λ m. progress_of m (entries_in q.entries)) (sym (ap (mark_of j.setting) own ∙ own_mark)) ∙ flying.progress ∙ ap Some (later_none (row_of g).progress ∙ ended) in
       let before : progress_of 0 (entries_in p.entries) ≡ Some (at_rest 0 f.number) = may.whole.1 ∙ ap (λ k. Some (at_rest 0 k)) made in
       let split : entries_in q.entries ≡ entries_in p.entries ++ entries_in flying.piece = ap entries_in flying.entries ∙ map-append (λ (x : Numbered). x.entry) p.entries flying.piece in
       record {
@@ -138,15 +131,18 @@ module _ (j : JournalName) (p : PassState) (f : Flight) (may : MayCall j p) (nex
       by (Answered r) is some = MakesCall-made g q r flying is
 
 -- The flight of a daemon's next turn, from its start to its end.
-module _ (j : JournalName) (p : PassState) (c number mark : ℕ) (may : MayTurn j p number mark) (own : c ≡ p.processor) (known : p.processor < length j.setting.marks) where
+module _ (j : JournalName) (p : PassState) (c mark : ℕ) (may : MayTurn j p mark) (own : c ≡ p.processor) (known : p.processor < length j.setting.marks) where
+  abbrev made_before : ℕ
+  made_before = may.whole.0
+
   abbrev started : Flight
-  started = new_turn c number mark
+  started = new_turn c 0 mark
 
   abbrev pub from_turn : Departure
-  from_turn = record { pass = p; number = number; job = Turn mark }
+  from_turn = record { pass = p; before = made_before; number = 0; job = Turn mark }
 
-  starts : Starts c number mark (Turn mark)
-  starts = Starts-for c number mark (Turn mark) (refl, may.some)
+  starts : Starts c 0 mark (Turn mark)
+  starts = Starts-for c 0 mark (Turn mark) (refl, may.some)
 
   turn_mark : mark_of j.setting c ≡ mark
   turn_mark = ap (mark_of j.setting) own ∙ may.mark_is
@@ -159,13 +155,18 @@ module _ (j : JournalName) (p : PassState) (c number mark : ℕ) (may : MayTurn 
     same_room = refl;
     number = refl;
     job = refl;
+    none_before = λ call. absurd (false≢true call);
     known = subst (λ k. k < length j.setting.marks) (sym own) known;
     mark = turn_mark;
-    progress = ap (λ m. progress_of m (entries_in p.entries)) turn_mark ∙ may.made ∙ ap Some (sym starts.progress);
+    progress =
+        ap (λ m. progress_of m (entries_in p.entries)) turn_mark
+        ∙ may.whole.1
+        ∙ ap (λ n. Some (at_rest mark n)) (let e : made_before ≡ made_before + 0 = omega arith in e)
+        ∙ ap (λ x. Some (later made_before x)) (sym starts.progress);
     room = (let room = may.room in let left = starts.entries in omega (arith, room, left));
-    fits = Fits-for (length j.setting.told) c number (Turn mark) (may.some, may.few);
+    fits = Fits-for (length j.setting.told) c 0 (Turn mark) (may.some, may.few);
     on = tt;
-    under = λ s under. under-for (length j.setting.told) c number (Turn mark) s (may.some, may.few) under;
+    under = λ s under. under-for (length j.setting.told) c 0 (Turn mark) s (may.some, may.few) under;
     piece = [];
     entries = sym (append-nil p.entries);
     spent = (let left = starts.entries in omega (arith, left));
@@ -174,13 +175,13 @@ module _ (j : JournalName) (p : PassState) (c number mark : ℕ) (may : MayTurn 
     replies = refl;
   }
 
-  pub MakesTurn-ended : (g : Flight) (q : PassState) → IsFlying j from_turn g q → has_ended (row_of g).outcome ≡ true → MakesTurn p q number mark
+  pub MakesTurn-ended : (g : Flight) (q : PassState) → IsFlying j from_turn g q → has_ended (row_of g).outcome ≡ true → MakesTurn p q mark
   MakesTurn-ended g q flying ended =
       let own_g : g.processor ≡ c = sym flying.processor ∙ flying.same_processor ∙ sym own in
       let fits : FitsMark mark (job_in g.purpose) = subst (FitsMark mark) (sym flying.job) (refl, may.some) in
-      let at_end : (row_of g).progress ≡ at_rest mark (number + 1) = ended_progress g mark ended fits flying.fits ∙ ap (λ n. at_rest mark (n + 1)) flying.number in
-      let all : progress_of mark (entries_in q.entries) ≡ Some (at_rest mark (number + 1)) =
-      ap (λ m. progress_of m (entries_in q.entries)) (sym (ap (mark_of j.setting) own_g ∙ turn_mark)) ∙ flying.progress ∙ ap Some at_end in
+      let at_end : (row_of g).progress ≡ at_rest mark 1 = ended_progress g mark ended fits flying.fits ∙ ap (λ n. at_rest mark (n + 1)) flying.number in
+      let all : progress_of mark (entries_in q.entries) ≡ Some (at_rest mark (made_before + 1)) =
+      ap (λ m. progress_of m (entries_in q.entries)) (sym (ap (mark_of j.setting) own_g ∙ turn_mark)) ∙ flying.progress ∙ ap (λ x. Some (later made_before x)) at_end in
       let split : entries_in q.entries ≡ entries_in p.entries ++ entries_in flying.piece = ap entries_in flying.entries ∙ map-append (λ (x : Numbered). x.entry) p.entries flying.piece in
       record {
         journal = flying.journal ∙ sym may.journal;
@@ -191,13 +192,13 @@ module _ (j : JournalName) (p : PassState) (c number mark : ℕ) (may : MayTurn 
         few = (let spent = flying.spent in omega (arith, spent));
         turn = record {
           own = subst (λ k. AllByRecursion (λ (e : Entry). e.processor ≡ k) (entries_in flying.piece)) (sym flying.processor ∙ flying.same_processor) flying.own;
-          made = number;
+          made = made_before;
           leads =
-              sym (ap (λ o. progress_from o (entries_in flying.piece)) may.made)
+              sym (ap (λ o. progress_from o (entries_in flying.piece)) may.whole.1)
               ∙ sym (progress_from-append (Some (at_rest mark 0)) (entries_in p.entries) (entries_in flying.piece))
               ∙ sym (ap (progress_of mark) split)
               ∙ all;
         };
-        made = refl;
-        whole = all;
+        before = may.whole.1;
+        after = all;
       }

@@ -39,8 +39,8 @@ pub record MakesCall (g : Given) (old new : PassState) (call : Call) (reply : Re
   pub replies : replies_in (entries_in piece) ≡ reply ∷ []
   pub whole : IsWhole 0 (entries_in new.entries)
 
--- The pass's list has one turn of a daemon more, of this number and low mark.
-pub record MakesTurn (old new : PassState) (number mark : ℕ) : Type 0 where
+-- The pass's list has one turn of a daemon of this low mark more.
+pub record MakesTurn (old new : PassState) (mark : ℕ) : Type 0 where
   pub journal : new.journal ≡ old.journal
   pub processor : new.processor ≡ old.processor
   pub room : new.room ≡ old.room
@@ -49,5 +49,5 @@ pub record MakesTurn (old new : PassState) (number mark : ℕ) : Type 0 where
   pub few : length piece ≤ 4 * mark + 1
   pub turn : IsTurn old.processor mark (entries_in piece)
   -- and it comes where the list was
-  pub made : turn.made ≡ number
-  pub whole : progress_of mark (entries_in new.entries) ≡ Some (at_rest mark (number + 1))
+  pub before : progress_of mark (entries_in old.entries) ≡ Some (at_rest mark turn.made)
+  pub after : progress_of mark (entries_in new.entries) ≡ Some (at_rest mark (turn.made + 1))

@@ -127,12 +127,13 @@ impl<N: Named, S: Store + Send + Drop> Pager<N, S> {
         self.fly_on(rt, flight, pass)
     }
 
-    /// Makes a turn of the pass's processor, a daemon's of this low mark, which is its turn of this number, counted from 0.
-    pub fn turn<R: Wait>(&self, rt: &R, pass: Pass, number: u32, mark: u32) -> Pass
-        requires pass { MayTurn N.journal pass number mark }
-        ensures { MakesTurn pass result number mark }
+    /// Makes a turn of the pass's processor, which is a daemon of this low mark.
+    pub fn turn<R: Wait>(&self, rt: &R, pass: Pass, mark: u32) -> Pass
+        requires pass { MayTurn N.journal pass mark }
+        ensures { MakesTurn pass result mark }
     {
-        let flight = Flight::of_turn(pass.processor(), number, mark);
+        // No entry of a turn has its number, so each may be numbered as the first.
+        let flight = Flight::of_turn(pass.processor(), 0, mark);
         self.fly_on(rt, flight, pass).1
     }
 
