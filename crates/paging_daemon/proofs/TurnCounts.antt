@@ -1,5 +1,5 @@
 -- How many of each kind of entry a turn has at most, by where each entry leads.
-use Rattle.std.proofs.Common.{◌≡◌, ℕ, zero, suc, ◌+◌, ◌*◌, ◌-◌, ◌<◌, ◌≤◌, Bool, true, false, cond, ◌&&◌, eqb, nat_lt, List, [], ◌∷◌, ◌++◌, length, drop, take, count_by, Option, Some, None, refl, ap, sym, subst, ◌∙◌, inl, inr, ◌⊎◌, arith}
+use Rattle.std.proofs.Common.{◌≡◌, ℕ, zero, suc, ◌+◌, ◌-◌, ◌<◌, ◌≤◌, Bool, true, false, cond, ◌&&◌, eqb, List, [], ◌∷◌, ◌++◌, length, drop, take, Option, Some, None, refl, ap, sym, subst, ◌∙◌, inl, inr, ◌⊎◌, arith}
 use Rattle.std.proofs.lemmas.Bool.{false≢true, ltb-true}
 use Rattle.std.proofs.lemmas.List.{length-drop}
 use Rattle.std.proofs.lemmas.List.Sums.{sum_by-cons}
@@ -9,13 +9,12 @@ use Rattle.journal_core.specs.Journals.{PassState}
 use Rattle.pager_model.specs.declared.entry.Entry.{Entry}
 use Rattle.pager_model.specs.declared.entry.Need.{Need}
 use Rattle.pager_model.specs.declared.entry.Numbered.{Numbered}
-use Rattle.pager_model.specs.declared.entry.Victim.{Victim}
 use Rattle.pager_model.specs.declared.entry.What.{What}
 use Rattle.pager_model.specs.declared.entry.What.TheVariants.{Answer, Out, Failed, Take, Give, Clear, Claim, UseHeld, DropHeld, Got, Unclaim, Refused, Rest}
 use Rattle.pager_model.specs.declared.call.Call.{Call}
 use Rattle.pager_model.specs.declared.reply.Reply.{Reply}
 use Rattle.pager_model.specs.Legal.{entries_in}
-use Rattle.pager_model.specs.Order.{Purpose, Doing, Progress, at_rest, leads, may_answer, after_take, after_use, after_clear, after_out, after_failure, after_give, after_claim, after_got, after_unclaim, after_drop, after_refusal, after_rest, progress_after, progress_from, progress_of}
+use Rattle.pager_model.specs.Order.{Doing, Progress, at_rest, leads, may_answer, after_take, after_use, after_clear, after_out, after_failure, after_give, after_claim, after_got, after_unclaim, after_drop, after_refusal, after_rest, progress_after, progress_from}
 use Rattle.pager_model.specs.Order.Purpose.{ForAccess, ForTurn}
 use Rattle.pager_model.specs.Order.Doing.{Idle, Looking, Filling, Unfilling, Claiming, Emptied, Unwritten, Holding}
 use Rattle.pager_model.specs.Showing.{IsTurn}

@@ -53,10 +53,10 @@ fn count(entries: &[Numbered]) -> Turned
     requires few { length entries.now < 2 ^ 32 }
     requires given_up { faults_in (entries_in entries.now) ≤ unclaims_in (entries_in entries.now) }
     ensures { result ≡ record {
-        written = written_in (entries_in entries.now);
-        clean = clean_in (entries_in entries.now);
-        faults = faults_in (entries_in entries.now);
-        memory = memory_in (entries_in entries.now);
+      written = written_in (entries_in entries.now);
+      clean = clean_in (entries_in entries.now);
+      faults = faults_in (entries_in entries.now);
+      memory = memory_in (entries_in entries.now);
     } }
 {
     let (mut written, mut clean, mut faults, mut unclaims): (u32, u32, u32, u32) = (0, 0, 0, 0);

@@ -1,4 +1,4 @@
-use Rattle.std.proofs.Common.{◌≤◌, ◌-◌, List, length, take, drop, ap, sym, subst, arith}
+use Rattle.std.proofs.Common.{◌≤◌, List, ap, sym, subst, arith}
 use Rattle.pager_model.specs.declared.entry.Numbered.{Numbered}
 use Rattle.pager_model.specs.Legal.{entries_in}
 use Rattle.paging_daemon.specs.declared.Turned.{Turned}
