@@ -62,8 +62,8 @@ pub met_alone : (j : JournalName) (frames : AuthorState) (p : PassState) (h : Li
 met_alone j frames p h pool pool_at met = (
   subst (λ (x : JournalName). IsHistory x.setting h) pool_at.journal met.0,
   met.1
-  ∙ ap (λ (x : JournalName). part_list (length x.setting.told) frames.part h) pool_at.journal
-  ∙ ap (λ b. cond b (frames_part h) (space_part frames.part h)) (eq-eqb frames.part (length j.setting.told) pool_at.part),
+      ∙ ap (λ (x : JournalName). part_list (length x.setting.told) frames.part h) pool_at.journal
+      ∙ ap (λ b. cond b (frames_part h) (space_part frames.part h)) (eq-eqb frames.part (length j.setting.told) pool_at.part),
   met.2,
 )
 

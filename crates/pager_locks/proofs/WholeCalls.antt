@@ -1,5 +1,5 @@
 -- A flight at its start, and the call or the turn that it made at its end.
-use Rattle.std.proofs.Common.{◌≡◌, ℕ, ◌+◌, ◌*◌, ◌≤◌, ◌<◌, [], ◌∷◌, ◌++◌, length, count_by, option_to_list, true, false, Some, None, refl, ap, ap₂, sym, subst, ◌∙◌, arith}
+use Rattle.std.proofs.Common.{◌≡◌, ℕ, ◌+◌, ◌<◌, [], ◌∷◌, ◌++◌, length, count_by, option_to_list, true, Some, None, refl, ap, ap₂, sym, subst, ◌∙◌, arith}
 use Rattle.std.specs.List.{AllByRecursion}
 use Rattle.std.specs.Option.{IsSomeAnd}
 use Rattle.std.proofs.lemmas.Bool.{false≢true}
@@ -19,7 +19,6 @@ use Rattle.pager_model.proofs.Histories.{progress_from-append}
 use Rattle.pager_core.specs.declared.flight.Flight.{Flight}
 use Rattle.pager_core.specs.declared.flight.Purpose.{Purpose}
 use Rattle.pager_core.specs.declared.flight.Purpose.TheVariants.{Call as OfCall, Turn as OfTurn}
-use Rattle.pager_core.specs.Flights.{Fits}
 use Rattle.pager_core.specs.Machines.{CanFly}
 use Rattle.pager_core.specs.Rows.{Outcome, Going, TurnEnded, Answered, call_in, has_ended, is_of_call, new_flight, new_turn, own_space, reply_in, row_of, row_in}
 use Rattle.pager_core.specs.Running.{FitsMark, call_of, job_in}

@@ -18,6 +18,6 @@ returns g c =
     let from : Departure = from_turn j c.args.pass c.processor.result c.args.mark c.requires.pass c.processor.ensures.number known in
     MakesTurn-ended j c.args.pass c.processor.result c.args.mark c.requires.pass c.processor.ensures.number known c.fly_on.result.0 c.fly_on.result.1
     (c.fly_on.ensures.flying from
-      (subst (λ (f : Flight). IsFlying j from f c.args.pass) (sym c.of_turn-flight.ensures)
-      (IsFlying-turn j c.args.pass c.processor.result c.args.mark c.requires.pass c.processor.ensures.number known)))
+    (subst (λ (f : Flight). IsFlying j from f c.args.pass) (sym c.of_turn-flight.ensures)
+    (IsFlying-turn j c.args.pass c.processor.result c.args.mark c.requires.pass c.processor.ensures.number known)))
     c.fly_on.ensures.ended
