@@ -2,7 +2,7 @@ ghost use Rattle.std.specs.Prelude.{◌≡◌, ℕ, ◌+◌, ◌%◌, ◌^◌, �
 ghost use Rattle.std.specs.List.{range_with_len};
 ghost use Rattle.pager_model.specs.Frame.{zero_frame};
 ghost use Rattle.pager_model.specs.FrameStates.{FrameState, Taking, start_frames, used_at, held_by, frame_of, claim_in, HasNothing};
-ghost use Rattle.pager_model.specs.FrameStates.{take_frame, counted, give_page, claimed, dropped, IsFull, IsVictim, has_evictable};
+ghost use Rattle.pager_model.specs.FrameStates.{take_frame, counted, give_page, claimed, dropped, IsFull, IsVictim, has_evictable, is_short};
 ghost use Rattle.pager_model.specs.FrameStates.{free_count, used_count, reserved_count, wired_count, claimed_count, held_count};
 ghost use Rattle.pager_model.specs.PreferredSize.{IsWanted};
 ghost use Rattle.pager_model.specs.Bounds.{most_frames, space_pages};
@@ -188,6 +188,21 @@ impl Pool {
             page: page_at(&reservation, frame),
             frame,
         })
+    }
+
+    /// Whether there is a victim: a used frame that is neither wired nor claimed.
+    pub fn has_victim(&self) -> bool
+        ensures { result ≡ has_evictable self.now }
+    {
+        self.used.victim().is_some()
+    }
+
+    /// Whether free frames and unused places together are fewer than a low mark.
+    pub fn is_short(&self, mark: u32) -> bool
+        ensures { result ≡ is_short self.now mark }
+    {
+        let counts = self.counts();
+        u64::from(counts.free) + u64::from(counts.reserved) < u64::from(mark)
     }
 
     /// Takes the frame of a page back, which is the page's used place. Answers the processor that claimed it and holds it now, and

@@ -65,7 +65,7 @@ module _ (f : Flight) (from : Phase) (a : Answered) (was now : Kept) (st : Space
       fewer = ends.some;
     };
     space = Leaves-on (in_phase f (Ended a.reply)) was now st f.processor (space_of_call (call_in f.purpose)) named (Answer f.number (call_in f.purpose) a) ends.on ends.same_space ready.next ends.goes_on ends.allowed (record {
-      fits = record { of_call = refl; can = ready.fits.can; phase = tt };
+      fits = record { kind = refl; can = ready.fits.can; phase = tt };
       stands = ends.stands;
       next = refl;
       found = ends.resting;
@@ -93,7 +93,7 @@ MayEnd-begin f a was now st ready begins = record {
 
 pub start_answered : (f : Flight) (a : Answered) (was now : Kept) → f.phase ≡ Start → BeginsAnswered was now f.processor (call_in f.purpose) a → (st : SpaceState) (frames : FrameState) → IsReady f was st → Makes f (with_phase f (Ended a.reply)) was now st frames frames (answer_entry f.processor f.number (call_in f.purpose) a)
 start_answered f a was now phase begins st frames =
-    by_ready f Start was st phase (λ g to. Makes g (to (Ended a.reply)) was now st frames frames (answer_entry f.processor f.number (call_in f.purpose) a))
+    by_ready f Start was st refl phase (λ g to. Makes g (to (Ended a.reply)) was now st frames frames (answer_entry f.processor f.number (call_in f.purpose) a))
     (λ ready. Makes-answer f Start a was now st ready (MayEnd-begin f a was now st ready begins) frames)
 
 -- the first element that does does
@@ -133,7 +133,7 @@ MayEnd-unmap f s page first len a was now st call ready unmapped =
 
 pub unmap_answered : (f : Flight) (s page first len : ℕ) (a : Answered) (was now : Kept) → f.phase ≡ Gone first len → call_in f.purpose ≡ Unmap s page → Unmapped was now page a → (st : SpaceState) (frames : FrameState) → IsReady f was st → Makes f (with_phase f (Ended a.reply)) was now st frames frames (answer_entry f.processor f.number (call_in f.purpose) a)
 unmap_answered f s page first len a was now phase call unmapped st frames =
-    by_ready f (Gone first len) was st phase (λ g to. Makes g (to (Ended a.reply)) was now st frames frames (answer_entry f.processor f.number (call_in f.purpose) a))
+    by_ready f (Gone first len) was st refl phase (λ g to. Makes g (to (Ended a.reply)) was now st frames frames (answer_entry f.processor f.number (call_in f.purpose) a))
     (λ ready. Makes-answer f (Gone first len) a was now st ready (MayEnd-unmap f s page first len a was now st call ready unmapped) frames)
 
 -- a load or a store is the access that it makes
@@ -182,7 +182,7 @@ MayEnd-late f a was now st ready begins = record {
 
 pub late_answered : (f : Flight) (a : Answered) (was now : Kept) → f.phase ≡ Late → BeginsAnswered was now f.processor (call_in f.purpose) a → (st : SpaceState) (frames : FrameState) → IsReady f was st → Makes f (with_phase f (Ended a.reply)) was now st frames frames (answer_entry f.processor f.number (call_in f.purpose) a)
 late_answered f a was now phase begins st frames =
-    by_ready f Late was st phase (λ g to. Makes g (to (Ended a.reply)) was now st frames frames (answer_entry f.processor f.number (call_in f.purpose) a))
+    by_ready f Late was st refl phase (λ g to. Makes g (to (Ended a.reply)) was now st frames frames (answer_entry f.processor f.number (call_in f.purpose) a))
     (λ ready. Makes-answer f Late a was now st ready (MayEnd-late f a was now st ready begins) frames)
 
 -- Fill: the access is served
@@ -201,5 +201,5 @@ MayEnd-fill f page frame a was mid now st ready reads finishes = record {
 
 pub fill_answered : (f : Flight) (page frame : ℕ) (a : Answered) (was mid now : Kept) → f.phase ≡ Fill page frame → ReadsIn was mid → Finishes mid now f.processor (call_in f.purpose) a → (st : SpaceState) (frames : FrameState) → IsReady f was st → Makes f (with_phase f (Ended a.reply)) was now st frames frames (answer_entry f.processor f.number (call_in f.purpose) a)
 fill_answered f page frame a was mid now phase reads finishes st frames =
-    by_ready f (Fill page frame) was st phase (λ g to. Makes g (to (Ended a.reply)) was now st frames frames (answer_entry f.processor f.number (call_in f.purpose) a))
+    by_ready f (Fill page frame) was st refl phase (λ g to. Makes g (to (Ended a.reply)) was now st frames frames (answer_entry f.processor f.number (call_in f.purpose) a))
     (λ ready. Makes-answer f (Fill page frame) a was now st ready (MayEnd-fill f page frame a was mid now st ready reads finishes) frames)

@@ -1,5 +1,5 @@
 -- A frame is claimed for an access whose page lacks one, and the claim is given up.
-use Rattle.std.proofs.Common.{◌≡◌, ℕ, Bool, true, false, cond, is_some, Option, Some, None, refl, ap, sym, subst, ◌∙◌, inl, inr, arith}
+use Rattle.std.proofs.Common.{◌≡◌, ℕ, ◌<◌, Bool, true, false, ◌&&◌, cond, eqb, is_some, Option, Some, None, refl, ap, sym, subst, ◌∙◌, inl, inr, arith}
 use Rattle.std.proofs.lemmas.Bool.{and_from, and_parts, eq-eqb, false≢true}
 use Rattle.std.proofs.lemmas.Option.{none-some, same_Some}
 use Rattle.pager_model.specs.declared.entry.Victim.{Victim}
@@ -11,22 +11,23 @@ use Rattle.pager_model.specs.declared.entry.Want.{Want}
 use Rattle.pager_model.specs.declared.entry.What.TheVariants.{Claim, Unclaim as UnclaimEntry}
 use Rattle.pager_model.specs.Flat.{space_of_call}
 use Rattle.pager_model.specs.FrameStates.{FrameState, HasNothing, IsFull, IsVictim, claim_in, claimed, counted, frame_of, layout_of, used_at}
-use Rattle.pager_model.specs.Order.{Progress, ForAccess, Claiming, faulted_for, lacking_for, is_access}
+use Rattle.pager_model.specs.Order.{Progress, ForAccess, Claiming, faulted_for, lacking_for, is_access, progress_after}
 use Rattle.pager_model.specs.Regions.{region_at}
 use Rattle.pager_model.specs.SpaceStates.{SpaceState, Anyone, IsNeeded, access_page, has_right, space_after}
 use Rattle.pager_laws.proofs.PagePlaces.{frame_in-found}
-use Rattle.space_core.specs.Standing.{Kept, IsResting, StandsFor, copied_page, frame_at, is_allowed, is_in, rights_at}
+use Rattle.space_core.specs.Standing.{Kept, IsResting, StandsFor, frame_at, is_allowed, is_in, rights_at}
 use Rattle.pager_core.specs.declared.flight.Flight.{Flight}
 use Rattle.pager_core.specs.declared.flight.Phase.{Phase}
-use Rattle.pager_core.specs.declared.flight.Phase.TheVariants.{Frame, Out, Unclaim, Fault, Lack}
+use Rattle.pager_core.specs.declared.flight.Phase.TheVariants.{Frame, Out, Unclaim}
 use Rattle.pager_core.specs.declared.flight.Purpose.TheVariants.{Call as OfCall}
 use Rattle.pager_core.specs.Flights.{HasVictim, IsLawfulAt, IsReady}
-use Rattle.pager_core.specs.Rows.{access_in, call_in, faulted, is_store, page_or_zero, row_of}
-use Rattle.pager_core.specs.Steps.{AreAgreed, Makes, MakesEntry}
+use Rattle.pager_core.specs.Rows.{access_in, call_in, claims_for, given_up, is_store, left_by, page_or_zero, row_of}
+use Rattle.pager_core.specs.Steps.{AreAgreed, Makes, MakesEntry, answer_made}
 use Rattle.pager_core.proofs.AnswerSteps.{is_access_by_page}
-use Rattle.pager_core.proofs.EntrySteps.{IsLeft, Leaves-on, keeps_own_if, unchanged}
-use Rattle.pager_core.proofs.NextFlights.{copies_none, keeps_faulted, own_if-some}
-use Rattle.pager_core.proofs.Purposes.{in_phase, with_phase, same_work, by_ready}
+use Rattle.pager_core.proofs.EntrySteps.{Leaves-by, Leaves-on, keeps_own_if, unchanged}
+use Rattle.pager_core.proofs.Evictions.{LeftBy-given_up, ended_claim, given_up-row}
+use Rattle.pager_core.proofs.NextFlights.{own_if-some}
+use Rattle.pager_core.proofs.Purposes.{by_ready, in_its_phase, in_phase, same_kind_of_work, with_phase}
 use Rattle.pager_core.proofs.TakenFrames.{HasNothing-wanting}
 use Rattle.pager_core.proofs.UnchangedSpaces.{unchanged_stands}
 
@@ -94,7 +95,7 @@ module _ (f : Flight) (page : ℕ) (want : Want) (v : Victim) (kept : Kept) (st 
         space = Leaves-on (in_phase (claiming f) (Out v)) kept kept st f.processor own true e.what on (unchanged kept) ready.next tt
             (needed kept st (call_in f.purpose) page ready.stands lawful.page_is lawful.allowed ready.found.lacks.absent)
             (record {
-              fits = record { of_call = refl; can = ready.fits.can; phase = is_access_by_page (call_in f.purpose) page lawful.page_is };
+              fits = record { kind = refl; can = ready.fits.can; phase = is_access_by_page (call_in f.purpose) page lawful.page_is };
               stands = unchanged_stands kept st e ready.stands refl (λ p. refl) (λ p i. refl) refl refl;
               next = refl;
               found = ready.found.lacks.resting;
@@ -104,7 +105,7 @@ module _ (f : Flight) (page : ℕ) (want : Want) (v : Victim) (kept : Kept) (st 
 
 pub victim_claimed : (f : Flight) (page : ℕ) (want : Want) (v : Victim) (kept : Kept) (st : SpaceState) (before : FrameState) → f.phase ≡ Frame page want → OwnsBy before f.processor (row_of f).progress.doing → IsFull before → IsVictim before v.space v.page v.frame → IsReady f kept st → Makes f (in_phase (claiming f) (Out v)) kept kept st before (counted (claimed before v.frame (Some f.processor))) (claim_entry f page v (is_store (call_in f.purpose)))
 victim_claimed f page want v kept st before phase owns full victim =
-    by_ready f (Frame page want) kept st phase (λ g to. Makes g (in_phase (claiming f) (Out v)) kept kept st before (counted (claimed before v.frame (Some f.processor))) (claim_entry f page v (is_store (call_in f.purpose))))
+    by_ready f (Frame page want) kept st refl phase (λ g to. Makes g (in_phase (claiming f) (Out v)) kept kept st before (counted (claimed before v.frame (Some f.processor))) (claim_entry f page v (is_store (call_in f.purpose))))
     (λ ready. Makes-claim f page want v kept st before ready (HasNothing-wanting f page want before phase owns) full victim)
 
 -- Unclaim: the victim's frame is claimed no longer
@@ -121,66 +122,40 @@ claims_resident kept st c v agree on at owns = elim owns.frame [
 abbrev pub unclaim_entry : ℕ → ℕ → ℕ → Entry
 unclaim_entry c space frame = record { processor = c; space = Some space; frames = true; what = UnclaimEntry frame }
 
--- the phase after the claim is given up: the store failed, or there was no memory
-abbrev pub unclaimed : Victim → Option ℕ → Phase
-unclaimed v None = Lack v.space
-unclaimed v (Some count) = Fault v.space count
-
 module _ (f : Flight) (v : Victim) (frame : ℕ) (kept : Kept) (st : SpaceState) (before : FrameState) where
   -- what the entry makes, wherever it leads
   made_by_unclaim :
       (fault : Option ℕ) → is_access (call_in f.purpose) ≡ true → frame ≡ v.frame → claim_in (used_at before frame) ≡ Some f.processor → ((page : ℕ) × (frame_of before v.space page ≡ Some frame))
-      → MakesEntry (in_phase f (Unclaim v fault)) (in_phase f (unclaimed v fault)) before (counted (claimed before frame None)) (unclaim_entry f.processor v.space frame)
-  made_by_unclaim None access is claims place = record {
-    same_work = same_work f (Unclaim v None) (Lack v.space);
-    processor = refl;
-    parts = ((v.space, refl), refl);
-    frames_allow = λ named. (claims, place);
-    frames_after = refl;
-    in_order = ap (λ b. cond b (lacking_for f.number (ForAccess (access_in f.purpose)) v.space) None) (and_from _ _ (eq-eqb v.space v.space refl) (eq-eqb frame v.frame is));
-    reply = refl;
-    answer = refl;
-    between = refl;
-    fewer = omega arith;
-  }
-  made_by_unclaim (Some count) access is claims place = record {
-    same_work = same_work f (Unclaim v (Some count)) (Fault v.space count);
-    processor = refl;
-    parts = ((v.space, refl), refl);
-    frames_allow = λ named. (claims, place);
-    frames_after = refl;
-    in_order =
-        ap (λ b. cond b (faulted_for f.number (ForAccess (access_in f.purpose)) v.space count) None) (and_from _ _ (eq-eqb v.space v.space refl) (eq-eqb frame v.frame is))
-        ∙ ap (λ o. Some (let p : Progress = record { made = f.number; doing = faulted (access_in f.purpose) v.space count o } in p)) (sym (copies_none (call_in f.purpose) access));
-    reply = refl;
-    answer = refl;
-    between = refl;
-    fewer = omega arith;
-  }
+      → MakesEntry (with_phase f (Unclaim v fault)) (with_phase f (given_up f.purpose v fault)) before (counted (claimed before frame None)) (unclaim_entry f.processor v.space frame)
+  made_by_unclaim fault access is claims place =
+      let row = given_up-row f v fault access in
+      record {
+        same_work = same_kind_of_work f (Unclaim v fault) (given_up f.purpose v fault);
+        processor = refl;
+        parts = ((v.space, refl), refl);
+        frames_allow = λ named. (claims, place);
+        frames_after = refl;
+        in_order = led fault ∙ row.progress;
+        reply = sym row.no_reply;
+        answer = ap (answer_made (with_phase f (given_up f.purpose v fault))) (sym row.no_reply);
+        between = row.between;
+        fewer = less fault row.fewer;
+      }
+    where
+      here : (eqb v.space v.space && eqb frame v.frame) ≡ true
+      here = and_from _ _ (eq-eqb v.space v.space refl) (eq-eqb frame v.frame is)
 
-  -- and how it leaves the space
-  left_by_unclaim :
-      (fault : Option ℕ) → IsReady (in_phase f (Unclaim v fault)) kept st → IsResting kept → v.space ≡ kept.number → (after : SpaceState) → StandsFor kept after → after.next ≡ Anyone
-      → IsLeft (in_phase f (unclaimed v fault)) kept after
-  left_by_unclaim None ready resting on after stands next = record {
-    fits = record { of_call = refl; can = ready.fits.can; phase = ready.fits.phase };
-    stands = stands;
-    next = next;
-    found = resting;
-    keeps = keeps_own_if (in_phase f (Lack v.space)) kept (Some (space_of_call (call_in f.purpose))) v.space refl (λ here. on) refl resting;
-  }
-  left_by_unclaim (Some count) ready resting on after stands next = record {
-    fits = record { of_call = refl; can = ready.fits.can; phase = inr ready.fits.phase };
-    stands = stands;
-    next = next;
-    found = record { resting = resting; must = λ page copies. absurd (none-some page (sym (copies_none (call_in f.purpose) ready.fits.phase) ∙ copies)) };
-    keeps = keeps_own_if (in_phase f (Fault v.space count)) kept (Some (space_of_call (call_in f.purpose))) v.space
-        (keeps_faulted (Some (space_of_call (call_in f.purpose))) (access_in f.purpose) v.space count (copied_page (call_in f.purpose))) (λ here. on) refl resting;
-  }
+      led : (o : Option ℕ) → progress_after (row_of (with_phase f (Unclaim v o))).progress (Some v.space) (UnclaimEntry frame) ≡ ended_claim f.number (claims_for f.purpose) v.space o
+      led None = ap (λ b. cond b (lacking_for f.number (claims_for f.purpose) v.space) None) here
+      led (Some count) = ap (λ b. cond b (faulted_for f.number (claims_for f.purpose) v.space count) None) here
+
+      less : (o : Option ℕ) {n : ℕ} → n < left_by f.purpose 6 2 4 → n < (row_of (with_phase f (Unclaim v o))).entries
+      less None fewer = fewer
+      less (Some count) fewer = fewer
 
   Makes-unclaim :
-      (fault : Option ℕ) → IsReady (in_phase f (Unclaim v fault)) kept st → v.space ≡ kept.number → st.next ≡ Anyone → AreAgreed kept before → ClaimsOrHolds before f.processor v → claim_in (used_at before frame) ≡ Some f.processor
-      → Makes (in_phase f (Unclaim v fault)) (in_phase f (unclaimed v fault)) kept kept st before (counted (claimed before frame None)) (unclaim_entry f.processor v.space frame)
+      (fault : Option ℕ) → IsReady (with_phase f (Unclaim v fault)) kept st → v.space ≡ kept.number → st.next ≡ Anyone → AreAgreed kept before → ClaimsOrHolds before f.processor v → claim_in (used_at before frame) ≡ Some f.processor
+      → Makes (with_phase f (Unclaim v fault)) (with_phase f (given_up f.purpose v fault)) kept kept st before (counted (claimed before frame None)) (unclaim_entry f.processor v.space frame)
   Makes-unclaim fault ready on next agree owns claims =
       let has : HasVictim kept v = ready.found.has in
       let is : frame ≡ v.frame = agree.sound.claims_once frame v.frame f.processor claims (claims_resident kept before f.processor v agree on has.place owns) in
@@ -188,18 +163,18 @@ module _ (f : Flight) (v : Victim) (frame : ℕ) (kept : Kept) (st : SpaceState)
       let e : Entry = unclaim_entry f.processor v.space frame in
       record {
         entry = made_by_unclaim fault ready.fits.phase is claims (v.page, ap (λ s. frame_of before s v.page) on ∙ sym (agree.pages v.page) ∙ at);
-        space = Leaves-on (in_phase f (unclaimed v fault)) kept kept st f.processor v.space true (UnclaimEntry frame) on (unchanged kept) next tt
+        space = Leaves-by (with_phase f (given_up f.purpose v fault)) kept kept st f.processor v.space true (UnclaimEntry frame) on (unchanged kept) next tt
             (v.page, ready.stands.base v.page ∙ at, ready.stands.beside.dirty v.page (ap (λ r. is_in r v.page) has.resting.none_clearing) ∙ ready.found.dirty)
-            (left_by_unclaim fault ready has.resting on (space_after st e) (unchanged_stands kept st e ready.stands refl (λ p. refl) (λ p i. refl) refl refl) refl);
+            (LeftBy-given_up f v fault kept (space_after st e) ready.fits on has.resting (unchanged_stands kept st e ready.stands refl (λ p. refl) (λ p i. refl) refl refl) refl);
       }
 
 -- where the claim is given up, its processor claims or holds the victim, any may go on, and the victim's space is that of the step
-at_unclaim : (f : Flight) (v : Victim) (fault : Option ℕ) (kept : Kept) (st : SpaceState) (before : FrameState) → IsReady (in_phase f (Unclaim v fault)) kept st → OwnsBy before f.processor (row_of (in_phase f (Unclaim v fault))).progress.doing
+at_unclaim : (f : Flight) (v : Victim) (fault : Option ℕ) (kept : Kept) (st : SpaceState) (before : FrameState) → IsReady (with_phase f (Unclaim v fault)) kept st → OwnsBy before f.processor (row_of (with_phase f (Unclaim v fault))).progress.doing
     → (v.space ≡ kept.number) × (st.next ≡ Anyone) × ClaimsOrHolds before f.processor v
 at_unclaim f v None kept st before ready owns = (same_Some _ _ ready.under, ready.next, owns)
 at_unclaim f v (Some count) kept st before ready owns = (same_Some _ _ ready.under, ready.next, owns)
 
-pub claim_ended : (f : Flight) (v : Victim) (fault : Option ℕ) (frame : ℕ) (kept : Kept) (st : SpaceState) (before : FrameState) → f.phase ≡ Unclaim v fault → OwnsBy before f.processor (row_of f).progress.doing → claim_in (used_at before frame) ≡ Some f.processor → IsReady f kept st → AreAgreed kept before → Makes f (with_phase f (unclaimed v fault)) kept kept st before (counted (claimed before frame None)) (unclaim_entry f.processor v.space frame)
+pub claim_ended : (f : Flight) (v : Victim) (fault : Option ℕ) (frame : ℕ) (kept : Kept) (st : SpaceState) (before : FrameState) → f.phase ≡ Unclaim v fault → OwnsBy before f.processor (row_of f).progress.doing → claim_in (used_at before frame) ≡ Some f.processor → IsReady f kept st → AreAgreed kept before → Makes f (with_phase f (given_up f.purpose v fault)) kept kept st before (counted (claimed before frame None)) (unclaim_entry f.processor v.space frame)
 claim_ended f v fault frame kept st before phase owns claims ready agree =
-    by_ready f (Unclaim v fault) kept st phase (λ g to. OwnsBy before f.processor (row_of g).progress.doing → Makes g (to (unclaimed v fault)) kept kept st before (counted (claimed before frame None)) (unclaim_entry f.processor v.space frame))
+    in_its_phase f (Unclaim v fault) phase (λ g. IsReady g kept st → OwnsBy before f.processor (row_of g).progress.doing → Makes g (with_phase f (given_up f.purpose v fault)) kept kept st before (counted (claimed before frame None)) (unclaim_entry f.processor v.space frame))
     (λ is own. (let so = at_unclaim f v fault kept st before is own in Makes-unclaim f v frame kept st before fault is so.0 so.1 agree so.2 claims)) ready owns

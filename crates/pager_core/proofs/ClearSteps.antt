@@ -125,7 +125,7 @@ StandsBut-rest kept st first len resting stands = record {
 
 -- the flight's space is the call's
 pub on_clear : (f : Flight) (first len : ℕ) (was : Kept) (st : SpaceState) → f.phase ≡ Clear first len → IsReady f was st → space_of_call (call_in f.purpose) ≡ was.number
-on_clear f first len was st phase = by_ready f (Clear first len) was st phase (λ g to. space_of_call (call_in f.purpose) ≡ was.number) (λ ready. same_Some _ _ ready.under)
+on_clear f first len was st phase = by_ready f (Clear first len) was st refl phase (λ g to. space_of_call (call_in f.purpose) ≡ was.number) (λ ready. same_Some _ _ ready.under)
 
 -- Clear: the pages of the region gave their frames up, and none is left
 module _ (f : Flight) (first len : ℕ) (was kept now : Kept) (before pool : FrameState) where
@@ -152,7 +152,7 @@ module _ (f : Flight) (first len : ℕ) (was kept now : Kept) (before pool : Fra
         (same_space-on so_far.same_space (same_space clears.same.same)) ready.next tt
         (subst (λ o. IsRegionOf o first len) (sym (ap (λ rs. region_at rs first) ready.stands.beside.regions ∙ is.at_first)) (is.first_is, is.length_is))
         (record {
-          fits = record { of_call = refl; can = ready.fits.can; phase = tt };
+          fits = record { kind = refl; can = ready.fits.can; phase = tt };
           stands = clears.stands st f.processor (so_far.stands st (StandsBut-rest was st first len ready.found.resting ready.stands));
           next = refl;
           found = record {
@@ -190,5 +190,5 @@ module _ (f : Flight) (first len : ℕ) (was kept now : Kept) (before pool : Fra
 
 pub range_cleared : (f : Flight) (first len : ℕ) (was kept now : Kept) (before pool : FrameState) → f.phase ≡ Clear first len → IsClearing was before kept pool first len → ClearsNone kept now first len → (st : SpaceState) → IsReady f was st → Makes f (with_phase f (Gone first len)) was now st before (counted pool) (clear_entry f.processor (space_of_call (call_in f.purpose)) first len)
 range_cleared f first len was kept now before pool phase so_far clears st =
-    by_ready f (Clear first len) was st phase (λ g to. Makes g (to (Gone first len)) was now st before (counted pool) (clear_entry f.processor (space_of_call (call_in f.purpose)) first len))
+    by_ready f (Clear first len) was st refl phase (λ g to. Makes g (to (Gone first len)) was now st before (counted pool) (clear_entry f.processor (space_of_call (call_in f.purpose)) first len))
     (λ ready. Makes-clear f first len was kept now before pool st ready so_far clears)

@@ -29,7 +29,7 @@ Passes-evicting f page written was now st ready begins = record {
   keeps = ready.under;
   ready = record {
     under = on_now;
-    fits = record { of_call = refl; can = ready.fits.can; phase = tt };
+    fits = record { kind = refl; can = ready.fits.can; phase = tt };
     stands = begins.stands st ready.stands;
     next = ready.next;
     found = record {
@@ -39,6 +39,7 @@ Passes-evicting f page written was now st ready begins = record {
   };
   same_progress = refl;
   going = refl;
+  memory = tt;
   no_more = omega arith;
 }
   where
@@ -47,7 +48,7 @@ Passes-evicting f page written was now st ready begins = record {
 
 pub begin_evicting : (f : Flight) (page : ℕ) (written : Bool) (was now : Kept) → f.phase ≡ Start → BeginsEvicting was now (call_in f.purpose) page written → (st : SpaceState) → IsReady f was st → Passes f (with_phase f (Evict page)) was now st
 begin_evicting f page written was now phase begins st =
-    by_ready f Start was st phase (λ g to. Passes g (to (Evict page)) was now st) (λ ready. Passes-evicting f page written was now st ready begins)
+    by_ready f Start was st refl phase (λ g to. Passes g (to (Evict page)) was now st) (λ ready. Passes-evicting f page written was now st ready begins)
 
 -- a page that was written, or was clean, is the answer alone
 copied_alone : (space page : ℕ) (written : Bool) → may_answer Idle (EvictCall space page) (copied_reply written) ≡ true
@@ -80,5 +81,5 @@ module _ (f : Flight) (page frame : ℕ) (a : Answered) (was now : Kept) (st : S
 
 pub page_evicted : (f : Flight) (page frame : ℕ) (a : Answered) (was now : Kept) (before : FrameState) → f.phase ≡ Evict page → AreAgreed was before → Evicts was now page frame a → (st : SpaceState) → IsReady f was st → Makes f (with_phase f (Ended a.reply)) was now st before (counted (give_page before (space_of_call (call_in f.purpose)) page)) (ending f a true)
 page_evicted f page frame a was now before phase agree evicts st =
-    by_ready f (Evict page) was st phase (λ g to. Makes g (to (Ended a.reply)) was now st before (counted (give_page before (space_of_call (call_in f.purpose)) page)) (ending f a true))
+    by_ready f (Evict page) was st refl phase (λ g to. Makes g (to (Ended a.reply)) was now st before (counted (give_page before (space_of_call (call_in f.purpose)) page)) (ending f a true))
     (λ ready. Makes-evict f page frame a was now st before ready agree evicts)

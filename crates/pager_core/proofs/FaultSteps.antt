@@ -49,7 +49,7 @@ Makes-failing f page count was now st ready begins frames =
       space = Leaves-on (in_phase f (Fault own count)) was now st f.processor own false (Failed page true count) on (same_space fails.same.same)
           ready.next tt (fails.allowed st ready.stands f.processor)
           (record {
-            fits = record { of_call = refl; can = ready.fits.can; phase = inl (refl, ap is_some begins.must.is) };
+            fits = record { kind = refl; can = ready.fits.can; phase = inl (refl, ap is_some begins.must.is) };
             stands = fails.stands st ready.stands f.processor;
             next = refl;
             found = record { resting = fails.resting; must = λ p copies. subst (MustWrite now (call_in f.purpose)) (same_Some _ _ (sym begins.must.is ∙ copies)) begins.must };
@@ -59,7 +59,7 @@ Makes-failing f page count was now st ready begins frames =
 
 pub begin_failed : (f : Flight) (page count : ℕ) (was now : Kept) → f.phase ≡ Start → BeginsFailing was now (call_in f.purpose) page count → (st : SpaceState) (frames : FrameState) → IsReady f was st → Makes f (with_phase f (Fault (space_of_call (call_in f.purpose)) count)) was now st frames frames (failed_entry f.processor (space_of_call (call_in f.purpose)) page true count)
 begin_failed f page count was now phase begins st frames =
-    by_ready f Start was st phase (λ g to. Makes g (to (Fault (space_of_call (call_in f.purpose)) count)) was now st frames frames (failed_entry f.processor (space_of_call (call_in f.purpose)) page true count))
+    by_ready f Start was st refl phase (λ g to. Makes g (to (Fault (space_of_call (call_in f.purpose)) count)) was now st frames frames (failed_entry f.processor (space_of_call (call_in f.purpose)) page true count))
     (λ ready. Makes-failing f page count was now st ready begins frames)
 
 -- Fill: the read failed
@@ -85,7 +85,7 @@ Makes-unfilled f page frame count was now st ready fails frames =
       space = Leaves-on (in_phase f (Unfill page frame count)) was now st f.processor own false (Failed page false count) on (same_space fails.same.same)
           ready.next refl (fails.allowed st ready.stands f.processor)
           (record {
-            fits = record { of_call = refl; can = ready.fits.can; phase = tt };
+            fits = record { kind = refl; can = ready.fits.can; phase = tt };
             stands = fails.stands st ready.stands f.processor;
             next = refl;
             found = record {
@@ -104,7 +104,7 @@ Makes-unfilled f page frame count was now st ready fails frames =
 
 pub fill_failed : (f : Flight) (page frame count : ℕ) (was now : Kept) → f.phase ≡ Fill page frame → FailsToRead was now page count → (st : SpaceState) (frames : FrameState) → IsReady f was st → Makes f (with_phase f (Unfill page frame count)) was now st frames frames (failed_entry f.processor (space_of_call (call_in f.purpose)) page false count)
 fill_failed f page frame count was now phase fails st frames =
-    by_ready f (Fill page frame) was st phase (λ g to. Makes g (to (Unfill page frame count)) was now st frames frames (failed_entry f.processor (space_of_call (call_in f.purpose)) page false count))
+    by_ready f (Fill page frame) was st refl phase (λ g to. Makes g (to (Unfill page frame count)) was now st frames frames (failed_entry f.processor (space_of_call (call_in f.purpose)) page false count))
     (λ ready. Makes-unfilled f page frame count was now st ready fails frames)
 
 -- Unfill: the page gives its frame up
@@ -136,7 +136,7 @@ module _ (f : Flight) (page frame count : ℕ) (was now : Kept) (st : SpaceState
         space = Leaves-on (in_phase f (Fault own count)) was now st f.processor own true (Give page given) on (same_space removes.gave.same)
             ready.next refl (removes.allowed st ready.stands f.processor)
             (record {
-              fits = record { of_call = refl; can = ready.fits.can; phase = inr access };
+              fits = record { kind = refl; can = ready.fits.can; phase = inr access };
               stands = removes.stands st ready.stands f.processor;
               next = refl;
               found = record { resting = removes.resting; must = λ p copies. absurd (none-some p (sym (copies_none (call_in f.purpose) access) ∙ copies)) };
@@ -146,5 +146,5 @@ module _ (f : Flight) (page frame count : ℕ) (was now : Kept) (st : SpaceState
 
 pub frame_unfilled : (f : Flight) (page frame count given : ℕ) (was now : Kept) (before : FrameState) → f.phase ≡ Unfill page frame count → AreAgreed was before → Removes was now page given → (st : SpaceState) → IsReady f was st → Makes f (with_phase f (Fault (space_of_call (call_in f.purpose)) count)) was now st before (counted (give_page before (space_of_call (call_in f.purpose)) page)) (give_entry f.processor (space_of_call (call_in f.purpose)) page given)
 frame_unfilled f page frame count given was now before phase agree removes st =
-    by_ready f (Unfill page frame count) was st phase (λ g to. Makes g (to (Fault (space_of_call (call_in f.purpose)) count)) was now st before (counted (give_page before (space_of_call (call_in f.purpose)) page)) (give_entry f.processor (space_of_call (call_in f.purpose)) page given))
+    by_ready f (Unfill page frame count) was st refl phase (λ g to. Makes g (to (Fault (space_of_call (call_in f.purpose)) count)) was now st before (counted (give_page before (space_of_call (call_in f.purpose)) page)) (give_entry f.processor (space_of_call (call_in f.purpose)) page given))
     (λ ready. Makes-unfill f page frame count was now st before ready agree given removes)

@@ -30,7 +30,7 @@ use Rattle.pager_core.proofs.TakenFrames.{IsLeft-placed}
 -- what stands where a held frame is used: the page of the call's own space lacks a frame
 pub wants_still : (f : Flight) (page : ℕ) (want : Want) (v : Victim) (kept : Kept) (st : SpaceState) → f.phase ≡ Use page want v → IsReady f kept st → (space_of_call (call_in f.purpose) ≡ kept.number) × WantsFrame (call_in f.purpose) kept page want
 wants_still f page want v kept st phase =
-    by_ready f (Use page want v) kept st phase (λ g to. (space_of_call (call_in g.purpose) ≡ kept.number) × WantsFrame (call_in g.purpose) kept page want) (λ ready. (same_Some _ _ ready.under, ready.found))
+    by_ready f (Use page want v) kept st refl phase (λ g to. (space_of_call (call_in g.purpose) ≡ kept.number) × WantsFrame (call_in g.purpose) kept page want) (λ ready. (same_Some _ _ ready.under, ready.found))
 
 -- A frame that is taken for a page without one, once a held frame is free, is a known one that no page has.
 module _ (kept : Kept) (st : FrameState) (c space page : ℕ) (want : Want) (t : Taking) (agree : AreAgreed kept st) (on : space ≡ kept.number) (absent : frame_at kept page ≡ None) (takes : take_frame (dropped st c) space page want ≡ Some t) where
@@ -93,5 +93,5 @@ held_used f page own frame want v was now before after t phase same numbered agr
     subst (λ n. IsReady f was st → Makes f (with_phase f (Fill page n)) was now st before after (use_entry f.processor own page n want)) (sym numbered)
     (subst (λ u. IsReady f was st → Makes f (with_phase f (Fill page t.frame)) was now st before u (use_entry f.processor own page t.frame want)) (sym counts)
     (subst (λ s. IsReady f was st → Makes f (with_phase f (Fill page t.frame)) was now st before (counted t.state) (use_entry f.processor s page t.frame want)) (sym same)
-    (λ ready. by_ready f (Use page want v) was st phase (λ g to. OwnsBy before f.processor (row_of g).progress.doing → Makes g (to (Fill page t.frame)) was now st before (counted t.state) (use_entry f.processor (space_of_call (call_in f.purpose)) page t.frame want))
+    (λ ready. by_ready f (Use page want v) was st refl phase (λ g to. OwnsBy before f.processor (row_of g).progress.doing → Makes g (to (Fill page t.frame)) was now st before (counted t.state) (use_entry f.processor (space_of_call (call_in f.purpose)) page t.frame want))
     (λ is holds. Makes-use f page want v was now before t st is agree holds (ap (λ s. take_frame (dropped before f.processor) s page want) (sym same) ∙ takes) places) ready owns)))

@@ -10,11 +10,16 @@ pub mod Lists
 pub mod ClearSteps
 pub mod TakenFrames
 pub mod ClaimSteps
+pub mod Evictions
 pub mod VictimPages
+pub mod TurnSteps
 pub mod HeldFrames
 pub mod LegalSteps
 pub mod NextFlights
+pub mod Lands
 pub mod MachineTurns
+pub mod SpaceTurns
+pub mod FrameTurns
 pub mod SilentSteps
 pub mod ReadyFlights
 pub mod WholeTurns

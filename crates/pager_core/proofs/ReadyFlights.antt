@@ -3,27 +3,31 @@ use Rattle.std.proofs.Common.{◌≡◌, ℕ, suc, ◌+◌, ◌^◌, ◌<◌, �
 use Rattle.std.proofs.lemmas.Bool.{cases_eq}
 use Rattle.std.proofs.lemmas.Option.{same_Some, slice_get_within}
 use Rattle.std.proofs.lemmas.List.Filters.{length-filter_both}
-use Rattle.std.proofs.Math.ListN.{length-map}
+use Rattle.std.proofs.Math.ListN.{length-map, set}
 use Rattle.pager_model.specs.declared.entry.Entry.{Entry}
 use Rattle.pager_model.specs.declared.entry.Numbered.{Numbered}
 use Rattle.pager_model.specs.Agreement.{OwnsBy}
 use Rattle.pager_model.specs.Entries.{names_frames, frames_part}
 use Rattle.pager_model.specs.FrameStates.{FrameState, start_frames, frames_after, frame_of}
 use Rattle.pager_model.specs.Legal.{space_at, frames_at, entries_in}
-use Rattle.pager_model.specs.Settings.{Given}
+use Rattle.pager_model.specs.Settings.{Given, mark_of}
 use Rattle.pager_model.proofs.FrameEntries.{frames_after-entries}
 use Rattle.pager_model.proofs.Lists.{get_or_within}
 use Rattle.pager_laws.specs.Laid.{IsSound}
 use Rattle.pager_laws.proofs.LegalHistories.{IsKept-legal, OwnsBy-legal}
 use Rattle.space_core.specs.Standing.{Kept}
 use Rattle.pager_core.specs.declared.flight.Flight.{Flight}
-use Rattle.pager_core.specs.Flights.{IsReady, IsAtRest}
+use Rattle.pager_core.specs.declared.flight.Needs.TheVariants.{Frames}
+use Rattle.pager_core.specs.Flights.{Fits, IsReady, IsAtRest}
 use Rattle.pager_core.specs.Machines.{IsMachine}
-use Rattle.pager_core.specs.Rows.{call_in, row_of, space_under}
-use Rattle.pager_core.specs.Running.{Running, calls_at, flight_at, progress_by_flight, IsKeptByOther}
-use Rattle.pager_core.specs.Steps.{AreAgreed, Makes}
-use Rattle.pager_core.proofs.NextFlights.{under_some, keeps_under, anywhere, lands}
-use Rattle.pager_core.proofs.MachineTurns.{Turns, marked, all_left-turn}
+use Rattle.pager_core.specs.Rows.{row_of, space_under}
+use Rattle.pager_core.specs.Running.{Running, job_in, jobs_at, flight_at, progress_by_flight, IsKeptByOther}
+use Rattle.pager_core.specs.Steps.{AreAgreed, Makes, MakesOnFrames}
+use Rattle.pager_core.proofs.FrameTurns.{Goes-on_frames}
+use Rattle.pager_core.proofs.Lands.{Lands, job_kept, lands}
+use Rattle.pager_core.proofs.MachineTurns.{room_left}
+use Rattle.pager_core.proofs.NextFlights.{anywhere, frames_needed, keeps_under}
+use Rattle.pager_core.proofs.SpaceTurns.{Turns, Goes-in, fits}
 
 -- each entry on the frames is counted once
 fold-entries : (es : List Entry) (st : FrameState) → (fold frames_after st es).entries ≡ st.entries + length es
@@ -36,28 +40,25 @@ entries-few g h =
     let both = length-filter_both names_frames (λ e. not (names_frames e)) (λ e. refl) h in
     omega (arith, all, both)
 
-module _ (run : Running) (spaces : List Kept) (pool : FrameState) (capacity c s : ℕ) (f : Flight) (machine : IsMachine run spaces pool capacity) (flies : flight_at run.flights c ≡ Some f) where
-  processor_within : c < length run.calls
+module _ (run : Running) (spaces : List Kept) (pool : FrameState) (capacity c : ℕ) (f : Flight) (machine : IsMachine run spaces pool capacity) (flies : flight_at run.flights c ≡ Some f) where
+  processor_within : c < length run.jobs
   processor_within = (let at = get_or_within run.flights c f flies in let known = machine.known in omega (arith, at, known))
 
-  pub is_under : (t : ℕ) × (space_under (row_of f).needs ≡ Some t)
-  is_under = (let flying = machine.flights c f flies in under_some f flying.fits flying.going)
-
-  -- the number of a call is small
-  pub number-few : f.number + 1 ≤ 262144
+  -- the number of a job is small
+  pub number-few : f.number + 1 ≤ 3149824
   number-few =
-      let below = slice_get_within (calls_at run.calls c) f.number (call_in f.purpose) (machine.flights c f flies).of_call in
-      let few = machine.few_calls c in
+      let below = slice_get_within (jobs_at run.jobs c) f.number (job_in f.purpose) (machine.flights c f flies).job in
+      let few = machine.few_jobs c in
       omega (arith, below, few)
 
-  sound : IsSound run.given.frames (length run.given.marks) pool
+  pub sound : IsSound run.given.frames (length run.given.marks) pool
   sound = subst (IsSound run.given.frames (length run.given.marks)) (sym machine.frames) (IsKept-legal run.given (entries_in run.history) machine.lawful.legal).sound
 
   -- the frames know the processor
   pub known-machine : f.processor < length pool.held
   known-machine =
       let at = processor_within in
-      let marks = marked run.given (length run.calls) machine.marks in
+      let marks = machine.marks in
       let own = (machine.flights c f flies).processor in
       let held = sound.processors_known in
       omega (arith, at, marks, own, held)
@@ -65,9 +66,9 @@ module _ (run : Running) (spaces : List Kept) (pool : FrameState) (capacity c s 
   pub OwnsBy-machine : OwnsBy pool f.processor (row_of f).progress.doing
   OwnsBy-machine =
       let at = processor_within in
-      let marks = marked run.given (length run.calls) machine.marks in
+      let marks = machine.marks in
       let own = (machine.flights c f flies).processor in
-      let progress = machine.lawful.progress c at ∙ ap (λ x. Some (progress_by_flight (calls_at run.calls c) x)) flies in
+      let progress = machine.lawful.progress c at ∙ ap (λ x. Some (progress_by_flight (mark_of run.given c) (jobs_at run.jobs c) x)) flies in
       subst (λ p. OwnsBy p f.processor (row_of f).progress.doing) (sym machine.frames)
       (subst (λ n. OwnsBy (frames_at run.given (entries_in run.history)) n (row_of f).progress.doing) (sym own)
       (OwnsBy-legal run.given (entries_in run.history) machine.lawful.legal c (row_of f).progress (omega (arith, at, marks)) progress))
@@ -80,7 +81,12 @@ module _ (run : Running) (spaces : List Kept) (pool : FrameState) (capacity c s 
       let room = machine.few in
       omega (arith, same, few, count, room)
 
-  module _ (under : space_under (row_of f).needs ≡ Some s) where
+  -- what comes of the flight after a step
+  pub lands_after : (f' : Flight) → f'.number ≡ f.number → job_in f'.purpose ≡ job_in f.purpose → Fits f' → (o : Option Flight) × Lands (mark_of run.given c) (jobs_at run.jobs c) f' o
+  lands_after f' number job fits =
+      lands (mark_of run.given c) (jobs_at run.jobs c) f' (machine.kinds c) (ap (slice_get (jobs_at run.jobs c)) number ∙ (machine.flights c f flies).job ∙ ap Some (sym job)) fits
+
+  module _ (s : ℕ) (under : space_under (row_of f).needs ≡ Some s) where
     pub space_within : s < length spaces
     space_within = (machine.flights c f flies).under s under
 
@@ -103,7 +109,7 @@ module _ (run : Running) (spaces : List Kept) (pool : FrameState) (capacity c s 
       ready_by None keeps =
           let flying = machine.flights c f flies in
           let rest = rests keeps in
-          let found = anywhere f was flying.fits flying.going keeps rest.resting in
+          let found = anywhere f was s under flying.fits flying.going keeps rest.resting in
           record {
             under = under ∙ ap Some (sym (machine.space_is s was at).number);
             fits = flying.fits;
@@ -138,12 +144,20 @@ module _ (run : Running) (spaces : List Kept) (pool : FrameState) (capacity c s 
           omega (arith, below, own, images)
 
       -- after an entry something was left, so the history has room for it
-      pub room_left : (f' : Flight) (now : Kept) (after : FrameState) (e : Entry) → Makes f f' was now (space_at run.given (entries_in run.history) s) pool after e → length run.history < capacity
-      room_left f' now after e makes =
-          let flying = machine.flights c f flies in
-          let of_call : slice_get (calls_at run.calls c) f'.number ≡ Some (call_in f'.purpose) = ap (slice_get (calls_at run.calls c)) makes.entry.same_work.number ∙ flying.of_call ∙ ap Some (sym makes.entry.same_work.call) in
-          let on = lands (calls_at run.calls c) f' of_call in
-          let turns : Turns run spaces pool after c s (length run.history) f f' was now e on.0 = record { flies = flies; under = under; at = at; unkept = unkept; makes = makes; lands = on.1; counted = refl } in
-          let less = all_left-turn run spaces pool after capacity c s (length run.history) f f' was now e on.0 machine turns in
-          let room = machine.room in
-          omega (arith, less, room)
+      pub room_in : (f' : Flight) (now : Kept) (after : FrameState) (e : Entry) → Makes f f' was now (space_at run.given (entries_in run.history) s) pool after e → length run.history < capacity
+      room_in f' now after e makes =
+          let turns : Turns run spaces pool after c s f f' was now e = record { flies = flies; under = under; at = at; unkept = unkept; makes = makes } in
+          let on = lands_after f' makes.entry.same_work.number (job_kept makes.entry.same_work) (fits run spaces pool after capacity c s f f' was now e machine turns) in
+          room_left run spaces (set spaces s now) pool after capacity c (length run.history) f f' e on.0 machine
+          (Goes-in run spaces pool after capacity c s f f' was now e machine turns (length run.history) on.0 on.1 refl)
+
+  module _ (under : space_under (row_of f).needs ≡ None) where
+    -- such a step is made under the frames' lock alone
+    pub needs-frames : (row_of f).needs ≡ Frames
+    needs-frames = frames_needed f (machine.flights c f flies).going under
+
+    pub room_on_frames : (f' : Flight) (after : FrameState) (e : Entry) → MakesOnFrames f f' pool after e → length run.history < capacity
+    room_on_frames f' after e makes =
+        let on = lands_after f' makes.entry.same_work.number (job_kept makes.entry.same_work) makes.fits in
+        room_left run spaces spaces pool after capacity c (length run.history) f f' e on.0 machine
+        (Goes-on_frames run spaces pool after capacity c f f' e machine flies under makes (length run.history) on.0 on.1 refl)

@@ -160,12 +160,12 @@ Makes-no_memory f space kept st ready =
 -- A flight that can't be served answers so.
 pub refused : (f : Flight) (reply : Reply) → Refuses f reply → (kept : Kept) (st : SpaceState) (frames : FrameState) → IsReady f kept st → Makes f (with_phase f (Ended reply)) kept kept st frames frames (answer_entry f.processor f.number (call_in f.purpose) (refusal reply))
 refused f (NoFrames wired claimed held) phase = λ kept st frames.
-    by_ready f (Short wired claimed held) kept st phase (λ g to. Makes g (to (Ended (NoFrames wired claimed held))) kept kept st frames frames (answer_entry f.processor f.number (call_in f.purpose) (refusal (NoFrames wired claimed held))))
+    by_ready f (Short wired claimed held) kept st refl phase (λ g to. Makes g (to (Ended (NoFrames wired claimed held))) kept kept st frames frames (answer_entry f.processor f.number (call_in f.purpose) (refusal (NoFrames wired claimed held))))
     (λ ready. Makes-no_frames f wired claimed held kept st ready frames)
 refused f (StoreFault space count) phase = λ kept st frames.
-    by_ready f (Fault space count) kept st phase (λ g to. Makes g (to (Ended (StoreFault space count))) kept kept st frames frames (answer_entry f.processor f.number (call_in f.purpose) (refusal (StoreFault space count))))
+    by_ready f (Fault space count) kept st refl phase (λ g to. Makes g (to (Ended (StoreFault space count))) kept kept st frames frames (answer_entry f.processor f.number (call_in f.purpose) (refusal (StoreFault space count))))
     (λ ready. Makes-fault f space count kept st ready frames)
 refused f NoMemory phase = λ kept st frames.
-    by_ready f (Lack phase.0) kept st phase.1 (λ g to. Makes g (to (Ended NoMemory)) kept kept st frames frames (answer_entry f.processor f.number (call_in f.purpose) (refusal NoMemory)))
+    by_ready f (Lack phase.0) kept st refl phase.1 (λ g to. Makes g (to (Ended NoMemory)) kept kept st frames frames (answer_entry f.processor f.number (call_in f.purpose) (refusal NoMemory)))
     (λ ready. Makes-no_memory f phase.0 kept st ready frames)
 refused f reply phase = absurd phase

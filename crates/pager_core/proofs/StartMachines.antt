@@ -1,23 +1,28 @@
 -- A machine at the start of a trace.
-use Rattle.std.proofs.Common.{◌≡◌, ℕ, zero, suc, ◌+◌, ◌*◌, ◌<◌, ◌≤◌, Bool, true, false, cond, ◌==◌, not, List, [], ◌∷◌, ◌++◌, length, map, filter, replicate, get_or, slice_get, Option, Some, None, option_map, refl, ap, sym, subst, ◌∙◌, inl, inr, arith, take}
+use Rattle.std.proofs.Common.{◌≡◌, ℕ, zero, suc, ◌+◌, ◌*◌, ◌<◌, ◌≤◌, Bool, true, false, cond, ◌==◌, not, List, [], ◌∷◌, ◌++◌, length, map, filter, replicate, length-append, get_or, slice_get, Option, Some, None, option_map, refl, ap, sym, subst, ◌∙◌, inl, inr, arith, take, ◌⊎◌}
 use Rattle.std.specs.List.{range_with_len, sum_by, enumerate_from}
 use Rattle.std.proofs.lemmas.Bool.{cases_eq, cases_lt, eq-eqb, ne_eqb}
-use Rattle.std.proofs.lemmas.List.{append-nil, map_push, get_or_past, length-take-le}
+use Rattle.std.proofs.lemmas.List.{map_push, get_or_past, length-take-le}
 use Rattle.std.proofs.lemmas.List.FromFn.{length-map-range_with_len, get_or-map-range_with_len}
 use Rattle.std.proofs.lemmas.List.Filters.{length-filter_both}
+use Rattle.std.proofs.lemmas.List.Folds.{sum_by-replicate}
 use Rattle.std.proofs.lemmas.List.Sums.{sum_by-cons}
+use Rattle.std.proofs.lemmas.Nat.{mul-le}
 use Rattle.std.proofs.lemmas.Option.{none-some, same_Some}
 use Rattle.std.proofs.Math.ListN.{length-map, length-replicate}
 use Rattle.pager_model.specs.declared.call.Call.{Call}
 use Rattle.pager_model.specs.declared.call.Call.TheVariants.{Map, Grow, Unmap, Protect, Load, Store, Sync, Evict}
 use Rattle.pager_model.specs.declared.call.Line.{Line}
+use Rattle.pager_model.specs.declared.trace.Daemon.{Daemon}
+use Rattle.pager_model.specs.declared.trace.Job.{Job}
+use Rattle.pager_model.specs.declared.trace.Job.TheVariants.{Call as MakesCall, Turn}
 use Rattle.pager_model.specs.Flat.{space_of_call}
 use Rattle.pager_model.specs.FrameStates.{FrameState, start_frames}
 use Rattle.pager_model.specs.Order.{Progress, at_rest}
 use Rattle.pager_model.specs.Plans.{Plan}
-use Rattle.pager_model.specs.Settings.{Given}
-use Rattle.pager_model.specs.Showing.{calls_of, daemon_marks}
-use Rattle.pager_model.specs.TraceText.{HasText, IsCall}
+use Rattle.pager_model.specs.Settings.{Given, mark_of}
+use Rattle.pager_model.specs.Showing.{actors, calls_of, daemon_marks, jobs_of, marks_of, turns_of}
+use Rattle.pager_model.specs.TraceText.{HasText, IsCall, IsDaemon}
 use Rattle.pager_model.proofs.Lists.{get_or_within}
 use Rattle.pager_laws.proofs.LegalHistories.{Agrees-legal}
 use Rattle.space_core.specs.Standing.{Kept}
@@ -25,17 +30,17 @@ use Rattle.pager_model.specs.SizeSets.{all_sizes}
 use Rattle.pager_model.specs.Stored.{Stored}
 use Rattle.pager_model.specs.Stores.{setting_over}
 use Rattle.pager_core.specs.declared.flight.Flight.{Flight}
-use Rattle.pager_core.specs.Machines.{CanFly, all_left, IsFlying, IsMachine}
-use Rattle.pager_core.specs.Rows.{row_of, is_between, new_flight}
+use Rattle.pager_core.specs.Machines.{CanDo, CanFly, all_left, entries_of_trace, entries_of_turns, most_entries, IsFlying, IsMachine}
+use Rattle.pager_core.specs.Rows.{row_of, is_between}
 use Rattle.pager_core.specs.RunParts.{AreNewSpaces}
-use Rattle.pager_core.specs.Running.{Running, calls_at, flight_at, flight_of, first_flights, progress_by_flight, entries_left, left_at, IsLawful}
+use Rattle.pager_core.specs.Running.{Running, AreOfMark, FitsMark, calls_among, entries_of_job, flight_for, left_behind, jobs_at, flight_at, flight_of, first_flights, progress_by_flight, entries_left, left_at, IsLawful}
 use Rattle.pager_core.proofs.Lists.{sum_by-same, map_range-push}
-use Rattle.pager_core.proofs.MachineTurns.{mark-zero, marked}
+use Rattle.pager_core.proofs.Lands.{Fits-for, Starts, Starts-for, own-for, under-for}
 
 -- What is made one by one.
 
-pub calls-push : {V : Type 0} (items : V → List Call) (vs vs' : List V) (v : V) (lines : List Line) (n : ℕ) → vs' ≡ vs ++ v ∷ [] → map items vs ≡ map (λ c. calls_of c lines) (range_with_len 0 n) → items v ≡ calls_of n lines → map items vs' ≡ map (λ c. calls_of c lines) (range_with_len 0 (n + 1))
-calls-push items vs vs' v lines n more are is = map_range-push (λ c. calls_of c lines) (map items vs) (map items vs') (items v) n (ap (map items) more ∙ map_push items vs v) are is
+pub jobs-push : {V : Type 0} (items : V → List Job) (vs vs' : List V) (v : V) (plan : Plan) (n : ℕ) → vs' ≡ vs ++ v ∷ [] → map items vs ≡ map (λ c. jobs_of c plan) (range_with_len 0 n) → items v ≡ jobs_of n plan → map items vs' ≡ map (λ c. jobs_of c plan) (range_with_len 0 (n + 1))
+jobs-push items vs vs' v plan n more are is = map_range-push (λ c. jobs_of c plan) (map items vs) (map items vs') (items v) n (ap (map items) more ∙ map_push items vs v) are is
 
 -- The calls of a processor.
 
@@ -105,32 +110,182 @@ together-few : (lines : List Line) (a n : ℕ) → together lines a n ≤ length
 together-few [] a n = together-none a n
 together-few (line ∷ lines) a n = (let more = together-more line lines a n in let few = together-few lines a n in omega (arith, more, few))
 
-sum_by-eight : (f g : ℕ → ℕ) (a n : ℕ) → ((k : ℕ) → f k ≤ 8 * g k) → sum_by f (range_with_len a n) ≤ 8 * sum_by g (range_with_len a n)
-sum_by-eight f g a zero at_most = omega arith
-sum_by-eight f g a (suc n) at_most =
+-- The jobs of a processor: a call of its lines each, or a turn of the daemon's.
+
+-- a processor that has a call is one of those that the lines name
+calls_within : (most c : ℕ) (lines : List Line) → ((i : ℕ) (d : Line) → i < length lines → (get_or lines i d).processor < most) → (n : ℕ) (call : Call) → slice_get (calls_of c lines) n ≡ Some call → c < most
+calls_within most c [] all n call at = cc
+calls_within most c (line ∷ lines) all n call at = elim (cases_eq line.processor c) [
+  | inl is ↦ subst (λ k. k < most) is (all 0 line (omega arith))
+  | inr other ↦ calls_within most c lines (λ i d below. all (suc i) d (omega (arith, below))) n call
+      (sym (ap (λ b. slice_get (map (λ (l : Line). l.call) (cond b (line ∷ filter (λ (l : Line). l.processor == c) lines) (filter (λ (l : Line). l.processor == c) lines))) n) (ne_eqb line.processor c other)) ∙ at)
+]
+
+at_jobs : (calls : List Call) (turns : List Job) (n : ℕ) (job : Job) → slice_get (map MakesCall calls ++ turns) n ≡ Some job → ((call : Call) × (job ≡ MakesCall call) × (slice_get calls n ≡ Some call)) ⊎ ((m : ℕ) × (slice_get turns m ≡ Some job))
+at_jobs [] turns n job at = inr (n, at)
+at_jobs (k ∷ calls) turns zero job at = inl (k, sym (same_Some (MakesCall k) job at), refl)
+at_jobs (k ∷ calls) turns (suc n) job at = at_jobs calls turns n job at
+
+at_turns : (turns : ℕ) (turn : Job) (m : ℕ) (job : Job) → slice_get (replicate turns turn) m ≡ Some job → job ≡ turn
+at_turns zero turn m job at = cc
+at_turns (suc n) turn zero job at = sym (same_Some turn job at)
+at_turns (suc n) turn (suc m) job at = at_turns n turn m job at
+
+-- the job is a turn of the daemon, whose processor comes behind the others
+abbrev IsDaemonTurn : Plan → ℕ → Job → Type 0
+IsDaemonTurn plan c job = (d : Daemon) × (plan.daemon ≡ Some d) × (c ≡ plan.processors) × (job ≡ Turn d.low)
+
+turn_of : (plan : Plan) (c : ℕ) (job : Job) (o : Option Daemon) → plan.daemon ≡ o → c ≡ plan.processors → (m : ℕ) → slice_get (turns_of o) m ≡ Some job → IsDaemonTurn plan c job
+turn_of plan c job None is here m at = cc
+turn_of plan c job (Some d) is here m at = (d, is, here, at_turns d.turns (Turn d.low) m job at)
+
+job_cases : (plan : Plan) (c n : ℕ) (job : Job) → slice_get (jobs_of c plan) n ≡ Some job → ((call : Call) × (job ≡ MakesCall call) × (slice_get (calls_of c plan.calls) n ≡ Some call)) ⊎ IsDaemonTurn plan c job
+job_cases plan c n job at = elim (at_jobs (calls_of c plan.calls) (cond (c == plan.processors) (turns_of plan.daemon) []) n job at) [
+  | inl call ↦ inl call
+  | inr turn ↦ elim (cases_eq c plan.processors) [
+    | inl here ↦ inr (turn_of plan c job plan.daemon refl here turn.0 (sym (ap (λ b. slice_get (cond b (turns_of plan.daemon) []) turn.0) (eq-eqb c plan.processors here)) ∙ turn.1))
+    | inr other ↦ (let none : None ≡ Some job = sym (ap (λ b. slice_get (cond b (turns_of plan.daemon) []) turn.0) (ne_eqb c plan.processors other)) ∙ turn.1 in cc)
+  ]
+]
+
+-- The mark of a processor.
+
+mark_below : (n : ℕ) (more : List ℕ) (c : ℕ) → c < n → get_or (replicate n 0 ++ more) c 0 ≡ 0
+mark_below zero more c below = absurd (omega (arith, below))
+mark_below (suc n) more zero below = refl
+mark_below (suc n) more (suc c) below = mark_below n more c (omega (arith, below))
+
+mark_behind : (n : ℕ) (more : List ℕ) → get_or (replicate n 0 ++ more) n 0 ≡ get_or more 0 0
+mark_behind zero more = refl
+mark_behind (suc n) more = mark_behind n more
+
+pub kinds_of : (plan : Plan) → HasText plan → (c : ℕ) → AreOfMark (get_or (marks_of plan) c 0) (jobs_of c plan)
+kinds_of plan has c n job at = elim (job_cases plan c n job at) [
+  | inl call ↦
+      let below = calls_within plan.processors c plan.calls (λ i d within. (has.lines i d within).0) n call.0 call.2 in
+      subst (FitsMark (get_or (marks_of plan) c 0)) (sym call.1) (mark_below plan.processors (daemon_marks plan.daemon) c below)
+  | inr turn ↦
+      let d = turn.0 in
+      let mark : get_or (marks_of plan) c 0 ≡ d.low = ap (λ k. get_or (marks_of plan) k 0) turn.2 ∙ mark_behind plan.processors (daemon_marks plan.daemon) ∙ ap (λ o. get_or (daemon_marks o) 0 0) turn.1 in
+      subst (FitsMark (get_or (marks_of plan) c 0)) (sym turn.3) (mark, (subst IsDaemon turn.1 has.daemon_in).0.0)
+]
+
+-- every job can be done
+pub can_do : (plan : Plan) → HasText plan → (spaces c n : ℕ) (job : Job) → spaces ≡ plan.spaces → slice_get (jobs_of c plan) n ≡ Some job → CanDo spaces job
+can_do plan has spaces c n job count at = elim (job_cases plan c n job at) [
+  | inl call ↦ subst (CanDo spaces) (sym call.1)
+      (call_of_line (CanFly spaces) c plan.calls
+      (λ i d within.
+      let line = (has.lines i d within).1 in
+      record { on = (let on = call_on plan.spaces (get_or plan.calls i d).call line in omega (arith, on, count)); can = (plan.spaces, line) })
+      n call.0 call.2)
+  | inr turn ↦ subst (CanDo spaces) (sym turn.3) (subst IsDaemon turn.1 has.daemon_in).0
+]
+
+-- How many entries they make at most.
+
+entries_of_calls : (calls : List Call) (turns : List Job) → sum_by entries_of_job (map MakesCall calls ++ turns) ≡ 8 * length calls + sum_by entries_of_job turns
+entries_of_calls [] turns = (let e : sum_by entries_of_job turns ≡ 8 * 0 + sum_by entries_of_job turns = omega arith in e)
+entries_of_calls (call ∷ calls) turns =
+    let rest = entries_of_calls calls turns in
+    sum_by-cons entries_of_job (MakesCall call) (map MakesCall calls ++ turns) ∙ (let e : 8 + sum_by entries_of_job (map MakesCall calls ++ turns) ≡ 8 * suc (length calls) + sum_by entries_of_job turns = omega (arith, rest) in e)
+
+-- what the daemon's turns add, where it is the processor
+abbrev turns_at : Plan → ℕ → ℕ
+turns_at plan c = cond (c == plan.processors) (entries_of_turns plan.daemon) 0
+
+entries_in_turns : (o : Option Daemon) → sum_by entries_of_job (turns_of o) ≡ entries_of_turns o
+entries_in_turns None = refl
+entries_in_turns (Some d) = sum_by-replicate entries_of_job d.turns (Turn d.low)
+
+entries_of_jobs : (plan : Plan) (c : ℕ) → sum_by entries_of_job (jobs_of c plan) ≡ 8 * length (calls_of c plan.calls) + turns_at plan c
+entries_of_jobs plan c =
+    entries_of_calls (calls_of c plan.calls) (cond (c == plan.processors) (turns_of plan.daemon) [])
+    ∙ ap (λ n. 8 * length (calls_of c plan.calls) + n) (turns (c == plan.processors))
+  where
+    turns : (b : Bool) → sum_by entries_of_job (cond b (turns_of plan.daemon) []) ≡ cond b (entries_of_turns plan.daemon) 0
+    turns true = entries_in_turns plan.daemon
+    turns false = refl
+
+none_behind : (plan : Plan) (a n : ℕ) → plan.processors < a → sum_by (turns_at plan) (range_with_len a n) ≡ 0
+none_behind plan a zero past = refl
+none_behind plan a (suc n) past =
+    let first : turns_at plan a ≡ 0 = ap (λ b. cond b (entries_of_turns plan.daemon) 0) (ne_eqb a plan.processors (λ is. omega (arith, past, is))) in
+    let rest = none_behind plan (a + 1) n (omega (arith, past)) in
+    sum_by-cons (turns_at plan) a (range_with_len (a + 1) n) ∙ (let e : turns_at plan a + sum_by (turns_at plan) (range_with_len (a + 1) n) ≡ 0 = omega (arith, first, rest) in e)
+
+once : (plan : Plan) (a n : ℕ) → sum_by (turns_at plan) (range_with_len a n) ≤ entries_of_turns plan.daemon
+once plan a zero = omega arith
+once plan a (suc n) =
+    let all = sum_by-cons (turns_at plan) a (range_with_len (a + 1) n) in
+    elim (cases_eq a plan.processors) [
+      | inl here ↦
+          let first : turns_at plan a ≡ entries_of_turns plan.daemon = ap (λ b. cond b (entries_of_turns plan.daemon) 0) (eq-eqb a plan.processors here) in
+          let rest = none_behind plan (a + 1) n (omega (arith, here)) in
+          omega (arith, all, first, rest)
+      | inr other ↦
+          let first : turns_at plan a ≡ 0 = ap (λ b. cond b (entries_of_turns plan.daemon) 0) (ne_eqb a plan.processors other) in
+          let rest = once plan (a + 1) n in
+          omega (arith, all, first, rest)
+    ]
+
+sum_by-both : (plan : Plan) (f : ℕ → ℕ) (a n : ℕ) → ((k : ℕ) → f k ≤ 8 * length (calls_of k plan.calls) + turns_at plan k) → sum_by f (range_with_len a n) ≤ 8 * together plan.calls a n + sum_by (turns_at plan) (range_with_len a n)
+sum_by-both plan f a zero at_most = omega arith
+sum_by-both plan f a (suc n) at_most =
     let left = sum_by-cons f a (range_with_len (a + 1) n) in
-    let right = sum_by-cons g a (range_with_len (a + 1) n) in
+    let calls = sum_by-cons (λ c. length (calls_of c plan.calls)) a (range_with_len (a + 1) n) in
+    let turns = sum_by-cons (turns_at plan) a (range_with_len (a + 1) n) in
     let first = at_most a in
-    let rest = sum_by-eight f g (a + 1) n at_most in
-    omega (arith, left, right, first, rest)
+    let rest = sum_by-both plan f (a + 1) n at_most in
+    omega (arith, left, calls, turns, first, rest)
+
+pub entries_in_all : (plan : Plan) (f : ℕ → ℕ) (n : ℕ) → ((k : ℕ) → f k ≤ 8 * length (calls_of k plan.calls) + turns_at plan k) → sum_by f (range_with_len 0 n) ≤ entries_of_trace plan
+entries_in_all plan f n at_most =
+    let both = sum_by-both plan f 0 n at_most in
+    let few = together-few plan.calls 0 n in
+    let turns = once plan 0 n in
+    omega (arith, both, few, turns)
+
+turns_few : (o : Option Daemon) → IsDaemon o → entries_of_turns o ≤ 1052672
+turns_few None is = omega arith
+turns_few (Some d) is = mul-le d.turns (4 * d.low + 1) 4096 257 is.1.1 (let low = is.0.1 in omega (arith, low))
+
+pub few_entries : (plan : Plan) → HasText plan → entries_of_trace plan ≤ most_entries
+few_entries plan has = (let turns = turns_few plan.daemon has.daemon_in in omega (arith, turns, has.few))
+
+at_most_turns : (plan : Plan) (b : Bool) → cond b (entries_of_turns plan.daemon) 0 ≤ entries_of_turns plan.daemon
+at_most_turns plan true = omega arith
+at_most_turns plan false = omega arith
+
+-- there are at most seventeen processors
+pub actors_few : (plan : Plan) → HasText plan → actors plan ≤ 17
+actors_few plan has =
+    let all = length-append (replicate plan.processors 0) (daemon_marks plan.daemon) in
+    let some : length (replicate {A = ℕ} plan.processors 0) ≡ plan.processors = length-replicate {A = ℕ} plan.processors 0 in
+    let daemon = one_at_most plan.daemon in
+    omega (arith, all, some, daemon, has.processors_in.1)
+  where
+    one_at_most : (o : Option Daemon) → length (daemon_marks o) ≤ 1
+    one_at_most None = omega arith
+    one_at_most (Some d) = omega arith
 
 -- A processor's first flight.
 
-first_in : (c : ℕ) (o : Option Call) (f : Flight) → option_map (new_flight c 0) o ≡ Some f → (call : Call) × (o ≡ Some call) × (new_flight c 0 call ≡ f)
+first_in : (c : ℕ) (o : Option Job) (f : Flight) → option_map (flight_for c 0) o ≡ Some f → (job : Job) × (o ≡ Some job) × (flight_for c 0 job ≡ f)
 first_in c None f is = absurd (none-some f is)
-first_in c (Some call) f is = (call, refl, same_Some (new_flight c 0 call) f is)
+first_in c (Some job) f is = (job, refl, same_Some (flight_for c 0 job) f is)
 
-first_progress : (c : ℕ) (calls : List Call) → progress_by_flight calls (flight_of c 0 calls) ≡ at_rest 0 0
-first_progress c [] = refl
-first_progress c (call ∷ calls) = refl
+first_progress : (c mark : ℕ) (jobs : List Job) → AreOfMark mark jobs → progress_by_flight mark jobs (flight_of c 0 jobs) ≡ at_rest mark 0
+first_progress c mark [] are = refl
+first_progress c mark (job ∷ jobs) are = (Starts-for c 0 mark job (are 0 job refl)).progress
 
-first_left : (c : ℕ) (calls : List Call) → entries_left calls (flight_of c 0 calls) ≤ 8 * length calls
-first_left c [] = omega arith
-first_left c (call ∷ calls) = omega arith
-
--- a trace has no daemon, so there is a mark for each processor alone
-pub marks-start : (plan : Plan) → HasText plan → replicate plan.processors 0 ≡ replicate plan.processors 0 ++ daemon_marks plan.daemon
-marks-start plan trace = sym (append-nil (replicate plan.processors 0)) ∙ ap (λ d. replicate plan.processors 0 ++ daemon_marks d) (sym trace.no_daemon)
+first_left : (c mark : ℕ) (jobs : List Job) → AreOfMark mark jobs → entries_left jobs (flight_of c 0 jobs) ≡ sum_by entries_of_job jobs
+first_left c mark [] are = refl
+first_left c mark (job ∷ jobs) are =
+    let starts = Starts-for c 0 mark job (are 0 job refl) in
+    ap (λ n. (row_of (flight_for c 0 job)).entries + left_behind (job ∷ jobs) (n + 1)) starts.number
+    ∙ ap (λ n. n + left_behind (job ∷ jobs) 1) starts.entries
+    ∙ sym (sum_by-cons entries_of_job job jobs)
 
 length-used : {X : Type 0} (f : Stored → X) (n : ℕ) (stores : List Stored) → n ≤ length stores → length (map f (take n stores)) ≡ n
 length-used f n stores enough = length-map (take n stores) f ∙ length-take-le n stores enough
@@ -140,94 +295,102 @@ pub length-told : (plan : Plan) (stores : List Stored) → plan.spaces ≤ lengt
 length-told plan stores enough given is = ap (λ (g : Given). length g.told) is ∙ length-used (λ (s : Stored). s.told) plan.spaces stores enough
 
 -- A trace over stores, of which the spaces use the first.
-module _ (plan : Plan) (trace : HasText plan) (stores : List Stored) (enough : plan.spaces ≤ length stores) (unused : List Stored) (calls : List (List Call)) (are : calls ≡ map (λ c. calls_of c plan.calls) (range_with_len 0 plan.processors)) (spaces : List Kept) (new : AreNewSpaces (setting_over plan stores) spaces) where
+module _ (plan : Plan) (trace : HasText plan) (stores : List Stored) (enough : plan.spaces ≤ length stores) (unused : List Stored) (jobs : List (List Job)) (are : jobs ≡ map (λ c. jobs_of c plan) (range_with_len 0 (actors plan))) (spaces : List Kept) (new : AreNewSpaces (setting_over plan stores) spaces) where
   abbrev start : Running
-  start = record { given = setting_over plan stores; calls = calls; flights = first_flights calls; history = []; unused = unused }
+  start = record { given = setting_over plan stores; jobs = jobs; flights = first_flights jobs; history = []; unused = unused }
 
-  processors : length calls ≡ plan.processors
-  processors = ap length are ∙ length-map-range_with_len (λ c. calls_of c plan.calls) 0 plan.processors
-
-  marks : start.given.marks ≡ replicate (length calls) 0
-  marks = sym (marks-start plan trace) ∙ ap (λ n. replicate n 0) (sym processors)
+  processors : length jobs ≡ actors plan
+  processors = ap length are ∙ length-map-range_with_len (λ c. jobs_of c plan) 0 (actors plan)
 
   count : length spaces ≡ plan.spaces
   count = new.count ∙ length-told plan stores enough (setting_over plan stores) refl
 
-  calls_in : (c : ℕ) → c < plan.processors → calls_at calls c ≡ calls_of c plan.calls
-  calls_in c below = ap (λ l. calls_at l c) are ∙ get_or-map-range_with_len (λ k. calls_of k plan.calls) 0 plan.processors c c [] below (omega arith)
+  jobs_in : (c : ℕ) → c < actors plan → jobs_at jobs c ≡ jobs_of c plan
+  jobs_in c below = ap (λ l. jobs_at l c) are ∙ get_or-map-range_with_len (λ k. jobs_of k plan) 0 (actors plan) c c [] below (omega arith)
 
-  calls_past : (c : ℕ) → plan.processors ≤ c → calls_at calls c ≡ []
-  calls_past c past = get_or_past calls c [] (let all = processors in omega (arith, all, past))
+  jobs_past : (c : ℕ) → actors plan ≤ c → jobs_at jobs c ≡ []
+  jobs_past c past = get_or_past jobs c [] (let all = processors in omega (arith, all, past))
 
-  length-at : (c : ℕ) → length (calls_at calls c) ≤ length (calls_of c plan.calls)
-  length-at c = elim (cases_lt c plan.processors) [
-    | inl below ↦ (let e = ap length (calls_in c below) in omega (arith, e))
-    | inr past ↦ (let e : length (calls_at calls c) ≡ 0 = ap length (calls_past c past) in omega (arith, e))
+  -- what holds of each of a processor's jobs
+  by_jobs : (P : ℕ → Job → Type 0) → ((c n : ℕ) (job : Job) → slice_get (jobs_of c plan) n ≡ Some job → P c job) → (c n : ℕ) (job : Job) → slice_get (jobs_at jobs c) n ≡ Some job → P c job
+  by_jobs P holds c n job at = elim (cases_lt c (actors plan)) [
+    | inl below ↦ holds c n job (sym (ap (λ l. slice_get l n) (jobs_in c below)) ∙ at)
+    | inr past ↦ (let e : None ≡ Some job = sym (ap (λ l. slice_get l n) (jobs_past c past)) ∙ at in cc)
   ]
 
-  can_fly : (c n : ℕ) (call : Call) → slice_get (calls_at calls c) n ≡ Some call → CanFly (length spaces) call
-  can_fly c n call at = elim (cases_lt c plan.processors) [
-    | inl below ↦
-        call_of_line (CanFly (length spaces)) c plan.calls
-        (λ i d within.
-        let line = (trace.lines i d within).1 in
-        record { on = (let on = call_on plan.spaces (get_or plan.calls i d).call line in let all = count in omega (arith, on, all)); can = (plan.spaces, line) })
-        n call (sym (ap (λ l. slice_get l n) (calls_in c below)) ∙ at)
-    | inr past ↦ (let e : None ≡ Some call = sym (ap (λ l. slice_get l n) (calls_past c past)) ∙ at in cc)
+  kinds : (c : ℕ) → AreOfMark (mark_of start.given c) (jobs_at jobs c)
+  kinds = by_jobs (λ c job. FitsMark (mark_of start.given c) job) (kinds_of plan trace)
+
+  can : (c n : ℕ) (job : Job) → slice_get (jobs_at jobs c) n ≡ Some job → CanDo (length spaces) job
+  can = by_jobs (λ c job. CanDo (length spaces) job) (λ c n job at. can_do plan trace (length spaces) c n job count at)
+
+  entries_at : (c : ℕ) → sum_by entries_of_job (jobs_at jobs c) ≤ 8 * length (calls_of c plan.calls) + turns_at plan c
+  entries_at c = elim (cases_lt c (actors plan)) [
+    | inl below ↦ (let e = ap (sum_by entries_of_job) (jobs_in c below) ∙ entries_of_jobs plan c in omega (arith, e))
+    | inr past ↦ (let e : sum_by entries_of_job (jobs_at jobs c) ≡ 0 = ap (sum_by entries_of_job) (jobs_past c past) in omega (arith, e))
   ]
 
-  first_flight : (c : ℕ) → c < length calls → flight_at (first_flights calls) c ≡ flight_of c 0 (calls_at calls c)
-  first_flight c below = get_or-map-range_with_len (λ k. flight_of k 0 (calls_at calls k)) 0 (length calls) c c None below (omega arith)
+  -- each job makes an entry, so there are no more of them than entries
+  jobs_few : (own : List Job) → length own ≤ sum_by entries_of_job own
+  jobs_few [] = omega arith
+  jobs_few (MakesCall call ∷ own) = (let rest = jobs_few own in let all = sum_by-cons entries_of_job (MakesCall call) own in omega (arith, rest, all))
+  jobs_few (Turn low ∷ own) = (let rest = jobs_few own in let all = sum_by-cons entries_of_job (Turn low) own in omega (arith, rest, all))
 
-  known : length (first_flights calls) ≡ length calls
-  known = length-map-range_with_len (λ c. flight_of c 0 (calls_at calls c)) 0 (length calls)
+  first_flight : (c : ℕ) → c < length jobs → flight_at (first_flights jobs) c ≡ flight_of c 0 (jobs_at jobs c)
+  first_flight c below = get_or-map-range_with_len (λ k. flight_of k 0 (jobs_at jobs k)) 0 (length jobs) c c None below (omega arith)
 
-  -- a flight is of its processor's first call
-  first : (c : ℕ) (f : Flight) → flight_at (first_flights calls) c ≡ Some f → (call : Call) × (slice_get (calls_at calls c) 0 ≡ Some call) × (new_flight c 0 call ≡ f)
+  known : length (first_flights jobs) ≡ length jobs
+  known = length-map-range_with_len (λ c. flight_of c 0 (jobs_at jobs c)) 0 (length jobs)
+
+  -- a flight is of its processor's first job
+  first : (c : ℕ) (f : Flight) → flight_at (first_flights jobs) c ≡ Some f → (job : Job) × (slice_get (jobs_at jobs c) 0 ≡ Some job) × (flight_for c 0 job ≡ f)
   first c f flies =
-      let below = get_or_within (first_flights calls) c f flies in
+      let below = get_or_within (first_flights jobs) c f flies in
       let all = known in
-      first_in c (slice_get (calls_at calls c) 0) f (sym (first_flight c (omega (arith, below, all))) ∙ flies)
+      first_in c (slice_get (jobs_at jobs c) 0) f (sym (first_flight c (omega (arith, below, all))) ∙ flies)
 
-  flights : (c : ℕ) (f : Flight) → flight_at (first_flights calls) c ≡ Some f → IsFlying start spaces c f
+  starts : (c : ℕ) (job : Job) → slice_get (jobs_at jobs c) 0 ≡ Some job → Starts c 0 (mark_of start.given c) job
+  starts c job at = Starts-for c 0 (mark_of start.given c) job (kinds c 0 job at)
+
+  flights : (c : ℕ) (f : Flight) → flight_at (first_flights jobs) c ≡ Some f → IsFlying start spaces c f
   flights c f flies =
       let is = first c f flies in
-      let can = can_fly c 0 is.0 is.1 in
-      let flying : IsFlying start spaces c (new_flight c 0 is.0) =
+      let first_of = starts c is.0 is.1 in
+      let able = can c 0 is.0 is.1 in
+      let flying : IsFlying start spaces c (flight_for c 0 is.0) =
       record {
-        processor = refl;
-        of_call = is.1;
-        on = can.on;
-        fits = record { of_call = refl; can = can.can; phase = refl };
-        under = λ s under. subst (λ n. n < length spaces) (same_Some (space_of_call is.0) s under) can.on;
-        going = refl;
-        keeps = λ s kept keeps at. (let e : None ≡ Some s = keeps in cc);
+        processor = first_of.processor;
+        job = ap (slice_get (jobs_at jobs c)) first_of.number ∙ is.1 ∙ ap Some (sym first_of.job_is);
+        on = own-for (length spaces) c 0 is.0 able;
+        fits = Fits-for (length spaces) c 0 is.0 able;
+        under = λ s under. under-for (length spaces) c 0 is.0 s able under;
+        going = first_of.going;
+        keeps = λ s kept keeps at. absurd (none-some s (sym first_of.keeps_none ∙ keeps));
       } in
       subst (IsFlying start spaces c) is.2 flying
 
-  keeps_none : (c : ℕ) (f : Flight) (s : ℕ) → flight_at (first_flights calls) c ≡ Some f → (row_of f).keeps ≡ Some s → ⊥
+  keeps_none : (c : ℕ) (f : Flight) (s : ℕ) → flight_at (first_flights jobs) c ≡ Some f → (row_of f).keeps ≡ Some s → ⊥
   keeps_none c f s flies keeps =
       let is = first c f flies in
-      let none : None ≡ Some s = ap (λ (x : Flight). (row_of x).keeps) is.2 ∙ keeps in
-      cc
+      none-some s (sym (starts c is.0 is.1).keeps_none ∙ ap (λ (x : Flight). (row_of x).keeps) is.2 ∙ keeps)
 
-  left_few : (c : ℕ) → left_at start c ≤ 8 * length (calls_of c plan.calls)
-  left_few c = elim (cases_lt c (length calls)) [
+  left_few : (c : ℕ) → left_at start c ≤ 8 * length (calls_of c plan.calls) + turns_at plan c
+  left_few c = elim (cases_lt c (length jobs)) [
     | inl below ↦
-        let at : left_at start c ≡ entries_left (calls_at calls c) (flight_of c 0 (calls_at calls c)) = ap (entries_left (calls_at calls c)) (first_flight c below) in
-        let few = first_left c (calls_at calls c) in
-        let own = length-at c in
-        omega (arith, at, few, own)
+        let at : left_at start c ≡ sum_by entries_of_job (jobs_at jobs c) = ap (entries_left (jobs_at jobs c)) (first_flight c below) ∙ first_left c (mark_of start.given c) (jobs_at jobs c) (kinds c) in
+        let own = entries_at c in
+        omega (arith, at, own)
     | inr past ↦
-        let at : left_at start c ≡ 0 = ap (entries_left (calls_at calls c)) (get_or_past (first_flights calls) c None (let all = known in omega (arith, all, past))) in
+        let at : left_at start c ≡ 0 = ap (entries_left (jobs_at jobs c)) (get_or_past (first_flights jobs) c None (let all = known in omega (arith, all, past))) in
         omega (arith, at)
   ]
 
-  all_few : all_left start ≤ 8 * length plan.calls
-  all_few =
-      let eight = sum_by-eight (left_at start) (λ c. length (calls_of c plan.calls)) 0 (length calls) left_few in
-      let few = together-few plan.calls 0 (length calls) in
-      omega (arith, eight, few)
+  all_few : all_left start ≤ entries_of_trace plan
+  all_few = entries_in_all plan (left_at start) (length jobs) left_few
+
+  progress_first : (c : ℕ) → c < length jobs → at_rest (mark_of start.given c) 0 ≡ progress_by_flight (mark_of start.given c) (jobs_at jobs c) (flight_at (first_flights jobs) c)
+  progress_first c below =
+      sym (first_progress c (mark_of start.given c) (jobs_at jobs c) (kinds c)) ∙ ap (progress_by_flight (mark_of start.given c) (jobs_at jobs c)) (sym (first_flight c below))
 
   lawful : IsLawful start
   lawful =
@@ -235,38 +398,39 @@ module _ (plan : Plan) (trace : HasText plan) (stores : List Stored) (enough : p
         legal = tt;
         numbered = refl;
         agrees = Agrees-legal start.given [] tt;
-        progress = λ c below. ap (λ m. Some (at_rest m 0)) (mark-zero start.given (length calls) c marks) ∙ ap Some (sym (first_progress c (calls_at calls c)) ∙ ap (progress_by_flight (calls_at calls c)) (sym (first_flight c below)));
-        answers = λ c below. ap (λ (p : Progress). enumerate_from 0 (take p.made (calls_at calls c))) (sym (first_progress c (calls_at calls c)) ∙ ap (progress_by_flight (calls_at calls c)) (sym (first_flight c below)));
-        between = λ c f flies. ap (λ (x : Flight). is_between x.phase) (sym (first c f flies).2);
-        flying = λ c f flies. (let is = flights c f flies in record { is_call = is.fits.of_call; call = is.of_call; going = is.going });
+        progress = λ c below. ap Some (progress_first c below);
+        answers = λ c below. ap (λ (p : Progress). enumerate_from 0 (calls_among (take p.made (jobs_at jobs c)))) (progress_first c below);
+        between = λ c f flies. (let is = first c f flies in subst (λ (x : Flight). is_between x.purpose x.phase ≡ true) is.2 (starts c is.0 is.1).between);
+        flying = λ c f flies. (let is = flights c f flies in record { job = is.job; going = is.going });
         one_keeper = λ s c d f g flies flies' keeps keeps'. absurd (keeps_none c f s flies keeps);
       }
 
-  IsMachine-start : (capacity : ℕ) → 8 * length plan.calls ≤ capacity → IsMachine start spaces (start_frames all_sizes plan.frames plan.processors) capacity
+  IsMachine-start : (capacity : ℕ) → entries_of_trace plan ≤ capacity → IsMachine start spaces (start_frames all_sizes plan.frames (actors plan)) capacity
   IsMachine-start capacity fits =
       record {
         lawful = lawful;
-        marks = marks;
+        marks = sym processors;
+        kinds = kinds;
         told = sym new.count;
         faults = length-used (λ (s : Stored). s.faults) plan.spaces stores enough ∙ sym count;
         known = known;
-        frames = ap (start_frames all_sizes plan.frames) (sym (ap length marks ∙ length-replicate (length calls) 0 ∙ processors));
-        few_calls = λ c. (let own = length-at c in let lines = length-calls c plan.calls in omega (arith, own, lines, trace.few));
+        frames = refl;
+        few_jobs = λ c. (let few = jobs_few (jobs_at jobs c) in let own = entries_at c in let calls = length-calls c plan.calls in let turns = at_most_turns plan (c == plan.processors) in let daemon = turns_few plan.daemon trace.daemon_in in omega (arith, few, own, calls, turns, daemon, trace.few));
         few_spaces = (let few = trace.spaces_in.1 in let all = count in omega (arith, few, all));
-        calls = can_fly;
+        jobs = can;
         flights = flights;
-        space_is = λ s kept at. record { number = (new.new s kept at).number_is; frames = (new.new s kept at).frames_are; processors = (new.new s kept at).processors_are ∙ marked start.given (length calls) marks };
+        space_is = λ s kept at. record { number = (new.new s kept at).number_is; frames = (new.new s kept at).frames_are; processors = (new.new s kept at).processors_are ∙ sym processors };
         rest = λ s kept at none. record { resting = (new.new s kept at).resting; stands = (new.new s kept at).stands; next = refl };
         room = (let few = all_few in omega (arith, few, fits));
-        few = (let few = all_few in omega (arith, few, trace.few));
+        few = (let few = all_few in let most = few_entries plan trace in omega (arith, few, most));
       }
 
 -- whatever its parts are called
-pub IsMachine-started : (plan : Plan) → HasText plan → (stores : List Stored) → plan.spaces ≤ length stores → (run : Running) (spaces : List Kept) (pool : FrameState) (capacity : ℕ) → run.given ≡ setting_over plan stores → run.calls ≡ map (λ c. calls_of c plan.calls) (range_with_len 0 plan.processors) → run.flights ≡ first_flights run.calls → run.history ≡ [] → AreNewSpaces run.given spaces → pool ≡ start_frames all_sizes plan.frames plan.processors → 8 * length plan.calls ≤ capacity → IsMachine run spaces pool capacity
-IsMachine-started plan trace stores enough run spaces pool capacity given calls same_flights none new same_pool room =
+pub IsMachine-started : (plan : Plan) → HasText plan → (stores : List Stored) → plan.spaces ≤ length stores → (run : Running) (spaces : List Kept) (pool : FrameState) (capacity : ℕ) → run.given ≡ setting_over plan stores → run.jobs ≡ map (λ c. jobs_of c plan) (range_with_len 0 (actors plan)) → run.flights ≡ first_flights run.jobs → run.history ≡ [] → AreNewSpaces run.given spaces → pool ≡ start_frames all_sizes plan.frames (actors plan) → entries_of_trace plan ≤ capacity → IsMachine run spaces pool capacity
+IsMachine-started plan trace stores enough run spaces pool capacity given jobs same_flights none new same_pool room =
     let new' = subst (λ (g : Given). AreNewSpaces g spaces) given new in
-    let same : run ≡ start plan trace stores enough run.unused run.calls calls spaces new' =
-    λ i. record { given = given i; calls = run.calls; flights = same_flights i; history = none i; unused = run.unused } in
+    let same : run ≡ start plan trace stores enough run.unused run.jobs jobs spaces new' =
+    λ i. record { given = given i; jobs = run.jobs; flights = same_flights i; history = none i; unused = run.unused } in
     subst (λ r. IsMachine r spaces pool capacity) (sym same)
-    (subst (λ p. IsMachine (start plan trace stores enough run.unused run.calls calls spaces new') spaces p capacity) (sym same_pool)
-    (IsMachine-start plan trace stores enough run.unused run.calls calls spaces new' capacity room))
+    (subst (λ p. IsMachine (start plan trace stores enough run.unused run.jobs jobs spaces new') spaces p capacity) (sym same_pool)
+    (IsMachine-start plan trace stores enough run.unused run.jobs jobs spaces new' capacity room))

@@ -36,7 +36,7 @@ unused_elsewhere kept st frame agree unused p is = false≢true (sym unused ∙ 
 -- once its page has a frame, the access is read in next
 pub IsLeft-placed : (f : Flight) (page frame : ℕ) (want : Want) (was now : Kept) (st : SpaceState) → CanBegin (call_in f.purpose) → space_of_call (call_in f.purpose) ≡ was.number → WantsFrame (call_in f.purpose) was page want → Places was now page frame → StandsFor now st → st.next ≡ Only f.processor → IsLeft (in_phase f (Fill page frame)) now st
 IsLeft-placed f page frame want was now st can on wants places stands next = record {
-  fits = record { of_call = refl; can = can; phase = tt };
+  fits = record { kind = refl; can = can; phase = tt };
   stands = stands;
   next = next;
   found = record {
@@ -92,12 +92,12 @@ HasNothing-wanting f page want before phase owns =
 -- and the page that it wants one for is of its call's own space
 pub own_wanting : (f : Flight) (page : ℕ) (want : Want) (kept : Kept) (st : SpaceState) → f.phase ≡ Frame page want → IsReady f kept st → space_of_call (call_in f.purpose) ≡ kept.number
 own_wanting f page want kept st phase =
-    by_ready f (Frame page want) kept st phase (λ g to. space_of_call (call_in g.purpose) ≡ kept.number) (λ ready. same_Some _ _ ready.under)
+    by_ready f (Frame page want) kept st refl phase (λ g to. space_of_call (call_in g.purpose) ≡ kept.number) (λ ready. same_Some _ _ ready.under)
 
 pub frame_taken : (f : Flight) (page own frame : ℕ) (want : Want) (was now : Kept) (before after : FrameState) (t : Taking) → f.phase ≡ Frame page want → own ≡ space_of_call (call_in f.purpose) → frame ≡ t.frame → AreAgreed was before → OwnsBy before f.processor (row_of f).progress.doing → take_frame before own page want ≡ Some t → after ≡ counted t.state → Places was now page t.frame → (st : SpaceState) → IsReady f was st → Makes f (with_phase f (Fill page frame)) was now st before after (take_entry f.processor own page frame want)
 frame_taken f page own frame want was now before after t phase same numbered agree owns takes counts places st =
     subst (λ n. IsReady f was st → Makes f (with_phase f (Fill page n)) was now st before after (take_entry f.processor own page n want)) (sym numbered)
     (subst (λ u. IsReady f was st → Makes f (with_phase f (Fill page t.frame)) was now st before u (take_entry f.processor own page t.frame want)) (sym counts)
     (subst (λ s. IsReady f was st → Makes f (with_phase f (Fill page t.frame)) was now st before (counted t.state) (take_entry f.processor s page t.frame want)) (sym same)
-    (by_ready f (Frame page want) was st phase (λ g to. Makes g (to (Fill page t.frame)) was now st before (counted t.state) (take_entry f.processor (space_of_call (call_in f.purpose)) page t.frame want))
+    (by_ready f (Frame page want) was st refl phase (λ g to. Makes g (to (Fill page t.frame)) was now st before (counted t.state) (take_entry f.processor (space_of_call (call_in f.purpose)) page t.frame want))
     (λ ready. Makes-take f page want was now before t st ready agree (HasNothing-wanting f page want before phase owns) (ap (λ s. take_frame before s page want) (sym same) ∙ takes) places))))

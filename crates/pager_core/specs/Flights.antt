@@ -1,5 +1,5 @@
 -- What stands in a space while a flight goes on in it.
-use Rattle.std.specs.Prelude.{ℕ, ◌≡◌, ◌<◌, ◌⊎◌, true, false, Option, Some, None, IsSome}
+use Rattle.std.specs.Prelude.{ℕ, ◌≡◌, ◌<◌, ◌≤◌, ◌⊎◌, Bool, true, false, Option, Some, None, IsSome}
 use Rattle.pager_model.specs.declared.entry.Victim.{Victim}
 use Rattle.pager_model.specs.declared.call.Call.{Call}
 use Rattle.pager_model.specs.declared.call.Call.TheVariants.{Evict as EvictCall}
@@ -13,9 +13,10 @@ use Rattle.space_core.specs.Beginning.{IsUnmapping, IsEvicting, NoneResident, Ne
 use Rattle.space_core.specs.Standing.{Kept, StandsFor, IsResting, MustWrite, range_of, frame_at, dirty_at, is_allowed, copied_page, CanBegin}
 use Rattle.pager_core.specs.declared.flight.Flight.{Flight}
 use Rattle.pager_core.specs.declared.flight.Phase.{Phase}
-use Rattle.pager_core.specs.declared.flight.Phase.TheVariants.{Start, Evict, Clear, Gone, Frame, Short, Fill, Unfill, Out, Write, Hand, Unclaim, Back, Drop, Late, Use, Fault, Lack, Ended}
+use Rattle.pager_core.specs.declared.flight.Phase.TheVariants.{Start, Evict, Clear, Gone, Frame, Short, Fill, Unfill, Out, Write, Hand, Unclaim, Back, Drop, Late, Use, Fault, Lack, Look, Rested, Ended}
 use Rattle.pager_core.specs.declared.flight.Purpose.{Purpose}
-use Rattle.pager_core.specs.Rows.{call_in, claimed_in, is_of_call, row_of, space_under}
+use Rattle.pager_core.specs.declared.flight.Purpose.TheVariants.{Call as OfCall, Turn as OfTurn}
+use Rattle.pager_core.specs.Rows.{call_in, claimed_in, row_of, space_under}
 use Rattle.pager_model.specs.Bounds.{space_pages}
 
 -- a load or a store at this page, which the rights of the page allow
@@ -116,6 +117,8 @@ PhaseStands call kept Late = IsServable call kept
 PhaseStands call kept (Use page want v) = WantsFrame call kept page want
 PhaseStands call kept (Fault space count) = HasFaulted call kept
 PhaseStands call kept (Lack space) = IsResting kept
+PhaseStands call kept Look = IsResting kept
+PhaseStands call kept Rested = IsResting kept
 PhaseStands call kept (Ended reply) = IsResting kept
 
 -- What a phase says of its call, whatever the space: at the start, and where a frame is to be taken, none was claimed; only a load or a store
@@ -136,9 +139,31 @@ PhaseFits purpose (Fault space count) =
 PhaseFits purpose (Lack space) = is_access (call_in purpose) ≡ true
 PhaseFits purpose phase = Unit {0}
 
--- the flight is of a call that can be begun, and its phase fits it
+-- a phase that only a turn of a daemon is in
+abbrev pub is_of_turns : Phase → Bool
+is_of_turns Look = true
+is_of_turns Rested = true
+is_of_turns phase = false
+
+-- A turn makes at most as many evictions as its mark, which is 1 at least. In the midst of an eviction it has made fewer.
+abbrev pub TurnFits : ℕ → ℕ → Phase → Type 0
+TurnFits mark evictions Look = (1 ≤ mark) × (evictions ≤ mark)
+TurnFits mark evictions (Out v) = evictions < mark
+TurnFits mark evictions (Write v) = evictions < mark
+TurnFits mark evictions (Hand v) = evictions < mark
+TurnFits mark evictions (Unclaim v fault) = evictions < mark
+TurnFits mark evictions (Drop v) = evictions < mark
+TurnFits mark evictions Rested = 1 ≤ mark
+TurnFits mark evictions phase = ⊥
+
+-- the phase is one of calls, or one of turns
+abbrev pub IsFor : Purpose → Phase → Type 0
+IsFor (OfCall call claimed) phase = is_of_turns phase ≡ false
+IsFor (OfTurn mark evictions) phase = TurnFits mark evictions phase
+
+-- the flight is of a call that can be begun, or of a turn, and its phase fits it
 pub record Fits (f : Flight) : Type 0 where
-  pub of_call : is_of_call f.purpose ≡ true
+  pub kind : IsFor f.purpose f.phase
   pub can : CanBegin (call_in f.purpose)
   pub phase : PhaseFits f.purpose f.phase
 

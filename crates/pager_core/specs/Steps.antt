@@ -11,12 +11,14 @@ use Rattle.pager_model.specs.FrameStates.{FrameState, frames_after, frame_of, Fr
 use Rattle.pager_model.specs.Order.{progress_after}
 use Rattle.pager_model.specs.Showing.{answer_in}
 use Rattle.pager_model.specs.SpaceStates.{SpaceState, space_after, SpaceAllows}
+use Rattle.space_core.specs.Beginning.{LacksMemory}
 use Rattle.space_core.specs.Standing.{Kept, frame_at}
 use Rattle.pager_laws.specs.Laid.{IsSound}
 use Rattle.pager_core.specs.declared.flight.Flight.{Flight}
-use Rattle.pager_core.specs.declared.flight.Phase.TheVariants.{Short, Fault, Lack}
+use Rattle.pager_core.specs.declared.flight.Phase.{Phase}
+use Rattle.pager_core.specs.declared.flight.Phase.TheVariants.{Short, Unclaim, Fault, Lack}
 use Rattle.pager_core.specs.Rows.{call_in, is_of_call, mark_in, row_of, is_between, Going, reply_in}
-use Rattle.pager_core.specs.Flights.{IsReady, LeftBy}
+use Rattle.pager_core.specs.Flights.{Fits, IsReady, LeftBy}
 
 -- the state of a space after an entry that may name it
 abbrev pub after_named : ℕ → SpaceState → Entry → SpaceState
@@ -69,7 +71,7 @@ pub record MakesEntry (old new : Flight) (before after : FrameState) (e : Entry)
   pub in_order : progress_after (row_of old).progress e.space e.what ≡ Some (row_of new).progress
   pub reply : reply_said e.what ≡ reply_in (row_of new).outcome
   pub answer : answer_in e.what ≡ answer_made new (reply_in (row_of new).outcome)
-  pub between : is_between new.phase ≡ true
+  pub between : is_between new.purpose new.phase ≡ true
   pub fewer : (row_of new).entries < (row_of old).entries
 
 -- it is the same space, with as many frames and images
@@ -91,14 +93,27 @@ pub record Makes (old new : Flight) (was now : Kept) (st : SpaceState) (before a
   pub entry : MakesEntry old new before after e
   pub space : LeavesSpace new was now st e
 
+-- A step that makes an entry, under the frames' lock alone: no space is named, and none is kept.
+pub record MakesOnFrames (old new : Flight) (before after : FrameState) (e : Entry) : Type 0 where
+  pub entry : MakesEntry old new before after e
+  pub no_space : e.space ≡ None
+  pub fits : Fits new
+  pub keeps_none : (row_of new).keeps ≡ None
+
+-- the page whose claim is given up since there was no memory to write it
+abbrev pub lacking_page : Phase → Option ℕ
+lacking_page (Unclaim v None) = Some v.page
+lacking_page phase = None
+
 -- A step that makes no entry: the flight keeps the space and is ready for its next step there, and each page has the frame that it
--- had.
+-- had. Where it found no memory to write a page, the page is dirty and its store doesn't keep it.
 pub record Passes (old new : Flight) (was now : Kept) (st : SpaceState) : Type 0 where
   pub same_work : SameWork old new
   pub same_space : SameSpace was now
   pub same_frames : (page : ℕ) → frame_at now page ≡ frame_at was page
   pub keeps : (row_of new).keeps ≡ Some was.number
   pub ready : IsReady new now st
+  pub memory : IfSome (lacking_page new.phase) (LacksMemory was)
   pub same_progress : (row_of new).progress ≡ (row_of old).progress
   pub going : (row_of new).outcome ≡ Going
   pub no_more : (row_of new).entries ≤ (row_of old).entries

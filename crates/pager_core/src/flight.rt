@@ -2,16 +2,16 @@ ghost use Rattle.std.specs.Prelude.{◌≡◌, ◌≢◌, ℕ, ◌^◌, ◌<◌,
 ghost use Rattle.pager_model.specs.declared.entry.Victim.{Victim};
 ghost use Rattle.pager_model.specs.Agreement.{OwnsBy};
 ghost use Rattle.pager_model.specs.declared.entry.Want.{Want as Item};
-ghost use Rattle.pager_model.specs.FrameStates.{FrameState, IsFull, counted, give_page};
+ghost use Rattle.pager_model.specs.FrameStates.{FrameState, IsFull, counted, give_page, has_evictable, is_short};
 ghost use Rattle.pager_model.specs.SpaceStates.{SpaceState};
 ghost use Rattle.space_core.specs.Beginning.{Removes};
 ghost use Rattle.space_core.specs.Standing.{Kept, dirty_at, frame_at};
 ghost use Rattle.pager_model.specs.CallEntries.{answer_entry, give_entry};
-ghost use Rattle.pager_core.specs.Flights.{IsReady};
-ghost use Rattle.pager_core.specs.Rows.{alone, both, call_in, is_of_call, new_flight, own_space, reply_in, row_of, space_under};
+ghost use Rattle.pager_core.specs.Flights.{Fits, IsReady};
+ghost use Rattle.pager_core.specs.Rows.{alone, both, call_in, evictions_in, given_up, has_ended, is_of_call, mark_in, new_flight, new_turn, own_space, reply_in, row_of, space_under, won};
 ghost use Rattle.pager_model.specs.Flat.{space_of_call};
 ghost use Rattle.pager_model.specs.Locks.{own_if};
-ghost use Rattle.pager_core.specs.Steps.{AreAgreed, Makes, Passes, Refuses};
+ghost use Rattle.pager_core.specs.Steps.{AreAgreed, Makes, MakesOnFrames, Passes, Refuses};
 
 use frame_pool::{Collected, Full, Pool};
 use pager_model::{Answered, Call, Entry, Need, PageRange, Reply, Victim, Want, What};
@@ -80,7 +80,7 @@ pub enum Phase {
     Back {
         victim: Victim,
     },
-    /// The held frame isn't needed any more.
+    /// The held frame has to go free: a call doesn't need it any more, and a turn holds it for nothing else.
     Drop {
         victim: Victim,
     },
@@ -101,6 +101,10 @@ pub enum Phase {
     Lack {
         space: u32,
     },
+    /// A turn looks whether frames are short, and claims one where they are.
+    Look,
+    /// The turn has ended.
+    Rested,
     /// The call was answered.
     Ended {
         reply: Reply,
@@ -125,7 +129,7 @@ pub enum Needs {
 pub enum Purpose {
     /// A call of a processor, and whether a frame was claimed for it.
     Call { call: Call, claimed: bool },
-    /// A turn of a paging daemon with this low mark, in which so many pages were evicted. (No flight is of one yet.)
+    /// A turn of a paging daemon with this low mark, in which so many pages were evicted.
     Turn { mark: u32, evictions: u32 },
 }
 
@@ -152,6 +156,18 @@ impl Flight {
                 claimed: false,
             },
             phase: Phase::Start,
+        }
+    }
+
+    /// The processor's turn of this number, counted from 0, of a paging daemon with this low mark, 1 at least, of which nothing was done.
+    pub fn of_turn(processor: u32, number: u32, mark: u32) -> Flight
+        ensures { result ≡ new_turn processor number mark }
+    {
+        Flight {
+            processor,
+            number,
+            purpose: Purpose::Turn { mark, evictions: 0 },
+            phase: Phase::Look,
         }
     }
 
@@ -199,7 +215,7 @@ impl Flight {
             | Phase::Unfill { .. }
             | Phase::Drop { .. }
             | Phase::Use { .. } => both(self.own_space()),
-            Phase::Ended { .. } => Needs::Ended,
+            Phase::Ended { .. } | Phase::Rested => Needs::Ended,
             _ => alone(self.own_space()),
         }
     }
@@ -220,7 +236,7 @@ impl Flight {
     {
         let own = self.own_space();
         match self.phase {
-            Phase::Start | Phase::Ended { .. } => None,
+            Phase::Start | Phase::Look | Phase::Rested | Phase::Ended { .. } => None,
             Phase::Write { victim } | Phase::Hand { victim } | Phase::Unclaim { victim, .. } => {
                 Some(victim.space)
             }
@@ -228,6 +244,13 @@ impl Flight {
             Phase::Fault { space, .. } | Phase::Lack { space } => own_if(own, space),
             _ => own,
         }
+    }
+
+    /// Whether the call was answered, or the turn has ended.
+    pub fn has_ended(&self) -> bool
+        ensures { result ≡ has_ended (row_of self.now).outcome }
+    {
+        matches!(self.phase, Phase::Ended { .. } | Phase::Rested)
     }
 
     /// What the call was answered, once it was.
@@ -299,6 +322,25 @@ impl Flight {
             Phase::Unclaim { victim, fault } => Some(self.unclaim(pool, victim, fault)),
             Phase::Drop { .. } => Some(self.drop_held(pool)),
             Phase::Use { page, want, .. } => Some(self.use_held(space, pool, page, want)),
+            _ => unreachable!(),
+        }
+    }
+
+    /// Does the next step under the frames' lock alone, which a turn makes: it makes one entry.
+    pub fn step_frames(&mut self, pool: &mut Pool) -> Entry
+        requires needs { (row_of self.old).needs ≡ Needs.Frames }
+        requires fits { Fits self.old }
+        requires owns { OwnsBy pool.old self.old.processor (row_of self.old).progress.doing }
+        requires known { self.old.processor < length pool.old.held }
+        requires room { pool.old.entries < 2 ^ 45 }
+        ensures entry { MakesOnFrames self.old self.new pool.old pool.new result }
+        ensures nearer { (row_of self.new).steps < (row_of self.old).steps }
+    {
+        match (self.purpose, self.phase) {
+            (Purpose::Turn { mark, evictions }, Phase::Look) => self.look(pool, mark, evictions),
+            (Purpose::Turn { mark, evictions }, Phase::Drop { .. }) => {
+                self.let_go(pool, mark, evictions)
+            }
             _ => unreachable!(),
         }
     }
@@ -646,7 +688,7 @@ impl Flight {
         match pool.collect(self.processor) {
             Collected::Held => {
                 pool.end_entry();
-                self.phase = Phase::Back { victim };
+                self.phase = self.won(victim);
                 let frame = victim.frame;
                 Some(self.entry(None, true, What::Got { frame }))
             }
@@ -693,7 +735,7 @@ impl Flight {
         ensures nearer { (row_of self.new).steps < (row_of self.old).steps }
     {
         let entry = self.give_up(space, pool, victim.space, victim.page);
-        self.phase = Phase::Back { victim };
+        self.phase = self.won(victim);
         entry
     }
 
@@ -732,16 +774,33 @@ impl Flight {
         ensures entry { (kept : Kept) (st : SpaceState) → IsReady self.old kept st → AreAgreed kept pool.old → Makes self.old self.new kept kept st pool.old pool.new result }
         ensures nearer { (row_of self.new).steps < (row_of self.old).steps }
     {
-        let space = victim.space;
         let frame = pool.unclaim(self.processor);
-        self.phase = match fault {
-            Some(count) => Phase::Fault { space, count },
-            None => Phase::Lack { space },
-        };
-        self.entry(Some(space), true, What::Unclaim { frame })
+        self.phase = self.given_up(victim.space, fault);
+        self.entry(Some(victim.space), true, What::Unclaim { frame })
     }
 
-    /// The held frame goes free.
+    /// What the flight does with the victim's frame, once it holds it.
+    fn won(&self, victim: Victim) -> Phase
+        ensures { result ≡ won self.now.purpose victim }
+    {
+        match self.purpose {
+            Purpose::Call { .. } => Phase::Back { victim },
+            Purpose::Turn { .. } => Phase::Drop { victim },
+        }
+    }
+
+    /// What the flight does once it gave its claim up of a frame in this space.
+    fn given_up(&self, space: u32, fault: Option<u64>) -> Phase
+        ensures { (v : Victim) → v.space ≡ space → result ≡ given_up self.now.purpose v fault }
+    {
+        match (self.purpose, fault) {
+            (Purpose::Turn { .. }, _) => Phase::Rested,
+            (Purpose::Call { .. }, Some(count)) => Phase::Fault { space, count },
+            (Purpose::Call { .. }, None) => Phase::Lack { space },
+        }
+    }
+
+    /// A call lets the frame that it holds go free.
     fn drop_held(&mut self, pool: &mut Pool) -> Entry
         requires phase { (victim : Victim) × (self.old.phase ≡ Phase.Drop victim) }
         requires owns { OwnsBy pool.old self.old.processor (row_of self.old).progress.doing }
@@ -751,6 +810,73 @@ impl Flight {
     {
         let frame = pool.drop_held(self.processor);
         self.phase = Phase::Late;
+        self.entry(None, true, What::DropHeld { frame })
+    }
+
+    /// A turn claims the victim's frame where frames are short by its mark, of which it has made fewer evictions, and else rests.
+    fn look(&mut self, pool: &mut Pool, mark: u32, evictions: u32) -> Entry
+        requires phase { self.old.phase ≡ Phase.Look }
+        requires purpose { self.old.purpose ≡ Purpose.Turn mark evictions }
+        requires fits { Fits self.old }
+        requires owns { OwnsBy pool.old self.old.processor (row_of self.old).progress.doing }
+        requires known { self.old.processor < length pool.old.held }
+        requires room { pool.old.entries < 2 ^ 45 }
+        ensures entry { MakesOnFrames self.old self.new pool.old pool.new result }
+        ensures nearer { (row_of self.new).steps < (row_of self.old).steps }
+    {
+        let short = pool.is_short(mark) && pool.has_victim();
+        if short && evictions < mark {
+            return self.claim_for_turn(pool);
+        }
+        pool.end_entry();
+        self.phase = Phase::Rested;
+        self.entry(None, true, What::Rest { short })
+    }
+
+    /// A turn claims the victim's frame.
+    fn claim_for_turn(&mut self, pool: &mut Pool) -> Entry
+        requires phase { self.old.phase ≡ Phase.Look }
+        requires turn { is_of_call self.old.purpose ≡ false }
+        requires fits { Fits self.old }
+        requires fewer { evictions_in self.old.purpose < mark_in self.old.purpose }
+        requires short { is_short pool.old (mark_in self.old.purpose) ≡ true }
+        requires victim { has_evictable pool.old ≡ true }
+        requires owns { OwnsBy pool.old self.old.processor (row_of self.old).progress.doing }
+        requires known { self.old.processor < length pool.old.held }
+        requires room { pool.old.entries < 2 ^ 45 }
+        ensures entry { MakesOnFrames self.old self.new pool.old pool.new result }
+        ensures nearer { (row_of self.new).steps < (row_of self.old).steps }
+    {
+        let Ok(victim) = pool.claim(self.processor) else {
+            unreachable!()
+        };
+        self.phase = Phase::Out { victim };
+        self.entry(
+            None,
+            true,
+            What::Claim {
+                space: victim.space,
+                page: victim.page,
+                frame: victim.frame,
+                need: None,
+            },
+        )
+    }
+
+    /// A turn lets the frame that it holds go free, and looks again.
+    fn let_go(&mut self, pool: &mut Pool, mark: u32, evictions: u32) -> Entry
+        requires phase { (victim : Victim) × (self.old.phase ≡ Phase.Drop victim) }
+        requires purpose { self.old.purpose ≡ Purpose.Turn mark evictions }
+        requires fits { Fits self.old }
+        requires owns { OwnsBy pool.old self.old.processor (row_of self.old).progress.doing }
+        requires room { pool.old.entries < 2 ^ 45 }
+        ensures entry { MakesOnFrames self.old self.new pool.old pool.new result }
+        ensures nearer { (row_of self.new).steps < (row_of self.old).steps }
+    {
+        let frame = pool.drop_held(self.processor);
+        let evictions = evictions + 1;
+        self.purpose = Purpose::Turn { mark, evictions };
+        self.phase = Phase::Look;
         self.entry(None, true, What::DropHeld { frame })
     }
 

@@ -6,20 +6,21 @@ ghost use Rattle.pager_model.specs.FrameStates.{start_frames};
 ghost use Rattle.pager_model.specs.SizeSets.{all_sizes};
 ghost use Rattle.pager_model.specs.Laws.{KeepsLaws};
 ghost use Rattle.pager_model.specs.Legal.{entries_in};
-ghost use Rattle.pager_model.specs.Showing.{calls_of};
+ghost use Rattle.pager_model.specs.Showing.{actors, jobs_of};
 ghost use Rattle.pager_model.specs.SpaceStates.{SpaceState};
-ghost use Rattle.pager_model.specs.TraceText.{HasText};
+ghost use Rattle.pager_model.specs.TraceText.{HasText, IsDaemon};
 ghost use Rattle.pager_model.specs.Stores.{setting_over, StoresEnd, AreCapped};
 ghost use Rattle.pager_core.specs.Flights.{IsReady};
-ghost use Rattle.pager_core.specs.Rows.{Going, reply_in, row_of};
+ghost use Rattle.pager_core.specs.Machines.{entries_of_trace, entries_of_turns};
+ghost use Rattle.pager_core.specs.Rows.{Going, has_ended, row_of, space_under};
 ghost use Rattle.pager_core.specs.RunParts.{AreRoomsOver};
-ghost use Rattle.pager_core.specs.Running.{Running, progress_of_actor, flight_at, flight_of, first_flights, kept_by, HasEnded, IsKeptByOther, MustWait, OneMore, IsLawful, IsWholeRun};
+ghost use Rattle.pager_core.specs.Running.{Running, progress_of_actor, flight_at, flight_for, flight_of, first_flights, kept_by, HasEnded, IsKeptByOther, MustWait, OneMore, IsLawful, IsWholeRun};
 ghost use Rattle.pager_core.specs.Steps.{AreAgreed, Makes, Passes};
 
 use crate::flight::{Flight, Needs};
-use crate::run_parts::{Gathered, RunRoom, calls_by_processor};
+use crate::run_parts::{Gathered, RunRoom, jobs_by_processor, marks_of};
 use frame_pool::Pool;
-use pager_model::{Call, Entry, NoMemory, Numbered, Setting, Trace};
+use pager_model::{Daemon, Entry, Job, NoMemory, Numbered, Setting, Trace};
 use space_core::Space;
 use std::alloc::Global;
 use std::marker::Model;
@@ -36,14 +37,15 @@ pub enum Turn {
     Waits(u32),
 }
 
-/// Runs the calls of many processors on many spaces, a step at a time in any order of turns, and keeps the history. It owns the
-/// spaces with their stores, the pool and each processor's call in progress.
+/// Runs the calls of many processors on many spaces, and the turns of a paging daemon, which is one processor more, a step at a time in any
+/// order of turns, and keeps the history. It owns the spaces with their stores, the pool and each processor's job in progress: a call, or a turn
+/// of the daemon.
 #[derive(Drop)]
 pub struct Machine<S: Store + Send + Drop> {
     setting: Setting,
-    // each processor's calls
-    calls: Vec<Vec<Call>>,
-    // each processor's call that is in progress or comes next
+    // each processor's jobs
+    jobs: Vec<Vec<Job>>,
+    // each processor's job that is in progress or comes next
     flights: Vec<Option<Flight>>,
     spaces: Vec<Space<S>>,
     // the stores that no space uses, last first, with room for those of the spaces
@@ -61,7 +63,7 @@ impl<S: Store + Send + Drop> Model for Machine<S> {
 
     ghost view = { λ m. record {
       given = m.setting;
-      calls = map (λ v. v.items) m.calls.items;
+      jobs = map (λ v. v.items) m.jobs.items;
       flights = m.flights.items;
       history = m.history.items;
       unused = map S.seen (reverse m.stores.items);
@@ -69,7 +71,7 @@ impl<S: Store + Send + Drop> Model for Machine<S> {
 
     ghost invariant = { λ m. IsMachine (record {
       given = m.setting;
-      calls = map (λ v. v.items) m.calls.items;
+      jobs = map (λ v. v.items) m.jobs.items;
       flights = m.flights.items;
       history = m.history.items;
       unused = map S.seen (reverse m.stores.items);
@@ -82,8 +84,8 @@ impl<S: Store + Send + Drop> Machine<S> {
     pub fn create(alloc: Global, trace: &Trace, stores: Vec<S>) -> Result<Machine<S>, Vec<S>>
         requires enough { trace.now.spaces ≤ length stores.items }
         ensures made { IfOk result (λ m. (m.given ≡ setting_over trace.now (map S.seen stores.items)) × (m.history ≡ [])
-            × (m.calls ≡ map (λ c. calls_of c trace.now.calls) (range_with_len 0 trace.now.processors))
-            × (m.flights ≡ first_flights m.calls) × IsLawful m) }
+            × (m.jobs ≡ map (λ c. jobs_of c trace.now) (range_with_len 0 (actors trace.now)))
+            × (m.flights ≡ first_flights m.jobs) × IsLawful m) }
         ensures laws { IfOk result (λ m. KeepsLaws m.given (entries_in m.history)) }
         ensures unused { IfOk result (λ m. m.unused ≡ drop trace.now.spaces (map S.seen stores.items)) }
 
@@ -100,7 +102,7 @@ impl<S: Store + Send + Drop> Machine<S> {
         let spaces = room.spaces.over(&mut stores);
         Ok(Machine {
             setting: room.setting,
-            calls: parts.calls,
+            jobs: parts.jobs,
             flights: parts.flights,
             spaces,
             stores,
@@ -111,9 +113,9 @@ impl<S: Store + Send + Drop> Machine<S> {
 
     /// Does the actor's steps until one has made an entry.
     pub fn turn(&mut self, actor: u32) -> Turn
-        requires { actor < length self.old.calls }
+        requires { actor < length self.old.jobs }
 
-        // Nothing is left of the actor's calls, and then nothing changes.
+        // Nothing is left of the actor's jobs, and then nothing changes.
         ensures ended { result ≡ Turn.Ended → (self.new ≡ self.old) × (flight_at self.old.flights actor ≡ None) }
         ensures not_ended { flight_at self.old.flights actor ≡ None → result ≡ Turn.Ended }
 
@@ -123,22 +125,40 @@ impl<S: Store + Send + Drop> Machine<S> {
 
         // One entry more, of the actor.
         ensures stepped { result ≡ Turn.Stepped → OneMore self.old self.new actor }
-        ensures same_calls { (self.new.given ≡ self.old.given) × (self.new.calls ≡ self.old.calls) }
+        ensures same_jobs { (self.new.given ≡ self.old.given) × (self.new.jobs ≡ self.old.jobs) }
         ensures same_unused { self.new.unused ≡ self.old.unused }
 
         // After any turns.
         ensures lawful { IsLawful self.new }
         ensures laws { KeepsLaws self.new.given (entries_in self.new.history) }
     {
-        let Some(mut flight) = self.flights[actor as usize] else {
+        let Some(flight) = self.flights[actor as usize] else {
             return Turn::Ended;
         };
-        let Some(space) = flight.under() else {
-            unreachable!()
-        };
+        match flight.under() {
+            Some(space) => self.turn_in(actor, flight, space),
+            None => self.turn_on_frames(actor, flight),
+        }
+    }
+
+    /// Does the steps of the actor's flight, of which the next is made under this space, until one has made an entry.
+    fn turn_in(&mut self, actor: u32, flight: Flight, space: u32) -> Turn
+        requires actor { actor < length self.old.jobs }
+        requires flies { flight_at self.old.flights actor ≡ Some flight }
+        requires under { space_under (row_of flight).needs ≡ Some space }
+        ensures ended { result ≢ Turn.Ended }
+        ensures waits { (space : ℕ) → result ≡ Turn.Waits space → (self.new ≡ self.old) × MustWait self.old actor space }
+        ensures not_waiting { (space : ℕ) → MustWait self.old actor space → result ≡ Turn.Waits space }
+        ensures stepped { result ≡ Turn.Stepped → OneMore self.old self.new actor }
+        ensures same_jobs { (self.new.given ≡ self.old.given) × (self.new.jobs ≡ self.old.jobs) }
+        ensures same_unused { self.new.unused ≡ self.old.unused }
+        ensures lawful { IsLawful self.new }
+        ensures laws { KeepsLaws self.new.given (entries_in self.new.history) }
+    {
         if is_kept_by_other(self.flights.as_slice(), actor, space) {
             return Turn::Waits(space);
         }
+        let mut flight = flight;
         let entry = next_entry(
             &mut flight,
             &mut self.spaces[space as usize],
@@ -146,31 +166,52 @@ impl<S: Store + Send + Drop> Machine<S> {
         );
         let number = self.history.len() as u64;
         self.history.push_reserved(Numbered { number, entry });
-        self.flights[actor as usize] = going_on(flight, self.calls[actor as usize].as_slice());
+        self.flights[actor as usize] = going_on(flight, self.jobs[actor as usize].as_slice());
         Turn::Stepped
     }
 
-    /// How many of its calls the actor has answered.
-    pub fn answered(&self, actor: u32) -> u32
-        requires { actor < length self.now.calls }
+    /// Does the next step of the actor's flight, which is made under the frames' lock alone and makes an entry.
+    fn turn_on_frames(&mut self, actor: u32, flight: Flight) -> Turn
+        requires actor { actor < length self.old.jobs }
+        requires flies { flight_at self.old.flights actor ≡ Some flight }
+        requires under { space_under (row_of flight).needs ≡ None }
+        ensures stepped { (result ≡ Turn.Stepped) × OneMore self.old self.new actor }
+        ensures same_jobs { (self.new.given ≡ self.old.given) × (self.new.jobs ≡ self.old.jobs) }
+        ensures same_unused { self.new.unused ≡ self.old.unused }
+        ensures lawful { IsLawful self.new }
+        ensures laws { KeepsLaws self.new.given (entries_in self.new.history) }
+    {
+        let mut flight = flight;
+        let entry = flight.step_frames(&mut self.pool);
+        let number = self.history.len() as u64;
+        self.history.push_reserved(Numbered { number, entry });
+        self.flights[actor as usize] = going_on(flight, self.jobs[actor as usize].as_slice());
+        Turn::Stepped
+    }
+
+    /// How many of its jobs the actor has done.
+    pub fn done(&self, actor: u32) -> u32
+        requires { actor < length self.now.jobs }
         ensures made { result ≡ (progress_of_actor self.now actor).made }
         ensures lawful { IsLawful self.now }
     {
         match &self.flights[actor as usize] {
             Some(flight) => flight.number,
-            None => self.calls[actor as usize].len() as u32,
+            None => self.jobs[actor as usize].len() as u32,
         }
     }
 
-    /// Whether the actor has a call left.
+    /// Whether the actor has a job left.
     pub fn has_left(&self, actor: u32) -> bool
-        requires { actor < length self.now.calls }
         ensures { IsTrue result ↔ (flight_at self.now.flights actor ≢ None) }
     {
-        self.flights[actor as usize].is_some()
+        match self.flights.get(actor as usize) {
+            Some(flight) => flight.is_some(),
+            None => false,
+        }
     }
 
-    /// Whether no processor has a call left.
+    /// Whether no processor has a job left.
     pub fn ended(&self) -> bool
         ensures ended { IsTrue result ↔ HasEnded self.now }
         ensures lawful { IsLawful self.now }
@@ -182,7 +223,7 @@ impl<S: Store + Send + Drop> Machine<S> {
     pub fn finish(self) -> Gathered<S>
         requires { HasEnded self }
         ensures history { result.history.items ≡ self.history }
-        ensures run { IsWholeRun self.given self.calls self.history }
+        ensures run { IsWholeRun self.given self.jobs self.history }
         ensures stores { StoresEnd self.given self.history (map S.seen result.stores.items) }
         ensures unused { drop (length self.given.told) (map S.seen result.stores.items) ≡ self.unused }
         ensures summary { result.summary ≡ counts self.given (entries_in self.history) }
@@ -197,7 +238,7 @@ const ENTRIES_OF_CALL: usize = 8;
 /// What a machine is made of, beside its stores.
 #[derive(Drop)]
 struct Parts<S: Store + Send + Drop> {
-    calls: Vec<Vec<Call>>,
+    jobs: Vec<Vec<Job>>,
     flights: Vec<Option<Flight>>,
     history: Vec<Numbered>,
     room: RunRoom<S>,
@@ -213,57 +254,85 @@ fn parts_of<S: Store + Send + Drop>(
 
     // Each part is as it is at the start of the trace.
     ensures text { IfOk result (λ _. HasText trace.now) }
-    ensures calls { IfOk result (λ p. map (λ v. v.items) p.calls.items ≡ map (λ c. calls_of c trace.now.calls) (range_with_len 0 trace.now.processors)) }
-    ensures flights { IfOk result (λ p. p.flights.items ≡ first_flights (map (λ v. v.items) p.calls.items)) }
-    ensures history { IfOk result (λ p. (p.history.items ≡ []) × (8 * length trace.now.calls ≤ vec_capacity p.history)) }
+    ensures jobs { IfOk result (λ p. map (λ v. v.items) p.jobs.items ≡ map (λ c. jobs_of c trace.now) (range_with_len 0 (actors trace.now))) }
+    ensures flights { IfOk result (λ p. p.flights.items ≡ first_flights (map (λ v. v.items) p.jobs.items)) }
+    ensures history { IfOk result (λ p. (p.history.items ≡ []) × (entries_of_trace trace.now ≤ vec_capacity p.history)) }
     ensures setting { IfOk result (λ p. p.room.setting ≡ setting_over trace.now (map S.seen stores.now)) }
     ensures spaces { IfOk result (λ p. AreRoomsOver p.room.setting (take trace.now.spaces (map S.seen stores.now)) p.room.spaces) }
-    ensures pool { IfOk result (λ p. p.room.pool ≡ start_frames all_sizes trace.now.frames trace.now.processors) }
+    ensures pool { IfOk result (λ p. p.room.pool ≡ start_frames all_sizes trace.now.frames (actors trace.now)) }
     ensures capped { IfOk result (λ _. AreCapped trace.now.spaces (map S.seen stores.now)) }
 {
-    let processors = trace.processors();
-    let history = Vec::with_capacity(alloc, ENTRIES_OF_CALL * trace.calls().len())?;
-    let calls = calls_by_processor(alloc, processors, trace.calls())?;
-    let flights = first_of_each(alloc, calls.as_slice())?;
-    let marks = vec![in alloc; 0; processors as usize]?;
+    let history = Vec::with_capacity(alloc, entries_of_trace(trace))?;
+    let jobs = jobs_by_processor(alloc, trace)?;
+    let flights = first_of_each(alloc, jobs.as_slice())?;
+    let marks = marks_of(alloc, trace)?;
     let own = &stores[..trace.spaces() as usize];
     let room = RunRoom::create(alloc, trace.frames(), marks.as_slice(), own)?;
     Ok(Parts {
-        calls,
+        jobs,
         flights,
         history,
         room,
     })
 }
 
-/// For each processor the flight of its first call, where it has one.
-fn first_of_each(alloc: Global, calls: &[Vec<Call>]) -> Result<Vec<Option<Flight>>, NoMemory>
-    requires { length calls.now ≤ 16 }
-    ensures { IfOk result (λ flights. flights.items ≡ first_flights (map (λ v. v.items) calls.now)) }
+/// At most how many entries the calls of a trace make, and its daemon's turns.
+fn entries_of_trace(trace: &Trace) -> usize
+    ensures entries { result ≡ entries_of_trace trace.now }
+    ensures text { HasText trace.now }
 {
-    let mut flights = Vec::with_capacity(alloc, calls.len())?;
-    for (processor, own) in calls.iter().enumerate() {
+    ENTRIES_OF_CALL * trace.calls().len() + entries_of_turns(trace.daemon())
+}
+
+/// At most how many entries a daemon's turns make.
+fn entries_of_turns(daemon: Option<Daemon>) -> usize
+    requires { IsDaemon daemon }
+    ensures { result ≡ entries_of_turns daemon }
+{
+    match daemon {
+        Some(Daemon { low, turns }) => turns as usize * (4 * low as usize + 1),
+        None => 0,
+    }
+}
+
+/// For each processor the flight of its first job, where it has one.
+fn first_of_each(alloc: Global, jobs: &[Vec<Job>]) -> Result<Vec<Option<Flight>>, NoMemory>
+    requires { length jobs.now ≤ 17 }
+    ensures { IfOk result (λ flights. flights.items ≡ first_flights (map (λ v. v.items) jobs.now)) }
+{
+    let mut flights = Vec::with_capacity(alloc, jobs.len())?;
+    for (processor, own) in jobs.iter().enumerate() {
         flights.push(flight_of(processor as u32, 0, own.as_slice()))?;
     }
     Ok(flights)
 }
 
-/// The flight of the processor's call of this number, where there is one.
-fn flight_of(processor: u32, number: u32, calls: &[Call]) -> Option<Flight>
-    ensures { result ≡ flight_of processor number calls.now }
+/// The flight of the processor's job of this number, where there is one.
+fn flight_of(processor: u32, number: u32, jobs: &[Job]) -> Option<Flight>
+    ensures { result ≡ flight_of processor number jobs.now }
 {
-    let call = calls.get(number as usize)?;
-    Some(Flight::of_call(processor, number, *call))
+    let job = jobs.get(number as usize)?;
+    Some(flight_for(processor, number, *job))
 }
 
-/// The flight after a step: the same, or where its call was answered that of the processor's next call.
-fn going_on(flight: Flight, calls: &[Call]) -> Option<Flight>
+/// The flight of a job, of which nothing was done.
+fn flight_for(processor: u32, number: u32, job: Job) -> Flight
+    ensures { result ≡ flight_for processor number job }
+{
+    match job {
+        Job::Call(call) => Flight::of_call(processor, number, call),
+        Job::Turn { mark } => Flight::of_turn(processor, number, mark),
+    }
+}
+
+/// The flight after a step: the same, or where its job is done that of the processor's next one.
+fn going_on(flight: Flight, jobs: &[Job]) -> Option<Flight>
     requires { flight.number + 1 < 2 ^ 32 }
     ensures going { (row_of flight).outcome ≡ Going → result ≡ Some flight }
-    ensures next { reply_in (row_of flight).outcome ≢ None → result ≡ flight_of flight.processor (flight.number + 1) calls.now }
+    ensures next { has_ended (row_of flight).outcome ≡ true → result ≡ flight_of flight.processor (flight.number + 1) jobs.now }
 {
-    if flight.reply().is_some() {
-        return flight_of(flight.processor, flight.number + 1, calls);
+    if flight.has_ended() {
+        return flight_of(flight.processor, flight.number + 1, jobs);
     }
     Some(flight)
 }

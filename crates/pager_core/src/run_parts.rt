@@ -6,7 +6,7 @@ ghost use Rattle.pager_model.specs.Counts.{counts, hits_in, misses_in, is_hit_in
 ghost use Rattle.pager_model.specs.FrameStates.{start_frames};
 ghost use Rattle.pager_model.specs.Legal.{entries_in};
 ghost use Rattle.pager_model.specs.Settings.{Given};
-ghost use Rattle.pager_model.specs.Showing.{calls_of};
+ghost use Rattle.pager_model.specs.Showing.{actors, calls_of, jobs_of, marks_of, turns_of};
 ghost use Rattle.pager_model.specs.SizeSets.{all_sizes};
 ghost use Rattle.pager_model.specs.Stores.{given_over, StoresEnd, AreCapped};
 ghost use Rattle.pager_model.specs.Stored.{Stored, TellsZero};
@@ -16,7 +16,9 @@ ghost use Rattle.pager_core.specs.Sums.{AreFewer, sum_at, tiles_in, promotions_i
 ghost use Rattle.pager_model.specs.Bounds.{most_frames};
 
 use frame_pool::Pool;
-use pager_model::{Call, Line, NoMemory, Numbered, Setting, Sizes, Summary, What};
+use pager_model::{
+    Call, Daemon, Job, Line, NoMemory, Numbered, Setting, Sizes, Summary, Trace, What,
+};
 use space_core::{Space, SpaceRoom};
 use std::alloc::Global;
 use std::marker::Model;
@@ -296,23 +298,43 @@ fn is_miss(what: &What) -> bool
     }
 }
 
-/// Each processor's calls, in the order of the lines.
-pub fn calls_by_processor(
-    alloc: Global,
-    processors: u32,
-    lines: &[Line],
-) -> Result<Vec<Vec<Call>>, NoMemory>
-    ensures { IfOk result (λ calls. map (λ v. v.items) calls.items ≡ map (λ c. calls_of c lines.now) (range_with_len 0 processors)) }
+/// The mark of each processor of a trace: 0 for those that make calls, and the low mark of the daemon, which is the last.
+pub fn marks_of(alloc: Global, trace: &Trace) -> Result<Vec<u32>, NoMemory>
+    ensures { IfOk result (λ marks. marks.items ≡ marks_of trace.now) }
 {
-    let mut calls = Vec::with_capacity(alloc, processors as usize)?;
-    for processor in 0..processors {
-        calls.push(calls_of(alloc, processor, lines)?)?;
+    let mut marks = vec![in alloc; 0; trace.processors() as usize]?;
+    if let Some(daemon) = trace.daemon() {
+        marks.push(daemon.low)?;
     }
-    Ok(calls)
+    Ok(marks)
+}
+
+/// What each processor of a trace does, in order: its calls, or its turns, of the daemon, which is the last.
+pub fn jobs_by_processor(alloc: Global, trace: &Trace) -> Result<Vec<Vec<Job>>, NoMemory>
+    ensures { IfOk result (λ jobs. map (λ v. v.items) jobs.items ≡ map (λ c. jobs_of c trace.now) (range_with_len 0 (actors trace.now))) }
+{
+    let actors = trace.actors();
+    let mut jobs = Vec::with_capacity(alloc, actors as usize)?;
+    for processor in 0..actors {
+        jobs.push(jobs_of(alloc, trace, processor)?)?;
+    }
+    Ok(jobs)
+}
+
+/// What one processor does.
+fn jobs_of(alloc: Global, trace: &Trace, processor: u32) -> Result<Vec<Job>, NoMemory>
+    ensures { IfOk result (λ jobs. jobs.items ≡ jobs_of processor trace.now) }
+{
+    let calls = calls_of(alloc, processor, trace.calls())?;
+    let mut jobs = jobs_for(alloc, calls)?;
+    if processor == trace.processors() {
+        jobs.append(&mut turns_of(alloc, trace.daemon())?)?;
+    }
+    Ok(jobs)
 }
 
 /// One processor's calls, in the order of the lines.
-fn calls_of(alloc: Global, processor: u32, lines: &[Line]) -> Result<Vec<Call>, NoMemory>
+pub fn calls_of(alloc: Global, processor: u32, lines: &[Line]) -> Result<Vec<Call>, NoMemory>
     ensures { IfOk result (λ calls. calls.items ≡ calls_of processor lines.now) }
 {
     Ok(
@@ -322,4 +344,24 @@ fn calls_of(alloc: Global, processor: u32, lines: &[Line]) -> Result<Vec<Call>, 
             .map(|line| line.call)
             .collect(alloc)?,
     )
+}
+
+/// To make these calls.
+fn jobs_for(alloc: Global, calls: Vec<Call>) -> Result<Vec<Job>, NoMemory>
+    ensures { IfOk result (λ jobs. jobs.items ≡ map Job.Call calls.items) }
+{
+    Ok(calls.into_iter().map(Job::Call).collect(alloc)?)
+}
+
+/// A daemon's turns.
+fn turns_of(alloc: Global, daemon: Option<Daemon>) -> Result<Vec<Job>, NoMemory>
+    ensures { IfOk result (λ jobs. jobs.items ≡ turns_of daemon) }
+{
+    match daemon {
+        Some(daemon) => {
+            let turn = Job::Turn { mark: daemon.low };
+            Ok(vec![in alloc; turn; daemon.turns as usize]?)
+        }
+        None => Ok(Vec::new(alloc)),
+    }
 }

@@ -1,4 +1,5 @@
 pub mod Entries
+pub mod Later
 pub mod Flights
 pub mod Histories
 pub mod LockedSteps

@@ -1,40 +1,41 @@
--- A flight at its start, and the call that it made at its end.
-use Rattle.std.proofs.Common.{◌≡◌, ℕ, ◌+◌, ◌<◌, [], ◌∷◌, ◌++◌, length, count_by, option_to_list, Some, None, IsSome, refl, ap, ap₂, sym, subst, ◌∙◌, arith}
+-- A flight at its start, and the call or the turn that it made at its end.
+use Rattle.std.proofs.Common.{◌≡◌, ℕ, ◌+◌, ◌<◌, [], ◌∷◌, ◌++◌, length, count_by, option_to_list, true, Some, None, refl, ap, ap₂, sym, subst, ◌∙◌, arith}
 use Rattle.std.specs.List.{AllByRecursion}
 use Rattle.std.specs.Option.{IsSomeAnd}
 use Rattle.std.proofs.lemmas.Bool.{false≢true}
 use Rattle.std.proofs.lemmas.List.{append-nil, map-append}
 use Rattle.std.proofs.lemmas.Option.{none-some, same_Some}
 use Rattle.journal_core.specs.Journals.{JournalName, PassState, is_numbered_answer}
+use Rattle.pager_model.specs.declared.call.Call.{Call}
 use Rattle.pager_model.specs.declared.entry.Entry.{Entry}
 use Rattle.pager_model.specs.declared.entry.Numbered.{Numbered}
 use Rattle.pager_model.specs.declared.reply.Reply.{Reply}
+use Rattle.pager_model.specs.declared.trace.Job.TheVariants.{Call as CallJob, Turn}
 use Rattle.pager_model.specs.Flat.{space_of_call}
 use Rattle.pager_model.specs.Legal.{entries_in}
 use Rattle.pager_model.specs.Order.{at_rest, progress_of, progress_from}
 use Rattle.pager_model.specs.Settings.{mark_of}
 use Rattle.pager_model.proofs.Histories.{progress_from-append}
 use Rattle.pager_core.specs.declared.flight.Flight.{Flight}
-use Rattle.pager_core.specs.declared.flight.Purpose.TheVariants.{Call as OfCall}
-use Rattle.pager_core.specs.Flights.{Fits}
+use Rattle.pager_core.specs.declared.flight.Purpose.{Purpose}
+use Rattle.pager_core.specs.declared.flight.Purpose.TheVariants.{Call as OfCall, Turn as OfTurn}
 use Rattle.pager_core.specs.Machines.{CanFly}
-use Rattle.pager_core.specs.Rows.{Outcome, Going, TurnEnded, Answered, call_in, new_flight, own_space, reply_in, row_of, row_in, space_under}
+use Rattle.pager_core.specs.Rows.{Outcome, Going, TurnEnded, Answered, call_in, has_ended, is_of_call, new_flight, new_turn, own_space, reply_in, row_of, row_in}
+use Rattle.pager_core.specs.Running.{FitsMark, call_of, job_in}
 use Rattle.pager_core.specs.Steps.{answer_made}
-use Rattle.pager_core.proofs.NextFlights.{ended_by, turn_goes_on, under_some}
+use Rattle.pager_core.proofs.Lands.{Fits-for, Starts, Starts-for, ended_progress, under-for}
+use Rattle.pager_core.proofs.NextFlights.{ended_by, of_calls, turn_goes_on}
 use Rattle.pager_core.proofs.Purposes.{of_call-is}
-use Rattle.pager_locks.specs.Calls.{MakesCall, IsNextFlight}
-use Rattle.pager_locks.specs.Locked.{Departure, IsFlying}
-use Rattle.pager_locks.specs.Prepared.{MayCall}
+use Rattle.pager_locks.specs.Calls.{MakesCall, MakesTurn, IsNextFlight}
+use Rattle.pager_locks.specs.Locked.{Departure, IsFlying, later}
+use Rattle.pager_locks.specs.Prepared.{MayCall, MayTurn}
 use Rattle.pager_locks.proofs.CountedCalls.{counted}
+use Rattle.pager_locks.proofs.Later.{later_none}
 
--- a flight that needs no space is ended
-pub answered : (f : Flight) → Fits f → space_under (row_of f).needs ≡ None → IsSome (reply_in (row_of f).outcome)
-answered f fits none = by (row_of f).outcome refl
-  where
-    by : (o : Outcome) → (row_of f).outcome ≡ o → IsSome (reply_in o)
-    by Going is = (let some = under_some f fits is in absurd (none-some some.0 (sym none ∙ some.1)))
-    by TurnEnded is = absurd (turn_goes_on f is)
-    by (Answered r) is = refl
+-- a flight of a call
+of_call_job : (p : Purpose) (call : Call) → job_in p ≡ CallJob call → (is_of_call p ≡ true) × (call_in p ≡ call)
+of_call_job (OfCall own claimed) call is = (refl, same_Some own call (ap call_of is))
+of_call_job (OfTurn mark evictions) call is = absurd (none-some call (ap call_of is))
 
 -- a pass's processor is one of its journal's
 pub known_here : (j : JournalName) (p : PassState) (c : ℕ) → p.journal ≡ j → c ≡ p.processor → c < length p.journal.setting.marks → p.processor < length j.setting.marks
@@ -57,7 +58,7 @@ module _ (j : JournalName) (p : PassState) (f : Flight) (may : MayCall j p) (nex
       (sym (of_call-is f.purpose next.is_call ∙ ap (OfCall (call_in f.purpose)) next.unclaimed))
 
   abbrev from : Departure
-  from = record { pass = p; number = f.number; call = call_in f.purpose }
+  from = record { pass = p; before = 0; number = f.number; job = CallJob (call_in f.purpose) }
 
   pub IsFlying-start : IsFlying j from f p
   IsFlying-start = subst (λ (x : Flight). IsFlying j from x p) is_start (record {
@@ -66,12 +67,13 @@ module _ (j : JournalName) (p : PassState) (f : Flight) (may : MayCall j p) (nex
     same_processor = refl;
     same_room = refl;
     number = refl;
-    call = refl;
+    job = refl;
+    none_before = λ _. refl;
     known = subst (λ k. k < length j.setting.marks) (sym next.processor) known;
     mark = own_mark;
-    progress = ap (λ m. progress_of m (entries_in p.entries)) own_mark ∙ may.whole.1 ∙ ap (λ k. Some (at_rest 0 k)) made;
+    progress = ap (λ m. progress_of m (entries_in p.entries)) own_mark ∙ may.whole.1 ∙ ap (λ k. Some (at_rest 0 k)) made ∙ ap Some (sym (later_none (at_rest 0 f.number)));
     room = may.room;
-    fits = record { of_call = refl; can = can.can; phase = refl };
+    fits = record { kind = refl; can = can.can; phase = refl };
     on = can.on;
     under = λ s under. subst (λ k. k < length j.setting.told) (same_Some (space_of_call (call_in f.purpose)) s under) can.on;
     piece = [];
@@ -91,9 +93,10 @@ module _ (j : JournalName) (p : PassState) (f : Flight) (may : MayCall j p) (nex
   MakesCall-made g q r flying answered =
       let phase = ended_by g r answered in
       let own : g.processor ≡ f.processor = sym flying.processor ∙ flying.same_processor ∙ sym next.processor in
+      let called : call_in g.purpose ≡ call_in f.purpose = (of_call_job g.purpose (call_in f.purpose) flying.job).1 in
       let ended : (row_of g).progress ≡ at_rest 0 (f.number + 1) = ap (λ x. (row_in g.processor g.number (own_space g.purpose) g.purpose x).progress) phase ∙ ap (λ k. at_rest 0 (k + 1)) flying.number in
       let all : progress_of 0 (entries_in q.entries) ≡ Some (at_rest 0 (f.number + 1)) =
-      ap (λ m. progress_of m (entries_in q.entries)) (sym (ap (mark_of j.setting) own ∙ own_mark)) ∙ flying.progress ∙ ap Some ended in
+      ap (λ m. progress_of m (entries_in q.entries)) (sym (ap (mark_of j.setting) own ∙ own_mark)) ∙ flying.progress ∙ ap Some (later_none (row_of g).progress ∙ ended) in
       let before : progress_of 0 (entries_in p.entries) ≡ Some (at_rest 0 f.number) = may.whole.1 ∙ ap (λ k. Some (at_rest 0 k)) made in
       let split : entries_in q.entries ≡ entries_in p.entries ++ entries_in flying.piece = ap entries_in flying.entries ∙ map-append (λ (x : Numbered). x.entry) p.entries flying.piece in
       record {
@@ -111,17 +114,90 @@ module _ (j : JournalName) (p : PassState) (f : Flight) (may : MayCall j p) (nex
               ∙ sym (progress_from-append (Some (at_rest 0 0)) (entries_in p.entries) (entries_in flying.piece))
               ∙ sym (ap (progress_of 0) split)
               ∙ all;
-          answer = flying.answers ∙ ap (λ o. option_to_list (answer_made g (reply_in o))) answered ∙ ap (λ k. (k, (call_in g.purpose)) ∷ []) flying.number ∙ ap (λ k. (f.number, k) ∷ []) flying.call;
+          answer = flying.answers ∙ ap (λ o. option_to_list (answer_made g (reply_in o))) answered ∙ ap (λ k. (k, (call_in g.purpose)) ∷ []) flying.number ∙ ap (λ k. (f.number, k) ∷ []) called;
         };
         before = before;
         replies = flying.replies ∙ ap (λ o. option_to_list (reply_in o)) answered;
         whole = (f.number + 1, all);
       }
 
-  pub MakesCall-ended : (g : Flight) (q : PassState) → IsFlying j from g q → IsSome (reply_in (row_of g).outcome) → IsSomeAnd (reply_in (row_of g).outcome) (MakesCall j.setting p q (call_in f.purpose))
+  pub MakesCall-ended : (g : Flight) (q : PassState) → IsFlying j from g q → has_ended (row_of g).outcome ≡ true → IsSomeAnd (reply_in (row_of g).outcome) (MakesCall j.setting p q (call_in f.purpose))
   MakesCall-ended g q flying ended = by (row_of g).outcome refl ended
     where
-      by : (o : Outcome) → (row_of g).outcome ≡ o → IsSome (reply_in o) → IsSomeAnd (reply_in o) (MakesCall j.setting p q (call_in f.purpose))
+      by : (o : Outcome) → (row_of g).outcome ≡ o → has_ended o ≡ true → IsSomeAnd (reply_in o) (MakesCall j.setting p q (call_in f.purpose))
       by Going is some = absurd (false≢true some)
-      by TurnEnded is some = absurd (false≢true some)
+      by TurnEnded is some = absurd (turn_goes_on g (of_calls g (of_call_job g.purpose (call_in f.purpose) flying.job).0 flying.fits) is)
       by (Answered r) is some = MakesCall-made g q r flying is
+
+-- The flight of a daemon's next turn, from its start to its end.
+module _ (j : JournalName) (p : PassState) (c mark : ℕ) (may : MayTurn j p mark) (own : c ≡ p.processor) (known : p.processor < length j.setting.marks) where
+  abbrev made_before : ℕ
+  made_before = may.whole.0
+
+  abbrev started : Flight
+  started = new_turn c 0 mark
+
+  abbrev pub from_turn : Departure
+  from_turn = record { pass = p; before = made_before; number = 0; job = Turn mark }
+
+  starts : Starts c 0 mark (Turn mark)
+  starts = Starts-for c 0 mark (Turn mark) (refl, may.some)
+
+  turn_mark : mark_of j.setting c ≡ mark
+  turn_mark = ap (mark_of j.setting) own ∙ may.mark_is
+
+  pub IsFlying-turn : IsFlying j from_turn started p
+  IsFlying-turn = record {
+    journal = may.journal;
+    processor = sym own;
+    same_processor = refl;
+    same_room = refl;
+    number = refl;
+    job = refl;
+    none_before = λ call. absurd (false≢true call);
+    known = subst (λ k. k < length j.setting.marks) (sym own) known;
+    mark = turn_mark;
+    progress =
+        ap (λ m. progress_of m (entries_in p.entries)) turn_mark
+        ∙ may.whole.1
+        ∙ ap (λ n. Some (at_rest mark n)) (let e : made_before ≡ made_before + 0 = omega arith in e)
+        ∙ ap (λ x. Some (later made_before x)) (sym starts.progress);
+    room = (let room = may.room in let left = starts.entries in omega (arith, room, left));
+    fits = Fits-for (length j.setting.told) c 0 (Turn mark) (may.some, may.few);
+    on = tt;
+    under = λ s under. under-for (length j.setting.told) c 0 (Turn mark) s (may.some, may.few) under;
+    piece = [];
+    entries = sym (append-nil p.entries);
+    spent = (let left = starts.entries in omega (arith, left));
+    own = tt;
+    answers = refl;
+    replies = refl;
+  }
+
+  pub MakesTurn-ended : (g : Flight) (q : PassState) → IsFlying j from_turn g q → has_ended (row_of g).outcome ≡ true → MakesTurn p q mark
+  MakesTurn-ended g q flying ended =
+      let own_g : g.processor ≡ c = sym flying.processor ∙ flying.same_processor ∙ sym own in
+      let fits : FitsMark mark (job_in g.purpose) = subst (FitsMark mark) (sym flying.job) (refl, may.some) in
+      let at_end : (row_of g).progress ≡ at_rest mark 1 = ended_progress g mark ended fits flying.fits ∙ ap (λ n. at_rest mark (n + 1)) flying.number in
+      let all : progress_of mark (entries_in q.entries) ≡ Some (at_rest mark (made_before + 1)) =
+      ap (λ m. progress_of m (entries_in q.entries)) (sym (ap (mark_of j.setting) own_g ∙ turn_mark)) ∙ flying.progress ∙ ap (λ x. Some (later made_before x)) at_end in
+      let split : entries_in q.entries ≡ entries_in p.entries ++ entries_in flying.piece = ap entries_in flying.entries ∙ map-append (λ (x : Numbered). x.entry) p.entries flying.piece in
+      record {
+        journal = flying.journal ∙ sym may.journal;
+        processor = flying.same_processor;
+        room = flying.same_room;
+        piece = flying.piece;
+        entries = flying.entries;
+        few = (let spent = flying.spent in omega (arith, spent));
+        turn = record {
+          own = subst (λ k. AllByRecursion (λ (e : Entry). e.processor ≡ k) (entries_in flying.piece)) (sym flying.processor ∙ flying.same_processor) flying.own;
+          made = made_before;
+          leads =
+              sym (ap (λ o. progress_from o (entries_in flying.piece)) may.whole.1)
+              ∙ sym (progress_from-append (Some (at_rest mark 0)) (entries_in p.entries) (entries_in flying.piece))
+              ∙ sym (ap (progress_of mark) split)
+              ∙ all;
+        };
+        before = may.whole.1;
+        after = all;
+      }

@@ -1,5 +1,5 @@
--- A call as it begins, and a whole call, as the caller's pass shows them.
-use Rattle.std.specs.Prelude.{ℕ, ◌≡◌, ◌≤◌, true, false, List, [], ◌∷◌, ◌++◌, length, count_by, Some}
+-- A call as it begins, and a whole call or turn, as the caller's pass shows them.
+use Rattle.std.specs.Prelude.{ℕ, ◌≡◌, ◌+◌, ◌*◌, ◌≤◌, true, false, List, [], ◌∷◌, ◌++◌, length, count_by, Some}
 use Rattle.journal_core.specs.Journals.{PassState, is_numbered_answer}
 use Rattle.pager_model.specs.declared.call.Call.{Call}
 use Rattle.pager_model.specs.declared.call.Line.{Line}
@@ -8,7 +8,7 @@ use Rattle.pager_model.specs.declared.reply.Reply.{Reply}
 use Rattle.pager_model.specs.Legal.{entries_in}
 use Rattle.pager_model.specs.Order.{at_rest, progress_of, IsWhole}
 use Rattle.pager_model.specs.Settings.{Given}
-use Rattle.pager_model.specs.Showing.{IsSequence}
+use Rattle.pager_model.specs.Showing.{IsSequence, IsTurn}
 use Rattle.pager_core.specs.declared.flight.Flight.{Flight}
 use Rattle.pager_core.specs.declared.flight.Phase.TheVariants.{Start}
 use Rattle.pager_core.specs.Rows.{claimed_in, is_of_call}
@@ -38,3 +38,16 @@ pub record MakesCall (g : Given) (old new : PassState) (call : Call) (reply : Re
   pub before : progress_of 0 (entries_in old.entries) ≡ Some (at_rest 0 sequence.made)
   pub replies : replies_in (entries_in piece) ≡ reply ∷ []
   pub whole : IsWhole 0 (entries_in new.entries)
+
+-- The pass's list has one turn of a daemon of this low mark more.
+pub record MakesTurn (old new : PassState) (mark : ℕ) : Type 0 where
+  pub journal : new.journal ≡ old.journal
+  pub processor : new.processor ≡ old.processor
+  pub room : new.room ≡ old.room
+  pub piece : List Numbered
+  pub entries : new.entries ≡ old.entries ++ piece
+  pub few : length piece ≤ 4 * mark + 1
+  pub turn : IsTurn old.processor mark (entries_in piece)
+  -- and it comes where the list was
+  pub before : progress_of mark (entries_in old.entries) ≡ Some (at_rest mark turn.made)
+  pub after : progress_of mark (entries_in new.entries) ≡ Some (at_rest mark (turn.made + 1))

@@ -1,5 +1,5 @@
--- A pager that was made and isn't opened yet, and the pass that a call is made with.
-use Rattle.std.specs.Prelude.{◌≡◌, ◌+◌, ◌≤◌, List, length, map}
+-- A pager that was made and isn't opened yet, and the passes that a call or a turn is made with.
+use Rattle.std.specs.Prelude.{ℕ, ◌≡◌, ◌+◌, ◌*◌, ◌≤◌, List, length, map}
 use Rattle.std.specs.List.{range_with_len}
 use Rattle.journal_core.specs.Journals.{JournalName, JournalState, AuthorState, PassState, new_author}
 use Rattle.pager_model.specs.FrameStates.{FrameState, start_frames}
@@ -30,3 +30,13 @@ pub record MayCall (j : JournalName) (p : PassState) : Type 0 where
   pub mark : mark_of j.setting p.processor ≡ 0
   pub whole : IsWhole 0 (entries_in p.entries)
   pub room : length p.entries + 8 ≤ p.room
+
+-- A pass that a daemon's turn of this low mark can be made with: it is of the pager's journal and of a processor of this mark, each turn that was
+-- begun has ended, and it has room for a turn's entries.
+pub record MayTurn (j : JournalName) (p : PassState) (mark : ℕ) : Type 0 where
+  pub journal : p.journal ≡ j
+  pub mark_is : mark_of j.setting p.processor ≡ mark
+  pub some : 1 ≤ mark
+  pub few : mark ≤ 64
+  pub whole : IsWhole mark (entries_in p.entries)
+  pub room : length p.entries + (4 * mark + 1) ≤ p.room

@@ -1,12 +1,12 @@
 //! What lies behind the locks.
 
 ghost use Rattle.std.specs.Prelude.{◌≡◌, ◌<◌, Some, None};
-ghost use Rattle.pager_core.specs.declared.flight.Needs.TheVariants.{Both};
+ghost use Rattle.pager_core.specs.declared.flight.Needs.TheVariants.{Both, Frames};
 ghost use Rattle.pager_core.specs.Rows.{row_of, space_under};
 ghost use Rattle.pager_locks.specs.Locked.{Departure, IsPoolAt, IsLockedSpace, IsLockedPool, IsFlying, IsHere, Stepped};
 
 use crate::naming::{Named, Place};
-use crate::steps::{step_alone, step_both};
+use crate::steps::{step_alone, step_both, step_frames};
 use frame_pool::Pool;
 use journal_core::{Author, Journal, Pass};
 use pager_core::{Flight, Needs};
@@ -15,7 +15,7 @@ use std::marker::{Model, PhantomData};
 use std::sync::{Mutex, Wait};
 use store_core::Store;
 
-/// The pool, with the author of the frames. It lies behind the pool's lock, which is taken under a space's lock, for a single step.
+/// The pool, with the author of the frames. It lies behind the pool's lock, which is taken for a single step, under a space's lock or alone.
 #[derive(Drop)]
 pub struct LockedPool<N: Named> {
     // Guarded by the pool's lock: whenever it is free, the pool stands for the author's list.
@@ -80,6 +80,23 @@ impl<N: Named> LockedPool<N> {
         );
         self.author = Some(frames);
         (author, pass)
+    }
+
+    /// Does the flight's next step, which is made under this lock alone.
+    pub fn step_alone(&mut self, journal: &Journal, flight: &mut Flight, pass: Pass) -> Pass
+        requires journal { journal.now.name ≡ N.journal }
+        requires flying { (from : Departure) × IsFlying N.journal from flight.old pass }
+        requires needs { (row_of flight.old).needs ≡ Frames }
+        ensures flying { (from : Departure) → IsFlying N.journal from flight.old pass → IsFlying N.journal from flight.new result }
+        ensures left { (row_of flight.new).keeps ≡ None }
+        ensures nearer { (row_of flight.new).steps < (row_of flight.old).steps }
+    {
+        let Some(frames) = self.author.take() else {
+            unreachable!()
+        };
+        let (frames, pass) = step_frames(journal, &mut self.pool, frames, flight, pass);
+        self.author = Some(frames);
+        pass
     }
 
     /// The pool, and the author of the frames.

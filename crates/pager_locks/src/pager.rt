@@ -1,6 +1,6 @@
 //! A pager that many threads call.
 
-ghost use Rattle.std.specs.Prelude.{◌≡◌, ◌≤◌, ◌+◌, ℕ, IsSome, IsSomeAnd, [], length, map, sum, vec_capacity, None};
+ghost use Rattle.std.specs.Prelude.{◌≡◌, ◌≤◌, ◌<◌, ◌+◌, ℕ, true, false, IsSomeAnd, [], length, map, sum, vec_capacity, None};
 ghost use Rattle.std.specs.List.{All, range_with_len};
 ghost use Rattle.journal_core.specs.Clauses.{IsHistory, IsOwnOf};
 ghost use Rattle.journal_core.specs.Journals.{new_author};
@@ -13,11 +13,11 @@ ghost use Rattle.pager_model.specs.Order.{IsWhole};
 ghost use Rattle.pager_model.specs.Settings.{mark_of};
 ghost use Rattle.pager_model.specs.Stores.{StoresEnd};
 ghost use Rattle.pager_core.specs.Machines.{CanFly};
-ghost use Rattle.pager_core.specs.Rows.{call_in, reply_in, row_of};
+ghost use Rattle.pager_core.specs.Rows.{call_in, has_ended, reply_in, row_of};
 ghost use Rattle.pager_core.specs.Running.{IsNumbered};
 ghost use Rattle.pager_locks.specs.Locked.{Departure, IsFlying};
-ghost use Rattle.pager_locks.specs.Calls.{MakesCall, IsNextFlight};
-ghost use Rattle.pager_locks.specs.Prepared.{MayCall, AreNewParts};
+ghost use Rattle.pager_locks.specs.Calls.{MakesCall, MakesTurn, IsNextFlight};
+ghost use Rattle.pager_locks.specs.Prepared.{MayCall, MayTurn, AreNewParts};
 
 use crate::locked::LockedPool;
 use crate::locks::Locks;
@@ -50,7 +50,7 @@ pub struct Pager<N: Named, S: Store + Send + Drop> {
     journal: Journal,
     // Each space behind its own.
     spaces: Locks<N, S>,
-    // Behind the pool's lock, which is taken under a space's.
+    // Behind the pool's lock, which is taken under a space's, or alone.
     pool: Mutex<LockedPool<N>>,
     // Behind a lock that no call takes, so that threads may share a pager over stores that they may not share.
     spare: Mutex<Spare<N, S>>,
@@ -127,21 +127,46 @@ impl<N: Named, S: Store + Send + Drop> Pager<N, S> {
         self.fly_on(rt, flight, pass)
     }
 
-    /// Does the flight's steps to its end, from one that is made under a space that it doesn't keep.
+    /// Makes a turn of the pass's processor, which is a daemon of this low mark.
+    pub fn turn<R: Wait>(&self, rt: &R, pass: Pass, mark: u32) -> Pass
+        requires pass { MayTurn N.journal pass mark }
+        ensures { MakesTurn pass result mark }
+    {
+        // No entry of a turn has its number, so each may be numbered as the first.
+        let flight = Flight::of_turn(pass.processor(), 0, mark);
+        self.fly_on(rt, flight, pass).1
+    }
+
+    /// Does the flight's steps to its end, from one that is made under a space that it doesn't keep, or under none.
     fn fly_on<R: Wait>(&self, rt: &R, flight: Flight, pass: Pass) -> (Flight, Pass)
         requires flying { (from : Departure) × IsFlying N.journal from flight pass }
         requires keeps { (row_of flight).keeps ≡ None }
         ensures flying { (from : Departure) → IsFlying N.journal from flight pass → IsFlying N.journal from result.0 result.1 }
-        ensures ended { IsSome (reply_in (row_of result.0).outcome) }
+        ensures ended { has_ended (row_of result.0).outcome ≡ true }
     {
         let mut flight = flight;
         let mut pass = pass;
-        while let Some(space) = flight.under() {
-            pass = self
-                .spaces
-                .fly(rt, space, &self.journal, &self.pool, &mut flight, pass);
+        while !flight.has_ended() {
+            pass = self.go_on(rt, &mut flight, pass);
         }
         (flight, pass)
+    }
+
+    /// Does the flight's steps under the lock that the next one needs, until it leaves that.
+    fn go_on<R: Wait>(&self, rt: &R, flight: &mut Flight, pass: Pass) -> Pass
+        requires flying { (from : Departure) × IsFlying N.journal from flight.old pass }
+        requires keeps { (row_of flight.old).keeps ≡ None }
+        requires going { has_ended (row_of flight.old).outcome ≡ false }
+        ensures flying { (from : Departure) → IsFlying N.journal from flight.old pass → IsFlying N.journal from flight.new result }
+        ensures left { (row_of flight.new).keeps ≡ None }
+        ensures nearer { (row_of flight.new).steps < (row_of flight.old).steps }
+    {
+        match flight.under() {
+            Some(space) => self
+                .spaces
+                .fly(rt, space, &self.journal, &self.pool, flight, pass),
+            None => self.pool.lock(rt).step_alone(&self.journal, flight, pass),
+        }
     }
 
     /// Gives up the pager: the one history of all calls, the stores, and the counts. `passes` are those of all processors, in their order, each

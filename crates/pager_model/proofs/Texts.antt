@@ -1,5 +1,5 @@
 -- A text is short: each of its lines is, and there are at most 262,144 calls.
-use Rattle.std.proofs.Common.{ℕ, ◌*◌, ◌^◌, ◌<◌, ◌≤◌, List, [], ◌∷◌, ◌++◌, length, flat_map, decimal, codes, ap, arith, length-append, lit≤}
+use Rattle.std.proofs.Common.{ℕ, ◌*◌, ◌^◌, ◌<◌, ◌≤◌, List, [], ◌∷◌, ◌++◌, length, flat_map, decimal, codes, Option, Some, None, ap, arith, length-append, lit≤}
 use Rattle.std.specs.List.{join_with_byte, AllByRecursion}
 use Rattle.std.proofs.lemmas.Fmt.{length-decimal-le}
 use Rattle.std.proofs.lemmas.List.Concat.{flat_map-cons}
@@ -11,8 +11,9 @@ use Rattle.pager_model.specs.declared.region.Kind.{Kind}
 use Rattle.pager_model.specs.declared.region.Kind.TheVariants.{Fixed, Growing, Wired}
 use Rattle.pager_model.specs.declared.region.Rights.{Rights}
 use Rattle.pager_model.specs.declared.region.Rights.TheVariants.{NoAccess, Read, Write}
+use Rattle.pager_model.specs.declared.trace.Daemon.{Daemon}
 use Rattle.pager_model.specs.Plans.{Plan}
-use Rattle.pager_model.specs.TraceText.{HasText, IsCall, IsLine, text_of, first_line, call_line, call_words, line_of_words, kind_word, rights_word}
+use Rattle.pager_model.specs.TraceText.{HasText, IsCall, IsDaemon, IsLine, text_of, first_line, call_line, call_words, daemon_line, line_of_words, kind_word, rights_word}
 
 -- a number below ten million has at most seven digits, and so on
 small : (n : ℕ) → n < 10000000 → length (decimal n) ≤ 7
@@ -67,6 +68,15 @@ first_is_short : (plan : Plan) → HasText plan → length (first_line plan) ≤
 first_is_short plan has =
     simp length-append (omega (arith, small plan.frames (omega (arith, has.frames_in)), small plan.processors (omega (arith, has.processors_in)), small plan.spaces (omega (arith, has.spaces_in))))
 
+daemon_is_short : (daemon : Option Daemon) → IsDaemon daemon → length (daemon_line daemon) ≤ 40
+daemon_is_short None is = omega arith
+daemon_is_short (Some d) is =
+    simp length-append (omega (arith, small d.low (omega (arith, is.0)), small d.turns (omega (arith, is.1))))
+
 pub text_is_short : (plan : Plan) → HasText plan → length (text_of plan) ≤ 16777216
 text_is_short plan has =
-    omega (arith, has.few, first_is_short plan has, calls_are_short plan.processors plan.spaces plan.calls has.processors_in.1 has.spaces_in.1 (recursion_from_All _ plan.calls has.lines), length-append (first_line plan ++ flat_map call_line plan.calls) (line_of_words (codes "end" ∷ [])), length-append (first_line plan) (flat_map call_line plan.calls))
+    let first = first_line plan in
+    let daemon = daemon_line plan.daemon in
+    let calls = flat_map call_line plan.calls in
+    omega (arith, has.few, first_is_short plan has, daemon_is_short plan.daemon has.daemon_in, calls_are_short plan.processors plan.spaces plan.calls has.processors_in.1 has.spaces_in.1 (recursion_from_All _ plan.calls has.lines),
+    length-append (first ++ daemon ++ calls) (line_of_words (codes "end" ∷ [])), length-append (first ++ daemon) calls, length-append first daemon)

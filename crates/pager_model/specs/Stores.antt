@@ -1,10 +1,10 @@
 -- What a run says of its stores: the setting over them, and what holds of them at its end.
-use Rattle.std.specs.Prelude.{ℕ, ◌≡◌, ◌<◌, ◌≤◌, true, List, ◌++◌, length, map, take, replicate, slice_get, slice_index_or, Option, Some, None, IsSomeAnd}
+use Rattle.std.specs.Prelude.{ℕ, ◌≡◌, ◌<◌, ◌≤◌, true, List, length, map, take, slice_get, slice_index_or, Option, Some, None, IsSomeAnd}
 use Rattle.pager_model.specs.declared.entry.Numbered.{Numbered}
 use Rattle.pager_model.specs.Legal.{space_at, entries_in}
 use Rattle.pager_model.specs.Plans.{Plan}
 use Rattle.pager_model.specs.Settings.{Given, is_told}
-use Rattle.pager_model.specs.Showing.{daemon_marks}
+use Rattle.pager_model.specs.Showing.{marks_of}
 use Rattle.pager_model.specs.SizeSets.{all_sizes}
 use Rattle.pager_model.specs.SpaceStates.{last_count}
 use Rattle.pager_model.specs.Stored.{Stored, copy_at}
@@ -24,7 +24,7 @@ given_over frames marks stores =
 -- The setting of a trace over the stores that are handed in, of which each space uses the one of its number: its frames, all four page sizes, a mark of 0
 -- for each processor and the daemon's low mark for one more, and what each store said at the start of its copies and its faults.
 abbrev pub setting_over : Plan → List Stored → Given
-setting_over plan stores = given_over plan.frames (replicate plan.processors 0 ++ daemon_marks plan.daemon) (take plan.spaces stores)
+setting_over plan stores = given_over plan.frames (marks_of plan) (take plan.spaces stores)
 
 -- the copy of flat memory is that of the store: both are unknown, or their words are the same
 abbrev pub IsCopy : Option (ℕ → ℕ) → Option (List ℕ) → Type 0

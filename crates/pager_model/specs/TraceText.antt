@@ -1,9 +1,10 @@
 -- The text of a trace, and which traces have one. Lines end with a line feed, and their words are apart by one space.
-use Rattle.std.specs.Prelude.{ℕ, ◌≡◌, ◌%◌, ◌^◌, ◌<◌, ◌≤◌, List, [], ◌∷◌, ◌++◌, length, codes, decimal, flat_map, All, None}
+use Rattle.std.specs.Prelude.{ℕ, ◌≡◌, ◌%◌, ◌^◌, ◌<◌, ◌≤◌, List, [], ◌∷◌, ◌++◌, length, codes, decimal, flat_map, All, Option, Some, None}
 use Rattle.std.specs.List.{join_with_byte}
 use Rattle.pager_model.specs.declared.call.Call.{Call}
 use Rattle.pager_model.specs.declared.call.Call.TheVariants.{Map, Grow, Unmap, Protect, Load, Store, Sync, Evict}
 use Rattle.pager_model.specs.declared.call.Line.{Line}
+use Rattle.pager_model.specs.declared.trace.Daemon.{Daemon}
 use Rattle.pager_model.specs.declared.region.Kind.{Kind}
 use Rattle.pager_model.specs.declared.region.Kind.TheVariants.{Fixed, Growing, Wired}
 use Rattle.pager_model.specs.declared.region.Rights.{Rights}
@@ -51,9 +52,18 @@ first_words frames processors spaces = codes "trace" ∷ codes "1" ∷ decimal f
 abbrev pub first_line : Plan → List ℕ
 first_line plan = line_of_words (first_words plan.frames plan.processors plan.spaces)
 
--- the whole text: the first line, a line for each call, and the line end
+-- the words of a daemon's line
+abbrev pub daemon_words : Daemon → List (List ℕ)
+daemon_words d = codes "daemon" ∷ decimal d.low ∷ decimal d.turns ∷ []
+
+-- the daemon's line, where there is one
+abbrev pub daemon_line : Option Daemon → List ℕ
+daemon_line None = []
+daemon_line (Some d) = line_of_words (daemon_words d)
+
+-- the whole text: the first line, the daemon's where there is one, a line for each call, and the line end
 abbrev pub text_of : Plan → List ℕ
-text_of plan = first_line plan ++ flat_map call_line plan.calls ++ line_of_words (codes "end" ∷ [])
+text_of plan = first_line plan ++ daemon_line plan.daemon ++ flat_map call_line plan.calls ++ line_of_words (codes "end" ∷ [])
 
 -- a call that a line may hold, where there are so many spaces: of one of them, at one of its 1,048,576 pages; a range has a page at
 -- least and as many as a space at most, and may lie past the end; an address is that of a word
@@ -71,14 +81,19 @@ IsCall spaces (Evict space page) = (space < spaces) × (page < space_pages)
 abbrev pub IsLine : ℕ → ℕ → Line → Type 0
 IsLine processors spaces line = (line.processor < processors) × IsCall spaces line.call
 
--- the traces that have a text: a multiple of 512 frames from 512 to 32,768, one to sixteen processors and spaces, no daemon, and at
+-- a daemon that a trace may have: a low mark from 1 to 64, and 1 to 4,096 turns
+abbrev pub IsDaemon : Option Daemon → Type 0
+IsDaemon None = Unit {0}
+IsDaemon (Some d) = ((1 ≤ d.low) × (d.low ≤ 64)) × ((1 ≤ d.turns) × (d.turns ≤ 4096))
+
+-- the traces that have a text: a multiple of 512 frames from 512 to 32,768, one to sixteen processors and spaces, maybe a daemon, and at
 -- most 262,144 calls in their ranges
 pub record HasText (plan : Plan) : Type 0 where
   pub frames_in : (512 ≤ plan.frames) × (plan.frames ≤ most_frames)
   pub frames_whole : plan.frames % 512 ≡ 0
   pub processors_in : (1 ≤ plan.processors) × (plan.processors ≤ 16)
   pub spaces_in : (1 ≤ plan.spaces) × (plan.spaces ≤ 16)
-  pub no_daemon : plan.daemon ≡ None
+  pub daemon_in : IsDaemon plan.daemon
   pub lines : All (IsLine plan.processors plan.spaces) plan.calls
   pub few : length plan.calls ≤ most_calls
 

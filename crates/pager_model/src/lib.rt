@@ -38,4 +38,4 @@ pub use sizes::Sizes;
 pub use steps::Steps;
 pub use summary::Summary;
 pub use tile::{Mapping, Tile};
-pub use trace::{Daemon, Trace};
+pub use trace::{Daemon, Job, Trace};

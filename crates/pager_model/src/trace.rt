@@ -1,8 +1,9 @@
 ghost use Rattle.std.specs.Prelude.{◌≡◌, ◌≤◌, All, length};
+ghost use Rattle.pager_model.specs.Showing.{actors};
 ghost use Rattle.pager_model.specs.TraceText.{HasText, IsLine};
 ghost use Rattle.pager_model.specs.Bounds.{most_calls};
 
-use crate::call::Line;
+use crate::call::{Call, Line};
 use std::marker::Model;
 
 /// What a paging daemon keeps free, and how many turns it makes.
@@ -10,6 +11,13 @@ use std::marker::Model;
 pub struct Daemon {
     pub low: u32,
     pub turns: u32,
+}
+
+/// What is done at one go: by a processor of a trace a call, and by its daemon a turn of this low mark.
+#[derive(Clone, Copy)]
+pub enum Job {
+    Call(Call),
+    Turn { mark: u32 },
 }
 
 /// A trace: the frames, processors and spaces of a run, and the calls in the order of their lines.
@@ -87,6 +95,17 @@ impl Trace {
         ensures text { HasText self.now }
     {
         self.daemon
+    }
+
+    /// How many processors there are, with the daemon, which is the last.
+    pub fn actors(&self) -> u32
+        ensures actors { result ≡ actors self.now }
+        ensures text { HasText self.now }
+    {
+        match self.daemon {
+            Some(_) => self.processors + 1,
+            None => self.processors,
+        }
     }
 
     /// The calls, in the order of their lines.

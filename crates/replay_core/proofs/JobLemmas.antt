@@ -19,12 +19,14 @@ use Rattle.pager_model.specs.Settings.{mark_of}
 use Rattle.pager_model.specs.Showing.{answers_in, answer_in}
 use Rattle.pager_model.proofs.Histories.{progress_from-append}
 use Rattle.pager_core.specs.Machines.{CanFly}
-use Rattle.pager_core.specs.Running.{calls_at, IsNumbered, IsWholeRun}
+use Rattle.pager_core.specs.Running.{calls_among, jobs_at, IsNumbered, IsWholeRun}
+use Rattle.pager_model.specs.declared.trace.Job.TheVariants.{Call as ToCall}
 use Rattle.pager_core.proofs.Lists.{enumerate-push}
 use Rattle.pager_core.proofs.WholeRuns.{IsWholeRun-legal}
 use Rattle.pager_locks.specs.Calls.{MakesCall}
 use Rattle.replay_core.specs.declared.jobs.Job.{Job}
-use Rattle.replay_core.specs.Jobs.{calls_in, room_for, HasMade, IsReadyJob, IsDoneFrom, HasPass, MayMakeAll, HaveMade}
+use Rattle.replay_core.proofs.RunLemmas.{calls_alone}
+use Rattle.replay_core.specs.Jobs.{calls_at, calls_in, making, room_for, HasMade, IsReadyJob, IsDoneFrom, HasPass, MayMakeAll, HaveMade}
 
 -- One after another.
 
@@ -175,12 +177,21 @@ module _ (j : JournalName) (calls : List (List Call)) (passes : List PassState) 
       let p = get_or passes c d in
       subst (λ m. IsWhole m (entries_in p.entries)) (sym (marks p.processor)) (length (calls_at calls c), (have.made c d (let count = have.count in omega (arith, below, count))).progress)
 
-  pub run_done : (h : List Numbered) → IsNumbered h → IsLegal j.setting (entries_in h) → All (λ (p : PassState). IsOwnOf p (entries_in h)) passes → ((c : ℕ) → mark_of j.setting c ≡ 0) → length j.setting.marks ≡ length calls → IsWholeRun j.setting calls h
+  pub run_done : (h : List Numbered) → IsNumbered h → IsLegal j.setting (entries_in h) → All (λ (p : PassState). IsOwnOf p (entries_in h)) passes → ((c : ℕ) → mark_of j.setting c ≡ 0) → length j.setting.marks ≡ length calls → IsWholeRun j.setting (making calls) h
   run_done h numbered legal own marks many =
       let count = have.count in
       let entries : (c : ℕ) → c < length calls → entries_of c (entries_in h) ≡ entries_in (get_or passes c none_yet).entries =
       (λ c below. ap (λ k. entries_of k (entries_in h)) (sym (have.made c none_yet below).processor) ∙ sym (own c none_yet (omega (arith, below, count))).1) in
-      IsWholeRun-legal j.setting calls h legal numbered
-      (λ c below. ap answers_in (entries c below) ∙ (have.made c none_yet below).answers)
-      (λ c below. (length (calls_at calls c), ap (progress_of 0) (entries c below) ∙ (have.made c none_yet below).progress))
-      marks many
+      let same_count : length (making calls) ≡ length calls = length-map calls (map ToCall) in
+      let own_jobs : (c : ℕ) → c < length calls → jobs_at (making calls) c ≡ map ToCall (calls_at calls c) = λ c below. get_or-map (map ToCall) calls c [] [] below in
+      IsWholeRun-legal j.setting (making calls) h legal numbered
+      (λ c below.
+      let within : c < length calls = omega (arith, below, same_count) in
+      ap answers_in (entries c within) ∙ (have.made c none_yet within).answers
+      ∙ ap (enumerate_from 0) (sym (ap calls_among (own_jobs c within) ∙ calls_alone (calls_at calls c))))
+      (λ c below.
+      let within : c < length calls = omega (arith, below, same_count) in
+      let long : length (jobs_at (making calls) c) ≡ length (calls_at calls c) = ap length (own_jobs c within) ∙ length-map (calls_at calls c) ToCall in
+      subst (λ m. progress_of m (entries_of c (entries_in h)) ≡ Some (at_rest m (length (jobs_at (making calls) c)))) (sym (marks c))
+      (ap (progress_of 0) (entries c within) ∙ (have.made c none_yet within).progress ∙ ap (λ n. Some (at_rest 0 n)) (sym long)))
+      (many ∙ sym same_count)

@@ -1,4 +1,4 @@
-pub mod CallLemmas
+pub mod WholeJobs
 pub mod FiledLemmas
 pub mod RunLemmas
 pub mod StandingLemmas

@@ -6,6 +6,7 @@ use Rattle.std.specs.List.{AllByRecursion, find, range_with_len}
 use Rattle.pager_model.specs.declared.entry.Entry.{Entry}
 use Rattle.pager_model.specs.Legal.{entries_in}
 use Rattle.pager_model.specs.Plans.{Plan}
+use Rattle.pager_model.specs.Showing.{actors}
 use Rattle.pager_model.specs.Stored.{Stored}
 use Rattle.pager_core.specs.Machines.{all_left}
 use Rattle.pager_core.specs.declared.machine.Turn.{Turn}
@@ -13,7 +14,7 @@ use Rattle.pager_core.specs.declared.machine.Turn.TheVariants.{Ended as HasNone,
 use Rattle.pager_core.specs.Running.{Running, flight_at, MustWait, OneMore, IsLawful}
 use Rattle.pager_model.specs.TurnOrders.{can_step, next_state, drawn, turned, picked, IsDrawn, IsSeeded, AreLowest, Follows, IsScheduled}
 use Rattle.replay_core.specs.Turns.{drawn_order, flying_in, IsStuck, FirstStepped}
-use Rattle.replay_core.proofs.RunLemmas.{IsRunOf, length-calls}
+use Rattle.replay_core.proofs.RunLemmas.{IsRunOf, length-jobs}
 use Rattle.replay_core.proofs.StandingLemmas.{cannot_step, can_step_free}
 use Rattle.replay_core.proofs.TurnLemmas.{all_turned, range_known, free_by, flying_known, left_same, entries_step, IsRunOf-step, found, fewer_left}
 
@@ -55,10 +56,10 @@ Drawing-start plan stores seed run of none =
 
 -- one drawn turn more
 module _ (plan : Plan) (stores : List Stored) (seed : ℕ) (run new : Running) (x : ℕ) (now : Drawing plan stores seed run x) (step : FirstStepped run new (drawn_order run x)) where
-  known_drawn : AllByRecursion (λ c. c < plan.processors) (drawn_order run x)
+  known_drawn : AllByRecursion (λ c. c < actors plan) (drawn_order run x)
   known_drawn =
-      subst (λ n. AllByRecursion (λ c. c < n) (drawn_order run x)) (length-calls plan run.calls now.of.calls)
-      (all_turned (λ c. c < length run.calls) (drawn x (length (flying_in run))) (flying_in run) (flying_known run))
+      subst (λ n. AllByRecursion (λ c. c < n) (drawn_order run x)) (length-jobs plan run.jobs now.of.jobs)
+      (all_turned (λ c. c < length run.jobs) (drawn x (length (flying_in run))) (flying_in run) (flying_known run))
 
   pub Drawing-step : (state : ℕ) → state ≡ next_state x → Drawing plan stores seed new state
   Drawing-step state is =
@@ -92,16 +93,16 @@ Following-start plan stores schedule run of none =
     record { of = of; ahead = subst (λ h. Ahead plan schedule schedule (entries_in h)) (sym none) (λ es follows. follows) }
 
 -- one turn more, of a processor that can step, or of one that can't
-module _ (plan : Plan) (stores : List Stored) (schedule : List ℕ) (k n : ℕ) (run : Running) (now : Following plan stores schedule k run) (known : n < plan.processors) (at : drop k schedule ≡ n ∷ drop (k + 1) schedule) where
+module _ (plan : Plan) (stores : List Stored) (schedule : List ℕ) (k n : ℕ) (run : Running) (now : Following plan stores schedule k run) (known : n < actors plan) (at : drop k schedule ≡ n ∷ drop (k + 1) schedule) where
   ahead_at : Ahead plan schedule (n ∷ drop (k + 1) schedule) (entries_in run.history)
   ahead_at = subst (λ l. Ahead plan schedule l (entries_in run.history)) at now.ahead
 
-  pub Following-stepped : (new : Running) → (IsStuck run n → ⊥) → OneMore run new n → new.given ≡ run.given → new.calls ≡ run.calls → new.unused ≡ run.unused → IsLawful new → Following plan stores schedule (k + 1) new
+  pub Following-stepped : (new : Running) → (IsStuck run n → ⊥) → OneMore run new n → new.given ≡ run.given → new.jobs ≡ run.jobs → new.unused ≡ run.unused → IsLawful new → Following plan stores schedule (k + 1) new
   Following-stepped new free more given calls unused lawful =
       let h = entries_in run.history in
       let can = can_step_free plan stores run now.of n known free in
       record {
-        of = record { given = given ∙ now.of.given; unused = unused ∙ now.of.unused; calls = calls ∙ now.of.calls; lawful = lawful };
+        of = record { given = given ∙ now.of.given; unused = unused ∙ now.of.unused; jobs = calls ∙ now.of.jobs; lawful = lawful };
         ahead = subst (Ahead plan schedule (drop (k + 1) schedule)) (sym (entries_step run new n more))
             (λ es follows. subst (Follows plan schedule []) (sym (append_assoc h (more.entry ∷ []) es))
             (ahead_at (more.entry ∷ es) (λ yes. (more.entry, es, refl, more.of_actor, follows), λ cannot. absurd (true≢false (sym can ∙ cannot)))));
@@ -113,10 +114,10 @@ module _ (plan : Plan) (stores : List Stored) (schedule : List ℕ) (k n : ℕ) 
       subst (Following plan stores schedule (k + 1)) (sym same)
       (record { of = now.of; ahead = λ es follows. ahead_at es (λ can. absurd (true≢false (sym can ∙ cannot)), λ no. follows) })
 
-pub Following-turn : (plan : Plan) (stores : List Stored) (schedule : List ℕ) (k : ℕ) (run : Running) → Following plan stores schedule k run → k < length schedule → get_or schedule k 0 < plan.processors → (new : Running) (turn : Turn)
+pub Following-turn : (plan : Plan) (stores : List Stored) (schedule : List ℕ) (k : ℕ) (run : Running) → Following plan stores schedule k run → k < length schedule → get_or schedule k 0 < actors plan → (new : Running) (turn : Turn)
     → (turn ≡ HasNone → (new ≡ run) × (flight_at run.flights (get_or schedule k 0) ≡ None)) → (flight_at run.flights (get_or schedule k 0) ≡ None → turn ≡ HasNone)
     → ((space : ℕ) → turn ≡ Waits space → (new ≡ run) × MustWait run (get_or schedule k 0) space) → ((space : ℕ) → MustWait run (get_or schedule k 0) space → turn ≡ Waits space)
-    → (turn ≡ Stepped → OneMore run new (get_or schedule k 0)) → (new.given ≡ run.given) × (new.calls ≡ run.calls) → new.unused ≡ run.unused → IsLawful new → Following plan stores schedule (k + 1) new
+    → (turn ≡ Stepped → OneMore run new (get_or schedule k 0)) → (new.given ≡ run.given) × (new.jobs ≡ run.jobs) → new.unused ≡ run.unused → IsLawful new → Following plan stores schedule (k + 1) new
 Following-turn plan stores schedule k run now below known new Stepped ended not_ended waits not_waiting stepped same unused lawful =
     let n = get_or schedule k 0 in
     Following-stepped plan stores schedule k n run now known (drop_more schedule k 0 below) new (free_by run n Stepped not_ended not_waiting refl) (stepped refl) same.0 same.1 unused lawful
@@ -145,21 +146,21 @@ Lowering-start plan stores schedule k run now all =
       ahead = subst (λ l. Ahead plan schedule l (entries_in run.history)) (drop_all k schedule all) now.ahead;
     }
 
-AreLowest-push : (plan : Plan) (h es : List Entry) (e : Entry) → AreLowest plan h es → find (can_step plan (h ++ es)) (range_with_len 0 plan.processors) ≡ Some e.processor → AreLowest plan h (es ++ e ∷ [])
-AreLowest-push plan h [] e was is = (subst (λ l. find (can_step plan l) (range_with_len 0 plan.processors) ≡ Some e.processor) (append-nil h) is, tt)
+AreLowest-push : (plan : Plan) (h es : List Entry) (e : Entry) → AreLowest plan h es → find (can_step plan (h ++ es)) (range_with_len 0 (actors plan)) ≡ Some e.processor → AreLowest plan h (es ++ e ∷ [])
+AreLowest-push plan h [] e was is = (subst (λ l. find (can_step plan l) (range_with_len 0 (actors plan)) ≡ Some e.processor) (append-nil h) is, tt)
 AreLowest-push plan h (y ∷ es) e was is =
-    (was.0, AreLowest-push plan (h ++ y ∷ []) es e was.1 (subst (λ l. find (can_step plan l) (range_with_len 0 plan.processors) ≡ Some e.processor) (sym (append_assoc h (y ∷ []) es)) is))
+    (was.0, AreLowest-push plan (h ++ y ∷ []) es e was.1 (subst (λ l. find (can_step plan l) (range_with_len 0 (actors plan)) ≡ Some e.processor) (sym (append_assoc h (y ∷ []) es)) is))
 
 -- one turn more of the lowest
-module _ (plan : Plan) (stores : List Stored) (schedule : List ℕ) (run new : Running) (now : Lowering plan stores schedule run) (step : FirstStepped run new (range_with_len 0 plan.processors)) where
+module _ (plan : Plan) (stores : List Stored) (schedule : List ℕ) (run new : Running) (now : Lowering plan stores schedule run) (step : FirstStepped run new (range_with_len 0 (actors plan))) where
   pub Lowering-step : Lowering plan stores schedule new
   Lowering-step =
       let e = step.more.entry in
-      let first : find (can_step plan (now.before ++ now.after)) (range_with_len 0 plan.processors) ≡ Some e.processor =
-      subst (λ l. find (can_step plan l) (range_with_len 0 plan.processors) ≡ Some e.processor) now.entries
-      (found plan stores run new (range_with_len 0 plan.processors) now.of step (range_known plan.processors)) in
+      let first : find (can_step plan (now.before ++ now.after)) (range_with_len 0 (actors plan)) ≡ Some e.processor =
+      subst (λ l. find (can_step plan l) (range_with_len 0 (actors plan)) ≡ Some e.processor) now.entries
+      (found plan stores run new (range_with_len 0 (actors plan)) now.of step (range_known (actors plan))) in
       record {
-        of = IsRunOf-step plan stores run new (range_with_len 0 plan.processors) now.of step;
+        of = IsRunOf-step plan stores run new (range_with_len 0 (actors plan)) now.of step;
         before = now.before;
         after = now.after ++ e ∷ [];
         entries = entries_step run new step.actor step.more ∙ ap (λ l. l ++ e ∷ []) now.entries ∙ append_assoc now.before now.after (e ∷ []);
@@ -168,7 +169,7 @@ module _ (plan : Plan) (stores : List Stored) (schedule : List ℕ) (run new : R
       }
 
   pub fewer_lowest : all_left new < all_left run
-  fewer_lowest = fewer_left plan stores run new (range_with_len 0 plan.processors) now.of step (range_known plan.processors)
+  fewer_lowest = fewer_left plan stores run new (range_with_len 0 (actors plan)) now.of step (range_known (actors plan))
 
 pub IsScheduled-end : (plan : Plan) (stores : List Stored) (schedule : List ℕ) (run : Running) → Lowering plan stores schedule run → IsScheduled plan schedule (entries_in run.history)
 IsScheduled-end plan stores schedule run now = subst (IsScheduled plan schedule) (sym now.entries) (now.ahead now.after now.lowest)

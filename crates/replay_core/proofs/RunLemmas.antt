@@ -1,9 +1,9 @@
 -- A machine in the middle of a trace's run, and what its whole run is.
-use Rattle.std.proofs.Common.{◌≡◌, ℕ, zero, suc, ◌<◌, ◌≤◌, ◌⊎◌, inl, inr, List, [], ◌∷◌, length, take, drop, map, get_or, slice_get, Some, None, IsSomeAnd, refl, sym, ap, subst, ◌∙◌, arith}
-use Rattle.std.proofs.lemmas.Bool.{cases_lt}
+use Rattle.std.proofs.Common.{◌≡◌, ℕ, zero, suc, ◌<◌, ◌≤◌, ◌⊎◌, inl, inr, List, [], ◌∷◌, ◌++◌, ◌==◌, cond, length, length-append, take, drop, map, filter, replicate, get_or, slice_get, Option, Some, None, IsSomeAnd, refl, sym, ap, subst, ◌∙◌, arith}
+use Rattle.std.proofs.lemmas.Bool.{cases_lt, eq-eqb, ne_eqb}
 use Rattle.std.proofs.lemmas.Option.{same_Some, slice_get_cases}
 use Rattle.std.proofs.Math.ListN.{length-map}
-use Rattle.std.proofs.lemmas.List.{length-take-le}
+use Rattle.std.proofs.lemmas.List.{append-nil, get_or-replicate, get_or_append_left, length-replicate, length-take-le}
 use Rattle.std.proofs.lemmas.List.FromFn.{get_or-map-range_with_len, length-map-range_with_len}
 use Rattle.std.specs.List.{enumerate_from, range_with_len}
 use Rattle.pager_model.specs.declared.call.Call.{Call}
@@ -13,14 +13,21 @@ use Rattle.pager_model.specs.Agreement.{IsPartition, NothingHeld, Agrees}
 use Rattle.pager_model.specs.Counts.{counts}
 use Rattle.pager_model.specs.Legal.{IsLegal, frames_at, entries_in}
 use Rattle.pager_model.specs.Plans.{Plan}
-use Rattle.pager_model.specs.Settings.{Given, faults_at_entry}
-use Rattle.pager_model.specs.Showing.{calls_of}
+use Rattle.pager_model.specs.Settings.{Given, faults_at_entry, mark_of}
+use Rattle.pager_model.specs.Showing.{actors, calls_of, daemon_marks, jobs_of, turns_of, MakesTurns, Shows}
+use Rattle.pager_model.specs.TraceText.{HasText}
+use Rattle.pager_model.specs.Entries.{entries_of}
+use Rattle.pager_model.specs.Order.{at_rest, progress_of}
+use Rattle.pager_model.specs.declared.call.Line.{Line}
+use Rattle.pager_model.specs.declared.trace.Daemon.{Daemon}
+use Rattle.pager_model.specs.declared.trace.Job.{Job}
+use Rattle.pager_model.specs.declared.trace.Job.TheVariants.{Call as MakesCall, Turn}
 use Rattle.pager_model.specs.SpaceStates.{Rises, last_count}
 use Rattle.pager_model.specs.Stores.{setting_over, EndsWith, StoresEnd, AreCapped}
 use Rattle.pager_model.specs.Stored.{Stored}
 use Rattle.pager_laws.proofs.OldestBroken.{PreemptsOldest-legal}
 use Rattle.pager_laws.proofs.OrderedRefusals.{RefusesRightly-legal}
-use Rattle.pager_core.specs.Running.{Running, calls_at, IsLawful, IsWholeRun}
+use Rattle.pager_core.specs.Running.{Running, calls_among, jobs_at, IsLawful, IsWholeRun}
 use Rattle.pager_laws.proofs.KeptLaws.{KeepsLawsAllAlong-legal}
 use Rattle.replay_core.specs.Replays.{NoneFailed, IsReplay, AreItsCounts}
 use Rattle.pager_laws.specs.Faults.{HasFailed}
@@ -30,16 +37,71 @@ use Rattle.pager_laws.proofs.FaultReplies.{AllServed-legal}
 pub record IsRunOf (plan : Plan) (stores : List Stored) (run : Running) : Type 0 where
   pub given : run.given ≡ setting_over plan stores
   pub unused : run.unused ≡ drop plan.spaces stores
-  pub calls : run.calls ≡ map (λ c. calls_of c plan.calls) (range_with_len 0 plan.processors)
+  pub jobs : run.jobs ≡ map (λ c. jobs_of c plan) (range_with_len 0 (actors plan))
   pub lawful : IsLawful run
 
--- each processor's calls, and none of others
-pub calls_known : (plan : Plan) (calls : List (List Call)) → calls ≡ map (λ c. calls_of c plan.calls) (range_with_len 0 plan.processors) → (c : ℕ) → c < plan.processors → calls_at calls c ≡ calls_of c plan.calls
-calls_known plan calls are c known =
-    ap (λ l. calls_at l c) are ∙ get_or-map-range_with_len (λ c. calls_of c plan.calls) 0 plan.processors c c [] known (omega arith)
+-- each processor's jobs, and none of others
+pub jobs_known : (plan : Plan) (jobs : List (List Job)) → jobs ≡ map (λ c. jobs_of c plan) (range_with_len 0 (actors plan)) → (c : ℕ) → c < actors plan → jobs_at jobs c ≡ jobs_of c plan
+jobs_known plan jobs are c known =
+    ap (λ l. jobs_at l c) are ∙ get_or-map-range_with_len (λ c. jobs_of c plan) 0 (actors plan) c c [] known (omega arith)
 
-pub length-calls : (plan : Plan) (calls : List (List Call)) → calls ≡ map (λ c. calls_of c plan.calls) (range_with_len 0 plan.processors) → length calls ≡ plan.processors
-length-calls plan calls are = ap length are ∙ length-map-range_with_len (λ c. calls_of c plan.calls) 0 plan.processors
+pub length-jobs : (plan : Plan) (jobs : List (List Job)) → jobs ≡ map (λ c. jobs_of c plan) (range_with_len 0 (actors plan)) → length jobs ≡ actors plan
+length-jobs plan jobs are = ap length are ∙ length-map-range_with_len (λ c. jobs_of c plan) 0 (actors plan)
+
+-- A processor that makes calls is one of them, and its jobs are its calls; the daemon comes behind those.
+
+pub processor_known : (plan : Plan) (c : ℕ) → c < plan.processors → c < actors plan
+processor_known plan c known =
+    let all = length-append (replicate {A = ℕ} plan.processors 0) (daemon_marks plan.daemon) in
+    let some = length-replicate {A = ℕ} plan.processors 0 in
+    omega (arith, all, some, known)
+
+pub calls_alone : (calls : List Call) → calls_among (map MakesCall calls) ≡ calls
+calls_alone [] = refl
+calls_alone (call ∷ calls) = ap (λ l. call ∷ l) (calls_alone calls)
+
+pub jobs_of_calls : (plan : Plan) (c : ℕ) → c < plan.processors → jobs_of c plan ≡ map MakesCall (calls_of c plan.calls)
+jobs_of_calls plan c known =
+    ap (λ b. map MakesCall (calls_of c plan.calls) ++ cond b (turns_of plan.daemon) []) (ne_eqb c plan.processors (λ is. omega (arith, known, is)))
+    ∙ append-nil (map MakesCall (calls_of c plan.calls))
+
+pub calls_of_jobs : (plan : Plan) (c : ℕ) → c < plan.processors → calls_among (jobs_of c plan) ≡ calls_of c plan.calls
+calls_of_jobs plan c known = ap calls_among (jobs_of_calls plan c known) ∙ calls_alone (calls_of c plan.calls)
+
+pub mark_of_caller : (plan : Plan) (stores : List Stored) (c : ℕ) → c < plan.processors → mark_of (setting_over plan stores) c ≡ 0
+mark_of_caller plan stores c known =
+    get_or_append_left (replicate plan.processors 0) (daemon_marks plan.daemon) 0 c (subst (λ n. c < n) (sym (length-replicate {A = ℕ} plan.processors 0)) known)
+    ∙ get_or-replicate plan.processors c 0 0 known
+
+-- the daemon of a trace, its mark and its turns
+pub mark_of_daemon : (plan : Plan) (stores : List Stored) (d : Daemon) → plan.daemon ≡ Some d → mark_of (setting_over plan stores) plan.processors ≡ d.low
+mark_of_daemon plan stores d is =
+    ap (λ o. get_or (replicate plan.processors 0 ++ daemon_marks o) plan.processors 0) is ∙ behind plan.processors
+  where
+    behind : (n : ℕ) → get_or (replicate n 0 ++ d.low ∷ []) n 0 ≡ d.low
+    behind zero = refl
+    behind (suc n) = behind n
+
+pub daemon_known : (plan : Plan) (d : Daemon) → plan.daemon ≡ Some d → plan.processors < actors plan
+daemon_known plan d is =
+    let all = length-append (replicate {A = ℕ} plan.processors 0) (daemon_marks plan.daemon) in
+    let some = length-replicate {A = ℕ} plan.processors 0 in
+    let one : length (daemon_marks plan.daemon) ≡ 1 = ap (λ o. length (daemon_marks o)) is in
+    omega (arith, all, some, one)
+
+-- no line is of the daemon's number
+no_calls : (most : ℕ) (lines : List Line) → ((i : ℕ) (d : Line) → i < length lines → (get_or lines i d).processor < most) → calls_of most lines ≡ []
+no_calls most [] all = refl
+no_calls most (line ∷ lines) all =
+    let own = all 0 line (omega arith) in
+    ap (λ b. map (λ (l : Line). l.call) (cond b (line ∷ filter (λ (l : Line). l.processor == most) lines) (filter (λ (l : Line). l.processor == most) lines))) (ne_eqb line.processor most (λ is. omega (arith, own, is)))
+    ∙ no_calls most lines (λ i d below. all (suc i) d (omega (arith, below)))
+
+pub jobs_of_daemon : (plan : Plan) → HasText plan → (d : Daemon) → plan.daemon ≡ Some d → jobs_of plan.processors plan ≡ replicate d.turns (Turn d.low)
+jobs_of_daemon plan has d is =
+    ap (λ calls. map MakesCall calls ++ cond (plan.processors == plan.processors) (turns_of plan.daemon) []) (no_calls plan.processors plan.calls (λ i line within. (has.lines i line within).0))
+    ∙ ap (λ b. cond b (turns_of plan.daemon) []) (eq-eqb plan.processors plan.processors refl)
+    ∙ ap turns_of is
 
 -- the setting has a store for each space where there are enough
 told-over : (plan : Plan) (stores : List Stored) → plan.spaces ≤ length stores → length (setting_over plan stores).told ≡ plan.spaces
@@ -82,17 +144,45 @@ module _ (plan : Plan) (stores after : List Stored) (history : List Numbered) (e
         | inr past ↦ absurd (omega (arith, below, enough, past.0))
       ]
 
--- a whole run of its calls over the stores is its replay, whoever makes it
-pub IsReplay-of : (plan : Plan) (stores after : List Stored) (given : Given) (calls : List (List Call)) (history : List Numbered) → plan.spaces ≤ length stores → AreCapped plan.spaces stores → given ≡ setting_over plan stores → calls ≡ map (λ c. calls_of c plan.calls) (range_with_len 0 plan.processors) → IsWholeRun given calls history → StoresEnd given history after → drop plan.spaces after ≡ drop plan.spaces stores → IsReplay plan stores history after
-IsReplay-of plan stores after given calls history enough capped g are whole ends unused =
+-- what a whole run of a trace's jobs shows
+module _ (plan : Plan) (has : HasText plan) (stores : List Stored) (given : Given) (jobs : List (List Job)) (history : List Numbered) (g : given ≡ setting_over plan stores) (are : jobs ≡ map (λ c. jobs_of c plan) (range_with_len 0 (actors plan))) (whole : IsWholeRun given jobs history) where
+  there : (c : ℕ) → c < actors plan → c < length jobs
+  there c known = subst (λ n. c < n) (sym (length-jobs plan jobs are)) known
+
+  ended_at : (c mark : ℕ) → c < actors plan → mark_of (setting_over plan stores) c ≡ mark → progress_of mark (entries_of c (entries_in history)) ≡ Some (at_rest mark (length (jobs_of c plan)))
+  ended_at c mark known is =
+      let own : mark_of given c ≡ mark = ap (λ x. mark_of x c) g ∙ is in
+      ap (λ m. progress_of m (entries_of c (entries_in history))) (sym own)
+      ∙ whole.whole c (there c known)
+      ∙ ap (λ m. Some (at_rest m (length (jobs_at jobs c)))) own
+      ∙ ap (λ own. Some (at_rest mark (length own))) (jobs_known plan jobs are c known)
+
+  turns_made : (o : Option Daemon) → plan.daemon ≡ o → MakesTurns plan o (entries_in history)
+  turns_made None is = tt
+  turns_made (Some d) is =
+      ended_at plan.processors d.low (daemon_known plan d is) (mark_of_daemon plan stores d is)
+      ∙ ap (λ own. Some (at_rest d.low (length own))) (jobs_of_daemon plan has d is)
+      ∙ ap (λ n. Some (at_rest d.low n)) (length-replicate {A = Job} d.turns (Turn d.low))
+
+  Shows-whole : Shows plan (entries_in history)
+  Shows-whole = record {
+    calls = λ c known.
+        let knows = processor_known plan c known in (
+          whole.answers c (there c knows) ∙ ap (λ own. enumerate_from 0 (calls_among own)) (jobs_known plan jobs are c knows) ∙ ap (enumerate_from 0) (calls_of_jobs plan c known),
+          (length (jobs_of c plan), ended_at c 0 knows (mark_of_caller plan stores c known)),
+        );
+    turns = turns_made plan.daemon refl;
+  }
+
+-- a whole run of its jobs over the stores is its replay, whoever makes it
+pub IsReplay-of : (plan : Plan) → HasText plan → (stores after : List Stored) (given : Given) (jobs : List (List Job)) (history : List Numbered) → plan.spaces ≤ length stores → AreCapped plan.spaces stores → given ≡ setting_over plan stores → jobs ≡ map (λ c. jobs_of c plan) (range_with_len 0 (actors plan)) → IsWholeRun given jobs history → StoresEnd given history after → drop plan.spaces after ≡ drop plan.spaces stores → IsReplay plan stores history after
+IsReplay-of plan has stores after given jobs history enough capped g are whole ends unused =
     let legal : IsLegal (setting_over plan stores) (entries_in history) = subst (λ g. IsLegal g (entries_in history)) g whole.legal in
     let ended : StoresEnd (setting_over plan stores) history after = subst (λ g. StoresEnd g history after) g ends in
     record {
       numbered = whole.numbered;
       legal = legal;
-      shows = λ c known.
-          let there : c < length calls = subst (λ n. c < n) (sym (length-calls plan calls are)) known in
-          (whole.answers c there ∙ ap (enumerate_from 0) (calls_known plan calls are c known), whole.whole c there);
+      shows = Shows-whole plan has stores given jobs history g are whole;
       laws = KeepsLawsAllAlong-legal (setting_over plan stores) (entries_in history) legal;
       oldest = PreemptsOldest-legal (setting_over plan stores) (entries_in history) legal;
       refusals = RefusesRightly-legal (setting_over plan stores) (entries_in history) legal;
@@ -105,9 +195,9 @@ IsReplay-of plan stores after given calls history enough capped g are whole ends
     }
 
 -- as a machine's is
-pub IsReplay-whole : (plan : Plan) (stores after : List Stored) (run : Running) → plan.spaces ≤ length stores → AreCapped plan.spaces stores → IsRunOf plan stores run → IsWholeRun run.given run.calls run.history → StoresEnd run.given run.history after → drop (length run.given.told) after ≡ run.unused → IsReplay plan stores run.history after
-IsReplay-whole plan stores after run enough capped now whole ends unused =
-    IsReplay-of plan stores after run.given run.calls run.history enough capped now.given now.calls whole ends
+pub IsReplay-whole : (plan : Plan) → HasText plan → (stores after : List Stored) (run : Running) → plan.spaces ≤ length stores → AreCapped plan.spaces stores → IsRunOf plan stores run → IsWholeRun run.given run.jobs run.history → StoresEnd run.given run.history after → drop (length run.given.told) after ≡ run.unused → IsReplay plan stores run.history after
+IsReplay-whole plan has stores after run enough capped now whole ends unused =
+    IsReplay-of plan has stores after run.given run.jobs run.history enough capped now.given now.jobs whole ends
     (sym (ap (λ n. drop n after) (ap (λ (g : Given). length g.told) now.given ∙ told-over plan stores enough)) ∙ unused ∙ now.unused)
 
 -- its counts are the run's

@@ -1,33 +1,33 @@
 -- Where a processor is after a machine's history, and that its flight tells whether it can step.
-use Rattle.std.proofs.Common.{◌≡◌, ◌≢◌, ℕ, ◌+◌, ◌<◌, ◌==◌, inl, inr, Bool, true, false, not, ◌&&◌, List, [], length, replicate, Option, Some, None, is_some, refl, sym, ap, subst, ◌∙◌, arith}
+use Rattle.std.proofs.Common.{◌≡◌, ◌≢◌, ℕ, ◌+◌, ◌<◌, ◌==◌, inl, inr, Bool, true, false, not, ◌&&◌, List, [], length, Option, Some, None, is_some, refl, sym, ap, subst, ◌∙◌, arith}
 use Rattle.std.proofs.lemmas.Bool.{cases_lt, and_parts, eq-eqb, false_from_ne_true, false≢true}
 use Rattle.std.proofs.lemmas.Bool.Decides.{nat_tests}
-use Rattle.std.proofs.lemmas.List.{get_or-replicate, get_or_past, get_or_append_left, length-replicate}
+use Rattle.std.proofs.lemmas.List.{get_or_past}
 use Rattle.std.proofs.lemmas.List.FromFn.{length-range_with_len, get_or-range_with_len}
 use Rattle.std.proofs.lemmas.List.Folds.{Any-from_list_any, list_any_at}
 use Rattle.std.proofs.lemmas.Option.{none-some, same_Some, slice_get_past}
 use Rattle.std.specs.List.{slice_get, range_with_len, list_any}
 use Rattle.std.specs.Option.{option_and_then}
 use Rattle.pager_model.specs.Options.{is_that}
-use Rattle.pager_model.specs.declared.call.Call.{Call}
+use Rattle.pager_model.specs.declared.trace.Job.{Job}
 use Rattle.pager_model.specs.Entries.{entries_of}
-use Rattle.pager_model.specs.Flat.{space_of_call}
 use Rattle.pager_model.specs.Legal.{entries_in}
 use Rattle.pager_model.specs.Order.{progress_of}
 use Rattle.pager_model.specs.Plans.{Plan}
 use Rattle.pager_model.specs.Settings.{Given, mark_of}
-use Rattle.pager_model.specs.Showing.{calls_of, daemon_marks}
+use Rattle.pager_model.specs.Showing.{actors, jobs_of}
 use Rattle.pager_model.specs.Stores.{setting_over}
 use Rattle.pager_model.specs.Stored.{Stored}
 use Rattle.pager_core.specs.declared.flight.Flight.{Flight}
-use Rattle.pager_core.specs.Rows.{call_in, is_of_call, is_between, row_of, space_under}
-use Rattle.pager_core.specs.Running.{Running, calls_at, flight_at, progress_of_actor, progress_by_flight, kept_by, IsKeptByOther, IsOfCall, IsLawful}
+use Rattle.pager_core.specs.declared.flight.Purpose.{Purpose}
+use Rattle.pager_core.specs.declared.flight.Purpose.TheVariants.{Call as OfCall, Turn as OfTurn}
+use Rattle.pager_core.specs.Rows.{is_between, own_space, row_of, space_under}
+use Rattle.pager_core.specs.Running.{Running, jobs_at, flight_at, progress_of_actor, progress_by_flight, job_in, kept_by, IsKeptByOther, IsOfJob, IsLawful}
 use Rattle.pager_core.proofs.NextFlights.{keeps_by_place, keeps_under, made_going, under_by_place}
-use Rattle.pager_core.proofs.Purposes.{own_space-is}
-use Rattle.pager_model.specs.Locks.{keeps_in, under_in}
-use Rattle.pager_model.specs.TurnOrders.{Standing, standing_by, standing_at, is_kept_by, is_kept_by_other, has_left, can_go, can_step}
+use Rattle.pager_model.specs.Locks.{under_in}
+use Rattle.pager_model.specs.TurnOrders.{Standing, own_of, standing_by, standing_at, is_kept_by, is_kept_by_other, has_left, can_go, can_step}
 use Rattle.replay_core.specs.Turns.{flies, IsStuck}
-use Rattle.replay_core.proofs.RunLemmas.{IsRunOf, calls_known, length-calls}
+use Rattle.replay_core.proofs.RunLemmas.{IsRunOf, jobs_known, length-jobs}
 
 -- A test over the processors.
 
@@ -45,26 +45,26 @@ one_of p n is =
 
 -- Where a processor is, by its flight.
 
--- the call of a flight and its place
+-- the space of a flight's job and its place
 abbrev pub standing_of : Option Flight → Option Standing
 standing_of None = None
-standing_of (Some f) = Some (record { call = call_in f.purpose; doing = (row_of f).progress.doing })
+standing_of (Some f) = Some (record { own = own_space f.purpose; doing = (row_of f).progress.doing })
 
-made_by : (calls : List Call) (f : Flight) → IsOfCall calls f → (row_of f).progress.made ≡ f.number
-made_by calls f of = made_going f of.going
+own_of_job : (p : Purpose) → own_of (job_in p) ≡ own_space p
+own_of_job (OfCall call claimed) = refl
+own_of_job (OfTurn mark evictions) = refl
 
-standing_call : (calls : List Call) (f : Flight) → IsOfCall calls f → standing_by calls (row_of f).progress ≡ standing_of (Some f)
-standing_call calls f of =
-    ap (option_and_then (λ call. (let s : Standing = record { call = call; doing = (row_of f).progress.doing } in Some s))) (ap (slice_get calls) (made_by calls f of) ∙ of.call)
+made_by : (jobs : List Job) (f : Flight) → IsOfJob jobs f → (row_of f).progress.made ≡ f.number
+made_by jobs f of = made_going f of.going
 
-standing_flight : (calls : List Call) (o : Option Flight) → ((f : Flight) → o ≡ Some f → IsOfCall calls f) → standing_by calls (progress_by_flight calls o) ≡ standing_of o
-standing_flight calls None of = ap (option_and_then (λ call. (let s : Standing = record { call = call; doing = (progress_by_flight calls None).doing } in Some s))) (slice_get_past calls (length calls) (omega arith))
-standing_flight calls (Some f) of = standing_call calls f (of f refl)
+standing_job : (jobs : List Job) (f : Flight) → IsOfJob jobs f → standing_by jobs (row_of f).progress ≡ standing_of (Some f)
+standing_job jobs f of =
+    ap (option_and_then (λ job. (let s : Standing = record { own = own_of job; doing = (row_of f).progress.doing } in Some s))) (ap (slice_get jobs) (made_by jobs f of) ∙ of.job)
+    ∙ ap (λ own. (let s : Standing = record { own = own; doing = (row_of f).progress.doing } in Some s)) (own_of_job f.purpose)
 
-mark-own : (plan : Plan) (stores : List Stored) (c : ℕ) → c < plan.processors → mark_of (setting_over plan stores) c ≡ 0
-mark-own plan stores c known =
-    get_or_append_left (replicate plan.processors 0) (daemon_marks plan.daemon) 0 c (subst (λ n. c < n) (sym (length-replicate plan.processors 0)) known)
-    ∙ get_or-replicate plan.processors c 0 0 known
+standing_flight : (mark : ℕ) (jobs : List Job) (o : Option Flight) → ((f : Flight) → o ≡ Some f → IsOfJob jobs f) → standing_by jobs (progress_by_flight mark jobs o) ≡ standing_of o
+standing_flight mark jobs None of = ap (option_and_then (λ job. (let s : Standing = record { own = own_of job; doing = (progress_by_flight mark jobs None).doing } in Some s))) (slice_get_past jobs (length jobs) (omega arith))
+standing_flight mark jobs (Some f) of = standing_job jobs f (of f refl)
 
 -- Tests.
 
@@ -83,73 +83,72 @@ keeper flights c space d differs (Some f) flies kept =
     record { other = d; differs = differs; flight = f; flies = flies; keeps = kept_some space (row_of f).keeps kept }
 
 -- a processor whose flight is there is known
-pub known_flight : (run : Running) (c : ℕ) (f : Flight) → IsLawful run → flight_at run.flights c ≡ Some f → c < length run.calls
-known_flight run c f lawful there = elim (cases_lt c (length run.calls)) [
+pub known_flight : (run : Running) (c : ℕ) (f : Flight) → IsLawful run → flight_at run.flights c ≡ Some f → c < length run.jobs
+known_flight run c f lawful there = elim (cases_lt c (length run.jobs)) [
   | inl below ↦ below
   | inr past ↦
-      let none : calls_at run.calls c ≡ [] = get_or_past run.calls c [] past in
-      absurd (none-some (call_in f.purpose) (ap (λ l. slice_get l f.number) (sym none) ∙ (lawful.flying c f there).call))
+      let none : jobs_at run.jobs c ≡ [] = get_or_past run.jobs c [] past in
+      absurd (none-some (job_in f.purpose) (ap (λ l. slice_get l f.number) (sym none) ∙ (lawful.flying c f there).job))
 ]
 
 -- The spaces that flights keep, of processors that are at these places.
 module _ (plan : Plan) (stores : List Stored) (run : Running) (is : IsRunOf plan stores run) where
-  pub known_in : (c : ℕ) → c < plan.processors → c < length run.calls
-  known_in c known = subst (λ n. c < n) (sym (length-calls plan run.calls is.calls)) known
+  pub known_in : (c : ℕ) → c < actors plan → c < length run.jobs
+  known_in c known = subst (λ n. c < n) (sym (length-jobs plan run.jobs is.jobs)) known
 
-  standing_is : (c : ℕ) → c < plan.processors → standing_at plan (entries_in run.history) c ≡ standing_of (flight_at run.flights c)
+  standing_is : (c : ℕ) → c < actors plan → standing_at plan (entries_in run.history) c ≡ standing_of (flight_at run.flights c)
   standing_is c known =
-      let mark : mark_of run.given c ≡ 0 = ap (λ (g : Given). mark_of g c) is.given ∙ mark-own plan stores c known in
-      let progress : progress_of 0 (entries_of c (entries_in run.history)) ≡ Some (progress_of_actor run c) =
+      let mark : mark_of run.given c ≡ mark_of (setting_over plan stores) c = ap (λ (g : Given). mark_of g c) is.given in
+      let progress : progress_of (mark_of (setting_over plan stores) c) (entries_of c (entries_in run.history)) ≡ Some (progress_of_actor run c) =
       ap (λ m. progress_of m (entries_of c (entries_in run.history))) (sym mark) ∙ is.lawful.progress c (known_in c known) in
-      ap (option_and_then (standing_by (calls_of c plan.calls))) progress
-      ∙ ap (λ l. standing_by l (progress_of_actor run c)) (sym (calls_known plan run.calls is.calls c known))
-      ∙ standing_flight (calls_at run.calls c) (flight_at run.flights c) (λ f flies. is.lawful.flying c f flies)
+      ap (option_and_then (standing_by (jobs_of c plan))) progress
+      ∙ ap (λ l. standing_by l (progress_of_actor run c)) (sym (jobs_known plan run.jobs is.jobs c known))
+      ∙ standing_flight (mark_of run.given c) (jobs_at run.jobs c) (flight_at run.flights c) (λ f flies. is.lawful.flying c f flies)
 
-  kept_is : (space : ℕ) (o : Option Flight) → ((f : Flight) → o ≡ Some f → (is_between f.phase ≡ true) × (is_of_call f.purpose ≡ true)) → is_kept_by space (standing_of o) ≡ is_that space (kept_by o)
+  kept_is : (space : ℕ) (o : Option Flight) → ((f : Flight) → o ≡ Some f → is_between f.purpose f.phase ≡ true) → is_kept_by space (standing_of o) ≡ is_that space (kept_by o)
   kept_is space None fits = refl
-  kept_is space (Some f) fits =
-      ap (is_that space) (sym (keeps_by_place f (fits f refl).0 ∙ ap (λ own. keeps_in own (row_of f).progress.doing) (own_space-is f.purpose (fits f refl).1)))
+  kept_is space (Some f) fits = ap (is_that space) (sym (keeps_by_place f (fits f refl)))
 
-  kept_at : (space d : ℕ) → d < plan.processors → is_kept_by space (standing_at plan (entries_in run.history) d) ≡ is_that space (kept_by (flight_at run.flights d))
+  kept_at : (space d : ℕ) → d < actors plan → is_kept_by space (standing_at plan (entries_in run.history) d) ≡ is_that space (kept_by (flight_at run.flights d))
   kept_at space d known =
       ap (is_kept_by space) (standing_is d known)
-      ∙ kept_is space (flight_at run.flights d) (λ f flies. (is.lawful.between d f flies, (is.lawful.flying d f flies).is_call))
+      ∙ kept_is space (flight_at run.flights d) (λ f flies. is.lawful.between d f flies)
 
   -- the test of the place tells the flight that keeps the space
   kept_from_test : (c space : ℕ) → is_kept_by_other plan (entries_in run.history) c (Some space) ≡ true → IsKeptByOther run.flights c space
   kept_from_test c space test =
-      let one = one_of (λ d. not (d == c) && is_kept_by space (standing_at plan (entries_in run.history) d)) plan.processors test in
+      let one = one_of (λ d. not (d == c) && is_kept_by space (standing_at plan (entries_in run.history) d)) (actors plan) test in
       let both = and_parts (not (one.0 == c)) (is_kept_by space (standing_at plan (entries_in run.history) one.0)) one.2 in
       let kept : is_that space (kept_by (flight_at run.flights one.0)) ≡ true = sym (kept_at space one.0 one.1) ∙ both.1 in
       keeper run.flights c space one.0 (let differs = both.0 in λ same. absurd (let here : (one.0 == c) ≡ true = grind (arith, nat_tests) in false≢true (ap not (sym here) ∙ differs))) (flight_at run.flights one.0) refl kept
 
   test_from_kept : (c space : ℕ) → IsKeptByOther run.flights c space → is_kept_by_other plan (entries_in run.history) c (Some space) ≡ true
   test_from_kept c space kept =
-      let known : kept.other < plan.processors = subst (λ n. kept.other < n) (length-calls plan run.calls is.calls) (known_flight run kept.other kept.flight is.lawful kept.flies) in
+      let known : kept.other < actors plan = subst (λ n. kept.other < n) (length-jobs plan run.jobs is.jobs) (known_flight run kept.other kept.flight is.lawful kept.flies) in
       let differs : (kept.other == c) ≡ false = (let apart = kept.differs in grind (arith, nat_tests)) in
       let that : is_that space (kept_by (flight_at run.flights kept.other)) ≡ true = ap (λ o. is_that space (kept_by o)) kept.flies ∙ ap (is_that space) kept.keeps ∙ eq-eqb space space refl in
-      any_of (λ d. not (d == c) && is_kept_by space (standing_at plan (entries_in run.history) d)) plan.processors kept.other known
+      any_of (λ d. not (d == c) && is_kept_by space (standing_at plan (entries_in run.history) d)) (actors plan) kept.other known
       (ap (λ b. not b && is_kept_by space (standing_at plan (entries_in run.history) kept.other)) differs ∙ kept_at space kept.other known ∙ that)
 
   -- the space that a flight's next step is made under
   abbrev under_at : Flight → Option ℕ
-  under_at f = under_in (Some (space_of_call (call_in f.purpose))) (row_of f).progress.doing
+  under_at f = under_in (own_space f.purpose) (row_of f).progress.doing
 
   under_is : (c : ℕ) (f : Flight) → flight_at run.flights c ≡ Some f → space_under (row_of f).needs ≡ under_at f
   under_is c f flies =
       let of = is.lawful.flying c f flies in
-      under_by_place f (is.lawful.between c f flies) of.going ∙ ap (λ own. under_in own (row_of f).progress.doing) (own_space-is f.purpose of.is_call)
+      under_by_place f (is.lawful.between c f flies) of.going
 
-  can_is : (c : ℕ) (f : Flight) → c < plan.processors → flight_at run.flights c ≡ Some f → can_step plan (entries_in run.history) c ≡ not (is_kept_by_other plan (entries_in run.history) c (under_at f))
+  can_is : (c : ℕ) (f : Flight) → c < actors plan → flight_at run.flights c ≡ Some f → can_step plan (entries_in run.history) c ≡ not (is_kept_by_other plan (entries_in run.history) c (under_at f))
   can_is c f known flies = ap (can_go plan (entries_in run.history) c) (standing_is c known ∙ ap standing_of flies)
 
   -- a processor that has a call left, by its flight
-  pub left_is : (c : ℕ) → c < plan.processors → has_left plan (entries_in run.history) c ≡ flies run.flights c
+  pub left_is : (c : ℕ) → c < actors plan → has_left plan (entries_in run.history) c ≡ flies run.flights c
   left_is c known = ap is_some (standing_is c known) ∙ is_some_of (flight_at run.flights c)
 
   -- Whether it can step.
 
-  pub cannot_step : (c : ℕ) → c < plan.processors → IsStuck run c → can_step plan (entries_in run.history) c ≡ false
+  pub cannot_step : (c : ℕ) → c < actors plan → IsStuck run c → can_step plan (entries_in run.history) c ≡ false
   cannot_step c known (inl none) = ap (can_go plan (entries_in run.history) c) (standing_is c known ∙ ap standing_of none)
   cannot_step c known (inr (space, must)) =
       let under : Some space ≡ under_at must.flight = sym must.under ∙ under_is c must.flight must.flies in
@@ -160,13 +159,13 @@ module _ (plan : Plan) (stores : List Stored) (run : Running) (is : IsRunOf plan
   stuck_by c f flies None under test = absurd (false≢true test)
   stuck_by c f flies (Some space) under test = inr (space, record { flight = f; flies = flies; under = under; kept = kept_from_test c space test })
 
-  can_flying : (c : ℕ) → c < plan.processors → (IsStuck run c → ⊥) → (o : Option Flight) → flight_at run.flights c ≡ o → can_step plan (entries_in run.history) c ≡ true
+  can_flying : (c : ℕ) → c < actors plan → (IsStuck run c → ⊥) → (o : Option Flight) → flight_at run.flights c ≡ o → can_step plan (entries_in run.history) c ≡ true
   can_flying c known free None flies = absurd (free (inl flies))
   can_flying c known free (Some f) flies =
       can_is c f known flies
       ∙ ap not (false_from_ne_true (is_kept_by_other plan (entries_in run.history) c (under_at f)) (λ test. free (stuck_by c f flies (under_at f) (under_is c f flies) test)))
 
-  pub can_step_free : (c : ℕ) → c < plan.processors → (IsStuck run c → ⊥) → can_step plan (entries_in run.history) c ≡ true
+  pub can_step_free : (c : ℕ) → c < actors plan → (IsStuck run c → ⊥) → can_step plan (entries_in run.history) c ≡ true
   can_step_free c known free = can_flying c known free (flight_at run.flights c) refl
 
 -- Some processor can step.

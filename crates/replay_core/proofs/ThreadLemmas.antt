@@ -1,10 +1,10 @@
 -- What a trace's threads begin with, and the stores before and after their run.
-use Rattle.std.proofs.Common.{◌≡◌, ℕ, zero, suc, ◌^◌, ◌<◌, ◌≤◌, List, [], ◌∷◌, ◌++◌, length, map, take, drop, get_or, slice_get, replicate, sum, IsSomeAnd, ap, ap₂, sym, subst, ◌∙◌, inl, inr, arith}
+use Rattle.std.proofs.Common.{◌≡◌, ℕ, zero, suc, ◌^◌, ◌<◌, ◌≤◌, List, [], ◌∷◌, ◌++◌, length, map, take, drop, get_or, slice_get, replicate, sum, IsSomeAnd, None, ap, ap₂, sym, subst, ◌∙◌, inl, inr, arith}
 use Rattle.std.specs.List.{All, range_with_len}
 use Rattle.std.proofs.lemmas.Bool.{cases_lt}
-use Rattle.std.proofs.lemmas.List.{get_or-map, get_or_past, map-append, take-append-drop, take-map, drop-map, length-take-le}
+use Rattle.std.proofs.lemmas.List.{append-nil, ext_get_or, get_or-map, get_or-replicate, get_or_past, map-append, take-append-drop, take-map, drop-map, length-take-le}
 use Rattle.std.proofs.lemmas.List.Elements.{All-map, All-weaker}
-use Rattle.std.proofs.lemmas.List.FromFn.{get_or-map-range_with_len}
+use Rattle.std.proofs.lemmas.List.FromFn.{get_or-map-range_with_len, length-map-range_with_len}
 use Rattle.std.proofs.lemmas.Option.{slice_get-get_or}
 use Rattle.std.proofs.Math.ListN.{length-map, length-replicate}
 use Rattle.std.proofs.Math.Seq.{drop-append_seam}
@@ -15,20 +15,54 @@ use Rattle.pager_model.specs.declared.summary.Summary.{Summary}
 use Rattle.pager_model.specs.Counts.{counts}
 use Rattle.pager_model.specs.Legal.{entries_in}
 use Rattle.pager_model.specs.Plans.{Plan}
-use Rattle.pager_model.specs.Settings.{Given}
-use Rattle.pager_model.specs.Showing.{calls_of}
+use Rattle.pager_model.specs.Settings.{Given, mark_of}
+use Rattle.pager_model.specs.Showing.{actors, calls_of, daemon_marks, jobs_of, marks_of}
+use Rattle.pager_model.specs.declared.trace.Job.TheVariants.{Call as MakesCall}
 use Rattle.pager_model.specs.TraceText.{HasText}
 use Rattle.pager_model.specs.Stores.{given_over, setting_over, EndsWith, StoresEnd, AreCapped}
 use Rattle.pager_model.specs.Stored.{Stored}
 use Rattle.pager_core.specs.Machines.{CanFly}
-use Rattle.pager_core.specs.Running.{calls_at, IsWholeRun}
-use Rattle.pager_core.proofs.MachineTurns.{mark-zero}
-use Rattle.pager_core.proofs.StartMachines.{marks-start, call_on, call_of_line, length-calls as length-calls_of}
+use Rattle.pager_core.specs.Running.{IsWholeRun}
+use Rattle.pager_core.proofs.StartMachines.{call_on, call_of_line, length-calls as length-calls_of}
 use Rattle.pager_core.proofs.Stores.{slice_get-take}
 use Rattle.pager_locks.specs.Prepared.{PreparedState}
-use Rattle.replay_core.specs.Jobs.{room_for, IsPreparedFor}
+use Rattle.replay_core.specs.Jobs.{calls_at, making, room_for, IsPreparedFor}
 use Rattle.replay_core.specs.Replays.{IsReplay, AreItsCounts}
-use Rattle.replay_core.proofs.RunLemmas.{calls_known, length-calls, IsReplay-of}
+use Rattle.replay_core.proofs.RunLemmas.{jobs_of_calls, IsReplay-of}
+
+-- each processor's calls, and none of others
+calls_known : (plan : Plan) (calls : List (List Call)) → calls ≡ map (λ c. calls_of c plan.calls) (range_with_len 0 plan.processors) → (c : ℕ) → c < plan.processors → calls_at calls c ≡ calls_of c plan.calls
+calls_known plan calls are c known =
+    ap (λ l. calls_at l c) are ∙ get_or-map-range_with_len (λ c. calls_of c plan.calls) 0 plan.processors c c [] known (omega arith)
+
+length-calls : (plan : Plan) (calls : List (List Call)) → calls ≡ map (λ c. calls_of c plan.calls) (range_with_len 0 plan.processors) → length calls ≡ plan.processors
+length-calls plan calls are = ap length are ∙ length-map-range_with_len (λ c. calls_of c plan.calls) 0 plan.processors
+
+-- where there is no daemon all processors make calls, and have no other jobs
+
+marks_alone : (plan : Plan) → plan.daemon ≡ None → marks_of plan ≡ replicate plan.processors 0
+marks_alone plan none = ap (λ d. replicate plan.processors 0 ++ daemon_marks d) none ∙ append-nil (replicate plan.processors 0)
+
+actors_alone : (plan : Plan) → plan.daemon ≡ None → actors plan ≡ plan.processors
+actors_alone plan none = ap length (marks_alone plan none) ∙ length-replicate plan.processors 0
+
+mark_zero : (g : Given) (n c : ℕ) → g.marks ≡ replicate n 0 → mark_of g c ≡ 0
+mark_zero g n c is =
+    ap (λ marks. get_or marks c 0) is
+    ∙ elim (cases_lt c n) [ inl below ↦ get_or-replicate n c 0 0 below | inr past ↦ get_or_past (replicate n 0) c 0 (rw length-replicate past) ]
+
+jobs_alone : (plan : Plan) (calls : List (List Call)) → plan.daemon ≡ None → calls ≡ map (λ c. calls_of c plan.calls) (range_with_len 0 plan.processors) → making calls ≡ map (λ c. jobs_of c plan) (range_with_len 0 (actors plan))
+jobs_alone plan calls none are =
+    let own = length-calls plan calls are in
+    let all = actors_alone plan none in
+    let made = length-map calls (map MakesCall) in
+    let jobs = length-map-range_with_len (λ c. jobs_of c plan) 0 (actors plan) in
+    ext_get_or [] (making calls) (map (λ c. jobs_of c plan) (range_with_len 0 (actors plan))) (omega (arith, own, all, made, jobs))
+    (λ c below.
+    let known : c < plan.processors = omega (arith, below, own, made) in
+    get_or-map (map MakesCall) calls c [] [] (omega (arith, below, made))
+    ∙ ap (map MakesCall) (calls_known plan calls are c known)
+    ∙ sym (get_or-map-range_with_len (λ c. jobs_of c plan) 0 (actors plan) c c [] (omega (arith, known, all)) (omega arith) ∙ jobs_of_calls plan c known))
 
 -- The calls of each processor.
 module _ (plan : Plan) (trace : HasText plan) (calls : List (List Call)) (are : calls ≡ map (λ c. calls_of c plan.calls) (range_with_len 0 plan.processors)) where
@@ -82,7 +116,7 @@ module _ (plan : Plan) (trace : HasText plan) (calls : List (List Call)) (are : 
         may = record {
           passes = passes ∙ ap (new_passes prepared.journal.name 0) rooms_are;
           count = ap (λ (g : Given). length g.marks) setting ∙ length-replicate plan.processors 0 ∙ sym (length-calls plan calls are);
-          marks = λ c. mark-zero prepared.journal.name.setting plan.processors c (ap (λ (g : Given). g.marks) setting);
+          marks = λ c. mark_zero prepared.journal.name.setting plan.processors c (ap (λ (g : Given). g.marks) setting);
           can = λ c.
               subst (λ n. All (CanFly n) (calls_at calls c)) (sym (ap (λ (g : Given). length g.told) setting ∙ length-map stores (λ (s : Stored). s.told) ∙ count)) (can_fly c);
         };
@@ -138,15 +172,15 @@ module _ {P : Type 0} (seen : P → Stored) {plan : Plan} {stores own others : L
       ∙ sym (drop-map seen plan.spaces stores)
 
   -- The run of a pager over them.
-  module _ (trace : HasText plan) (given : Given) (setting : given ≡ given_over plan.frames (replicate plan.processors 0) (map seen own)) where
+  module _ (trace : HasText plan) (alone : plan.daemon ≡ None) (given : Given) (setting : given ≡ given_over plan.frames (replicate plan.processors 0) (map seen own)) where
     is_setting : given ≡ setting_over plan (map seen stores)
-    is_setting = setting ∙ ap₂ (given_over plan.frames) (marks-start plan trace) own_seen
+    is_setting = setting ∙ ap₂ (given_over plan.frames) (sym (marks_alone plan alone)) own_seen
 
-    pub replayed : (calls : List (List Call)) (history : List Numbered) (after joined : List P) → joined ≡ after ++ others → calls ≡ map (λ c. calls_of c plan.calls) (range_with_len 0 plan.processors) → AreCapped (length own) (map seen own) → IsWholeRun given calls history → StoresEnd given history (map seen after) → length after ≡ length given.told → IsReplay plan (map seen stores) history (map seen joined)
+    pub replayed : (calls : List (List Call)) (history : List Numbered) (after joined : List P) → joined ≡ after ++ others → calls ≡ map (λ c. calls_of c plan.calls) (range_with_len 0 plan.processors) → AreCapped (length own) (map seen own) → IsWholeRun given (making calls) history → StoresEnd given history (map seen after) → length after ≡ length given.told → IsReplay plan (map seen stores) history (map seen joined)
     replayed calls history after joined is are capped whole ends count =
         let told : length given.told ≡ plan.spaces = ap (λ (g : Given). length g.told) setting ∙ length-map (map seen own) (λ (s : Stored). s.told) ∙ length-map own seen ∙ own_count in
         let seen_joined : map seen joined ≡ map seen after ++ map seen others = ap (map seen) is ∙ map-append seen after others in
-        IsReplay-of plan (map seen stores) (map seen joined) given calls history (let all = length-map stores seen in let enough = parted.enough in omega (arith, all, enough)) (capped_own capped) is_setting are whole
+        IsReplay-of plan trace (map seen stores) (map seen joined) given (making calls) history (let all = length-map stores seen in let enough = parted.enough in omega (arith, all, enough)) (capped_own capped) is_setting (jobs_alone plan calls alone are) whole
         (λ s below. subst (λ l. IsSomeAnd (slice_get l s) (EndsWith given history s)) (sym seen_joined) (IsSomeAnd-append (EndsWith given history s) (map seen after) (map seen others) s (ends s below)))
         (ap (λ l. drop plan.spaces (map seen l)) is ∙ unused_joined after (count ∙ told))
 

@@ -8,17 +8,18 @@ use Rattle.std.specs.List.{AllByRecursion, range_with_len, sum_by, find}
 use Rattle.pager_model.specs.declared.entry.Numbered.{Numbered}
 use Rattle.pager_model.specs.Legal.{entries_in}
 use Rattle.pager_model.specs.Plans.{Plan}
+use Rattle.pager_model.specs.Showing.{actors}
 use Rattle.pager_model.proofs.Ranges.{range_with_len-more}
 use Rattle.pager_model.specs.Stored.{Stored}
 use Rattle.pager_core.specs.declared.flight.Flight.{Flight}
 use Rattle.pager_core.specs.declared.machine.Turn.{Turn}
 use Rattle.pager_core.specs.declared.machine.Turn.TheVariants.{Ended as HasNone, Stepped, Waits}
 use Rattle.pager_core.specs.Machines.{all_left}
-use Rattle.pager_core.specs.Running.{Running, calls_at, flight_at, left_at, entries_left, MustWait, OneMore, HasEnded, IsLawful}
+use Rattle.pager_core.specs.Running.{Running, jobs_at, flight_at, left_at, entries_left, MustWait, OneMore, HasEnded, IsLawful}
 use Rattle.pager_core.proofs.Lists.{sum_by-lower}
 use Rattle.pager_model.specs.TurnOrders.{can_step, has_left, left_of}
 use Rattle.replay_core.specs.Turns.{flies, flying_in, IsStuck, FirstStepped}
-use Rattle.replay_core.proofs.RunLemmas.{IsRunOf, length-calls}
+use Rattle.replay_core.proofs.RunLemmas.{IsRunOf, length-jobs}
 use Rattle.replay_core.proofs.StandingLemmas.{known_in, known_flight, left_is, cannot_step, can_step_free, not_all_stuck}
 
 -- What holds of each of a list.
@@ -127,27 +128,27 @@ find_first p (y ∷ xs) x ys none is = ap (λ b. cond b (Some y) (find p (xs ++ 
 
 -- The processors that have a call left.
 
-pub flying_known : (run : Running) → AllByRecursion (λ c. c < length run.calls) (flying_in run)
+pub flying_known : (run : Running) → AllByRecursion (λ c. c < length run.jobs) (flying_in run)
 flying_known run =
-    all_filter (λ c. c < length run.calls) (flies run.flights) (range_with_len 0 (length run.calls))
-    (range_known (length run.calls))
+    all_filter (λ c. c < length run.jobs) (flies run.flights) (range_with_len 0 (length run.jobs))
+    (range_known (length run.jobs))
 
 pub left_same : (plan : Plan) (stores : List Stored) (run : Running) → IsRunOf plan stores run → left_of plan (entries_in run.history) ≡ flying_in run
 left_same plan stores run is =
-    filter_same (λ c. c < plan.processors) (has_left plan (entries_in run.history)) (flies run.flights) (left_is plan stores run is) (range_with_len 0 plan.processors)
-    (range_known plan.processors)
-    ∙ ap (λ n. filter (flies run.flights) (range_with_len 0 n)) (sym (length-calls plan run.calls is.calls))
+    filter_same (λ c. c < actors plan) (has_left plan (entries_in run.history)) (flies run.flights) (left_is plan stores run is) (range_with_len 0 (actors plan))
+    (range_known (actors plan))
+    ∙ ap (λ n. filter (flies run.flights) (range_with_len 0 n)) (sym (length-jobs plan run.jobs is.jobs))
 
 -- where those with a call left are all stuck, none has one
 flying_stuck : (run : Running) → IsLawful run → AllByRecursion (IsStuck run) (flying_in run) → (d : ℕ) (g : Flight) → flight_at run.flights d ≡ Some g → IsStuck run d
 flying_stuck run lawful all d g there =
-    in_range (λ x. flies run.flights x ≡ true → IsStuck run x) 0 (length run.calls) d
-    (all_tested (IsStuck run) (flies run.flights) (range_with_len 0 (length run.calls)) all)
+    in_range (λ x. flies run.flights x ≡ true → IsStuck run x) 0 (length run.jobs) d
+    (all_tested (IsStuck run) (flies run.flights) (range_with_len 0 (length run.jobs)) all)
     (omega arith) (let known = known_flight run d g lawful there in omega (arith, known)) (ap is_some there)
 
-range_stuck : (run : Running) → IsLawful run → AllByRecursion (IsStuck run) (range_with_len 0 (length run.calls)) → (d : ℕ) (g : Flight) → flight_at run.flights d ≡ Some g → IsStuck run d
+range_stuck : (run : Running) → IsLawful run → AllByRecursion (IsStuck run) (range_with_len 0 (length run.jobs)) → (d : ℕ) (g : Flight) → flight_at run.flights d ≡ Some g → IsStuck run d
 range_stuck run lawful all d g there =
-    in_range (IsStuck run) 0 (length run.calls) d all (omega arith) (let known = known_flight run d g lawful there in omega (arith, known))
+    in_range (IsStuck run) 0 (length run.jobs) d all (omega arith) (let known = known_flight run d g lawful there in omega (arith, known))
 
 ended_by : (run : Running) → IsLawful run → ((d : ℕ) (g : Flight) → flight_at run.flights d ≡ Some g → IsStuck run d) → (c : ℕ) (o : Option Flight) → flight_at run.flights c ≡ o → flight_at run.flights c ≡ None
 ended_by run lawful all c None there = there
@@ -156,7 +157,7 @@ ended_by run lawful all c (Some f) there = absurd (not_all_stuck run c f lawful 
 pub flying_can : (run : Running) → IsLawful run → (HasEnded run → ⊥) → AllByRecursion (IsStuck run) (flying_in run) → ⊥
 flying_can run lawful going all = going (λ c. ended_by run lawful (flying_stuck run lawful all) c (flight_at run.flights c) refl)
 
-pub range_can : (run : Running) → IsLawful run → (HasEnded run → ⊥) → AllByRecursion (IsStuck run) (range_with_len 0 (length run.calls)) → ⊥
+pub range_can : (run : Running) → IsLawful run → (HasEnded run → ⊥) → AllByRecursion (IsStuck run) (range_with_len 0 (length run.jobs)) → ⊥
 range_can run lawful going all = going (λ c. ended_by run lawful (range_stuck run lawful all) c (flight_at run.flights c) refl)
 
 some_of : (P : ℕ → Type 0) (xs : List ℕ) → (AllByRecursion P xs → ⊥) → 0 < length xs
@@ -178,8 +179,8 @@ free_by run c turn ended waits stepped (inl none) = (let e : HasNone ≡ Stepped
 free_by run c turn ended waits stepped (inr (space, must)) = (let e : Waits space ≡ Stepped = sym (waits space must) ∙ stepped in cc)
 
 -- the first that could, at its place in the list
-pub FirstStepped-at : (old now new : Running) (actors : List ℕ) (i : ℕ) → now ≡ old → i < length actors → AllByRecursion (IsStuck now) (take i actors) → (IsStuck now (get_or actors i 0) → ⊥) → OneMore now new (get_or actors i 0) → (new.given ≡ now.given) × (new.calls ≡ now.calls) → new.unused ≡ now.unused → IsLawful new → FirstStepped old new actors
-FirstStepped-at old now new actors i same below stuck can more same_calls unused lawful =
+pub FirstStepped-at : (old now new : Running) (actors : List ℕ) (i : ℕ) → now ≡ old → i < length actors → AllByRecursion (IsStuck now) (take i actors) → (IsStuck now (get_or actors i 0) → ⊥) → OneMore now new (get_or actors i 0) → (new.given ≡ now.given) × (new.jobs ≡ now.jobs) → new.unused ≡ now.unused → IsLawful new → FirstStepped old new actors
+FirstStepped-at old now new actors i same below stuck can more same_jobs unused lawful =
     let x = get_or actors i 0 in
     subst (λ r. FirstStepped r new actors) same
     (record {
@@ -190,8 +191,8 @@ FirstStepped-at old now new actors i same below stuck can more same_calls unused
       stuck = stuck;
       can = can;
       more = more;
-      same_given = same_calls.0;
-      same_calls = same_calls.1;
+      same_given = same_jobs.0;
+      same_jobs = same_jobs.1;
       same_unused = unused;
       lawful = lawful;
     })
@@ -205,30 +206,30 @@ pub entries_step : (run new : Running) (c : ℕ) (more : OneMore run new c) → 
 entries_step run new c more =
     ap entries_in more.history ∙ map-append (λ (n : Numbered). n.entry) run.history (record { number = length run.history; entry = more.entry } ∷ [])
 
-module _ (plan : Plan) (stores : List Stored) (run new : Running) (actors : List ℕ) (is : IsRunOf plan stores run) (step : FirstStepped run new actors) where
+module _ (plan : Plan) (stores : List Stored) (run new : Running) (order : List ℕ) (is : IsRunOf plan stores run) (step : FirstStepped run new order) where
   pub IsRunOf-step : IsRunOf plan stores new
   IsRunOf-step =
       record {
         given = step.same_given ∙ is.given;
         unused = step.same_unused ∙ is.unused;
-        calls = step.same_calls ∙ is.calls;
+        jobs = step.same_jobs ∙ is.jobs;
         lawful = step.lawful;
       }
 
   -- the test finds the actor among them
-  pub found : AllByRecursion (λ c. c < plan.processors) actors → find (can_step plan (entries_in run.history)) actors ≡ Some step.more.entry.processor
+  pub found : AllByRecursion (λ c. c < actors plan) order → find (can_step plan (entries_in run.history)) order ≡ Some step.more.entry.processor
   found all =
-      let known = all_parts (λ c. c < plan.processors) step.passed (step.actor ∷ step.rest) (subst (AllByRecursion (λ c. c < plan.processors)) step.split all) in
-      let none = all_both (λ c. c < plan.processors) (IsStuck run) (λ c. can_step plan (entries_in run.history) c ≡ false) (cannot_step plan stores run is) step.passed known.0 step.stuck in
+      let known = all_parts (λ c. c < actors plan) step.passed (step.actor ∷ step.rest) (subst (AllByRecursion (λ c. c < actors plan)) step.split all) in
+      let none = all_both (λ c. c < actors plan) (IsStuck run) (λ c. can_step plan (entries_in run.history) c ≡ false) (cannot_step plan stores run is) step.passed known.0 step.stuck in
       ap (find (can_step plan (entries_in run.history))) step.split
       ∙ find_first (can_step plan (entries_in run.history)) step.passed step.actor step.rest none (can_step_free plan stores run is step.actor known.1.0 step.can)
       ∙ ap Some (sym step.more.of_actor)
 
   -- and less is left
-  pub fewer_left : AllByRecursion (λ c. c < plan.processors) actors → all_left new < all_left run
+  pub fewer_left : AllByRecursion (λ c. c < actors plan) order → all_left new < all_left run
   fewer_left all =
-      let known = all_parts (λ c. c < plan.processors) step.passed (step.actor ∷ step.rest) (subst (AllByRecursion (λ c. c < plan.processors)) step.split all) in
-      let below : step.actor < length run.calls = known_in plan stores run is step.actor known.1.0 in
-      subst (λ n. sum_by (left_at new) (range_with_len 0 n) < all_left run) (sym (ap length step.same_calls))
-      (sum_by-lower (left_at run) (left_at new) step.actor 0 (length run.calls) (omega arith) (omega (arith, below)) step.more.fewer
-      (λ d other. ap (λ l. entries_left (calls_at l d) (flight_at new.flights d)) step.same_calls ∙ ap (entries_left (calls_at run.calls d)) (step.more.others d other)))
+      let known = all_parts (λ c. c < actors plan) step.passed (step.actor ∷ step.rest) (subst (AllByRecursion (λ c. c < actors plan)) step.split all) in
+      let below : step.actor < length run.jobs = known_in plan stores run is step.actor known.1.0 in
+      subst (λ n. sum_by (left_at new) (range_with_len 0 n) < all_left run) (sym (ap length step.same_jobs))
+      (sum_by-lower (left_at run) (left_at new) step.actor 0 (length run.jobs) (omega arith) (omega (arith, below)) step.more.fewer
+      (λ d other. ap (λ l. entries_left (jobs_at l d) (flight_at new.flights d)) step.same_jobs ∙ ap (entries_left (jobs_at run.jobs d)) (step.more.others d other)))

@@ -1,5 +1,7 @@
 -- A processor's calls, and its pass once it made them.
 use Rattle.std.specs.Prelude.{ℕ, ◌≡◌, ◌*◌, ◌<◌, ◌≤◌, List, [], length, map, sum, slice_index_or, Some}
+use Rattle.pager_model.specs.declared.trace.Job.{Job as Task}
+use Rattle.pager_model.specs.declared.trace.Job.TheVariants.{Call as MakesCall}
 use Rattle.std.specs.List.{All, enumerate_from}
 use Rattle.journal_core.specs.Journals.{JournalName, PassState, new_pass, new_passes}
 use Rattle.pager_model.specs.declared.call.Call.{Call}
@@ -8,13 +10,20 @@ use Rattle.pager_model.specs.Order.{at_rest, progress_of}
 use Rattle.pager_model.specs.Settings.{mark_of}
 use Rattle.pager_model.specs.Showing.{answers_in}
 use Rattle.pager_core.specs.Machines.{CanFly}
-use Rattle.pager_core.specs.Running.{calls_at}
 use Rattle.pager_locks.specs.Prepared.{PreparedState}
 use Rattle.replay_core.specs.declared.jobs.Job.{Job}
 
 -- each job's calls
 abbrev pub calls_in : List Job → List (List Call)
 calls_in jobs = map (λ (j : Job). j.calls.items) jobs
+
+-- a processor's calls of these
+abbrev pub calls_at : List (List Call) → ℕ → List Call
+calls_at calls c = slice_index_or calls c []
+
+-- to make them, each processor its own
+abbrev pub making : List (List Call) → List (List Task)
+making calls = map (map MakesCall) calls
 
 -- at most so many entries are made by these calls
 abbrev pub room_for : List Call → ℕ

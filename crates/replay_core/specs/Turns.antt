@@ -11,7 +11,7 @@ flies flights c = is_some (flight_at flights c)
 
 -- the processors that have one, ascending
 abbrev pub flying_in : Running → List ℕ
-flying_in run = filter (flies run.flights) (range_with_len 0 (length run.calls))
+flying_in run = filter (flies run.flights) (range_with_len 0 (length run.jobs))
 
 -- the processor can't step: it has no call left, or its next step is made under a space that another flight keeps
 abbrev pub IsStuck : Running → ℕ → Type 0
@@ -27,7 +27,7 @@ pub record FirstStepped (old new : Running) (actors : List ℕ) : Type 0 where
   pub can : IsStuck old actor → ⊥
   pub more : OneMore old new actor
   pub same_given : new.given ≡ old.given
-  pub same_calls : new.calls ≡ old.calls
+  pub same_jobs : new.jobs ≡ old.jobs
   pub same_unused : new.unused ≡ old.unused
   pub lawful : IsLawful new
 

@@ -3,6 +3,7 @@
 ghost use Rattle.std.specs.Prelude.{◌≡◌, ◌<◌, ◌≤◌, IfOk, IfErr, length, map};
 ghost use Rattle.std.specs.List.{All, range_with_len};
 ghost use Rattle.pager_model.specs.Legal.{entries_in};
+ghost use Rattle.pager_model.specs.Showing.{actors};
 ghost use Rattle.pager_model.specs.TurnOrders.{IsScheduled};
 ghost use Rattle.replay_core.specs.Replays.{IsReplay, AreItsCounts};
 
@@ -23,7 +24,7 @@ pub fn replay_schedule<S: Store + Send + Drop>(
     schedule: &[u32],
 ) -> Result<Gathered<S>, Vec<S>>
     requires enough { trace.now.spaces ≤ length stores.items }
-    requires known { All (λ c. c < trace.now.processors) schedule.now }
+    requires known { All (λ c. c < actors trace.now) schedule.now }
     ensures run { IfOk result (λ g. IsReplay trace.now (map S.seen stores.items) g.history.items (map S.seen g.stores.items)) }
     ensures scheduled { IfOk result (λ g. IsScheduled trace.now schedule.now (entries_in g.history.items)) }
     ensures counts { IfOk result (λ g. AreItsCounts trace.now (map S.seen stores.items) g.history.items g.summary) }
@@ -33,7 +34,7 @@ pub fn replay_schedule<S: Store + Send + Drop>(
     for actor in schedule {
         machine.turn(*actor);
     }
-    let actors = all_below(trace.processors());
+    let actors = all_below(trace.actors());
     while !machine.ended() {
         step_first(&mut machine, actors.as_slice());
     }
@@ -41,12 +42,12 @@ pub fn replay_schedule<S: Store + Send + Drop>(
 }
 
 /// The numbers below this one.
-fn all_below(processors: u32) -> ArrayVec<u32, MOST_PROCESSORS>
-    requires { processors ≤ 16 }
-    ensures { result.items ≡ range_with_len 0 processors }
+fn all_below(count: u32) -> ArrayVec<u32, MOST_PROCESSORS>
+    requires { count ≤ 17 }
+    ensures { result.items ≡ range_with_len 0 count }
 {
     let mut actors = ArrayVec::new();
-    for actor in 0..processors {
+    for actor in 0..count {
         actors.push(actor);
     }
     actors

@@ -9,9 +9,9 @@ ghost use Rattle.replay_core.specs.Replays.{IsReplay, AreItsCounts};
 ghost use Rattle.pager_model.specs.Bounds.{most_calls};
 
 use crate::jobs::{Job, run_jobs};
-use pager_core::{Gathered, calls_by_processor};
+use pager_core::{Gathered, calls_of};
 use pager_locks::Prepared;
-use pager_model::{Call, NoMemory, Trace};
+use pager_model::{Call, Line, NoMemory, Trace};
 use std::alloc::Global;
 use std::marker::Brand;
 use std::sync::Wait;
@@ -31,6 +31,7 @@ pub fn replay<S: Store + Send + Drop, R: Threads + Wait + Sync>(
     stores: Vec<S>,
 ) -> Result<Gathered<S>, Vec<S>>
     requires enough { trace.now.spaces ≤ length stores.items }
+    requires no_daemon { trace.now.daemon ≡ None }
     ensures run { IfOk result (λ g. IsReplay trace.now (map S.seen stores.items) g.history.items (map S.seen g.stores.items)) }
     ensures counts { IfOk result (λ g. AreItsCounts trace.now (map S.seen stores.items) g.history.items g.summary) }
     ensures back { IfErr result (λ back. map S.seen back.items ≡ map S.seen stores.items) }
@@ -81,6 +82,21 @@ fn crew_of(alloc: Global, trace: &Trace) -> Result<Crew, NoMemory>
     let marks = vec![in alloc; 0; processors as usize]?;
     let jobs = jobs_of(alloc, calls)?;
     Ok(Crew { jobs, marks, rooms })
+}
+
+/// Each processor's calls, in the order of the lines.
+fn calls_by_processor(
+    alloc: Global,
+    processors: u32,
+    lines: &[Line],
+) -> Result<Vec<Vec<Call>>, NoMemory>
+    ensures { IfOk result (λ calls. map (λ v. v.items) calls.items ≡ map (λ c. calls_of c lines.now) (range_with_len 0 processors)) }
+{
+    let mut calls = Vec::with_capacity(alloc, processors as usize)?;
+    for processor in 0..processors {
+        calls.push(calls_of(alloc, processor, lines)?)?;
+    }
+    Ok(calls)
 }
 
 /// A job for each processor's calls.

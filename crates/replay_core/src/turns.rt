@@ -14,8 +14,8 @@ use pager_model::{Generator, Trace};
 use std::alloc::Global;
 use store_core::Store;
 
-/// Runs a trace in turns that are drawn from the seed: before each entry one of the processors that have a call left is drawn, and the
-/// entry is of the first in cyclic order from there that needn't wait. There are at least as many stores as spaces, and they come back for
+/// Runs a trace in turns that are drawn from the seed: before each entry one of the processors that have a call or a turn left is
+/// drawn, and the entry is of the first in cyclic order from there that needn't wait. There are at least as many stores as spaces, and they come back for
 /// want of memory, which comes before the first entry alone.
 pub fn replay_turns<S: Store + Send + Drop>(
     alloc: Global,
@@ -31,9 +31,9 @@ pub fn replay_turns<S: Store + Send + Drop>(
 {
     let mut machine = Machine::create(alloc, trace, stores)?;
     let mut generator = Generator::of(seed);
-    let processors = trace.processors();
+    let actors = trace.actors();
     while !machine.ended() {
-        step_drawn(&mut machine, processors, &mut generator);
+        step_drawn(&mut machine, actors, &mut generator);
     }
     Ok(machine.finish())
 }
@@ -41,33 +41,33 @@ pub fn replay_turns<S: Store + Send + Drop>(
 /// Makes one entry, of the first processor that can step from a drawn one on.
 fn step_drawn<S: Store + Send + Drop>(
     machine: &mut Machine<S>,
-    processors: u32,
+    actors: u32,
     generator: &mut Generator,
 )
-    requires all { length machine.old.calls ≡ processors }
-    requires few { processors ≤ 16 }
+    requires all { length machine.old.jobs ≡ actors }
+    requires few { actors ≤ 17 }
     requires lawful { IsLawful machine.old }
     requires going { HasEnded machine.old → ⊥ }
     ensures stepped { FirstStepped machine.old machine.new (drawn_order machine.old generator.old) }
     ensures state { generator.new ≡ next_state generator.old }
 {
-    let mut left = left_in(machine, processors);
+    let mut left = left_in(machine, actors);
     let place = generator.draw(left.len() as u32);
     left.as_mut_slice().rotate_left(place as usize);
     step_first(machine, left.as_slice());
 }
 
-/// The processors that have a call left, ascending.
+/// The processors that have a call or a turn left, ascending.
 fn left_in<S: Store + Send + Drop>(
     machine: &Machine<S>,
-    processors: u32,
+    actors: u32,
 ) -> ArrayVec<u32, MOST_PROCESSORS>
-    requires all { length machine.now.calls ≡ processors }
-    requires few { processors ≤ 16 }
+    requires all { length machine.now.jobs ≡ actors }
+    requires few { actors ≤ 17 }
     ensures { result.items ≡ flying_in machine.now }
 {
     let mut left = ArrayVec::new();
-    for actor in 0..processors {
+    for actor in 0..actors {
         if machine.has_left(actor) {
             left.push(actor);
         }

@@ -1,14 +1,13 @@
 -- Drawn lines, one after another, and that all that are made are lines of a trace.
-use Rattle.std.proofs.Common.{ℕ, zero, suc, ◌≡◌, ◌+◌, ◌-◌, ◌*◌, ◌/◌, ◌%◌, ◌^◌, ◌<◌, ◌≤◌, Bool, true, false, cond, ltb, eqb, List, [], ◌∷◌, ◌++◌, length, map, ap, arith, append_assoc, length-append, ◌∙◌, refl, sym, subst}
+use Rattle.std.proofs.Common.{ℕ, zero, suc, ◌≡◌, ◌+◌, ◌-◌, ◌*◌, ◌/◌, ◌%◌, ◌^◌, ◌<◌, Bool, true, false, cond, ltb, eqb, List, [], ◌∷◌, ◌++◌, length, map, ap, arith, append_assoc, length-append, ◌∙◌, refl, sym, subst}
 use Rattle.std.specs.List.{AllByRecursion, range_with_len}
 use Rattle.std.proofs.lemmas.List.Elements.{All-append, All-from_get_or, All-from_recursion}
 use Rattle.std.proofs.lemmas.List.FromFn.{length-map-range_with_len, get_or-map-range_with_len}
 use Rattle.std.proofs.lemmas.Nat.{mod_below}
 use Rattle.pager_model.specs.declared.call.Line.{Line}
-use Rattle.pager_model.specs.declared.region.Rights.{Rights}
 use Rattle.pager_model.specs.TraceText.{HasText, IsCall, IsLine}
 use Rattle.pager_model.specs.TurnOrders.{next_state, drawn}
-use Rattle.trace_make.specs.Made.{CanMake, after_line, call_of_kind, drawn_address, drawn_call, drawn_line, drawn_lines, drawn_page, first_of_eight, made, made_calls, map_line}
+use Rattle.trace_make.specs.Made.{CanMake, after_line, call_of_kind, drawn_address, drawn_call, drawn_line, drawn_lines, drawn_page, made, map_line}
 
 -- the first of the lines that are left, and the others
 drawn_next : (processors spaces count i x : ℕ) → i < count → drawn_lines processors spaces (count - i) x ≡ drawn_line processors spaces x ∷ drawn_lines processors spaces (count - (i + 1)) (after_line x)
@@ -86,7 +85,7 @@ HasText-made number calls processors spaces frames can =
       frames_whole = can.frames_whole;
       processors_in = can.processors_in;
       spaces_in = can.spaces_in;
-      no_daemon = refl;
+      daemon_in = tt;
       lines = All-append (IsLine processors spaces) maps lines
           (All-from_get_or (IsLine processors spaces) maps (map_line processors 0) (λ i below.
           subst (IsLine processors spaces) (sym (get_or-map-range_with_len (map_line processors) 0 spaces i i (map_line processors 0) (omega (arith, below, long)) (omega arith))) (map_is processors spaces i some (omega (arith, below, long)))))

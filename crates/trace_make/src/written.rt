@@ -2,19 +2,19 @@
 
 ghost use Rattle.std.specs.Prelude.{◌≡◌, ◌≤◌, [], ◌∷◌, OnOk, OnErr, codes, flat_map, length};
 ghost use Rattle.io_core.specs.Faults.{Rose};
-ghost use Rattle.pager_model.specs.TraceText.{call_line, call_words, first_line, kind_word, line_of_words, rights_word, text_of};
+ghost use Rattle.pager_model.specs.TraceText.{call_line, call_words, daemon_line, daemon_words, first_line, kind_word, line_of_words, rights_word, text_of};
 ghost use Rattle.report_text.specs.Lines.{Adds, GrowsBy, HasRoom, line_text};
 ghost use Rattle.report_text.specs.Writing.{Puts, outgoing};
 ghost use Rattle.report_text.specs.Written.{WroteAll, WrotePart};
 
 use io_core::{Sink, WriteFailed};
-use pager_model::{Call, Kind, Line, Rights, Trace};
+use pager_model::{Call, Daemon, Kind, Line, Rights, Trace};
 use report_text::{Line as TextLine, Room};
 
 /// The version of the text.
 const VERSION: &str = "1";
 
-/// Writes the text of a trace: its first line, a line for each call, and the line `end`. After a failed write the sink has taken a beginning
+/// Writes the text of a trace: its first line, the daemon's where it has one, a line for each call, and the line `end`. After a failed write the sink has taken a beginning
 /// of it.
 ///
 /// It takes no memory.
@@ -36,9 +36,27 @@ fn put_trace<K: Sink>(room: &mut Room, sink: &mut K, trace: &Trace) -> Result<()
     ensures empty { OnOk result (room.new.bytes.items ≡ []) }
 {
     room.put_line(sink, &line_of_first(trace))?;
+    put_daemon(room, sink, trace.daemon())?;
     put_calls(room, sink, trace.calls())?;
     room.put_line(sink, &line_of_end())?;
     room.send(sink)
+}
+
+/// Puts the daemon's line, where there is one.
+fn put_daemon<K: Sink>(
+    room: &mut Room,
+    sink: &mut K,
+    daemon: Option<Daemon>,
+) -> Result<(), WriteFailed>
+    ensures { Puts result
+        (outgoing (K.taken sink.old) (K.faults sink.old) room.old.bytes.items)
+        (outgoing (K.taken sink.new) (K.faults sink.new) room.new.bytes.items)
+        (daemon_line daemon) }
+{
+    match daemon {
+        Some(daemon) => room.put_line(sink, &line_of_daemon(daemon)),
+        None => Ok(()),
+    }
 }
 
 /// Puts a line for each call.
@@ -63,6 +81,16 @@ fn line_of_first(trace: &Trace) -> TextLine
         VERSION,
         &[trace.frames(), trace.processors(), trace.spaces()],
     );
+    line.end();
+    line
+}
+
+/// The line of a daemon.
+fn line_of_daemon(daemon: Daemon) -> TextLine
+    ensures { line_text result ≡ line_of_words (daemon_words daemon) }
+{
+    let mut line = TextLine::named("daemon");
+    line.add_counts(&[daemon.low, daemon.turns]);
     line.end();
     line
 }

@@ -1,5 +1,5 @@
 -- A trace's text is cut into the lines and words that it was made of, and has no refusal.
-use Rattle.std.proofs.Common.{◌≡◌, ℕ, ◌+◌, ◌^◌, ◌<◌, ◌≤◌, true, false, eqb, ltb, List, [], ◌∷◌, ◌++◌, length, flat_map, None, decimal, codes, refl, sym, ap, ◌∙◌, append_assoc, arith, lit≤, inl, inr}
+use Rattle.std.proofs.Common.{◌≡◌, ℕ, ◌+◌, ◌^◌, ◌<◌, ◌≤◌, true, false, eqb, ltb, List, [], ◌∷◌, ◌++◌, length, flat_map, Option, Some, None, decimal, codes, refl, sym, ap, ◌∙◌, append_assoc, arith, lit≤, inl, inr}
 use Rattle.std.specs.List.{join_with_byte, All, AllByRecursion, list_all}
 use Rattle.std.specs.Str.{bytes_eq}
 use Rattle.std.specs.Str.Parse.{AllDigits}
@@ -17,15 +17,17 @@ use Rattle.pager_model.specs.declared.region.Kind.TheVariants.{Fixed, Growing, W
 use Rattle.pager_model.specs.declared.region.Rights.{Rights}
 use Rattle.pager_model.specs.declared.region.Rights.TheVariants.{NoAccess, Read, Write}
 use Rattle.pager_model.specs.Plans.{Plan}
-use Rattle.pager_model.specs.TraceText.{kind_word, rights_word, call_words, line_words, line_of_words, call_line, first_words, first_line, text_of, IsCall, IsLine, HasText}
+use Rattle.pager_model.specs.declared.trace.Daemon.{Daemon}
+use Rattle.pager_model.specs.TraceText.{kind_word, rights_word, call_words, line_words, line_of_words, call_line, daemon_line, daemon_words, first_words, first_line, text_of, IsCall, IsDaemon, IsLine, HasText}
 use Rattle.pager_model.proofs.Texts.{text_is_short}
 use Rattle.trace_reader.specs.declared.line.Head.{Head}
-use Rattle.trace_reader.specs.Forms.{call_forms, line_fault}
-use Rattle.trace_reader.specs.Heads.{IsInRange}
-use Rattle.trace_reader.specs.Refusals.{lines_of, words_of, calls_refusal, refusal_of}
+use Rattle.trace_reader.specs.Forms.{call_forms, daemon_form, fits, line_fault}
+use Rattle.trace_reader.specs.Heads.{first_call, IsInRange}
+use Rattle.trace_reader.specs.Refusals.{lines_of, words_of, calls_refusal, second_refusal, refusal_of}
+use Rattle.trace_reader.proofs.Forms.{fits_length}
 use Rattle.trace_reader.proofs.Lines.{line_is_lawful}
 use Rattle.trace_reader.proofs.Numbers.{all_digits}
-use Rattle.trace_reader.proofs.Refusals.{goes_on, behind_first_line}
+use Rattle.trace_reader.proofs.Refusals.{goes_on, no_daemon, behind_daemon, behind_first_line}
 
 -- ---- words without a space and a line feed
 
@@ -132,15 +134,15 @@ call_again processors spaces call calls some few is =
 pub call_words_again : (processors spaces : ℕ) (call : Line) → processors ≤ 2 ^ 64 → spaces ≤ 2 ^ 64 → IsLine processors spaces call → words_of (join_with_byte 32 (line_words call)) ≡ line_words call
 call_words_again processors spaces call some few is = words_again (decimal call.processor) (call_words call.call) (line_words_are processors spaces call some few is)
 
-some_words : (call : Call) → 1 ≤ length (call_words call)
-some_words (Map space page len kind rights) = omega arith
-some_words (Grow space page by) = omega arith
-some_words (Unmap space page) = omega arith
-some_words (Protect space page len rights) = omega arith
-some_words (Load space address) = omega arith
-some_words (Store space address word) = omega arith
-some_words (Sync space page) = omega arith
-some_words (Evict space page) = omega arith
+three_words : (call : Call) → 3 ≤ length (call_words call)
+three_words (Map space page len kind rights) = omega arith
+three_words (Grow space page by) = omega arith
+three_words (Unmap space page) = omega arith
+three_words (Protect space page len rights) = omega arith
+three_words (Load space address) = omega arith
+three_words (Store space address word) = omega arith
+three_words (Sync space page) = omega arith
+three_words (Evict space page) = omega arith
 
 -- a call has more words than the end
 pub call_is_not_end : (processors spaces : ℕ) (call : Line) → processors ≤ 2 ^ 64 → spaces ≤ 2 ^ 64 → IsLine processors spaces call → bytes_eq (join_with_byte 32 (line_words call)) (codes "end") ≡ false
@@ -149,7 +151,7 @@ call_is_not_end processors spaces call some few is =
       | inl same ↦
           let e = (bytes_eq-Decides (join_with_byte 32 (line_words call)) (codes "end")).0 same in
           let words : line_words call ≡ codes "end" ∷ [] = sym (call_words_again processors spaces call some few is) ∙ ap words_of e in
-          absurd (omega (arith, ap length words, some_words call.call))
+          absurd (omega (arith, ap length words, three_words call.call))
       | inr other ↦ other
     ]
 
@@ -160,16 +162,48 @@ calls_are_lawful processors spaces number before (call ∷ calls) some few are i
     let next = goes_on (call_forms processors spaces) number before (calls_text (call ∷ calls)) (join_with_byte 32 (line_words call)) (calls_text calls) (call_again processors spaces call calls some few are.0) (call_is_not_end processors spaces call some few are.0) lawful (λ e. omega arith) in
     next ∙ calls_are_lawful processors spaces (number + 1) (before + 1) calls some few are.1 (omega arith)
 
+-- ---- the second line
+
+daemon_words_are : (d : Daemon) → IsDaemon (Some d) → AllByRecursion IsWord (daemon_words d)
+daemon_words_are d is = (is_word (codes "daemon") refl, (decimal_is d.low (omega (arith, is.0)), (decimal_is d.turns (omega (arith, is.1)), tt)))
+
+-- the lines behind the first
+abbrev pub behind_text : Option Daemon → List Line → List ℕ
+behind_text daemon calls = daemon_line daemon ++ calls_text calls
+
+pub daemon_again : (d : Daemon) (calls : List Line) → IsDaemon (Some d) → lines_of (behind_text (Some d) calls) ≡ join_with_byte 32 (daemon_words d) ∷ lines_of (calls_text calls)
+daemon_again d calls is = line_again (daemon_words d) (calls_text calls) (daemon_words_are d is)
+
+pub daemon_words_again : (d : Daemon) → IsDaemon (Some d) → words_of (join_with_byte 32 (daemon_words d)) ≡ daemon_words d
+daemon_words_again d is = words_again (codes "daemon") (decimal d.low ∷ decimal d.turns ∷ []) (daemon_words_are d is)
+
+-- a call has more words than a daemon's line
+pub call_is_no_daemons : (processors spaces : ℕ) (call : Line) → processors ≤ 2 ^ 64 → spaces ≤ 2 ^ 64 → IsLine processors spaces call → fits daemon_form (words_of (join_with_byte 32 (line_words call))) ≡ false
+call_is_no_daemons processors spaces call some few is =
+    elim (cases_Bool (fits daemon_form (words_of (join_with_byte 32 (line_words call))))) [
+      | inl same ↦
+          absurd (omega (arith, fits_length daemon_form (words_of (join_with_byte 32 (line_words call))) same, ap length (call_words_again processors spaces call some few is), three_words call.call))
+      | inr other ↦ other
+    ]
+
+daemon_is_lawful : (processors spaces : ℕ) (daemon : Option Daemon) (calls : List Line) → processors ≤ 2 ^ 64 → spaces ≤ 2 ^ 64 → IsDaemon daemon → AllByRecursion (IsLine processors spaces) calls → second_refusal (call_forms processors spaces) (lines_of (behind_text daemon calls)) ≡ calls_refusal (call_forms processors spaces) (first_call daemon) 0 (lines_of (calls_text calls))
+daemon_is_lawful processors spaces None [] some few is are = refl
+daemon_is_lawful processors spaces None (call ∷ calls) some few is are =
+    no_daemon (call_forms processors spaces) (calls_text (call ∷ calls)) (join_with_byte 32 (line_words call)) (calls_text calls) (call_again processors spaces call calls some few are.0) (call_is_no_daemons processors spaces call some few are.0)
+daemon_is_lawful processors spaces (Some d) calls some few is are =
+    behind_daemon (call_forms processors spaces) (behind_text (Some d) calls) (join_with_byte 32 (daemon_words d)) (calls_text calls) d (daemon_again d calls is) (daemon_words_again d is) is
+
 -- ---- the whole text
 
 abbrev pub head_of : Plan → Head
 head_of plan = record { frames = plan.frames; processors = plan.processors; spaces = plan.spaces }
 
-pub text_is : (plan : Plan) → text_of plan ≡ first_line plan ++ calls_text plan.calls
-text_is plan = append_assoc (first_line plan) (flat_map call_line plan.calls) end_line
+pub text_is : (plan : Plan) → text_of plan ≡ first_line plan ++ behind_text plan.daemon plan.calls
+text_is plan =
+    append_assoc (first_line plan ++ daemon_line plan.daemon) (flat_map call_line plan.calls) end_line ∙ append_assoc (first_line plan) (daemon_line plan.daemon) (calls_text plan.calls)
 
-pub first_again : (plan : Plan) → HasText plan → lines_of (text_of plan) ≡ join_with_byte 32 (first_words plan.frames plan.processors plan.spaces) ∷ lines_of (calls_text plan.calls)
-first_again plan has = ap lines_of (text_is plan) ∙ line_again (first_words plan.frames plan.processors plan.spaces) (calls_text plan.calls) (first_words_are plan has)
+pub first_again : (plan : Plan) → HasText plan → lines_of (text_of plan) ≡ join_with_byte 32 (first_words plan.frames plan.processors plan.spaces) ∷ lines_of (behind_text plan.daemon plan.calls)
+first_again plan has = ap lines_of (text_is plan) ∙ line_again (first_words plan.frames plan.processors plan.spaces) (behind_text plan.daemon plan.calls) (first_words_are plan has)
 
 pub first_words_again : (plan : Plan) → HasText plan → words_of (join_with_byte 32 (first_words plan.frames plan.processors plan.spaces)) ≡ first_words plan.frames plan.processors plan.spaces
 first_words_again plan has = words_again (codes "trace") (codes "1" ∷ decimal plan.frames ∷ decimal plan.processors ∷ decimal plan.spaces ∷ []) (first_words_are plan has)
@@ -177,5 +211,7 @@ first_words_again plan has = words_again (codes "trace") (codes "1" ∷ decimal 
 pub not_refused : (plan : Plan) → HasText plan → refusal_of (text_of plan) ≡ None
 not_refused plan has =
     let is : IsInRange (head_of plan) = (has.frames_in, has.frames_whole, has.processors_in, has.spaces_in) in
-    let behind = behind_first_line (text_of plan) (join_with_byte 32 (first_words plan.frames plan.processors plan.spaces)) (calls_text plan.calls) (head_of plan) (text_is_short plan has) (first_again plan has) (first_words_again plan has) is in
-    behind ∙ calls_are_lawful plan.processors plan.spaces 2 0 plan.calls (omega (arith, has.processors_in)) (omega (arith, has.spaces_in)) (recursion_from_All _ plan.calls has.lines) (omega (arith, has.few))
+    let lines = recursion_from_All _ plan.calls has.lines in
+    let behind = behind_first_line (text_of plan) (join_with_byte 32 (first_words plan.frames plan.processors plan.spaces)) (behind_text plan.daemon plan.calls) (head_of plan) (text_is_short plan has) (first_again plan has) (first_words_again plan has) is in
+    let second = daemon_is_lawful plan.processors plan.spaces plan.daemon plan.calls (omega (arith, has.processors_in)) (omega (arith, has.spaces_in)) has.daemon_in lines in
+    behind ∙ second ∙ calls_are_lawful plan.processors plan.spaces (first_call plan.daemon) 0 plan.calls (omega (arith, has.processors_in)) (omega (arith, has.spaces_in)) lines (omega (arith, has.few))

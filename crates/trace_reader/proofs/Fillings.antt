@@ -1,5 +1,5 @@
 -- A line without a fault is filled with numbers and words of its form, and so is a line of a trace. A text without a refusal is a trace's.
-use Rattle.std.proofs.Common.{◌≡◌, ◌≢◌, ℕ, ◌+◌, ◌%◌, ◌^◌, ◌<◌, ◌≤◌, ◌⊎◌, true, cond, eqb, List, [], ◌∷◌, ◌++◌, length, Option, Some, None, Result, Ok, Err, decimal, codes, refl, sym, ap, subst, ◌∙◌, append_assoc, arith, inl, inr}
+use Rattle.std.proofs.Common.{◌≡◌, ◌≢◌, ℕ, ◌+◌, ◌%◌, ◌^◌, ◌<◌, ◌≤◌, ◌⊎◌, true, cond, eqb, List, [], ◌∷◌, ◌++◌, length, Option, Some, None, Result, Ok, Err, decimal, codes, refl, sym, ap, subst, ◌∙◌, arith, inl, inr}
 use Rattle.std.specs.List.{join_with_byte, list_any, AllByRecursion}
 use Rattle.std.specs.Option.{option_or}
 use Rattle.std.specs.Result.{result_err}
@@ -15,16 +15,17 @@ use Rattle.pager_model.specs.declared.region.Kind.TheVariants.{Fixed, Growing, W
 use Rattle.pager_model.specs.declared.region.Rights.{Rights}
 use Rattle.pager_model.specs.declared.region.Rights.TheVariants.{NoAccess, Read, Write}
 use Rattle.pager_model.specs.Plans.{Plan}
-use Rattle.pager_model.specs.TraceText.{kind_word, rights_word, line_words, first_words, IsLine, IsTextOf}
+use Rattle.pager_model.specs.declared.trace.Daemon.{Daemon}
+use Rattle.pager_model.specs.TraceText.{kind_word, rights_word, line_words, line_of_words, call_line, daemon_words, first_words, IsDaemon, IsLine, IsTextOf}
 use Rattle.trace_reader.specs.declared.fault.LineCause.{LineCause}
 use Rattle.trace_reader.specs.declared.fault.TraceFault.TheVariants.{TooManyCalls}
 use Rattle.trace_reader.specs.declared.line.Head.{Head}
-use Rattle.trace_reader.specs.Forms.{Place, Word, OneOf, Number, number_in, fits, leftmost, line_fault, first_form, map_form, grow_form, unmap_form, protect_form, load_form, store_form, sync_form, evict_form, call_forms}
+use Rattle.trace_reader.specs.Forms.{Place, Word, OneOf, Number, number_in, fits, leftmost, line_fault, first_form, daemon_form, map_form, grow_form, unmap_form, protect_form, load_form, store_form, sync_form, evict_form, call_forms}
 use Rattle.trace_reader.specs.Heads.{IsInRange}
-use Rattle.trace_reader.specs.Refusals.{lines_of, words_of, end_refusal, at_line, calls_refusal, forms_behind, refusal_of_lines, refusal_of}
-use Rattle.trace_reader.proofs.CutTexts.{calls_text, calls_text-cons}
+use Rattle.trace_reader.specs.Refusals.{lines_of, words_of, end_refusal, at_line, calls_refusal, second_refusal, forms_behind, refusal_of_lines, refusal_of}
+use Rattle.trace_reader.proofs.CutTexts.{behind_text, calls_text, calls_text-cons}
 use Rattle.trace_reader.proofs.Numbers.{number_in_takes, version_text}
-use Rattle.trace_reader.proofs.Refusals.{short_enough, too_long, forms_again, is_text}
+use Rattle.trace_reader.proofs.Refusals.{short_enough, too_long, forms_again, is_text, line_is}
 
 -- ---- what fills a form
 
@@ -224,6 +225,12 @@ first_says words none =
       | inr none_left ↦ absurd none_left
     ]
 
+daemon_says : (words : List (List ℕ)) → fits daemon_form words ≡ true → leftmost daemon_form words ≡ None → (d : Daemon) × IsDaemon (Some d) × (words ≡ daemon_words d)
+daemon_says words fit none =
+    let is = filled daemon_form words fit none in
+    let f = is.0 in
+    (record { low = f.0.n; turns = f.1.0.n }, ((f.0.low_in, omega (arith, f.0.end_in)), (f.1.0.low_in, omega (arith, f.1.0.end_in))), is.1)
+
 -- ---- texts
 
 no_fault : (number : ℕ) (fault : Option LineCause) → at_line number fault ≡ None → fault ≡ None
@@ -242,9 +249,7 @@ SayCalls processors spaces before lines = (calls : List Line) × AllByRecursion 
 
 one_call_more : (line behind : List ℕ) (call : Line) (calls : List Line) → words_of line ≡ line_words call → behind ≡ calls_text calls → line ++ 10 ∷ behind ≡ calls_text (call ∷ calls)
 one_call_more line behind call calls words is =
-    let whole : line ≡ join_with_byte 32 (line_words call) = sym (join_with_byte-slice_split 32 line) ∙ ap (join_with_byte 32) words in
-    let front : line ++ 10 ∷ behind ≡ join_with_byte 32 (line_words call) ++ 10 ∷ calls_text calls = ap (λ (l : List ℕ). l ++ 10 ∷ behind) whole ∙ ap (λ (t : List ℕ). join_with_byte 32 (line_words call) ++ 10 ∷ t) is in
-    front ∙ sym (append_assoc (join_with_byte 32 (line_words call)) (10 ∷ []) (calls_text calls)) ∙ sym (calls_text-cons call calls)
+    line_is (line ++ 10 ∷ behind) line behind (line_words call) refl words ∙ ap (λ (t : List ℕ). call_line call ++ t) is ∙ sym (calls_text-cons call calls)
 
 calls_say : (processors spaces number before : ℕ) (lines : List (List ℕ)) → before ≤ 262144 → calls_refusal (call_forms processors spaces) number before lines ≡ None → SayCalls processors spaces before lines
 calls_say processors spaces number before [] few none = absurd cc
@@ -268,18 +273,42 @@ calls_say processors spaces number before (line ∷ next ∷ lines) few none =
           ]
     ]
 
+-- the lines behind the first are those of a daemon or none, and of some calls up to the end
+abbrev SayBehind : ℕ → ℕ → List (List ℕ) → Type 0
+SayBehind processors spaces lines = (daemon : Option Daemon) × IsDaemon daemon × (calls : List Line) × AllByRecursion (IsLine processors spaces) calls × (length calls ≤ 262144) × (join_with_byte 10 lines ≡ behind_text daemon calls)
+
+behind_says : (processors spaces : ℕ) (lines : List (List ℕ)) → second_refusal (call_forms processors spaces) lines ≡ None → SayBehind processors spaces lines
+behind_says processors spaces [] none = absurd cc
+behind_says processors spaces (line ∷ []) none = absurd cc
+behind_says processors spaces (line ∷ next ∷ lines) none =
+    let forms = call_forms processors spaces in
+    elim (cases_Bool (fits daemon_form (words_of line))) [
+      | inl fit ↦
+          let both = neither (at_line 2 (leftmost daemon_form (words_of line))) (calls_refusal forms 3 0 (next ∷ lines)) (rw fit at none) in
+          let says = daemon_says (words_of line) fit (no_fault 2 (leftmost daemon_form (words_of line)) both.0) in
+          let calls = calls_say processors spaces 3 0 (next ∷ lines) (omega arith) both.1 in
+          let behind = join_with_byte 10 (next ∷ lines) in
+          let text = line_is (line ++ 10 ∷ behind) line behind (daemon_words says.0) refl says.2 in
+          (Some says.0, says.1, calls.0, calls.1, omega (arith, calls.2), text ∙ ap (λ (t : List ℕ). line_of_words (daemon_words says.0) ++ t) calls.3)
+      | inr other ↦
+          let calls = calls_say processors spaces 2 0 (line ∷ next ∷ lines) (omega arith) (rw other at none) in
+          (None, tt, calls.0, calls.1, omega (arith, calls.2), calls.3)
+    ]
+
 text_says : (text : List ℕ) (lines : List (List ℕ)) → lines_of text ≡ lines → refusal_of_lines lines ≡ None → (plan : Plan) × IsTextOf text plan
 text_says text [] is none = absurd cc
 text_says text (first ∷ []) is none = absurd cc
 text_says text (first ∷ next ∷ lines) is none =
-    let both = neither (at_line 1 (line_fault (first_form ∷ []) (words_of first))) (calls_refusal (forms_behind (words_of first)) 2 0 (next ∷ lines)) none in
+    let both = neither (at_line 1 (line_fault (first_form ∷ []) (words_of first))) (second_refusal (forms_behind (words_of first)) (next ∷ lines)) none in
     let says = first_says (words_of first) (no_fault 1 (line_fault (first_form ∷ []) (words_of first)) both.0) in
     let head = says.0 in
     let forms : forms_behind (words_of first) ≡ call_forms head.processors head.spaces = ap forms_behind says.2 ∙ forms_again head says.1 in
-    let calls = calls_say head.processors head.spaces 2 0 (next ∷ lines) (omega arith) (subst (λ (fs : List (List Place)). calls_refusal fs 2 0 (next ∷ lines) ≡ None) forms both.1) in
+    let behind = behind_says head.processors head.spaces (next ∷ lines) (subst (λ (fs : List (List Place)). second_refusal fs (next ∷ lines) ≡ None) forms both.1) in
+    let daemon = behind.0 in
+    let calls = behind.2 in
     let cut : text ≡ first ++ 10 ∷ join_with_byte 10 (next ∷ lines) = sym (join_with_byte-slice_split 10 text) ∙ ap (join_with_byte 10) is in (
-      record { frames = head.frames; processors = head.processors; spaces = head.spaces; daemon = None; calls = calls.0 },
-      is_text text first (join_with_byte 10 (next ∷ lines)) head calls.0 cut says.2 says.1 (All-from_recursion _ calls.0 calls.1) (omega (arith, calls.2)) calls.3,
+      record { frames = head.frames; processors = head.processors; spaces = head.spaces; daemon = daemon; calls = calls },
+      is_text text first (join_with_byte 10 (next ∷ lines)) (calls_text calls) head daemon calls cut says.2 says.1 behind.5 behind.1 (All-from_recursion _ calls behind.3) behind.4 refl,
     )
 
 pub some_trace : (text : List ℕ) → refusal_of text ≡ None → (plan : Plan) × IsTextOf text plan

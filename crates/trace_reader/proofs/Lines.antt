@@ -1,5 +1,5 @@
 -- A line that a trace may hold has no fault.
-use Rattle.std.proofs.Common.{◌≡◌, ℕ, ◌^◌, ◌<◌, ◌≤◌, ◌%◌, true, [], ◌∷◌, None, Ok, decimal, codes, refl, arith, lit≤}
+use Rattle.std.proofs.Common.{◌≡◌, ℕ, ◌^◌, ◌<◌, ◌≤◌, ◌%◌, true, [], ◌∷◌, Some, None, Ok, decimal, codes, refl, arith, lit≤}
 use Rattle.std.specs.Fmt.{digits}
 use Rattle.pager_model.specs.declared.call.Call.{Call}
 use Rattle.pager_model.specs.declared.call.Call.TheVariants.{Map, Grow, Unmap, Protect, Load, Store, Sync, Evict}
@@ -8,9 +8,10 @@ use Rattle.pager_model.specs.declared.region.Kind.{Kind}
 use Rattle.pager_model.specs.declared.region.Kind.TheVariants.{Fixed, Growing, Wired}
 use Rattle.pager_model.specs.declared.region.Rights.{Rights}
 use Rattle.pager_model.specs.declared.region.Rights.TheVariants.{NoAccess, Read, Write}
-use Rattle.pager_model.specs.TraceText.{kind_word, rights_word, call_words, line_words, first_words, IsCall, IsLine}
+use Rattle.pager_model.specs.declared.trace.Daemon.{Daemon}
+use Rattle.pager_model.specs.TraceText.{kind_word, rights_word, call_words, daemon_words, line_words, first_words, IsCall, IsDaemon, IsLine}
 use Rattle.trace_reader.specs.declared.line.Head.{Head}
-use Rattle.trace_reader.specs.Forms.{may_stand, any_kind, any_rights, number_in, number_of, line_fault, first_form, call_forms}
+use Rattle.trace_reader.specs.Forms.{may_stand, any_kind, any_rights, number_in, number_of, leftmost, line_fault, first_form, daemon_form, call_forms}
 use Rattle.trace_reader.specs.Heads.{IsInRange}
 use Rattle.trace_reader.proofs.Numbers.{number_in_again}
 
@@ -65,3 +66,9 @@ first_is_lawful head is =
     let processors : number_in 1 1 17 (decimal head.processors) ≡ Ok head.processors = number_in_again 1 1 17 head.processors (omega arith) is.2.0 (omega (arith, is.2.1)) (omega (arith, is.2.1)) in
     let spaces : number_in 1 1 17 (decimal head.spaces) ≡ Ok head.spaces = number_in_again 1 1 17 head.spaces (omega arith) is.3.0 (omega (arith, is.3.1)) (omega (arith, is.3.1)) in
     rw (version_one, frames, processors, spaces) refl
+
+pub daemon_is_lawful : (d : Daemon) → IsDaemon (Some d) → leftmost daemon_form (daemon_words d) ≡ None
+daemon_is_lawful d is =
+    let low : number_in 1 1 65 (decimal d.low) ≡ Ok d.low = number_in_again 1 1 65 d.low (omega arith) is.0.0 (omega (arith, is.0.1)) (omega (arith, is.0.1)) in
+    let turns : number_in 1 1 4097 (decimal d.turns) ≡ Ok d.turns = number_in_again 1 1 4097 d.turns (omega arith) is.1.0 (omega (arith, is.1.1)) (omega (arith, is.1.1)) in
+    rw (low, turns) refl

@@ -1,5 +1,5 @@
 -- Words that are decimals.
-use Rattle.std.proofs.Common.{◌∙◌, ap, codes, false, cond, leb, eqb, ◌+◌, ◌-◌, ◌*◌, ◌%◌, ◌≡◌, ℕ, ◌^◌, ◌<◌, ◌≤◌, Bool, true, ltb, ◌&&◌, List, length, take, get_or, Result, Ok, Err, Option, Some, None, decimal, refl, sym, subst, arith, inl, inr}
+use Rattle.std.proofs.Common.{◌∙◌, ap, codes, false, cond, leb, eqb, ◌+◌, ◌-◌, ◌*◌, ◌%◌, ◌≡◌, ℕ, ◌^◌, ◌<◌, ◌≤◌, Bool, true, ltb, ◌&&◌, List, length, take, get_or, Ok, Err, Option, Some, None, decimal, refl, sym, subst, arith, inl, inr}
 use Rattle.std.specs.Fmt.{digits}
 use Rattle.std.specs.Int.{IsInRange}
 use Rattle.std.specs.Str.{bytes_eq}

@@ -1,5 +1,5 @@
 -- The refusal of a text, line by line.
-use Rattle.std.proofs.Common.{◌≡◌, ◌≢◌, ℕ, ◌+◌, ◌<◌, ◌≤◌, true, false, List, [], ◌∷◌, ◌++◌, length, Some, None, codes, decimal, refl, sym, ap, ◌∙◌, append_assoc, flat_map, arith}
+use Rattle.std.proofs.Common.{◌≡◌, ◌≢◌, ℕ, ◌+◌, ◌<◌, ◌≤◌, true, false, List, [], ◌∷◌, ◌++◌, length, Option, Some, None, codes, decimal, refl, sym, ap, ◌∙◌, append_assoc, flat_map, arith}
 use Rattle.std.specs.List.{join_with_byte, All}
 use Rattle.std.specs.Str.Parse.{digits_value}
 use Rattle.std.specs.Str.{bytes_eq}
@@ -9,16 +9,17 @@ use Rattle.std.proofs.lemmas.Grind.{flat_map-append}
 use Rattle.std.proofs.lemmas.List.{append-nil}
 use Rattle.std.proofs.lemmas.List.Concat.{flat_map-cons}
 use Rattle.pager_model.specs.declared.call.Line.{Line as Call}
-use Rattle.pager_model.specs.TraceText.{call_line, line_words, line_of_words, first_words, IsLine, IsTextOf}
+use Rattle.pager_model.specs.declared.trace.Daemon.{Daemon}
+use Rattle.pager_model.specs.TraceText.{call_line, daemon_line, daemon_words, line_words, line_of_words, first_words, IsDaemon, IsLine, IsTextOf}
 use Rattle.trace_reader.specs.declared.fault.LineCause.{LineCause}
 use Rattle.trace_reader.specs.declared.fault.LineCause.TheVariants as causes
 use Rattle.trace_reader.specs.declared.fault.TraceFault.TheVariants.{TooLong, Line, NoEnd, TooManyCalls}
-use Rattle.trace_reader.specs.Forms.{Place, line_fault, first_form, call_forms}
+use Rattle.trace_reader.specs.Forms.{Place, fits, leftmost, line_fault, first_form, daemon_form, call_forms}
 use Rattle.trace_reader.specs.declared.line.Head.{Head}
 use Rattle.trace_reader.specs.Heads.{IsInRange}
-use Rattle.trace_reader.proofs.Lines.{first_is_lawful}
+use Rattle.trace_reader.proofs.Lines.{daemon_is_lawful, first_is_lawful}
 use Rattle.trace_reader.proofs.Numbers.{decimal_value}
-use Rattle.trace_reader.specs.Refusals.{lines_of, words_of, end_refusal, calls_refusal, forms_behind, refusal_of_lines, refusal_of}
+use Rattle.trace_reader.specs.Refusals.{lines_of, words_of, end_refusal, calls_refusal, second_refusal, forms_behind, refusal_of_lines, refusal_of}
 use Rattle.trace_reader.proofs.Splits.{some_piece}
 
 -- what the next line, in front of this rest, says of the refusal
@@ -46,12 +47,30 @@ past_the_end forms number calls rest line after first same some =
     let p = some_piece 10 after in
     rw (first, p.2, same) (something number after p.0 p.1 p.2 some)
 
+-- what the second line says of the refusal
+pub no_second_line : (forms : List (List Place)) (rest : List ℕ) → lines_of rest ≡ rest ∷ [] → second_refusal forms (lines_of rest) ≡ calls_refusal forms 2 0 (lines_of rest)
+no_second_line forms rest last = rw last refl
+
+pub no_daemon : (forms : List (List Place)) (rest line after : List ℕ) → lines_of rest ≡ line ∷ lines_of after → fits daemon_form (words_of line) ≡ false → second_refusal forms (lines_of rest) ≡ calls_refusal forms 2 0 (lines_of rest)
+no_daemon forms rest line after first other = let p = some_piece 10 after in rw (first, p.2, other) refl
+
+pub faulty_daemon : (forms : List (List Place)) (rest line after low turns : List ℕ) (cause : LineCause) → lines_of rest ≡ line ∷ lines_of after → words_of line ≡ codes "daemon" ∷ low ∷ turns ∷ [] → leftmost daemon_form (codes "daemon" ∷ low ∷ turns ∷ []) ≡ Some cause → second_refusal forms (lines_of rest) ≡ Some (Line 2 cause)
+faulty_daemon forms rest line after low turns cause first words fault = let p = some_piece 10 after in rw (first, p.2, words, fault) refl
+
+pub behind_daemon : (forms : List (List Place)) (rest line after : List ℕ) (d : Daemon) → lines_of rest ≡ line ∷ lines_of after → words_of line ≡ daemon_words d → IsDaemon (Some d) → second_refusal forms (lines_of rest) ≡ calls_refusal forms 3 0 (lines_of after)
+behind_daemon forms rest line after d first words is = let p = some_piece 10 after in rw (first, p.2, words, daemon_is_lawful d is) refl
+
+-- a line of these words, with its line feed
+pub line_is : (text line rest : List ℕ) (words : List (List ℕ)) → text ≡ line ++ 10 ∷ rest → words_of line ≡ words → text ≡ line_of_words words ++ rest
+line_is text line rest words cut are =
+    let whole : line ≡ join_with_byte 32 words = sym (join_with_byte-slice_split 32 line) ∙ ap (join_with_byte 32) are in
+    cut ∙ ap (λ (x : List ℕ). x ++ 10 ∷ rest) whole ∙ sym (append_assoc (join_with_byte 32 words) (10 ∷ []) rest)
+
 -- the lines so far, and one more that ends at a line feed
 pub parts_go_on : (text rest line after : List ℕ) (calls : List Call) (call : Call) → text ≡ flat_map call_line calls ++ rest → rest ≡ line ++ 10 ∷ after → words_of line ≡ line_words call → text ≡ flat_map call_line (calls ++ call ∷ []) ++ after
 parts_go_on text rest line after calls call so_far cut words =
     let front : flat_map call_line (calls ++ call ∷ []) ≡ flat_map call_line calls ++ call_line call = flat_map-append call_line calls (call ∷ []) ∙ ap (λ (x : List ℕ). flat_map call_line calls ++ x) (flat_map-cons call_line call [] ∙ append-nil (call_line call)) in
-    let whole : line ≡ join_with_byte 32 (line_words call) = sym (join_with_byte-slice_split 32 line) ∙ ap (join_with_byte 32) words in
-    let next : rest ≡ call_line call ++ after = cut ∙ ap (λ (x : List ℕ). x ++ 10 ∷ after) whole ∙ sym (append_assoc (join_with_byte 32 (line_words call)) (10 ∷ []) after) in
+    let next : rest ≡ call_line call ++ after = line_is rest line after (line_words call) cut words in
     so_far ∙ ap (λ (x : List ℕ). flat_map call_line calls ++ x) next ∙ sym (append_assoc (flat_map call_line calls) (call_line call) after) ∙ ap (λ (x : List ℕ). x ++ after) (sym front)
 
 -- ---- the whole text
@@ -76,17 +95,19 @@ forms_again head is =
     let spaces : digits_value 10 (decimal head.spaces) ≡ head.spaces = decimal_value head.spaces (omega (arith, is.3)) in
     rw (processors, spaces) refl
 
-pub behind_first_line : (text line rest : List ℕ) (head : Head) → length text ≤ 16777216 → lines_of text ≡ line ∷ lines_of rest → words_of line ≡ first_words head.frames head.processors head.spaces → IsInRange head → refusal_of text ≡ calls_refusal (call_forms head.processors head.spaces) 2 0 (lines_of rest)
+pub behind_first_line : (text line rest : List ℕ) (head : Head) → length text ≤ 16777216 → lines_of text ≡ line ∷ lines_of rest → words_of line ≡ first_words head.frames head.processors head.spaces → IsInRange head → refusal_of text ≡ second_refusal (call_forms head.processors head.spaces) (lines_of rest)
 behind_first_line text line rest head few first words is =
     let p = some_piece 10 rest in
     rw (short_enough text few, first, p.2, words, first_is_lawful head is, forms_again head is) refl
 
 -- the trace of what was read
-pub is_text : (text line rest : List ℕ) (head : Head) (calls : List Call) → text ≡ line ++ 10 ∷ rest → words_of line ≡ first_words head.frames head.processors head.spaces → IsInRange head → All (IsLine head.processors head.spaces) calls → length calls ≤ 262144 → rest ≡ flat_map call_line calls ++ line_of_words (codes "end" ∷ [])
-    → IsTextOf text (record { frames = head.frames; processors = head.processors; spaces = head.spaces; daemon = None; calls = calls })
-is_text text line rest head calls cut words is are few behind =
-    let whole : line ≡ join_with_byte 32 (first_words head.frames head.processors head.spaces) = sym (join_with_byte-slice_split 32 line) ∙ ap (join_with_byte 32) words in
+pub is_text : (text line behind rest : List ℕ) (head : Head) (daemon : Option Daemon) (calls : List Call) → text ≡ line ++ 10 ∷ behind → words_of line ≡ first_words head.frames head.processors head.spaces → IsInRange head → behind ≡ daemon_line daemon ++ rest → IsDaemon daemon → All (IsLine head.processors head.spaces) calls → length calls ≤ 262144 → rest ≡ flat_map call_line calls ++ line_of_words (codes "end" ∷ [])
+    → IsTextOf text (record { frames = head.frames; processors = head.processors; spaces = head.spaces; daemon = daemon; calls = calls })
+is_text text line behind rest head daemon calls cut words is second told are few lines =
     let first : List ℕ = line_of_words (first_words head.frames head.processors head.spaces) in
-    let front : text ≡ first ++ rest = cut ∙ ap (λ (x : List ℕ). x ++ 10 ∷ rest) whole ∙ sym (append_assoc (join_with_byte 32 (first_words head.frames head.processors head.spaces)) (10 ∷ []) rest) in
-    let all : text ≡ (first ++ flat_map call_line calls) ++ line_of_words (codes "end" ∷ []) = front ∙ ap (λ (x : List ℕ). first ++ x) behind ∙ sym (append_assoc first (flat_map call_line calls) (line_of_words (codes "end" ∷ []))) in
-    (record { frames_in = is.0; frames_whole = is.1; processors_in = is.2; spaces_in = is.3; no_daemon = refl; lines = are; few = few }, all)
+    let front : text ≡ first ++ behind = line_is text line behind (first_words head.frames head.processors head.spaces) cut words in
+    let end : List ℕ = line_of_words (codes "end" ∷ []) in
+    let all : text ≡ ((first ++ daemon_line daemon) ++ flat_map call_line calls) ++ end =
+    front ∙ ap (λ (x : List ℕ). first ++ x) (second ∙ ap (λ (x : List ℕ). daemon_line daemon ++ x) lines)
+    ∙ sym (append_assoc first (daemon_line daemon) (flat_map call_line calls ++ end)) ∙ sym (append_assoc (first ++ daemon_line daemon) (flat_map call_line calls) end) in
+    (record { frames_in = is.0; frames_whole = is.1; processors_in = is.2; spaces_in = is.3; daemon_in = told; lines = are; few = few }, all)

@@ -1,6 +1,6 @@
 -- A trace is read back from its text, so that no two have one.
-use Rattle.std.proofs.Common.{◌≡◌, ℕ, ◌^◌, ◌<◌, ◌≤◌, cond, List, [], ◌∷◌, get_or, drop, None, decimal, codes, refl, sym, ap, ◌∙◌, arith}
-use Rattle.std.specs.List.{AllByRecursion}
+use Rattle.std.proofs.Common.{◌≡◌, ℕ, ◌^◌, ◌<◌, ◌≤◌, cond, List, [], ◌∷◌, get_or, drop, Option, Some, None, decimal, codes, refl, sym, ap, ◌∙◌, arith}
+use Rattle.std.specs.List.{join_with_byte, AllByRecursion}
 use Rattle.std.specs.Str.{bytes_eq}
 use Rattle.std.specs.Str.Parse.{digits_value}
 use Rattle.std.proofs.lemmas.List.Elements.{recursion_from_All}
@@ -12,9 +12,11 @@ use Rattle.pager_model.specs.declared.region.Kind.TheVariants.{Fixed, Growing, W
 use Rattle.pager_model.specs.declared.region.Rights.{Rights}
 use Rattle.pager_model.specs.declared.region.Rights.TheVariants.{NoAccess, Read, Write}
 use Rattle.pager_model.specs.Plans.{Plan}
-use Rattle.pager_model.specs.TraceText.{kind_word, rights_word, call_words, line_words, text_of, IsCall, IsLine, HasText}
+use Rattle.pager_model.specs.declared.trace.Daemon.{Daemon}
+use Rattle.pager_model.specs.TraceText.{kind_word, rights_word, call_words, daemon_words, line_words, text_of, IsCall, IsDaemon, IsLine, HasText}
+use Rattle.trace_reader.specs.Forms.{daemon_form, fits}
 use Rattle.trace_reader.specs.Refusals.{lines_of, words_of}
-use Rattle.trace_reader.proofs.CutTexts.{calls_text, call_again, call_words_again, call_is_not_end, first_again, first_words_again}
+use Rattle.trace_reader.proofs.CutTexts.{behind_text, calls_text, call_again, call_words_again, call_is_no_daemons, call_is_not_end, daemon_again, daemon_words_again, first_again, first_words_again}
 use Rattle.trace_reader.proofs.Numbers.{decimal_value}
 
 -- the number at a place, the kind and the rights
@@ -81,8 +83,39 @@ calls_are_back processors spaces (call ∷ calls) some few are =
     let back : line_back (line_words call) ≡ call = call_is_back spaces call.processor call.call few (omega (arith, are.0)) are.0.1 in
     rw (call_again processors spaces call calls some few are.0, call_is_not_end processors spaces call some few are.0, call_words_again processors spaces call some few are.0, back, calls_are_back processors spaces calls some few are.1) refl
 
+-- the daemon and the calls of the lines behind the first, of which the first has these words
+abbrev daemon_by : List (List ℕ) → Option Daemon
+daemon_by words = cond (fits daemon_form words) (Some (record { low = number_back words 1; turns = number_back words 2 })) None
+
+abbrev calls_by : List (List ℕ) → List (List ℕ) → List Line
+calls_by words lines = calls_back (cond (fits daemon_form words) (drop 1 lines) lines)
+
+abbrev next_words : List (List ℕ) → List (List ℕ)
+next_words lines = words_of (get_or lines 0 [])
+
+abbrev daemon_back : List (List ℕ) → Option Daemon
+daemon_back lines = daemon_by (next_words lines)
+
+abbrev calls_behind : List (List ℕ) → List Line
+calls_behind lines = calls_by (next_words lines) lines
+
+behind_is_back : (processors spaces : ℕ) (daemon : Option Daemon) (calls : List Line) → processors ≤ 2 ^ 64 → spaces ≤ 2 ^ 64 → IsDaemon daemon → AllByRecursion (IsLine processors spaces) calls → (daemon_back (lines_of (behind_text daemon calls)) ≡ daemon) × (calls_behind (lines_of (behind_text daemon calls)) ≡ calls)
+behind_is_back processors spaces None [] some few is are = (refl, refl)
+behind_is_back processors spaces None (call ∷ calls) some few is are =
+    let again = call_again processors spaces call calls some few are.0 in
+    let other = call_is_no_daemons processors spaces call some few are.0 in
+    let back = calls_are_back processors spaces (call ∷ calls) some few are in
+    (rw (again, other) refl, ap (λ ls. calls_behind ls) again ∙ rw other (ap calls_back (sym again)) ∙ back)
+behind_is_back processors spaces (Some d) calls some few is are =
+    let again = daemon_again d calls is in
+    let words = ap next_words again ∙ daemon_words_again d is in
+    let low = decimal_value d.low (omega (arith, is.0)) in
+    let turns = decimal_value d.turns (omega (arith, is.1)) in
+    let told : daemon_by (daemon_words d) ≡ Some d = rw (low, turns) refl in
+    (ap daemon_by words ∙ told, ap (λ (ls : List (List ℕ)). calls_by (next_words (lines_of (behind_text (Some d) calls))) ls) again ∙ ap (λ (ws : List (List ℕ)). calls_by ws (join_with_byte 32 (daemon_words d) ∷ lines_of (calls_text calls))) words ∙ calls_are_back processors spaces calls some few are)
+
 abbrev plan_of : List (List ℕ) → List (List ℕ) → Plan
-plan_of words lines = record { frames = number_back words 2; processors = number_back words 3; spaces = number_back words 4; daemon = None; calls = calls_back lines }
+plan_of words lines = record { frames = number_back words 2; processors = number_back words 3; spaces = number_back words 4; daemon = daemon_back lines; calls = calls_behind lines }
 
 abbrev plan_back : List ℕ → Plan
 plan_back text = plan_of (words_of (get_or (lines_of text) 0 [])) (drop 1 (lines_of text))
@@ -92,8 +125,8 @@ plan_is_back plan has =
     let frames = decimal_value plan.frames (omega (arith, has.frames_in)) in
     let processors = decimal_value plan.processors (omega (arith, has.processors_in)) in
     let spaces = decimal_value plan.spaces (omega (arith, has.spaces_in)) in
-    let calls = calls_are_back plan.processors plan.spaces plan.calls (omega (arith, has.processors_in)) (omega (arith, has.spaces_in)) (recursion_from_All _ plan.calls has.lines) in
-    rw (first_again plan has, first_words_again plan has, frames, processors, spaces, calls, sym has.no_daemon) refl
+    let behind = behind_is_back plan.processors plan.spaces plan.daemon plan.calls (omega (arith, has.processors_in)) (omega (arith, has.spaces_in)) has.daemon_in (recursion_from_All _ plan.calls has.lines) in
+    rw (first_again plan has, first_words_again plan has, frames, processors, spaces, behind.0, behind.1) refl
 
 pub one_plan : (a b : Plan) → HasText a → HasText b → text_of a ≡ text_of b → a ≡ b
 one_plan a b p q same = sym (plan_is_back a p) ∙ ap plan_back same ∙ plan_is_back b q

@@ -59,6 +59,9 @@ line_fault (form ∷ forms) words = if fits form words then leftmost form words 
 abbrev pub first_form : List Place
 first_form = Word (codes "trace") ∷ Number 1 1 2 ∷ Number 512 512 32769 ∷ Number 1 1 17 ∷ Number 1 1 17 ∷ []
 
+abbrev pub daemon_form : List Place
+daemon_form = Word (codes "daemon") ∷ Number 1 1 65 ∷ Number 1 1 4097 ∷ []
+
 abbrev pub any_kind : Place
 any_kind = OneOf (kind_word Fixed ∷ kind_word Growing ∷ kind_word Wired ∷ [])
 

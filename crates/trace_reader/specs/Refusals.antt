@@ -8,7 +8,7 @@ use Rattle.trace_reader.specs.declared.fault.LineCause.{LineCause}
 use Rattle.trace_reader.specs.declared.fault.LineCause.TheVariants as causes
 use Rattle.trace_reader.specs.declared.fault.TraceFault.{TraceFault}
 use Rattle.trace_reader.specs.declared.fault.TraceFault.TheVariants.{ReadFault, TooLong, Line, NoEnd, TooManyCalls, TooFewStores, NoMemory}
-use Rattle.trace_reader.specs.Forms.{Place, first_form, call_forms, line_fault}
+use Rattle.trace_reader.specs.Forms.{Place, first_form, daemon_form, call_forms, fits, leftmost, line_fault}
 use Rattle.pager_model.specs.Bounds.{most_calls}
 
 -- the lines of a text, and at the end what stands behind the last line feed
@@ -36,13 +36,21 @@ calls_refusal forms number calls (line ∷ next ∷ lines) =
     (if calls == most_calls then Some TooManyCalls else calls_refusal forms (number + 1) (calls + 1) (next ∷ lines))
 calls_refusal forms number calls lines = Some NoEnd
 
+-- from the second line on, which alone may be a daemon's; that is no call, and no line fits both forms
+abbrev pub second_refusal : List (List Place) → List (List ℕ) → Option TraceFault
+second_refusal forms (line ∷ next ∷ lines) =
+    if fits daemon_form (words_of line)
+    then option_or (at_line 2 (leftmost daemon_form (words_of line))) (calls_refusal forms 3 0 (next ∷ lines))
+    else calls_refusal forms 2 0 (line ∷ next ∷ lines)
+second_refusal forms lines = Some NoEnd
+
 -- the forms of calls behind a first line of these words
 abbrev pub forms_behind : List (List ℕ) → List (List Place)
 forms_behind words = call_forms (digits_value 10 (slice_index_or words 3 [])) (digits_value 10 (slice_index_or words 4 []))
 
 abbrev pub refusal_of_lines : List (List ℕ) → Option TraceFault
 refusal_of_lines (first ∷ next ∷ lines) =
-    option_or (at_line 1 (line_fault (first_form ∷ []) (words_of first))) (calls_refusal (forms_behind (words_of first)) 2 0 (next ∷ lines))
+    option_or (at_line 1 (line_fault (first_form ∷ []) (words_of first))) (second_refusal (forms_behind (words_of first)) (next ∷ lines))
 refusal_of_lines lines = Some NoEnd
 
 -- the refusal of a text, where it is refused. Too many bytes are looked at before all else.

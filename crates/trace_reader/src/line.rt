@@ -1,8 +1,8 @@
-//! Lines: the first one, and those of calls.
-ghost use Rattle.std.specs.Prelude.{◌≡◌, ◌≤◌, ◌%◌, ◌∷◌, [], false, Some, IfSome, IfNone, IfOk, IfErr, OnOk, codes};
+//! Lines: the first one, a daemon's, and those of calls.
+ghost use Rattle.std.specs.Prelude.{◌≡◌, ◌≤◌, ◌%◌, ◌∷◌, [], true, false, Some, IfSome, IfNone, IfOk, IfErr, OnOk, codes};
 ghost use Rattle.std.specs.Str.{bytes_eq};
-ghost use Rattle.pager_model.specs.TraceText.{IsLine, line_words, first_words};
-ghost use Rattle.trace_reader.specs.Forms.{number_in, line_fault, first_form, map_form, grow_form, unmap_form, protect_form, load_form, store_form, sync_form, evict_form, call_forms};
+ghost use Rattle.pager_model.specs.TraceText.{IsDaemon, IsLine, line_words, first_words, daemon_words};
+ghost use Rattle.trace_reader.specs.Forms.{number_in, fits, leftmost, line_fault, first_form, daemon_form, map_form, grow_form, unmap_form, protect_form, load_form, store_form, sync_form, evict_form, call_forms};
 ghost use Rattle.trace_reader.specs.declared.line.Name.{Name};
 ghost use Rattle.trace_reader.specs.Heads.{IsInRange, word_of_name};
 ghost use Rattle.trace_reader.specs.Refusals.{words_of};
@@ -10,10 +10,13 @@ ghost use Rattle.trace_reader.specs.Words.{seen};
 
 use crate::fault::LineCause;
 use crate::word::{any_number, kind, number, rights, small, words};
-use pager_model::{Call, Line, PAGES};
+use pager_model::{Call, Daemon, Line, PAGES};
 
 /// The first word of a trace.
 const TRACE: &[u8] = b"trace";
+
+/// The first word of a daemon's line.
+const DAEMON: &[u8] = b"daemon";
 
 /// The bytes of a space.
 const ADDRESSES: u64 = 8_589_934_592;
@@ -83,6 +86,30 @@ fn version_of(word: &[u8]) -> Result<u32, LineCause>
     ensures text { OnOk result (word.now ≡ codes "1") }
 {
     small(word, 1, 1..2)
+}
+
+/// The numbers' words of a line that fits the form of a daemon's.
+pub fn daemon_numbers(line: &[u8]) -> Option<(&[u8], &[u8])>
+    ensures some { IfSome result (λ numbers. words_of line.now
+        ≡ codes "daemon" ∷ numbers.0.now ∷ numbers.1.now ∷ []) }
+    ensures none { IfNone result (fits daemon_form (words_of line.now) ≡ false) }
+{
+    match words(line)?.as_slice() {
+        [name, low, turns] if *name == DAEMON => Some((low, turns)),
+        _ => None,
+    }
+}
+
+/// The daemon that a line says with these words for its numbers.
+pub fn daemon(low: &[u8], turns: &[u8]) -> Result<Daemon, LineCause>
+    ensures range { IfOk result (λ d. IsDaemon (Some d)) }
+    ensures text { IfOk result (λ d. codes "daemon" ∷ low.now ∷ turns.now ∷ [] ≡ daemon_words d) }
+    ensures err { IfErr result (λ cause. leftmost daemon_form
+        (codes "daemon" ∷ low.now ∷ turns.now ∷ []) ≡ Some cause) }
+{
+    let low = small(low, 1, 1..65)?;
+    let turns = small(turns, 1, 1..4097)?;
+    Ok(Daemon { low, turns })
 }
 
 /// The call that a line says, in a trace with this first line.

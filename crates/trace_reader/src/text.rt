@@ -1,13 +1,14 @@
 //! A trace's whole text.
-ghost use Rattle.std.specs.Prelude.{◌≡◌, ◌≤◌, ◌+◌, ◌∷◌, ◌++◌, [], All, Some, length, flat_map, codes, IfOk, IfErr, IsErrOf};
-ghost use Rattle.pager_model.specs.TraceText.{IsLine, IsTextOf, call_line, line_of_words};
-ghost use Rattle.trace_reader.specs.Forms.{call_forms};
-ghost use Rattle.trace_reader.specs.Refusals.{IsCause, calls_refusal, lines_of, refusal_of};
+ghost use Rattle.std.specs.Prelude.{◌≡◌, ◌≤◌, ◌+◌, ◌∷◌, ◌++◌, [], All, List, Some, length, flat_map, codes, IfOk, IfErr, IsErrOf};
+ghost use Rattle.pager_model.specs.TraceText.{IsDaemon, IsLine, IsTextOf, call_line, daemon_line, line_of_words};
+ghost use Rattle.trace_reader.specs.Forms.{Place, call_forms};
+ghost use Rattle.trace_reader.specs.Heads.{first_call};
+ghost use Rattle.trace_reader.specs.Refusals.{IsCause, calls_refusal, lines_of, refusal_of, second_refusal};
 
 use crate::fault::{LineCause, TraceFault};
-use crate::line::{Head, call, first_line};
+use crate::line::{Head, call, daemon, daemon_numbers, first_line};
 use crate::word::cut;
-use pager_model::{Line, Trace};
+use pager_model::{Daemon, Line, Trace};
 use std::alloc::Global;
 
 /// The most bytes that a trace's text has.
@@ -18,23 +19,47 @@ pub const MAX_CALLS: usize = 262_144;
 
 const END: &[u8] = b"end";
 
-/// The number of the line of the first call.
-const FIRST_CALL: u64 = 2;
+/// The daemon of the line behind a trace's first one, where that line is a daemon's, and the text of the lines of calls.
+fn second_line(text: &[u8]) -> Result<(Option<Daemon>, &[u8]), LineCause>
+    ensures range { IfOk result (λ parts. IsDaemon parts.0) }
+    ensures text { IfOk result (λ parts. text.now ≡ daemon_line parts.0 ++ parts.1.now) }
+    ensures rest { IfOk result (λ parts. (forms : List (List Place)) → second_refusal forms (lines_of text.now)
+        ≡ calls_refusal forms (first_call parts.0) 0 (lines_of parts.1.now)) }
+    ensures refused { IfErr result (λ cause. (forms : List (List Place))
+        → second_refusal forms (lines_of text.now) ≡ Some (TraceFault.Line 2 cause)) }
+{
+    let Some((line, rest)) = cut(text, b'\n') else {
+        return Ok((None, text));
+    };
+    let Some((low, turns)) = daemon_numbers(line) else {
+        return Ok((None, text));
+    };
+    let daemon = daemon(low, turns)?;
+    Ok((Some(daemon), rest))
+}
 
-/// The calls of the lines up to the line `end`, behind which nothing may stand.
-fn calls(alloc: Global, head: Head, text: &[u8]) -> Result<Vec<Line>, TraceFault>
+/// The number of the line of the first call.
+fn first_call(daemon: Option<Daemon>) -> u64
+    ensures { result ≡ first_call daemon }
+{
+    if daemon.is_some() { 3 } else { 2 }
+}
+
+/// The calls of the lines, of which the first has this number, up to the line `end`, behind which nothing may stand.
+fn calls(alloc: Global, head: Head, first: u64, text: &[u8]) -> Result<Vec<Line>, TraceFault>
+    requires { first ≤ 3 }
     ensures lines { IfOk result (λ calls. All (IsLine head.processors head.spaces) calls.items) }
     ensures few { IfOk result (λ calls. length calls.items ≤ MAX_CALLS) }
     ensures text { IfOk result
         (λ calls. text.now ≡ flat_map call_line calls.items ++ line_of_words (codes "end" ∷ [])) }
     ensures refused { IfErr result (λ fault. IsCause
-        (calls_refusal (call_forms head.processors head.spaces) 2 0 (lines_of text.now)) fault) }
+        (calls_refusal (call_forms head.processors head.spaces) first 0 (lines_of text.now)) fault) }
     ensures all_was_read { IsErrOf result TraceFault.ReadFault → ⊥ }
 {
     let mut calls = Vec::new(alloc);
     let mut rest = text;
     'lines: loop {
-        let number = FIRST_CALL + calls.len() as u64;
+        let number = first + calls.len() as u64;
         let Some((line, after)) = cut(rest, b'\n') else {
             return Err(TraceFault::NoEnd);
         };
@@ -75,6 +100,10 @@ pub fn parse(alloc: Global, text: &[u8]) -> Result<Trace, TraceFault>
         Ok(head) => head,
         Err(cause) => return Err(TraceFault::Line { number: 1, cause }),
     };
-    let calls = calls(alloc, head, rest)?;
-    Ok(Trace::of(head.frames, head.processors, head.spaces, None, calls))
+    let (daemon, rest) = match second_line(rest) {
+        Ok(parts) => parts,
+        Err(cause) => return Err(TraceFault::Line { number: 2, cause }),
+    };
+    let calls = calls(alloc, head, first_call(daemon), rest)?;
+    Ok(Trace::of(head.frames, head.processors, head.spaces, daemon, calls))
 }

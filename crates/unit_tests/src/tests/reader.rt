@@ -3,13 +3,19 @@ ghost use Rattle.std.specs.Prelude.{◌<◌};
 
 use super::NO_MEMORY;
 use io_core::{MemorySource, ReadFailed, Source};
-use pager_model::{Call, Kind, Line, Rights, Trace};
+use pager_model::{Call, Daemon, Kind, Line, Rights, Trace};
 use std::process::Abort;
 use trace_reader::LineCause::{After, Form, Number, Range};
 use trace_reader::{LineCause, MAX_BYTES, MAX_CALLS, TraceFault, parse, read_trace};
 
 /// A first line of two processors and three spaces.
 const FIRST: &[u8] = b"trace 1 512 2 3\n";
+
+/// The same with a daemon's line behind it.
+const WITH_DAEMON: &[u8] = b"trace 1 512 2 3\ndaemon 8 4\n";
+
+/// The same with a call's line behind it.
+const WITH_CALL: &[u8] = b"trace 1 512 2 3\n0 load 0 8\n";
 
 const END: &[u8] = b"end\n";
 
@@ -266,13 +272,47 @@ const LEFTMOST: &str = "\
     number: x map 9 0 0 fixed read\n\
     number: 0 store 0 x 18446744073709551616\n";
 
+/// Each place of a daemon's line.
+const DAEMONS: &str = "\
+    form: Daemon 1 1\n\
+    form: daemo 1 1\n\
+    form: daemons 1 1\n\
+    form: 0 daemon 1 1\n\
+    number: daemon x 1\n\
+    number: daemon 01 1\n\
+    number: daemon 18446744073709551616 1\n\
+    number: daemon  1\n\
+    range: daemon 0 1\n\
+    range: daemon 65 1\n\
+    range: daemon 4294967297 1\n\
+    number: daemon 1 x\n\
+    number: daemon 1 +1\n\
+    number: daemon 1 \n\
+    range: daemon 1 0\n\
+    range: daemon 1 4097\n\
+    range: daemon 1 4294967297\n\
+    number: daemon x 0\n\
+    range: daemon 0 x\n\
+    form: daemon\n\
+    form: daemon 1\n\
+    form: daemon 0 0 0\n\
+    form:  daemon 1 1\n\
+    form: daemon 1 1 \n";
+
+/// Lines of a daemon that may stand on the second line alone.
+const LATE_DAEMONS: &str = "\
+    form: daemon 1 1\n\
+    form: daemon x 1\n\
+    form: daemon 1 0\n";
+
 /// Lines that may not stand there, and words of lines in the place of a processor.
 const MISPLACED: &str = "\
     form: trace 1 512 2 3\n\
-    form: daemon 8 4\n\
     form: daemon 1 1 1\n\
     number: daemon load 0 8\n\
     number: end load 0 8\n\
+    number: trace load 0 8\n\
+    number: daemon unmap x x\n\
     form: end 0\n";
 
 /// Empty words, and bytes that stand in no word.
@@ -287,18 +327,21 @@ const BYTES: &str = "\
     number: +0 load 0 08\n";
 
 /// Texts without an end.
-static ENDLESS: [&[u8]; 7] = [
+static ENDLESS: [&[u8]; 10] = [
     b"",
     b"x",
     b"trace 1 500 1 1",
     b"trace 1 512 1 1\n",
     b"trace 1 512 1 1\nend",
     b"trace 1 512 1 1\nend \xff",
+    b"trace 1 512 1 1\ndaemon 1 1",
+    b"trace 1 512 1 1\ndaemon 1 x",
+    b"trace 1 512 1 1\ndaemon 1 1\n",
     b"trace 1 512 1 1\n0 load 0 8\nend0",
 ];
 
 /// Texts, each with the number of the line at fault and what is wrong with it.
-static TEXTS: [(&[u8], u64, LineCause); 14] = [
+static TEXTS: [(&[u8], u64, LineCause); 19] = [
     (b"\n", 1, Form),
     (b"\ntrace 1 512 1 1\nend\n", 1, Form),
     (b"trace 1 512 1 1\n\nend\n", 2, Form),
@@ -313,6 +356,11 @@ static TEXTS: [(&[u8], u64, LineCause); 14] = [
     // The first line at fault decides.
     (b"trace 1 512 1 1\n0 load 0 x\nload\nend\n", 2, Number),
     (b"trace 1 512 1 1\n0 load 0 9\nend\nend\n", 2, Range),
+    (b"trace 1 512 1 1\ndaemon 0 1\nload\n", 2, Range),
+    (b"trace 1 512 1 1\ndaemon 1 1\n0 load 0 x\n", 3, Number),
+    (b"trace 1 512 1 1\n0 load 0 8\n\ndaemon 1 1\n", 3, Form),
+    (b"trace 1 512 1 1\ndaemon 1 1\nend\n0", 4, After),
+    (b"trace 1 512 1 1\nend\ndaemon 1 1\n", 3, After),
     (b"trace 1 512 1 1\nend\n\n", 3, After),
     (b"trace 1 512 1 1\nend\n0", 3, After),
     (b"trace 1 512 1 1\nend\nend\n", 3, After),
@@ -365,7 +413,7 @@ static MESSAGES: [(TraceFault, &str); 10] = [
 
 /// A text whose last line alone is its end.
 const WHOLE: &[u8] =
-    b"trace 1 512 1 1\n0 map 0 0 16 fixed read\n0 map 0 8 8 fixed write\n0 map 0 1048575 2 fixed write\n0 grow 0 0 1\n0 unmap 0 16\n0 store 0 0 1\n0 protect 0 8 9 write\n0 evict 0 15\nend\n";
+    b"trace 1 512 1 1\ndaemon 64 4096\n0 map 0 0 16 fixed read\n0 map 0 8 8 fixed write\n0 map 0 1048575 2 fixed write\n0 grow 0 0 1\n0 unmap 0 16\n0 store 0 0 1\n0 protect 0 8 9 write\n0 evict 0 15\nend\n";
 
 /// Gives the byte `x` without end, one at a time.
 #[derive(Drop)]
@@ -462,6 +510,22 @@ fn reads_each_form_to_the_ends_of_its_ranges(rt: HostRuntime) {
     assert!(rt; calls_in(&rt, b"trace 1 32768 16 16\nend\n") == Ok(0));
 }
 
+/// The daemon of a text that is there as a whole.
+fn daemon_in<R: Abort + AllocGlobal>(rt: &R, text: &[u8]) -> Option<Daemon> {
+    parse(rt.alloc(), text).ok().expect(rt, "refused").daemon()
+}
+
+#[test]
+fn reads_a_daemon_to_the_ends_of_its_ranges(rt: HostRuntime) {
+    let least = Daemon { low: 1, turns: 1 };
+    assert!(rt; daemon_in(&rt, b"trace 1 512 1 1\ndaemon 1 1\nend\n") == Some(least));
+    let most = Daemon {
+        low: 64,
+        turns: 4096,
+    };
+    assert!(rt; daemon_in(&rt, WHOLE) == Some(most));
+}
+
 /// What is wrong with a line, and the line.
 fn read_row(row: &str) -> (LineCause, &str) {
     let (cause, line) = row.split_once(": ").unwrap_or(("", row));
@@ -488,7 +552,12 @@ fn tells_the_leftmost_place_at_fault(rt: HostRuntime) {
     assert_lines_at_fault(&rt, b"", 1, FIRST_LINES);
     assert_lines_at_fault(&rt, FIRST, 2, PLACES);
     assert_lines_at_fault(&rt, FIRST, 2, LEFTMOST);
+    assert_lines_at_fault(&rt, FIRST, 2, DAEMONS);
+    assert_lines_at_fault(&rt, WITH_DAEMON, 3, LATE_DAEMONS);
+    assert_lines_at_fault(&rt, WITH_CALL, 3, LATE_DAEMONS);
     assert_lines_at_fault(&rt, FIRST, 2, MISPLACED);
+    assert_lines_at_fault(&rt, WITH_DAEMON, 3, MISPLACED);
+    assert_lines_at_fault(&rt, WITH_CALL, 3, MISPLACED);
     assert_lines_at_fault(&rt, FIRST, 2, BYTES);
 }
 
@@ -545,9 +614,9 @@ fn makes_as_many_reads_as_a_text_may_have_bytes_and_one_more(rt: HostRuntime) {
     assert!(rt; fault == Some(TraceFault::TooLong) && endless.reads == 16_777_217);
 }
 
-/// A first line and as many calls as a trace may have.
+/// A first line, a daemon's, and as many calls as a trace may have.
 fn full_text<R: Abort + AllocGlobal>(rt: &R) -> Vec<u8> {
-    let mut text = b"trace 1 512 1 1\n"
+    let mut text = b"trace 1 512 1 1\ndaemon 1 1\n"
         .to_vec(rt.alloc())
         .expect(rt, NO_MEMORY);
     for _ in 0..MAX_CALLS {
@@ -564,7 +633,7 @@ fn takes_as_many_calls_as_a_trace_may_have(rt: HostRuntime) {
     let more = calls_in(&rt, &between(&rt, &full, b"0 load 0 0", b"bad\n"));
     assert!(rt; more == Err(TraceFault::TooManyCalls));
     let bad = calls_in(&rt, &between(&rt, &full, b"0 load 0 1", b"0 load 0 0\n"));
-    assert!(rt; bad == Err(line(262_146, Range)));
+    assert!(rt; bad == Err(line(262_147, Range)));
 }
 
 /// What is told where one read of a text with a bad line fails.

@@ -7,7 +7,7 @@ use Rattle.pager_model.specs.Settings.{mark_of}
 use Rattle.pager_model.specs.Stores.{StoresEnd}
 use Rattle.pager_core.specs.Running.{IsWholeRun}
 use Rattle.replay_core.specs.declared.jobs.Job.{Job}
-use Rattle.replay_core.specs.Jobs.{HaveMade, calls_in}
+use Rattle.replay_core.specs.Jobs.{HaveMade, calls_in, making}
 use Rattle.replay_core.proofs.JobLemmas.{journals_done, processors_done, rooms_done, whole_done, run_done}
 use Rattle.replay_core.proofs.jobs.run_jobs.Goals as goal
 
@@ -51,7 +51,7 @@ close-requires-clause-room g c =
 
 pub returns-clause-run : goal.returns-clause-run
 returns-clause-run g c =
-    subst (λ (j : JournalName). IsWholeRun j.setting (calls_in c.args.jobs.items) c.close.result.history.items) (sym c.requires.named)
+    subst (λ (j : JournalName). IsWholeRun j.setting (making (calls_in c.args.jobs.items)) c.close.result.history.items) (sym c.requires.named)
     (run_done g.N.Named.journal (calls_in c.args.jobs.items) c.make_all-passes.result.items
     (of_jobs g.N.Named.journal _ _ _ c.as_mut_slice.ensures.value c.make_all-passes.ensures)
     c.close.result.history.items c.close.ensures.numbered c.close.ensures.history.legal c.close.ensures.passes

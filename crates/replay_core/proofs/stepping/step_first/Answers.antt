@@ -8,8 +8,8 @@ use Rattle.replay_core.proofs.stepping.step_first.Goals as goal
 pub turn-requires-after_bounds : goal.turn-requires-after_bounds
 turn-requires-after_bounds g c κs within =
     let actors = c.args.actors.now in
-    subst (λ (r : Running). get_or actors c.loop-actor.actor-index 0 < length r.calls) (sym c.loop-actor.invariant.0)
-    (all_at (λ x. x < length c.args.machine.now.calls) actors c.loop-actor.actor-index 0 c.requires.known c.loop-actor-test.true)
+    subst (λ (r : Running). get_or actors c.loop-actor.actor-index 0 < length r.jobs) (sym c.loop-actor.invariant.0)
+    (all_at (λ x. x < length c.args.machine.now.jobs) actors c.loop-actor.actor-index 0 c.requires.known c.loop-actor-test.true)
 
 pub returns-in-Stepped : goal.returns-in-Stepped
 returns-in-Stepped g c =
@@ -17,7 +17,7 @@ returns-in-Stepped g c =
     let turn = c.turn.ensures in
     FirstStepped-at c.args.machine.now now c.turn.new.self c.args.actors.now c.loop-actor.actor-index c.loop-actor.invariant.0 c.loop-actor-test.true c.loop-actor.invariant.1
     (free_by now (get_or c.args.actors.now c.loop-actor.actor-index 0) c.turn.result turn.not_ended turn.not_waiting c.in-Stepped.is)
-    (turn.stepped c.in-Stepped.is) turn.same_calls turn.same_unused turn.lawful
+    (turn.stepped c.in-Stepped.is) turn.same_jobs turn.same_unused turn.lawful
 
 pub loop-actor-preserved : goal.loop-actor-preserved
 loop-actor-preserved g c =

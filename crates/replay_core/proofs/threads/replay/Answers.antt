@@ -26,7 +26,7 @@ run_jobs-history-requires-clause-prepared g c κs within =
 pub returns-in-Ok-create-clause-run : goal.returns-in-Ok-create-clause-run
 returns-in-Ok-create-clause-run g c =
     let ran = c.run_jobs-history in
-    replayed g.S.Store.seen (are_parted c.args.trace.now c.requires.enough c.spaces.ensures.spaces c.in_ok-own.ensures.parts) c.in-Ok.ensures.text c.in-Ok-create.prepared.journal.name.setting
+    replayed g.S.Store.seen (are_parted c.args.trace.now c.requires.enough c.spaces.ensures.spaces c.in_ok-own.ensures.parts) c.in-Ok.ensures.text c.requires.no_daemon c.in-Ok-create.prepared.journal.name.setting
     (setting_made c.args.trace.now (map g.S.Store.seen c.in_ok-own.own.items) c.in-Ok-create.ensures.setting c.frames-frames.ensures.frames c.as_slice.ensures.value c.in-Ok.ensures.marks)
     (calls_in c.in-Ok.field-0.jobs.items) ran.result.history.items ran.result.stores.items c.joined.result.items
     c.joined.ensures c.in-Ok.ensures.calls c.in-Ok-create.ensures.capped ran.ensures.run ran.ensures.stores ran.ensures.count
@@ -34,7 +34,7 @@ returns-in-Ok-create-clause-run g c =
 pub returns-in-Ok-create-clause-counts : goal.returns-in-Ok-create-clause-counts
 returns-in-Ok-create-clause-counts g c =
     let ran = c.run_jobs-history in
-    counted g.S.Store.seen (are_parted c.args.trace.now c.requires.enough c.spaces.ensures.spaces c.in_ok-own.ensures.parts) c.in-Ok.ensures.text c.in-Ok-create.prepared.journal.name.setting
+    counted g.S.Store.seen (are_parted c.args.trace.now c.requires.enough c.spaces.ensures.spaces c.in_ok-own.ensures.parts) c.in-Ok.ensures.text c.requires.no_daemon c.in-Ok-create.prepared.journal.name.setting
     (setting_made c.args.trace.now (map g.S.Store.seen c.in_ok-own.own.items) c.in-Ok-create.ensures.setting c.frames-frames.ensures.frames c.as_slice.ensures.value c.in-Ok.ensures.marks)
     ran.result.history.items ran.result.summary ran.ensures.summary
 

@@ -3,8 +3,9 @@ use Rattle.std.proofs.Math.ListN.{length-map}
 use Rattle.std.proofs.lemmas.Bool.{true≢false}
 use Rattle.pager_model.specs.Legal.{entries_in}
 use Rattle.pager_model.specs.TurnOrders.{IsSeeded}
+use Rattle.pager_core.proofs.StartMachines.{actors_few}
 use Rattle.replay_core.specs.Replays.{IsReplay}
-use Rattle.replay_core.proofs.RunLemmas.{length-calls, IsReplay-whole, AreItsCounts-whole}
+use Rattle.replay_core.proofs.RunLemmas.{length-jobs, IsReplay-whole, AreItsCounts-whole}
 use Rattle.replay_core.proofs.OrderLemmas.{Drawing, Drawing-start, Drawing-step, fewer_drawn}
 use Rattle.replay_core.proofs.turns.replay_turns.Goals as goal
 
@@ -13,15 +14,15 @@ loop-generator-init g c =
     let made = c.in_ok-machine.ensures.made in
     let stores = map g.S.Store.seen c.args.stores.items in
     subst (Drawing c.args.trace.now stores c.args.seed c.in_ok-machine.machine) (sym c.of-generator.ensures)
-    (Drawing-start c.args.trace.now stores c.args.seed c.in_ok-machine.machine (record { given = made.0; unused = c.in_ok-machine.ensures.unused; calls = made.2; lawful = made.4 }) made.1)
+    (Drawing-start c.args.trace.now stores c.args.seed c.in_ok-machine.machine (record { given = made.0; unused = c.in_ok-machine.ensures.unused; jobs = made.2; lawful = made.4 }) made.1)
 
 pub step_drawn-requires-clause-all : goal.step_drawn-requires-clause-all
-step_drawn-requires-clause-all g c κs within = length-calls c.args.trace.now c.loop-generator.machine.calls c.loop-generator.invariant.of.calls ∙ sym c.processors-processors.ensures.processors
+step_drawn-requires-clause-all g c κs within = length-jobs c.args.trace.now c.loop-generator.machine.jobs c.loop-generator.invariant.of.jobs ∙ sym c.actors-actors.ensures.actors
 
 pub step_drawn-requires-clause-few : goal.step_drawn-requires-clause-few
 step_drawn-requires-clause-few g c κs within =
-    let few = c.processors-processors.ensures.text.processors_in.1 in
-    omega (arith, few, c.processors-processors.ensures.processors)
+    let few = actors_few c.args.trace.now c.actors-actors.ensures.text in
+    omega (arith, few, c.actors-actors.ensures.actors)
 
 pub step_drawn-requires-clause-going : goal.step_drawn-requires-clause-going
 step_drawn-requires-clause-going g c κs within = λ ended. true≢false (sym (c.ended.ensures.ended.1 ended) ∙ c.loop-generator-test.true)
@@ -41,7 +42,7 @@ pub returns-clause-run : goal.returns-clause-run
 returns-clause-run g c =
     let seen = map g.S.Store.seen in
     subst (λ h. IsReplay c.args.trace.now (seen c.args.stores.items) h (seen c.finish.result.stores.items)) (sym c.finish.ensures.history)
-    (IsReplay-whole c.args.trace.now (seen c.args.stores.items) (seen c.finish.result.stores.items) c.loop-generator.machine (subst (λ n. c.args.trace.now.spaces ≤ n) (sym (length-map c.args.stores.items g.S.Store.seen)) c.requires.enough) c.in_ok-machine.ensures.capped c.loop-generator.invariant.of c.finish.ensures.run c.finish.ensures.stores c.finish.ensures.unused)
+    (IsReplay-whole c.args.trace.now c.actors-actors.ensures.text (seen c.args.stores.items) (seen c.finish.result.stores.items) c.loop-generator.machine (subst (λ n. c.args.trace.now.spaces ≤ n) (sym (length-map c.args.stores.items g.S.Store.seen)) c.requires.enough) c.in_ok-machine.ensures.capped c.loop-generator.invariant.of c.finish.ensures.run c.finish.ensures.stores c.finish.ensures.unused)
 
 pub returns-clause-seeded : goal.returns-clause-seeded
 returns-clause-seeded g c = subst (λ h. IsSeeded c.args.trace.now c.args.seed (entries_in h)) (sym c.finish.ensures.history) c.loop-generator.invariant.seeded

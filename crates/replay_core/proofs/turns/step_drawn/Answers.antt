@@ -21,8 +21,8 @@ pub step_first-requires-clause-known : goal.step_first-requires-clause-known
 step_first-requires-clause-known g c κs within =
     let run = c.args.machine.now in
     let order = read_turned c.left_in-left.result _ (flying_in run) c.as_mut_slice.result.now c.rotate_left.new.self c.as_slice.result.now c.left_in-left.ensures c.as_mut_slice.ensures.value c.rotate_left.ensures.len c.rotate_left.ensures.after c.as_slice.ensures.value in
-    subst (AllByRecursion (λ x. x < length run.calls)) (sym order)
-    (all_turned (λ x. x < length run.calls) _ (flying_in run) (flying_known run))
+    subst (AllByRecursion (λ x. x < length run.jobs)) (sym order)
+    (all_turned (λ x. x < length run.jobs) _ (flying_in run) (flying_known run))
 
 pub step_first-requires-clause-some : goal.step_first-requires-clause-some
 step_first-requires-clause-some g c κs within stuck =

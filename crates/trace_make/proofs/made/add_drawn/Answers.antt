@@ -1,4 +1,4 @@
-use Rattle.std.proofs.Common.{◌≡◌, ◌-◌, ◌+◌, ◌++◌, ◌∷◌, [], ap, subst, sym, ◌∙◌}
+use Rattle.std.proofs.Common.{◌-◌, ◌+◌, ◌++◌, ◌∷◌, [], ap, ◌∙◌}
 use Rattle.trace_make.specs.Made.{drawn_line, drawn_lines}
 use Rattle.trace_make.proofs.MadeLines.{lines_more}
 use Rattle.trace_make.proofs.made.add_drawn.Goals as goal

@@ -1,4 +1,4 @@
-use Rattle.std.proofs.Common.{[], ◌∷◌, ◌++◌, codes, decimal, ap, ◌∙◌, refl}
+use Rattle.std.proofs.Common.{[], ◌∷◌, ◌++◌, codes, decimal, ap, ◌∙◌}
 use Rattle.report_text.specs.Lines.{spaced}
 use Rattle.report_text.proofs.Lines.{line-ended}
 use Rattle.trace_make.proofs.written.line_of_first.Goals as goal

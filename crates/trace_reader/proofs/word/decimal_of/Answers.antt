@@ -1,4 +1,4 @@
-use Rattle.std.proofs.Common.{◌≡◌, ◌<◌, ◌+◌, ◌-◌, ◌≤◌, ℕ, Some, arith, inl, inr, ap, length, rules, subst, sym, take, ◌∙◌}
+use Rattle.std.proofs.Common.{◌≡◌, Some, arith, ap, rules, sym, take, ◌∙◌}
 use Rattle.std.specs.Str.Parse.{digits_value}
 use Rattle.std.proofs.lemmas.Grind.{common_steps}
 use Rattle.trace_reader.proofs.Numbers.{digits_more, number_of-zeros, number_of-other, number_of-large, number_of-digits}

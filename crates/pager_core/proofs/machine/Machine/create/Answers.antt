@@ -33,12 +33,12 @@ turned g c = rooms_turned g.S.Store.seen c.args.trace.now c.args.stores.items _ 
 given : (g : Over) (c : goal.After-over-spaces g) → c.in-Ok.parts.room.setting ≡ setting_over c.args.trace.now (map g.S.Store.seen c.args.stores.items)
 given g c = c.in-Ok.ensures.setting ∙ ap (λ l. setting_over c.args.trace.now (map g.S.Store.seen l)) c.as_slice.ensures.value
 
-started : (g : Over) (c : goal.After-over-spaces g) → IsMachine (record { given = c.in-Ok.parts.room.setting; calls = map (λ v. v.items) c.in-Ok.parts.calls.items; flights = c.in-Ok.parts.flights.items; history = c.in-Ok.parts.history.items; unused = map g.S.Store.seen (reverse c.over-spaces.new.stores.items) }) c.over-spaces.result.items c.in-Ok.parts.room.pool c.in-Ok.parts.history.cap
+started : (g : Over) (c : goal.After-over-spaces g) → IsMachine (record { given = c.in-Ok.parts.room.setting; jobs = map (λ v. v.items) c.in-Ok.parts.jobs.items; flights = c.in-Ok.parts.flights.items; history = c.in-Ok.parts.history.items; unused = map g.S.Store.seen (reverse c.over-spaces.new.stores.items) }) c.over-spaces.result.items c.in-Ok.parts.room.pool c.in-Ok.parts.history.cap
 started g c =
     let parts = c.in-Ok.ensures in
     IsMachine-started c.args.trace.now parts.text (map g.S.Store.seen c.args.stores.items) (known g.S.Store.seen c.args.trace.now c.args.stores.items c.requires.enough)
     _ c.over-spaces.result.items c.in-Ok.parts.room.pool _
-    (given g c) parts.calls parts.flights parts.history.0 (c.over-spaces.ensures.new c.in-Ok.parts.room.setting (turned g c).over) parts.pool parts.history.1
+    (given g c) parts.jobs parts.flights parts.history.0 (c.over-spaces.ensures.new c.in-Ok.parts.room.setting (turned g c).over) parts.pool parts.history.1
 
 pub invariant_of-result : goal.invariant_of-result
 invariant_of-result g c =
@@ -51,7 +51,7 @@ invariant_of-result g c =
 pub returns-clause-made : goal.returns-clause-made
 returns-clause-made g c =
     let parts = c.in-Ok.ensures in
-    (given g c, parts.history.0, parts.calls, parts.flights, (started g c).lawful)
+    (given g c, parts.history.0, parts.jobs, parts.flights, (started g c).lawful)
 
 pub returns-clause-laws : goal.returns-clause-laws
 returns-clause-laws g c = KeepsLaws-legal _ _ (started g c).lawful.legal

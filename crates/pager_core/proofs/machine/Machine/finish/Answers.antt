@@ -16,7 +16,7 @@ of-requires-clause-few g c κs within =
 pub returns-clause-run : goal.returns-clause-run
 returns-clause-run g c =
     let i = c.self.inside in
-    subst (λ (m : Running). IsWholeRun m.given m.calls m.history) c.self.view_is
+    subst (λ (m : Running). IsWholeRun m.given m.jobs m.history) c.self.view_is
     (IsWholeRun-ended _ i.spaces.items i.pool _ c.self.invariant.0 (subst HasEnded (sym c.self.view_is) c.requires))
 
 pub returns-clause-stores : goal.returns-clause-stores

@@ -1,0 +1,131 @@
+use Rattle.std.proofs.Common.{◌≡◌, ℕ, length, map, reverse, refl, sym, ap, ◌∙◌, arith}
+use Rattle.std.proofs.Math.ListN.{set, length-set, length-map}
+use Rattle.pager_model.specs.Legal.{space_at, entries_in}
+use Rattle.pager_core.specs.Running.{Running}
+use Rattle.pager_laws.proofs.KeptLaws.{KeepsLaws-legal}
+use Rattle.pager_core.proofs.Laws.{KeepsLaws-machine}
+use Rattle.pager_core.proofs.MachineTurns.{Goes}
+use Rattle.pager_core.proofs.ReadyFlights.{number-few, OwnsBy-machine, entries-below, known-machine, space_within}
+use Rattle.pager_core.proofs.WholeTurns.{flies_in, finds, jobs_read, Goes-of, IsMachine-turned, IsLawful-turned, OneMore-turned}
+use Rattle.pager_core.proofs.machine.Machine.turn_in.Given.{Over}
+use Rattle.pager_core.proofs.machine.Machine.turn_in.Goals as goal
+
+pub index_mut-requires : goal.index_mut-requires
+index_mut-requires g c =
+    let i = c.self.inside in
+    let below = space_within _ i.spaces.items i.pool _ c.args.actor c.args.flight c.self.invariant.0 (flies_in _ c.args.self.now c.args.actor c.args.flight c.self.view_is c.requires.flies) c.args.space c.requires.under in
+    omega (arith, below, i.spaces.ok.0)
+
+pub next_entry-entry-requires-clause-ready : goal.next_entry-entry-requires-clause-ready
+next_entry-entry-requires-clause-ready g c κs within =
+    let i = c.self.inside in
+    let found = finds _ c.args.self.now i.spaces.items i.pool _ c.args.actor c.args.space c.args.flight c.index_mut.result.now c.as_slice.result.now
+    c.self.invariant.0 c.self.view_is c.requires.flies c.requires.under c.index_mut.ensures.value c.as_slice.ensures.value c.if-is_kept_by_other.ensures.1 in
+    (space_at i.setting (entries_in i.history.items) c.args.space, found.ready)
+
+pub next_entry-entry-requires-clause-going : goal.next_entry-entry-requires-clause-going
+next_entry-entry-requires-clause-going g c κs within =
+    (c.self.invariant.0.flights c.args.actor c.args.flight (flies_in _ c.args.self.now c.args.actor c.args.flight c.self.view_is c.requires.flies)).going
+
+pub next_entry-entry-requires-clause-agree : goal.next_entry-entry-requires-clause-agree
+next_entry-entry-requires-clause-agree g c κs within =
+    let i = c.self.inside in
+    let found = finds _ c.args.self.now i.spaces.items i.pool _ c.args.actor c.args.space c.args.flight c.index_mut.result.now c.as_slice.result.now
+    c.self.invariant.0 c.self.view_is c.requires.flies c.requires.under c.index_mut.ensures.value c.as_slice.ensures.value c.if-is_kept_by_other.ensures.1 in
+    found.agreed
+
+pub next_entry-entry-requires-clause-image : goal.next_entry-entry-requires-clause-image
+next_entry-entry-requires-clause-image g c κs within =
+    let i = c.self.inside in
+    let found = finds _ c.args.self.now i.spaces.items i.pool _ c.args.actor c.args.space c.args.flight c.index_mut.result.now c.as_slice.result.now
+    c.self.invariant.0 c.self.view_is c.requires.flies c.requires.under c.index_mut.ensures.value c.as_slice.ensures.value c.if-is_kept_by_other.ensures.1 in
+    found.image
+
+pub next_entry-entry-requires-clause-owns : goal.next_entry-entry-requires-clause-owns
+next_entry-entry-requires-clause-owns g c κs within =
+    let i = c.self.inside in
+    OwnsBy-machine _ i.spaces.items i.pool _ c.args.actor c.args.flight c.self.invariant.0 (flies_in _ c.args.self.now c.args.actor c.args.flight c.self.view_is c.requires.flies)
+
+pub next_entry-entry-requires-clause-room : goal.next_entry-entry-requires-clause-room
+next_entry-entry-requires-clause-room g c κs within =
+    let i = c.self.inside in
+    entries-below _ i.spaces.items i.pool _ c.args.actor c.args.flight c.self.invariant.0 (flies_in _ c.args.self.now c.args.actor c.args.flight c.self.view_is c.requires.flies)
+
+pub next_entry-entry-requires-clause-known : goal.next_entry-entry-requires-clause-known
+next_entry-entry-requires-clause-known g c κs within =
+    let i = c.self.inside in
+    known-machine _ i.spaces.items i.pool _ c.args.actor c.args.flight c.self.invariant.0 (flies_in _ c.args.self.now c.args.actor c.args.flight c.self.view_is c.requires.flies)
+
+pub push_reserved-requires : goal.push_reserved-requires
+push_reserved-requires g c =
+    let i = c.self.inside in
+    let found = finds _ c.args.self.now i.spaces.items i.pool _ c.args.actor c.args.space c.args.flight c.index_mut.result.now c.as_slice.result.now
+    c.self.invariant.0 c.self.view_is c.requires.flies c.requires.under c.index_mut.ensures.value c.as_slice.ensures.value c.if-is_kept_by_other.ensures.1 in
+    let room = found.room c.next_entry-entry.new.flight c.next_entry-entry.new.space c.next_entry-entry.new.pool c.next_entry-entry.result (c.next_entry-entry.ensures.made _ found.ready) in
+    omega (arith, room, i.history.ok.0)
+
+pub going_on-requires : goal.going_on-requires
+going_on-requires g c =
+    let i = c.self.inside in
+    let found = finds _ c.args.self.now i.spaces.items i.pool _ c.args.actor c.args.space c.args.flight c.index_mut.result.now c.as_slice.result.now
+    c.self.invariant.0 c.self.view_is c.requires.flies c.requires.under c.index_mut.ensures.value c.as_slice.ensures.value c.if-is_kept_by_other.ensures.1 in
+    let few = number-few _ i.spaces.items i.pool _ c.args.actor c.args.flight c.self.invariant.0 found.flies in
+    let same = (c.next_entry-entry.ensures.made (space_at i.setting (entries_in i.history.items) c.args.space) found.ready).entry.same_work.number in
+    omega (arith, few, same)
+
+-- the machine before the turn
+abbrev before : (g : Over) → goal.After-self-2-1 g → Running
+before g c =
+    let i = c.self.inside in
+    record { given = i.setting; jobs = map (λ v. v.items) i.jobs.items; flights = i.flights.items; history = i.history.items; unused = map g.S.Store.seen (reverse i.stores.items) }
+
+-- and after it
+abbrev after : (g : Over) → goal.After-self-2-1 g → Running
+after g c =
+    let i = c.self.inside in
+    record { given = i.setting; jobs = map (λ v. v.items) i.jobs.items; flights = set i.flights.items c.args.actor c.going_on.result; history = c.push_reserved.new.self.items; unused = map g.S.Store.seen (reverse i.stores.items) }
+
+-- what the turn did
+goes : (g : Over) (c : goal.After-self-2-1 g) → Goes (before g c) c.self.inside.spaces.items (set c.self.inside.spaces.items c.args.space c.next_entry-entry.new.space) c.self.inside.pool c.next_entry-entry.new.pool c.args.actor c.len-number.result c.args.flight c.next_entry-entry.new.flight c.next_entry-entry.result c.going_on.result
+goes g c =
+    let i = c.self.inside in
+    let run = before g c in
+    let found = finds run c.args.self.now i.spaces.items i.pool _ c.args.actor c.args.space c.args.flight c.index_mut.result.now c.as_slice.result.now
+    c.self.invariant.0 c.self.view_is c.requires.flies c.requires.under c.index_mut.ensures.value c.as_slice.ensures.value c.if-is_kept_by_other.ensures.1 in
+    let jobs : length run.jobs ≡ length c.args.self.now.jobs = ap (λ (r : Running). length r.jobs) c.self.view_is in
+    let count = length-map i.jobs.items (λ v. v.items) in
+    Goes-of run i.spaces.items i.pool c.next_entry-entry.new.pool _ c.args.actor c.len-number.result c.args.flight c.next_entry-entry.new.flight c.next_entry-entry.result c.going_on.result
+    c.args.space c.index_mut.result.now c.next_entry-entry.new.space
+    c.self.invariant.0 found (omega (arith, c.len-number.ensures, i.history.ok.0)) (c.next_entry-entry.ensures.made _ found.ready)
+    c.as_slice-2.result.now (c.as_slice-2.ensures.value ∙ jobs_read (λ v. v.items) i.jobs.items c.args.actor c.index.result.now (omega (arith, jobs, count, c.requires.actor)) c.index.ensures) c.going_on.ensures.going c.going_on.ensures.next
+
+pub invariant_of-self : goal.invariant_of-self
+invariant_of-self g c =
+    let i = c.self.inside in
+    let same = length-set i.spaces.items c.args.space c.next_entry-entry.new.space in
+    let room = c.self.invariant.1 in (
+      IsMachine-turned (before g c) i.spaces.items (set i.spaces.items c.args.space c.next_entry-entry.new.space) i.pool c.next_entry-entry.new.pool _ c.args.actor c.len-number.result c.args.flight c.next_entry-entry.new.flight c.next_entry-entry.result c.going_on.result
+          c.self.invariant.0 (goes g c) (after g c) _
+          refl refl refl c.push_reserved.ensures.items refl c.push_reserved.ensures.capacity,
+      omega (arith, room, same),
+    )
+
+pub returns-clause-stepped : goal.returns-clause-stepped
+returns-clause-stepped g c = λ is.
+    let i = c.self.inside in
+    OneMore-turned (before g c) i.spaces.items (set i.spaces.items c.args.space c.next_entry-entry.new.space) i.pool c.next_entry-entry.new.pool _ c.args.actor c.len-number.result c.args.flight c.next_entry-entry.new.flight c.next_entry-entry.result c.going_on.result
+    c.self.invariant.0 (goes g c) c.args.self.now (after g c) c.self.view_is refl refl c.push_reserved.ensures.items
+
+pub returns-clause-lawful : goal.returns-clause-lawful
+returns-clause-lawful g c =
+    let i = c.self.inside in
+    IsLawful-turned (before g c) i.spaces.items (set i.spaces.items c.args.space c.next_entry-entry.new.space) i.pool c.next_entry-entry.new.pool _ c.args.actor c.len-number.result c.args.flight c.next_entry-entry.new.flight c.next_entry-entry.result c.going_on.result
+    c.self.invariant.0 (goes g c) (after g c)
+    refl refl refl c.push_reserved.ensures.items refl
+
+-- the laws, where the actor waits, and after an entry
+pub returns-then-is_kept_by_other-clause-laws : goal.returns-then-is_kept_by_other-clause-laws
+returns-then-is_kept_by_other-clause-laws g c = KeepsLaws-machine _ c.args.self.now c.self.inside.spaces.items c.self.inside.pool _ c.self.invariant.0 c.self.view_is
+
+pub returns-clause-laws : goal.returns-clause-laws
+returns-clause-laws g c = KeepsLaws-legal _ _ (returns-clause-lawful g c).legal
