@@ -59,7 +59,7 @@ IsForm words = (form : Form) × AreWords words form
 -- the history comes in the order of the form: of the lines, or of turns that are drawn from the seed; nothing is said of the order in
 -- which threads come to the locks
 abbrev pub ComesBy : Form → Plan → List Entry → Type 0
-ComesBy (Order parts) plan history = IsFiled plan.calls history
+ComesBy (Order parts) plan history = IsFiled plan history
 ComesBy (Turns seed parts) plan history = IsSeeded plan seed history
 ComesBy (Replay parts) plan history = Unit {0}
 

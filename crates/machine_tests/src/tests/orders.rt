@@ -1,6 +1,7 @@
 //! Runs of short traces, in each of the three orders.
 ghost use Rattle.std.specs.Prelude.{◌≡◌, ◌<◌, IfOk, length};
 ghost use Rattle.std.specs.List.{All};
+ghost use Rattle.pager_model.specs.Showing.{actors};
 
 mod silent;
 
@@ -32,7 +33,7 @@ const LOAD: Call = Call::Load {
 
 /// A map and a store of the first processor, and a load of the second, on one space.
 fn two_processors(alloc: Global) -> Result<Trace, NoMemory>
-    ensures { IfOk result (λ t. (t.processors ≡ 2) × (t.spaces ≡ 1)) }
+    ensures { IfOk result (λ t. (actors t ≡ 2) × (t.spaces ≡ 1)) }
 {
     let lines = [
         Line {
@@ -81,7 +82,7 @@ fn drawn(alloc: Global, trace: &Trace, seed: u64) -> Result<Gathered<Silent>, No
 
 /// Runs a trace of two processors and one space in the turns of a schedule.
 fn scheduled(alloc: Global, trace: &Trace, schedule: &[u32]) -> Result<Gathered<Silent>, NoMemory>
-    requires processors { trace.now.processors ≡ 2 }
+    requires actors { actors trace.now ≡ 2 }
     requires spaces { trace.now.spaces ≡ 1 }
     requires known { All (λ n. n < 2) schedule.now }
 {

@@ -1,6 +1,7 @@
 //! Machines with few frames left, over stores that may fail: their histories, entry by entry, and their counts are the recorded ones.
 ghost use Rattle.std.specs.Prelude.{◌<◌, IfOk};
 ghost use Rattle.std.specs.List.{All};
+ghost use Rattle.pager_model.specs.Showing.{actors};
 
 use super::drawn::{FIRST, FOURTH, SECOND, THIRD};
 use super::fills::FILLS;
@@ -130,15 +131,15 @@ fn turns_of(
     alloc: Global,
     before: usize,
     digits: &str,
-    processors: u32,
+    actors: u32,
 ) -> Result<Vec<u32>, AllocError>
-    requires some { 0 < processors }
-    ensures known { IfOk result (λ turns. All (λ c. c < processors) turns.items) }
+    requires some { 0 < actors }
+    ensures known { IfOk result (λ turns. All (λ c. c < actors) turns.items) }
 {
     let mut turns = vec![in alloc; 0; before]?;
     for digit in digits.bytes() {
         // The digit 0 is byte 48, a multiple of 16.
-        turns.push(u32::from(digit) % 16 % processors)?;
+        turns.push(u32::from(digit) % 16 % actors)?;
     }
     Ok(turns)
 }
@@ -192,7 +193,7 @@ fn report_over<S: Store + Send + Drop>(
     stores: Vec<S>,
     turns: &[u32],
 ) -> Result<String, Fail>
-    requires known { All (λ c. c < trace.now.processors) turns.now }
+    requires known { All (λ c. c < actors trace.now) turns.now }
 {
     if stores.len() < trace.spaces() as usize {
         return Err(Fail::from("too few stores"));
@@ -208,7 +209,7 @@ fn report_of_run(alloc: Global, run: &Run<'_>, fill: &Fill<'_>) -> Result<String
     let text = text_of(alloc, run, fill)?;
     let trace = read_text(alloc, text.as_str())?;
     let spaces = trace.spaces();
-    let turns = turns_of(alloc, fill.entries, run.turns, trace.processors())?;
+    let turns = turns_of(alloc, fill.entries, run.turns, trace.actors())?;
     if run.writes == "full" {
         report_over(alloc, &trace, full_stores(alloc, spaces)?, &turns)
     } else {

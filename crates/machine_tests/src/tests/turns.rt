@@ -1,6 +1,7 @@
 //! A machine by a list of turns: which turns made an entry, waited or found nothing left, and the history, entry by entry as it was
 //! recorded.
 ghost use Rattle.std.specs.Prelude.{◌≡◌, ◌<◌, IfOk, length};
+ghost use Rattle.pager_model.specs.Showing.{actors};
 
 use super::lines::{assert_recorded, report_of};
 use super::recorded::{COUNTS, HISTORY, TRACE};
@@ -26,7 +27,7 @@ struct Counts {
 
 /// A machine at the start of the trace, over empty stores.
 fn machine_of(alloc: Global, trace: &Trace) -> Result<Machine<MemoryStore>, Fail>
-    ensures { IfOk result (λ m. length m.calls ≡ trace.now.processors) }
+    ensures { IfOk result (λ m. length m.jobs ≡ actors trace.now) }
 {
     let mut stores = Vec::new(alloc);
     stores.resize_with(trace.spaces() as usize, || {
@@ -49,10 +50,10 @@ fn draw(random: &mut u64, limit: u32) -> u32
     (*random >> 33) as u32 % limit
 }
 
-/// Takes so many turns, each of a processor that is drawn.
-fn take_turns(machine: &mut Machine<MemoryStore>, processors: u32, turns: u32) -> Counts
-    requires known { length machine.old.calls ≡ processors }
-    requires some { 0 < processors }
+/// Takes so many turns, each of a processor that is drawn, the daemon among them.
+fn take_turns(machine: &mut Machine<MemoryStore>, actors: u32, turns: u32) -> Counts
+    requires known { length machine.old.jobs ≡ actors }
+    requires some { 0 < actors }
 {
     let mut random = SEED;
     let mut counts = Counts {
@@ -61,7 +62,7 @@ fn take_turns(machine: &mut Machine<MemoryStore>, processors: u32, turns: u32) -
         ended: 0,
     };
     for _ in 0..turns {
-        match machine.turn(draw(&mut random, processors)) {
+        match machine.turn(draw(&mut random, actors)) {
             Turn::Stepped => counts.stepped += 1,
             Turn::Waits(_) => counts.waits += 1,
             Turn::Ended => counts.ended += 1,
@@ -74,10 +75,10 @@ fn take_turns(machine: &mut Machine<MemoryStore>, processors: u32, turns: u32) -
 fn turns_in_any_order_make_the_recorded_history(rt: HostRuntime) -> Result<(), Fail> {
     let alloc = rt.alloc();
     let trace = trace_of(alloc, TRACE)?;
-    let processors = trace.processors();
-    assert_eq!(rt; processors, 4);
+    let actors = trace.actors();
+    assert_eq!(rt; actors, 4);
     let mut machine = machine_of(alloc, &trace)?;
-    let counts = take_turns(&mut machine, processors, TURNS);
+    let counts = take_turns(&mut machine, actors, TURNS);
     let wanted = Counts {
         stepped: 1_461,
         waits: 415,

@@ -5,6 +5,6 @@ use Rattle.machine_tests.proofs.tests.runs.turns_of.Given as goal
 abbrev pub invariant-loop-digit : goal.invariant-loop-digit
 invariant-loop-digit l =
     record {
-      some : 0 < l.processors;
-      known : All (λ c. c < l.processors) l.turns.items;
+      some : 0 < l.actors;
+      known : All (λ c. c < l.actors) l.turns.items;
     }
