@@ -87,7 +87,7 @@ answers-push h e = filter_map-append (λ (x : Entry). answer_in x.what) h (e ∷
     one (Some x) = refl
 
 -- Of the jobs of a processor that makes calls each is a call.
-all_calls : (jobs : List Job) → AreOfMark 0 jobs → length (calls_among jobs) ≡ length jobs
+pub all_calls : (jobs : List Job) → AreOfMark 0 jobs → length (calls_among jobs) ≡ length jobs
 all_calls [] are = refl
 all_calls (MakesCall call ∷ jobs) are = ap suc (all_calls jobs (λ n job at. are (suc n) job at))
 all_calls (Turn low ∷ jobs) are = (let one = are 0 (Turn low) refl in absurd (omega (arith, one.0, one.1)))
@@ -98,7 +98,7 @@ slice_get_take [] (suc n) i job at = cc
 slice_get_take (k ∷ jobs) (suc n) zero job at = at
 slice_get_take (k ∷ jobs) (suc n) (suc i) job at = slice_get_take jobs n i job at
 
-take_are : (mark : ℕ) (jobs : List Job) (n : ℕ) → AreOfMark mark jobs → AreOfMark mark (take n jobs)
+pub take_are : (mark : ℕ) (jobs : List Job) (n : ℕ) → AreOfMark mark jobs → AreOfMark mark (take n jobs)
 take_are mark jobs n are i job at = are i job (slice_get_take jobs n i job at)
 
 calls_taken : (mark : ℕ) (jobs : List Job) (n : ℕ) → AreOfMark mark jobs → mark ≡ 0 → n ≤ length jobs → length (calls_among (take n jobs)) ≡ n

@@ -257,6 +257,15 @@ at_most_turns : (plan : Plan) (b : Bool) → cond b (entries_of_turns plan.daemo
 at_most_turns plan true = omega arith
 at_most_turns plan false = omega arith
 
+-- each processor's jobs make no more
+pub few_entries_of : (plan : Plan) → HasText plan → (c : ℕ) → sum_by entries_of_job (jobs_of c plan) ≤ most_entries
+few_entries_of plan has c =
+    let own = entries_of_jobs plan c in
+    let calls = length-calls c plan.calls in
+    let turns = at_most_turns plan (c == plan.processors) in
+    let daemon = turns_few plan.daemon has.daemon_in in
+    omega (arith, own, calls, turns, daemon, has.few)
+
 -- there are at most seventeen processors
 pub actors_few : (plan : Plan) → HasText plan → actors plan ≤ 17
 actors_few plan has =

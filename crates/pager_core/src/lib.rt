@@ -11,4 +11,4 @@ mod run_parts;
 
 pub use flight::{Flight, Needs, Phase, Purpose};
 pub use machine::{Machine, Turn};
-pub use run_parts::{Gathered, RunRoom, SpaceRooms, calls_of, jobs_by_processor, marks_of};
+pub use run_parts::{Gathered, RunRoom, SpaceRooms, jobs_by_processor, marks_of};

@@ -8,6 +8,7 @@ ghost use Rattle.pager_model.specs.Legal.{entries_in};
 ghost use Rattle.pager_model.specs.Settings.{Given};
 ghost use Rattle.pager_model.specs.Showing.{actors, calls_of, jobs_of, marks_of, turns_of};
 ghost use Rattle.pager_model.specs.SizeSets.{all_sizes};
+ghost use Rattle.pager_model.specs.TraceText.{HasText};
 ghost use Rattle.pager_model.specs.Stores.{given_over, StoresEnd, AreCapped};
 ghost use Rattle.pager_model.specs.Stored.{Stored, TellsZero};
 ghost use Rattle.space_core.specs.Standing.{Kept};
@@ -311,7 +312,8 @@ pub fn marks_of(alloc: Global, trace: &Trace) -> Result<Vec<u32>, NoMemory>
 
 /// What each processor of a trace does, in order: its calls, or its turns, of the daemon, which is the last.
 pub fn jobs_by_processor(alloc: Global, trace: &Trace) -> Result<Vec<Vec<Job>>, NoMemory>
-    ensures { IfOk result (λ jobs. map (λ v. v.items) jobs.items ≡ map (λ c. jobs_of c trace.now) (range_with_len 0 (actors trace.now))) }
+    ensures text { IfOk result (λ _. HasText trace.now) }
+    ensures jobs { IfOk result (λ jobs. map (λ v. v.items) jobs.items ≡ map (λ c. jobs_of c trace.now) (range_with_len 0 (actors trace.now))) }
 {
     let actors = trace.actors();
     let mut jobs = Vec::with_capacity(alloc, actors as usize)?;
@@ -334,7 +336,7 @@ fn jobs_of(alloc: Global, trace: &Trace, processor: u32) -> Result<Vec<Job>, NoM
 }
 
 /// One processor's calls, in the order of the lines.
-pub fn calls_of(alloc: Global, processor: u32, lines: &[Line]) -> Result<Vec<Call>, NoMemory>
+fn calls_of(alloc: Global, processor: u32, lines: &[Line]) -> Result<Vec<Call>, NoMemory>
     ensures { IfOk result (λ calls. calls.items ≡ calls_of processor lines.now) }
 {
     Ok(

@@ -19,6 +19,8 @@ use Rattle.pager_model.proofs.Histories.{progress_from-append}
 use Rattle.pager_core.specs.declared.flight.Flight.{Flight}
 use Rattle.pager_core.specs.declared.flight.Purpose.{Purpose}
 use Rattle.pager_core.specs.declared.flight.Purpose.TheVariants.{Call as OfCall, Turn as OfTurn}
+use Rattle.pager_core.specs.declared.flight.Phase.TheVariants.{Ended}
+use Rattle.pager_core.specs.Flights.{IsFor}
 use Rattle.pager_core.specs.Machines.{CanFly}
 use Rattle.pager_core.specs.Rows.{Outcome, Going, TurnEnded, Answered, call_in, has_ended, is_of_call, new_flight, new_turn, own_space, reply_in, row_of, row_in}
 use Rattle.pager_core.specs.Running.{FitsMark, call_of, job_in}
@@ -36,6 +38,19 @@ use Rattle.pager_locks.proofs.Later.{later_none}
 of_call_job : (p : Purpose) (call : Call) → job_in p ≡ CallJob call → (is_of_call p ≡ true) × (call_in p ≡ call)
 of_call_job (OfCall own claimed) call is = (refl, same_Some own call (ap call_of is))
 of_call_job (OfTurn mark evictions) call is = absurd (none-some call (ap call_of is))
+
+-- a turn has no reply
+no_reply : (p : Purpose) (mark : ℕ) (r : Reply) → job_in p ≡ Turn mark → IsFor p (Ended r) → ⊥
+no_reply (OfCall call claimed) mark r is kind = (let e : CallJob call ≡ Turn mark = is in cc)
+no_reply (OfTurn mark evictions) low r is kind = kind
+
+unanswered : (f : Flight) (mark : ℕ) → job_in f.purpose ≡ Turn mark → IsFor f.purpose f.phase → reply_in (row_of f).outcome ≡ None
+unanswered f mark is kind = by (row_of f).outcome refl
+  where
+    by : (o : Outcome) → (row_of f).outcome ≡ o → reply_in (row_of f).outcome ≡ None
+    by Going going = ap reply_in going
+    by TurnEnded ended = ap reply_in ended
+    by (Answered r) answered = absurd (no_reply f.purpose mark r is (subst (IsFor f.purpose) (ended_by f r answered) kind))
 
 -- a pass's processor is one of its journal's
 pub known_here : (j : JournalName) (p : PassState) (c : ℕ) → p.journal ≡ j → c ≡ p.processor → c < length p.journal.setting.marks → p.processor < length j.setting.marks
@@ -198,6 +213,7 @@ module _ (j : JournalName) (p : PassState) (c mark : ℕ) (may : MayTurn j p mar
               ∙ sym (ap (progress_of mark) split)
               ∙ all;
         };
+        no_answers = flying.answers ∙ ap (λ o. option_to_list (answer_made g o)) (unanswered g mark flying.job flying.fits.kind);
         before = may.whole.1;
         after = all;
       }

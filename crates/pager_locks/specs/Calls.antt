@@ -8,7 +8,7 @@ use Rattle.pager_model.specs.declared.reply.Reply.{Reply}
 use Rattle.pager_model.specs.Legal.{entries_in}
 use Rattle.pager_model.specs.Order.{at_rest, progress_of, IsWhole}
 use Rattle.pager_model.specs.Settings.{Given}
-use Rattle.pager_model.specs.Showing.{IsSequence, IsTurn}
+use Rattle.pager_model.specs.Showing.{answers_in, IsSequence, IsTurn}
 use Rattle.pager_core.specs.declared.flight.Flight.{Flight}
 use Rattle.pager_core.specs.declared.flight.Phase.TheVariants.{Start}
 use Rattle.pager_core.specs.Rows.{claimed_in, is_of_call}
@@ -48,6 +48,7 @@ pub record MakesTurn (old new : PassState) (mark : ℕ) : Type 0 where
   pub entries : new.entries ≡ old.entries ++ piece
   pub few : length piece ≤ 4 * mark + 1
   pub turn : IsTurn old.processor mark (entries_in piece)
+  pub no_answers : answers_in (entries_in piece) ≡ []
   -- and it comes where the list was
   pub before : progress_of mark (entries_in old.entries) ≡ Some (at_rest mark turn.made)
   pub after : progress_of mark (entries_in new.entries) ≡ Some (at_rest mark (turn.made + 1))

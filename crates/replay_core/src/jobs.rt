@@ -1,4 +1,4 @@
-//! The calls of many processors, each in a thread of its own.
+//! The jobs of many processors, each processor's in a thread of its own.
 
 ghost use Rattle.std.specs.Prelude.{◌≡◌, ◌<◌, ◌≤◌, ℕ, [], Some, length, map, slice_index_or, vec_capacity};
 ghost use Rattle.std.specs.List.{All};
@@ -6,12 +6,12 @@ ghost use Rattle.pager_model.specs.Counts.{counts};
 ghost use Rattle.pager_model.specs.Legal.{entries_in};
 ghost use Rattle.pager_model.specs.Stores.{StoresEnd};
 ghost use Rattle.pager_core.specs.Running.{IsWholeRun};
-ghost use Rattle.replay_core.specs.Jobs.{HasPass, HasMade, HaveMade, IsDoneFrom, IsPreparedFor, IsReadyJob, MayMake, MayMakeAll, calls_in, making};
+ghost use Rattle.replay_core.specs.Jobs.{DoesJob, HasDone, HasPass, HaveDone, IsDoneFrom, IsPreparedFor, IsReady, MayDo, MayDoAll, MayDoNext, jobs_in};
 
 use journal_core::Pass;
 use pager_core::Gathered;
 use pager_locks::{Named, Pager, Prepared, Running};
-use pager_model::Call;
+use pager_model::Job;
 use std::sync::Wait;
 use std::thread;
 use std::thread::Threads;
@@ -20,116 +20,135 @@ use store_core::Store;
 /// The most processors of a pager.
 const MOST_THREADS: usize = 17;
 
-/// A processor's calls, and its pass while they are made.
+/// A processor's jobs, and its pass while they are done.
 #[derive(Drop)]
-pub struct Job {
+pub struct Worker {
     pub pass: Option<Pass>,
-    pub calls: Vec<Call>,
+    pub jobs: Vec<Job>,
 }
 
-/// Opens a pager, makes the calls of each processor's job in a thread of its own, and closes it.
+/// Opens a pager, does the jobs of each worker in a thread of its own, and closes it.
 pub fn run_jobs<N: Named + Send + Sync, S: Store + Send + Drop, R: Threads + Wait + Sync>(
     rt: &R,
     prepared: Prepared<S>,
-    jobs: Vec<Job>,
+    workers: Vec<Worker>,
 ) -> Gathered<S>
     requires named { prepared.journal.name ≡ N.journal }
-    requires prepared { IsPreparedFor prepared (calls_in jobs.items) }
-    ensures run { IsWholeRun prepared.journal.name.setting (making (calls_in jobs.items)) result.history.items }
+    requires prepared { IsPreparedFor prepared (jobs_in workers.items) }
+    ensures run { IsWholeRun prepared.journal.name.setting (jobs_in workers.items) result.history.items }
     ensures stores { StoresEnd prepared.journal.name.setting result.history.items (map S.seen result.stores.items) }
     ensures count { length result.stores.items ≡ length prepared.journal.name.setting.told }
     ensures summary { result.summary ≡ counts prepared.journal.name.setting (entries_in result.history.items) }
 {
-    let mut jobs = jobs;
+    let mut workers = workers;
     let Running { pager, passes } = prepared.open::<N>();
-    let passes = make_all(rt, &pager, jobs.as_mut_slice(), passes);
+    let passes = do_all(rt, &pager, workers.as_mut_slice(), passes);
     pager.close(passes)
 }
 
-/// Makes the calls of the jobs with these passes, one a processor.
-fn make_all<N: Named + Send + Sync, S: Store + Send + Drop, R: Threads + Wait + Sync>(
+/// Does the jobs of the workers with these passes, one a processor.
+fn do_all<N: Named + Send + Sync, S: Store + Send + Drop, R: Threads + Wait + Sync>(
     rt: &R,
     pager: &Pager<N, S>,
-    jobs: &mut [Job],
+    workers: &mut [Worker],
     passes: Vec<Pass>,
 ) -> Vec<Pass>
-    requires { MayMakeAll N.journal passes.items (calls_in jobs.old) }
-    ensures { HaveMade N.journal (calls_in jobs.old) result.items }
+    requires { MayDoAll N.journal passes.items (jobs_in workers.old) }
+    ensures { HaveDone N.journal (jobs_in workers.old) result.items }
 {
     let mut passes = passes;
-    hand_out(jobs, &mut passes);
-    make_each(rt, pager, jobs);
-    take_back(jobs, passes)
+    hand_out(workers, &mut passes);
+    do_each(rt, pager, workers);
+    take_back(workers, passes)
 }
 
-/// Gives each job its processor's pass. The room of the passes is left.
-fn hand_out(jobs: &mut [Job], passes: &mut Vec<Pass>)
-    requires { length jobs.old ≡ length passes.old.items }
-    ensures passes { map (λ (j : Job). j.pass) jobs.new ≡ map Some passes.old.items }
-    ensures same_calls { calls_in jobs.new ≡ calls_in jobs.old }
+/// Gives each worker its processor's pass. The room of the passes is left.
+fn hand_out(workers: &mut [Worker], passes: &mut Vec<Pass>)
+    requires { length workers.old ≡ length passes.old.items }
+    ensures passes { map (λ (w : Worker). w.pass) workers.new ≡ map Some passes.old.items }
+    ensures same_jobs { jobs_in workers.new ≡ jobs_in workers.old }
     ensures none_left { passes.new.items ≡ [] }
-    ensures room { length jobs.new ≤ vec_capacity passes.new }
+    ensures room { length workers.new ≤ vec_capacity passes.new }
 {
     passes.reverse();
-    for job in jobs {
-        job.pass = passes.pop();
+    for worker in workers {
+        worker.pass = passes.pop();
     }
 }
 
-/// Makes each job's calls in a thread of its own.
-fn make_each<N: Named + Send + Sync, S: Store + Send + Drop, R: Threads + Wait + Sync>(
+/// Does each worker's jobs in a thread of its own.
+fn do_each<N: Named + Send + Sync, S: Store + Send + Drop, R: Threads + Wait + Sync>(
     rt: &R,
     pager: &Pager<N, S>,
-    jobs: &mut [Job],
+    workers: &mut [Worker],
 )
-    requires { All (IsReadyJob N.journal) jobs.old }
-    ensures { (c : ℕ) (d : Job) → c < length jobs.old → IsDoneFrom N.journal (slice_index_or jobs.old c d) (slice_index_or jobs.new c d) }
+    requires { All (IsReady N.journal) workers.old }
+    ensures { (c : ℕ) (d : Worker) → c < length workers.old → IsDoneFrom N.journal (slice_index_or workers.old c d) (slice_index_or workers.new c d) }
 {
-    let each = move |_: usize, job: &mut Job|
-        requires { IsReadyJob N.journal job.now }
-        ensures { IsDoneFrom N.journal job.entry.now job.exit.now }
-    { make_job(rt, pager, job) };
-    thread::for_each_mut(rt, jobs, MOST_THREADS, &each);
+    let each = move |_: usize, worker: &mut Worker|
+        requires { IsReady N.journal worker.now }
+        ensures { IsDoneFrom N.journal worker.entry.now worker.exit.now }
+    { do_own(rt, pager, worker) };
+    thread::for_each_mut(rt, workers, MOST_THREADS, &each);
 }
 
-/// Makes all calls of a job.
-fn make_job<N: Named, S: Store + Send + Drop, R: Wait>(rt: &R, pager: &Pager<N, S>, job: &mut Job)
-    requires { IsReadyJob N.journal job.old }
-    ensures { IsDoneFrom N.journal job.old job.new }
+/// Does all jobs of a worker.
+fn do_own<N: Named, S: Store + Send + Drop, R: Wait>(
+    rt: &R,
+    pager: &Pager<N, S>,
+    worker: &mut Worker,
+)
+    requires { IsReady N.journal worker.old }
+    ensures { IsDoneFrom N.journal worker.old worker.new }
 {
-    let Some(pass) = job.pass.take() else {
+    let Some(pass) = worker.pass.take() else {
         unreachable!()
     };
-    job.pass = Some(make_calls(rt, pager, pass, job.calls.as_slice()));
+    worker.pass = Some(do_jobs(rt, pager, pass, worker.jobs.as_slice()));
 }
 
-/// Makes these calls with the pass, in order.
-fn make_calls<N: Named, S: Store + Send + Drop, R: Wait>(
+/// Does these jobs with the pass, in order.
+fn do_jobs<N: Named, S: Store + Send + Drop, R: Wait>(
     rt: &R,
     pager: &Pager<N, S>,
     pass: Pass,
-    calls: &[Call],
+    jobs: &[Job],
 ) -> Pass
-    requires { MayMake N.journal pass calls.now }
-    ensures { HasMade N.journal pass calls.now result }
+    requires { MayDo N.journal pass jobs.now }
+    ensures { HasDone N.journal pass jobs.now result }
 {
     let mut pass = pass;
-    for call in calls {
-        let (_, next) = pager.call(rt, pass, call);
-        pass = next;
+    for job in jobs {
+        pass = do_one(rt, pager, pass, job);
     }
     pass
 }
 
-/// Takes the passes out of the jobs again, in their order, into room that is there.
-fn take_back(jobs: &mut [Job], room: Vec<Pass>) -> Vec<Pass>
-    requires there { All HasPass jobs.old }
-    requires room { (room.items ≡ []) × (length jobs.old ≤ vec_capacity room) }
-    ensures { map Some result.items ≡ map (λ (j : Job). j.pass) jobs.old }
+/// Does one job with the pass.
+fn do_one<N: Named, S: Store + Send + Drop, R: Wait>(
+    rt: &R,
+    pager: &Pager<N, S>,
+    pass: Pass,
+    job: &Job,
+) -> Pass
+    requires { MayDoNext N.journal pass job.now }
+    ensures { DoesJob N.journal.setting pass result job.now }
+{
+    match job {
+        Job::Call(call) => pager.call(rt, pass, call).1,
+        Job::Turn { mark } => pager.turn(rt, pass, *mark),
+    }
+}
+
+/// Takes the passes out of the workers again, in their order, into room that is there.
+fn take_back(workers: &mut [Worker], room: Vec<Pass>) -> Vec<Pass>
+    requires there { All HasPass workers.old }
+    requires room { (room.items ≡ []) × (length workers.old ≤ vec_capacity room) }
+    ensures { map Some result.items ≡ map (λ (w : Worker). w.pass) workers.old }
 {
     let mut passes = room;
-    for job in jobs {
-        let Some(pass) = job.pass.take() else {
+    for worker in workers {
+        let Some(pass) = worker.pass.take() else {
             unreachable!()
         };
         passes.push_reserved(pass);

@@ -1,17 +1,18 @@
-//! A thread for each processor.
+//! A thread for each processor, and for the daemon.
 
-ghost use Rattle.std.specs.Prelude.{◌≡◌, ◌≤◌, ◌+◌, ◌++◌, IfOk, IfErr, None, drop, length, map, replicate, take, vec_capacity};
+ghost use Rattle.std.specs.Prelude.{◌≡◌, ◌≤◌, ◌+◌, ◌++◌, IfOk, IfErr, None, drop, length, map, take, vec_capacity};
 ghost use Rattle.std.specs.List.{All, range_with_len};
-ghost use Rattle.pager_model.specs.Showing.{calls_of};
+ghost use Rattle.pager_model.specs.Showing.{actors, jobs_of, marks_of};
 ghost use Rattle.pager_model.specs.TraceText.{HasText};
-ghost use Rattle.replay_core.specs.Jobs.{calls_in, room_for};
+ghost use Rattle.pager_core.specs.Machines.{most_entries};
+ghost use Rattle.pager_core.specs.Running.{entries_of_job};
+ghost use Rattle.replay_core.specs.Jobs.{jobs_in, room_for};
 ghost use Rattle.replay_core.specs.Replays.{IsReplay, AreItsCounts};
-ghost use Rattle.pager_model.specs.Bounds.{most_calls};
 
-use crate::jobs::{Job, run_jobs};
-use pager_core::{Gathered, calls_of};
+use crate::jobs::{Worker, run_jobs};
+use pager_core::{Gathered, jobs_by_processor, marks_of};
 use pager_locks::Prepared;
-use pager_model::{Call, Line, NoMemory, Trace};
+use pager_model::{Job, NoMemory, Trace};
 use std::alloc::Global;
 use std::marker::Brand;
 use std::sync::Wait;
@@ -21,9 +22,9 @@ use store_core::Store;
 /// At most how many entries a call makes.
 const ENTRIES_OF_CALL: usize = 8;
 
-/// Runs a trace with a thread for each processor, which makes its calls in order; the order of their steps is the one in which the threads
-/// come to the locks. There are at least as many stores as spaces, and they come back for want of memory, which comes before the first
-/// entry alone. It may wait for locks, and nothing is proved of when it returns.
+/// Runs a trace with a thread for each processor, which makes its calls in order, and one for the daemon, which makes its turns; the order of
+/// their steps is the one in which the threads come to the locks. There are at least as many stores as spaces, and they come back for want of
+/// memory, which comes before the first entry alone. It may wait for locks, and nothing is proved of when it returns.
 pub fn replay<S: Store + Send + Drop, R: Threads + Wait + Sync>(
     rt: &R,
     alloc: Global,
@@ -31,12 +32,18 @@ pub fn replay<S: Store + Send + Drop, R: Threads + Wait + Sync>(
     stores: Vec<S>,
 ) -> Result<Gathered<S>, Vec<S>>
     requires enough { trace.now.spaces ≤ length stores.items }
-    requires no_daemon { trace.now.daemon ≡ None }
     ensures run { IfOk result (λ g. IsReplay trace.now (map S.seen stores.items) g.history.items (map S.seen g.stores.items)) }
     ensures counts { IfOk result (λ g. AreItsCounts trace.now (map S.seen stores.items) g.history.items g.summary) }
     ensures back { IfErr result (λ back. map S.seen back.items ≡ map S.seen stores.items) }
 {
-    let Ok(Crew { jobs, marks, rooms }) = crew_of(alloc, trace) else {
+    let Ok(
+        Crew {
+            workers,
+            marks,
+            rooms,
+        },
+    ) = crew_of(alloc, trace)
+    else {
         return Err(stores);
     };
     let (own, others) = parted(stores, trace.spaces() as usize)?;
@@ -47,7 +54,7 @@ pub fn replay<S: Store + Send + Drop, R: Threads + Wait + Sync>(
                 history,
                 stores,
                 summary,
-            } = run_jobs::<Brand, S, R>(rt, prepared, jobs);
+            } = run_jobs::<Brand, S, R>(rt, prepared, workers);
             Ok(Gathered {
                 history,
                 stores: joined(stores, others),
@@ -61,9 +68,9 @@ pub fn replay<S: Store + Send + Drop, R: Threads + Wait + Sync>(
 /// What a run takes beside its pager.
 #[derive(Drop)]
 struct Crew {
-    /// A job for each processor, which has no pass yet.
-    jobs: Vec<Job>,
-    /// A mark for each, which is 0: each makes calls.
+    /// A worker for each processor, which has no pass yet.
+    workers: Vec<Worker>,
+    /// A mark for each.
     marks: Vec<u32>,
     /// At most how many entries each makes.
     rooms: Vec<usize>,
@@ -72,56 +79,64 @@ struct Crew {
 /// The crew of a trace.
 fn crew_of(alloc: Global, trace: &Trace) -> Result<Crew, NoMemory>
     ensures text { IfOk result (λ _. HasText trace.now) }
-    ensures calls { IfOk result (λ crew. calls_in crew.jobs.items ≡ map (λ c. calls_of c trace.now.calls) (range_with_len 0 trace.now.processors)) }
-    ensures marks { IfOk result (λ crew. crew.marks.items ≡ replicate trace.now.processors 0) }
-    ensures rooms { IfOk result (λ crew. crew.rooms.items ≡ map room_for (calls_in crew.jobs.items)) }
+    ensures jobs { IfOk result (λ crew. jobs_in crew.workers.items ≡ map (λ c. jobs_of c trace.now) (range_with_len 0 (actors trace.now))) }
+    ensures marks { IfOk result (λ crew. crew.marks.items ≡ marks_of trace.now) }
+    ensures rooms { IfOk result (λ crew. crew.rooms.items ≡ map room_for (jobs_in crew.workers.items)) }
 {
-    let processors = trace.processors();
-    let calls = calls_by_processor(alloc, processors, trace.calls())?;
-    let rooms = rooms_for(alloc, calls.as_slice())?;
-    let marks = vec![in alloc; 0; processors as usize]?;
-    let jobs = jobs_of(alloc, calls)?;
-    Ok(Crew { jobs, marks, rooms })
+    let jobs = jobs_by_processor(alloc, trace)?;
+    let rooms = rooms_for(alloc, jobs.as_slice())?;
+    let marks = marks_of(alloc, trace)?;
+    let workers = workers_for(alloc, jobs)?;
+    Ok(Crew {
+        workers,
+        marks,
+        rooms,
+    })
 }
 
-/// Each processor's calls, in the order of the lines.
-fn calls_by_processor(
-    alloc: Global,
-    processors: u32,
-    lines: &[Line],
-) -> Result<Vec<Vec<Call>>, NoMemory>
-    ensures { IfOk result (λ calls. map (λ v. v.items) calls.items ≡ map (λ c. calls_of c lines.now) (range_with_len 0 processors)) }
+/// A worker for each processor's jobs.
+fn workers_for(alloc: Global, jobs: Vec<Vec<Job>>) -> Result<Vec<Worker>, NoMemory>
+    ensures { IfOk result (λ workers. workers.items ≡ map (λ own. record { pass = None; jobs = own }) jobs.items) }
 {
-    let mut calls = Vec::with_capacity(alloc, processors as usize)?;
-    for processor in 0..processors {
-        calls.push(calls_of(alloc, processor, lines)?)?;
+    Ok(
+        jobs.into_iter()
+            .map(|jobs| Worker { pass: None, jobs })
+            .collect(alloc)?,
+    )
+}
+
+/// At most how many entries each processor's jobs make.
+fn rooms_for(alloc: Global, jobs: &[Vec<Job>]) -> Result<Vec<usize>, NoMemory>
+    requires { All (λ own. room_for own.items ≤ most_entries) jobs.now }
+    ensures { IfOk result (λ rooms. rooms.items ≡ map (λ own. room_for own.items) jobs.now) }
+{
+    Ok(
+        jobs.iter()
+            .map(|own| room_for(own.as_slice()))
+            .collect(alloc)?,
+    )
+}
+
+/// At most how many entries these jobs make.
+fn room_for(jobs: &[Job]) -> usize
+    requires { room_for jobs.now ≤ most_entries }
+    ensures { result ≡ room_for jobs.now }
+{
+    let mut room = 0;
+    for job in jobs {
+        room += entries_of_job(job);
     }
-    Ok(calls)
+    room
 }
 
-/// A job for each processor's calls.
-fn jobs_of(alloc: Global, calls: Vec<Vec<Call>>) -> Result<Vec<Job>, NoMemory>
-    ensures { IfOk result (λ jobs. jobs.items ≡ map (λ own. record { pass = None; calls = own }) calls.items) }
+/// At most how many entries a job makes.
+fn entries_of_job(job: &Job) -> usize
+    ensures { result ≡ entries_of_job job.now }
 {
-    Ok(
-        calls
-            .into_iter()
-            .map(|calls| Job { pass: None, calls })
-            .collect(alloc)?,
-    )
-}
-
-/// At most how many entries each processor's calls make.
-fn rooms_for(alloc: Global, calls: &[Vec<Call>]) -> Result<Vec<usize>, NoMemory>
-    requires { All (λ own. length own.items ≤ most_calls) calls.now }
-    ensures { IfOk result (λ rooms. rooms.items ≡ map (λ own. room_for own.items) calls.now) }
-{
-    Ok(
-        calls
-            .iter()
-            .map(|own| ENTRIES_OF_CALL * own.len())
-            .collect(alloc)?,
-    )
+    match job {
+        Job::Call(_) => ENTRIES_OF_CALL,
+        Job::Turn { mark } => 4 * *mark as usize + 1,
+    }
 }
 
 /// The first so many of these, and the others, in room for all. For want of memory all come back.

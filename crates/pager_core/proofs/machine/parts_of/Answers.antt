@@ -14,7 +14,7 @@ use Rattle.pager_core.proofs.machine.parts_of.Goals as goal
 pub first_of_each-requires : goal.first_of_each-requires
 first_of_each-requires g c =
     let trace = c.entries_of_trace.ensures.text in
-    let all = ap length c.in_ok-jobs.ensures in
+    let all = ap length c.in_ok-jobs.ensures.jobs in
     let vs = length-map c.in_ok-jobs.jobs.items (λ v. v.items) in
     let n = length-map-range_with_len (λ k. jobs_of k c.args.trace.now) 0 (actors c.args.trace.now) in
     let same = ap length c.as_slice.ensures.value in
