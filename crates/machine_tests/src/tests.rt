@@ -1,4 +1,5 @@
 //! Whole histories, entry by entry. Those that are expected were made by an independent checker.
+mod daemons;
 mod drawn;
 mod fills;
 mod full;

@@ -127,12 +127,7 @@ fn text_of(alloc: Global, run: &Run<'_>, fill: &Fill<'_>) -> Result<String, Allo
 }
 
 /// The turns of a run: so many of processor 0, and those that the digits name.
-fn turns_of(
-    alloc: Global,
-    before: usize,
-    digits: &str,
-    actors: u32,
-) -> Result<Vec<u32>, AllocError>
+fn turns_of(alloc: Global, before: usize, digits: &str, actors: u32) -> Result<Vec<u32>, AllocError>
     requires some { 0 < actors }
     ensures known { IfOk result (λ turns. All (λ c. c < actors) turns.items) }
 {
@@ -239,7 +234,7 @@ fn assert_run(rt: &impl Abort, alloc: Global, run: &Run<'_>) -> Result<(), Fail>
 }
 
 /// Runs the runs of a text, and asserts that of each.
-fn assert_runs(rt: &impl Abort, alloc: Global, runs: &str) -> Result<(), Fail> {
+pub(super) fn assert_runs(rt: &impl Abort, alloc: Global, runs: &str) -> Result<(), Fail> {
     for text in runs.split("\n\n") {
         assert_run(rt, alloc, &read_run(text))?;
     }
