@@ -26,6 +26,21 @@ const EIGHT_PAGES: &str = "\
     0 load 0 57344\n\
     end\n";
 
+/// The same beside a daemon, which always finds more free frames than its mark and evicts nothing.
+const EIGHT_PAGES_BESIDE_A_DAEMON: &str = "\
+    trace 1 512 1 1\n\
+    daemon 64 200\n\
+    0 map 0 0 8 fixed write\n\
+    0 load 0 0\n\
+    0 load 0 8192\n\
+    0 load 0 16384\n\
+    0 load 0 24576\n\
+    0 load 0 32768\n\
+    0 load 0 40960\n\
+    0 load 0 49152\n\
+    0 load 0 57344\n\
+    end\n";
+
 const EIGHT_PAGES_TEXT: &str = "\
     0 0 done\n\
     0 1 value 0 miss 0\n\
@@ -126,6 +141,16 @@ fn prints<R: Abort + Threads + Wait + Sync>(
 #[test]
 fn one_processor_runs_as_in_the_order_of_its_lines(rt: HostRuntime) -> Result<(), Fail> {
     prints(&rt, rt.alloc(), EIGHT_PAGES, EIGHT_PAGES_TEXT)
+}
+
+#[test]
+fn a_daemon_that_rests_changes_nothing(rt: HostRuntime) -> Result<(), Fail> {
+    prints(
+        &rt,
+        rt.alloc(),
+        EIGHT_PAGES_BESIDE_A_DAEMON,
+        EIGHT_PAGES_TEXT,
+    )
 }
 
 #[test]
