@@ -78,5 +78,13 @@ text_is_short plan has =
     let first = first_line plan in
     let daemon = daemon_line plan.daemon in
     let calls = flat_map call_line plan.calls in
-    omega (arith, has.few, first_is_short plan has, daemon_is_short plan.daemon has.daemon_in, calls_are_short plan.processors plan.spaces plan.calls has.processors_in.1 has.spaces_in.1 (recursion_from_All _ plan.calls has.lines),
-    length-append (first ++ daemon ++ calls) (line_of_words (codes "end" ∷ [])), length-append (first ++ daemon) calls, length-append first daemon)
+    omega (
+      arith,
+      has.few,
+      first_is_short plan has,
+      daemon_is_short plan.daemon has.daemon_in,
+      calls_are_short plan.processors plan.spaces plan.calls has.processors_in.1 has.spaces_in.1 (recursion_from_All _ plan.calls has.lines),
+      length-append (first ++ daemon ++ calls) (line_of_words (codes "end" ∷ [])),
+      length-append (first ++ daemon) calls,
+      length-append first daemon,
+    )
