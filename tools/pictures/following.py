@@ -74,14 +74,16 @@ def run(program: str, order: List[str], trace: bytes) -> Run:
 
 def read(trace: str, text: str) -> Run:
     """A trace that the program took, and what it printed of it."""
-    lines = trace.split('\n')
+    lines = trace.split('\n')[:-2]
     _, _, frames, processors, spaces = lines[0].split(' ')
-    calls: List[List[str]] = [[] for _ in range(int(processors))]
-    for line in lines[1:-2]:
+    # A daemon is one processor more, which makes no calls.
+    daemons = sum(line.startswith('daemon ') for line in lines[1:2])
+    calls: List[List[str]] = [[] for _ in range(int(processors) + daemons)]
+    for line in lines[1 + daemons:]:
         processor, call = line.split(' ', 1)
         calls[int(processor)].append(call)
     # An answer for each call comes first.
-    printed = text.split('\n')[len(lines) - 3:]
+    printed = text.split('\n')[sum(map(len, calls)):]
     end = next(at for at, line in enumerate(printed) if line.startswith('tiles '))
     counts = {line.split(' ')[0]: [int(word) for word in line.split(' ')[1:]] for line in printed[end:] if line}
     return Run(int(frames), int(spaces), calls, printed[:end], counts)
@@ -137,7 +139,7 @@ class Follower:
         """What follows an entry of this kind."""
         return {'answer': self.answer, 'take': self.take, 'use': self.use, 'give': self.give, 'clear': self.clear, 'out': self.out,
                 'failed': self.failed, 'claim': self.claim, 'got': self.got, 'drop': self.drop, 'unclaim': self.unclaim,
-                'refused': self.refused}[kind]
+                'refused': self.refused, 'rest': self.rest}[kind]
 
     def answer(self, _: int, c: int, space: int, rest: List[str]) -> None:
         call = self.calls[c][self.answered[c]].split(' ')
@@ -216,13 +218,20 @@ class Follower:
     def failed(self, _: int, c: int, space: int, rest: List[str]) -> None:
         self.meaning.append("The store of space %d failed at a %s of page %s." % (space, rest[1], rest[0]))
 
-    def claim(self, _: int, c: int, space: int, rest: List[str]) -> None:
+    def claim(self, _: int, c: int, space: Optional[int], rest: List[str]) -> None:
         other, page, frame = map(int, rest[:3])
         self.frames.claim(c, other, page, frame)
         self.page = (other, page)
         self.counts = self.counts.plus(Counts(claims=1))
-        self.meaning.append('No frame is free or unused. Processor %d claims frame %d, of page %d of space %d, which was filled first, for page %s '
-                            'of space %d.' % (c, frame, page, other, rest[4], space))
+        why, what_for = 'Frames are short', ''
+        if space is not None:
+            why, what_for = 'No frame is free or unused', ', for page %s of space %d' % (rest[4], space)
+        self.meaning.append('%s. Processor %d claims frame %d, of page %d of space %d, which was filled first%s.' % (
+            why, c, frame, page, other, what_for))
+
+    def rest(self, _: int, c: int, space: Optional[int], rest: List[str]) -> None:
+        self.meaning.append('Processor %d, the daemon, rests: %s.' % (c, {
+            '0': 'frames are not short, or no page can give one up', '1': 'it has evicted as many pages as its mark says'}[rest[0]]))
 
     def got(self, _: int, c: int, space: Optional[int], rest: List[str]) -> None:
         self.meaning.append('Processor %d finds frame %s, which it claimed, in its hand.' % (c, rest[0]))
