@@ -1,6 +1,8 @@
 //! A store over a file.
 
-ghost use Rattle.std.specs.Prelude.{◌≡◌, IfOk};
+ghost use Rattle.std.specs.Prelude.{◌≡◌, ◌≢◌, ◌-◌, ◌^◌, ◌≤◌, true, false, length, None, Some, is_some, Err, IfOk};
+ghost use Rattle.pager_model.specs.SpaceStates.{Rises};
+ghost use Rattle.pager_model.specs.Stored.{SetsCopy, keeps_at};
 ghost use Rattle.store_file.specs.Untold.{untold};
 
 use crate::page_bytes::{PAGE_BYTES, put_words, read_page, take_words, write_page};
@@ -29,11 +31,12 @@ pub struct FileStore<F> {
 }
 
 impl<F> Model for FileStore<F> {
-    ghost use Rattle.std.specs.Prelude.{ℕ, ◌-◌, ◌^◌, ◌≤◌};
+    ghost use Rattle.std.specs.Prelude.{◌-◌, ◌^◌, ◌≤◌, is_some};
+    ghost use Rattle.store_file.specs.Untold.{FileState};
 
-    ghost Value = { ℕ };
+    ghost Value = { FileState };
 
-    ghost view = { λ s. s.faults };
+    ghost view = { λ s. record { opened = is_some s.file; faults = s.faults } };
 
     ghost invariant = { λ s. s.faults ≤ 2 ^ 64 - 1 };
 }
@@ -41,14 +44,21 @@ impl<F> Model for FileStore<F> {
 impl<F: FileExt + Drop> FileStore<F> {
     /// A store over this file, with no copy and no fault so far. Without a file each write fails.
     pub fn over(alloc: Global, file: Option<F>) -> Result<FileStore<F>, NoMemory>
-        ensures no_fault { IfOk result (λ store. store ≡ 0) }
+        ensures new { IfOk result (λ store. store ≡ record { opened = is_some file; faults = 0 }) }
     {
         let copied = PageSet::create(alloc)?;
-        Ok(FileStore {
+        Ok(FileStore::of(file, copied))
+    }
+
+    /// A store over this file whose pages that have a copy are these.
+    fn of(file: Option<F>, copied: PageSet) -> FileStore<F>
+        ensures new { result ≡ record { opened = is_some file; faults = 0 } }
+    {
+        FileStore {
             file,
             copied,
             faults: 0,
-        })
+        }
     }
 }
 
@@ -61,11 +71,13 @@ impl FileStore<File> {
         folder: &str,
         number: u32,
     ) -> Result<FileStore<File>, NoMemory>
-        ensures no_fault { IfOk result (λ store. store ≡ 0) }
+        ensures no_fault { IfOk result (λ store. store.faults ≡ 0) }
     {
+        // All memory is taken before the file is emptied, so that a store that can't be made leaves what the folder has.
+        let copied = PageSet::create(alloc)?;
         let name = format!(in alloc; "space-{number}")?;
         let path = Path::new(folder).join(alloc, name.as_str())?;
-        FileStore::over(alloc, open_anew(rt, path.as_path()).ok())
+        Ok(FileStore::of(open_anew(rt, path.as_path()).ok(), copied))
     }
 }
 
@@ -85,7 +97,7 @@ fn open_anew<R: Files<File = File>>(rt: &R, path: Path<'_>) -> io::Result<File> 
 }
 
 impl<F: FileExt + Drop> Store for FileStore<F> {
-    ghost seen = { untold };
+    ghost seen = { λ s. untold s.faults };
 
     fn read(&mut self, page: u32, words: &mut [u64]) -> Result<(), StoreFailed> {
         match &self.file {
@@ -103,7 +115,22 @@ impl<F: FileExt + Drop> Store for FileStore<F> {
     }
 
     #[tactic(auto, using(crate::proofs::UntoldCopies::sets_copy, crate::proofs::UntoldCopies::keeps_page))]
-    fn write(&mut self, page: u32, words: &[u64]) -> Result<(), WriteRefused> {
+    fn write(&mut self, page: u32, words: &[u64]) -> Result<(), WriteRefused>
+        requires count { length words.now ≡ 1024 }
+
+        // As at any store.
+        ensures wrote { IfOk result
+            (λ _. SetsCopy page (Some words.now) (untold self.old.faults) (untold self.new.faults) × (keeps_at (untold self.new.faults) page ≡ true)) }
+        ensures failed { result ≡ Err WriteRefused.Failed
+            → SetsCopy page None (untold self.old.faults) (untold self.new.faults) × Rises self.old.faults self.new.faults }
+        ensures never_falls { self.old.faults ≤ self.new.faults }
+        ensures capped { self.new.faults ≤ 2 ^ 64 - 1 }
+
+        // A store without its file refuses each write, and no store for want of memory.
+        ensures closed { self.old.opened ≡ false → result ≡ Err WriteRefused.Failed }
+        ensures no_memory { result ≢ Err WriteRefused.NoMemory }
+        ensures same_file { self.new.opened ≡ self.old.opened }
+    {
         let mut bytes = [0; PAGE_BYTES];
         put_words(words, &mut bytes);
         let wrote = match &self.file {
