@@ -62,6 +62,8 @@ impl MemorySource {
 impl Source for MemorySource {
     ghost left = { λ s. Some s.left };
 
+    ghost reads = { λ s. s.reads };
+
     ghost faults = { λ s. s.faults };
 
     fn read(&mut self, into: &mut [u8]) -> Result<usize, ReadFailed>
@@ -71,6 +73,8 @@ impl Source for MemorySource {
         ensures gave { IfOk result (λ n. take n into.new ≡ take n self.old.left) }
         ensures rest { IfOk result (λ n. Some self.new.left ≡ Some (drop n self.old.left)) }
         ensures end { IfOk result (λ n. n ≡ 0 → 0 < length into.old → self.old.left ≡ []) }
+        ensures counted { self.new.reads ≡ one_more self.old.reads }
+        ensures unfailed { IfOk result (λ _. self.new.faults ≡ self.old.faults) }
         ensures rose { OnErr result (Rose self.old.faults self.new.faults) }
         ensures err { OnErr result (Some self.new.left ≡ Some self.old.left) }
         ensures never_falls { self.old.faults ≤ self.new.faults }

@@ -1,6 +1,6 @@
 //! What gives bytes.
 ghost use Rattle.std.specs.Prelude.{◌≡◌, ℕ, ◌-◌, ◌^◌, ◌<◌, ◌≤◌, List, [], length, take, drop, Option, Some, IfSome, IfOk, OnErr};
-ghost use Rattle.io_core.specs.Faults.{Rose};
+ghost use Rattle.io_core.specs.Faults.{one_more, Rose};
 
 /// A read failed. The source's count of faults rose.
 #[derive(Clone, Copy, Debug, PartialEq, Eq)]
@@ -10,6 +10,9 @@ pub struct ReadFailed;
 pub trait Source {
     // The bytes that it has left, where it tells them.
     ghost left: { Self → Option (List ℕ) };
+
+    // How many reads there were of it.
+    ghost reads: { Self → ℕ };
 
     // How many faults it has had.
     ghost faults: { Self → ℕ };
@@ -28,7 +31,10 @@ pub trait Source {
         ensures end { IfOk result
             (λ n. n ≡ 0 → 0 < length into.old → IfSome (left self.old) (λ bytes. bytes ≡ [])) }
 
-        // A failure is a fault, and gives no byte.
+        ensures counted { reads self.new ≡ one_more (reads self.old) }
+
+        // A failure is a fault, and gives no byte; and nothing else is a fault.
+        ensures unfailed { IfOk result (λ _. faults self.new ≡ faults self.old) }
         ensures rose { OnErr result (Rose (faults self.old) (faults self.new)) }
         ensures err { OnErr result (left self.new ≡ left self.old) }
 

@@ -12,34 +12,43 @@ use std::marker::Model;
 #[derive(Drop)]
 pub struct RealSource<R> {
     reader: R,
+    reads: u64,
     faults: u64,
 }
 
 impl<R> Model for RealSource<R> {
-    ghost use Rattle.std.specs.Prelude.{ℕ, ◌-◌, ◌^◌, ◌≤◌};
+    ghost use Rattle.std.specs.Prelude.{◌-◌, ◌^◌, ◌≤◌};
+    ghost use Rattle.io_core.specs.RealSource.{ReaderState};
 
-    ghost Value = { ℕ };
+    ghost Value = { ReaderState };
 
-    ghost view = { λ s. s.faults };
+    ghost view = { λ s. record { reads = s.reads; faults = s.faults } };
 
     ghost invariant = { λ s. s.faults ≤ 2 ^ 64 - 1 };
 }
 
 impl<R: Read> RealSource<R> {
-    /// A source of what `reader` reads, with no fault so far.
+    /// A source of what `reader` reads, with no read and no fault so far.
     pub fn of(reader: R) -> RealSource<R>
-        ensures no_fault { result ≡ 0 }
+        ensures new { result ≡ record { reads = 0; faults = 0 } }
     {
-        RealSource { reader, faults: 0 }
+        RealSource {
+            reader,
+            reads: 0,
+            faults: 0,
+        }
     }
 }
 
 impl<R: Read> Source for RealSource<R> {
     ghost left = { λ _. None };
 
-    ghost faults = { λ s. s };
+    ghost reads = { λ s. s.reads };
+
+    ghost faults = { λ s. s.faults };
 
     fn read(&mut self, into: &mut [u8]) -> Result<usize, ReadFailed> {
+        self.reads = self.reads.saturating_add(1);
         match self.reader.read(into) {
             Ok(n) => Ok(n),
             Err(_) => {

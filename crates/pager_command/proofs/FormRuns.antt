@@ -27,14 +27,14 @@ module _ {T K P : Type 0} (left : T → Option (List ℕ)) (reads : T → ℕ) (
   text_is parts asked history counted =
       run_text-gathered form plan (map seen stores) parts gathered.history.items outcome.history.items gathered.summary asked counted (ap (λ (v : Vec Numbered Global). v.items) history)
 
-  pub RunsBy-written : (parts : Parts) → parts ≡ parts_of form → WasRead plan (left source) (left source') → plan.spaces ≤ length stores
+  pub RunsBy-written : (parts : Parts) → parts ≡ parts_of form → WasRead plan (left source) (left source') → reads source' ≡ reads source → plan.spaces ≤ length stores
       → IsReplay plan (map seen stores) gathered.history.items (map seen gathered.stores.items) → ComesBy form plan (entries_in gathered.history.items) → AreItsCounts plan (map seen stores) gathered.history.items gathered.summary
       → (outcome.status ≡ DONE) ⊎ (outcome.status ≡ WRITE_FAULT) → outcome.refusal ≡ None → outcome.trace ≡ Some plan → outcome.history ≡ gathered.history → outcome.stores ≡ gathered.stores
       → (outcome.status ≡ DONE → WroteAll (out_text (has_history parts) plan.processors gathered.history.items gathered.summary) (taken sink) (taken sink'))
       → (outcome.status ≡ WRITE_FAULT → WrotePart (out_text (has_history parts) plan.processors gathered.history.items gathered.summary) (taken sink) (taken sink'))
       → (outcome.status ≡ WRITE_FAULT → Rose (writes sink) (writes sink'))
       → RunsBy left reads taken writes seen form source source' sink sink' stores outcome
-  RunsBy-written parts asked read enough run ordered counted made refusal trace history kept wrote part rose =
+  RunsBy-written parts asked read no_fault enough run ordered counted made refusal trace history kept wrote part rose =
       record {
         statuses = elim made [ inl done ↦ inl done | inr failed ↦ inr (inr (inr (inr (inr failed)))) ];
         no_usage = λ usage. omega (arith, made, usage);
@@ -44,6 +44,7 @@ module _ {T K P : Type 0} (left : T → Option (List ℕ)) (reads : T → ℕ) (
         same_stores = λ not_done not_failed. elim made [ inl done ↦ absurd (not_done done) | inr failed ↦ absurd (not_failed failed) ];
         refused = λ is. absurd (omega (arith, is, made));
         read_fault = λ is. absurd (omega (arith, is, made));
+        no_read_fault = λ _. no_fault;
         write_fault = rose;
         memory = λ is _. absurd (omega (arith, is, made));
         complete = λ _ _ no_write. elim made [ inl done ↦ inl done | inr failed ↦ absurd (no_write (rose failed)) ];

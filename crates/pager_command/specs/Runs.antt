@@ -71,6 +71,7 @@ pub record IsStopped (left left' : Option (List ℕ)) (faults faults' stores sta
   pub told : IsTold status refusal
   pub refused : status ≡ REFUSED → IfSome left (λ bytes. IsSomeAnd refusal (IsRefused stores bytes))
   pub read_fault : status ≡ READ_FAULT → Rose faults faults'
+  pub no_fault : status ≢ READ_FAULT → faults' ≡ faults
   pub memory : status ≡ MEMORY → refusal ≡ None → WasText left left'
   pub complete : IsSomeAnd left (IsRunnable stores) → (Rose faults faults' → ⊥) → status ≡ MEMORY
 
@@ -86,6 +87,7 @@ pub record RunsBy {T K P : Type 0} (left : T → Option (List ℕ)) (reads : T �
   pub same_stores : outcome.status ≢ DONE → outcome.status ≢ WRITE_FAULT → map seen outcome.stores.items ≡ map seen stores
   pub refused : outcome.status ≡ REFUSED → IfSome (left source) (λ bytes. IsSomeAnd outcome.refusal (IsRefused (length stores) bytes))
   pub read_fault : outcome.status ≡ READ_FAULT → Rose (reads source) (reads source')
+  pub no_read_fault : outcome.status ≢ READ_FAULT → reads source' ≡ reads source
   pub write_fault : outcome.status ≡ WRITE_FAULT → Rose (writes sink) (writes sink')
   pub memory : outcome.status ≡ MEMORY → outcome.refusal ≡ None → WasText (left source) (left source')
   pub complete : IsSomeAnd (left source) (IsRunnable (length stores)) → (Rose (reads source) (reads source') → ⊥) → (Rose (writes sink) (writes sink') → ⊥) → (outcome.status ≡ DONE) ⊎ (outcome.status ≡ MEMORY)

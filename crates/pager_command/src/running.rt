@@ -54,9 +54,10 @@ pub fn run<T: Source, K: Sink, S: Store + Send + Drop, R: Threads + Wait + Sync>
     ensures no_trace { result.status ≢ DONE → result.status ≢ WRITE_FAULT → (result.trace ≡ None) × (result.history.items ≡ []) }
     ensures same_stores { result.status ≢ DONE → result.status ≢ WRITE_FAULT → map S.seen result.stores.items ≡ map S.seen stores.items }
 
-    // The bytes are refused as they should be; a read failed; a write failed; the reader had memory.
+    // The bytes are refused as they should be; a read failed, and else none did; a write failed; the reader had memory.
     ensures refused { IsForm words.now → result.status ≡ REFUSED → IfSome (T.left source.old) (λ bytes. IsSomeAnd result.refusal (IsRefused (length stores.items) bytes)) }
     ensures read_fault { result.status ≡ READ_FAULT → Rose (T.faults source.old) (T.faults source.new) }
+    ensures no_read_fault { result.status ≢ READ_FAULT → T.faults source.new ≡ T.faults source.old }
     ensures write_fault { result.status ≡ WRITE_FAULT → Rose (K.faults sink.old) (K.faults sink.new) }
     ensures memory { IsForm words.now → result.status ≡ MEMORY → result.refusal ≡ None → WasText (T.left source.old) (T.left source.new) }
 
@@ -149,6 +150,7 @@ struct Stop {
 fn trace_to_run<T: Source>(alloc: Global, source: &mut T, stores: usize) -> Result<Trace, Stop>
     ensures read { IfOk result (λ trace. WasRead trace (T.left source.old) (T.left source.new)) }
     ensures enough { IfOk result (λ trace. trace.spaces ≤ stores) }
+    ensures no_fault { IfOk result (λ _. T.faults source.new ≡ T.faults source.old) }
     ensures stopped { IfErr result (λ stop. IsStopped (T.left source.old) (T.left source.new) (T.faults source.old) (T.faults source.new) stores stop.status stop.refusal) }
 {
     let trace = match read_trace(alloc, source) {

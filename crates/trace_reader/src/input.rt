@@ -1,5 +1,5 @@
 //! A trace from a source, which gives its bytes a piece at a time.
-ghost use Rattle.std.specs.Prelude.{◌≡◌, ◌<◌, ◌≤◌, ℕ, [], Some, IfSome, IfOk, IfErr, IsErrOf};
+ghost use Rattle.std.specs.Prelude.{◌≡◌, ◌+◌, ◌<◌, ◌≤◌, ℕ, [], Some, IfSome, IfOk, IfErr, IsErrOf};
 ghost use Rattle.io_core.specs.Faults.{Rose};
 ghost use Rattle.pager_model.specs.TraceText.{IsTextOf};
 ghost use Rattle.trace_reader.specs.Refusals.{IsCause, refusal_of};
@@ -23,9 +23,12 @@ fn read_text<T: Source>(alloc: Global, source: &mut T) -> Result<Vec<u8>, TraceF
         (λ fault. IfSome (T.left source.old) (λ bytes. IsCause (refusal_of bytes) fault)) }
     ensures fault { IsErrOf result TraceFault.ReadFault
         → Rose (T.faults source.old) (T.faults source.new) }
+    ensures no_other_fault { (IsErrOf result TraceFault.ReadFault → ⊥)
+        → T.faults source.new ≡ T.faults source.old }
     ensures asks_no_stores { (stores spaces : ℕ)
         → IsErrOf result (TraceFault.TooFewStores stores spaces) → ⊥ }
     ensures never_falls { T.faults source.old ≤ T.faults source.new }
+    ensures few_reads { T.reads source.new ≤ T.reads source.old + 16777217 }
 {
     let mut text = Vec::new(alloc);
     let mut piece = [0; PIECE];
@@ -46,9 +49,9 @@ fn read_text<T: Source>(alloc: Global, source: &mut T) -> Result<Vec<u8>, TraceF
 
 /// Reads a trace to the end of its source.
 ///
-/// Each read gives a byte at least or is the last, and no read follows that which gives byte
-/// `MAX_BYTES + 1`: so at most `MAX_BYTES + 1` reads are made, which a test counts. Memory is taken as
-/// the text and its calls grow. After an `Err` it is open how much of the source was read.
+/// Each read gives a byte at least or is the last, and none follows one that failed or that gave byte
+/// `MAX_BYTES + 1`: so at most `MAX_BYTES + 1` reads are made. Memory is taken as the text and its calls
+/// grow. After an `Err` it is open how much of the source was read.
 pub fn read_trace<T: Source>(alloc: Global, source: &mut T) -> Result<Trace, TraceFault>
     // Where the source tells its bytes: they are this trace's text, and all of them were read.
     ensures ok { IfOk result (λ trace. IfSome (T.left source.old)
@@ -58,9 +61,12 @@ pub fn read_trace<T: Source>(alloc: Global, source: &mut T) -> Result<Trace, Tra
         (λ fault. IfSome (T.left source.old) (λ bytes. IsCause (refusal_of bytes) fault)) }
     ensures fault { IsErrOf result TraceFault.ReadFault
         → Rose (T.faults source.old) (T.faults source.new) }
+    ensures no_other_fault { (IsErrOf result TraceFault.ReadFault → ⊥)
+        → T.faults source.new ≡ T.faults source.old }
     ensures asks_no_stores { (stores spaces : ℕ)
         → IsErrOf result (TraceFault.TooFewStores stores spaces) → ⊥ }
     ensures never_falls { T.faults source.old ≤ T.faults source.new }
+    ensures few_reads { T.reads source.new ≤ T.reads source.old + 16777217 }
 {
     let text = read_text(alloc, source)?;
     parse(alloc, &text)

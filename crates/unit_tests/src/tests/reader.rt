@@ -426,6 +426,8 @@ impl Source for Endless {
 
     ghost left = { λ s. None };
 
+    ghost reads = { λ s. s.reads };
+
     ghost faults = { λ s. 0 };
 
     fn read(&mut self, into: &mut [u8]) -> Result<usize, ReadFailed> {

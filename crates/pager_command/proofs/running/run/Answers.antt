@@ -32,6 +32,7 @@ returns-in-Run g c =
       same_stores = ran.same_stores;
       refused = λ _. ran.refused;
       read_fault = ran.read_fault;
+      no_read_fault = ran.no_read_fault;
       write_fault = ran.write_fault;
       memory = λ _. ran.memory;
       complete = λ _. ran.complete;

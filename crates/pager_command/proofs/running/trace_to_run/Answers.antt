@@ -1,6 +1,10 @@
 use Rattle.std.proofs.Common.{◌≡◌, ◌<◌, ◌⊎◌, Err, Some, inl, ap, sym, subst, ◌∙◌, arith, rules}
+use Rattle.std.specs.Result.{is_err, result_err}
+use Rattle.std.proofs.lemmas.Bool.{false≢true}
+use Rattle.std.proofs.lemmas.Option.{same_Some}
 use Rattle.trace_reader.specs.declared.fault.TraceFault.TheVariants.{TooFewStores}
 use Rattle.pager_command.specs.declared.status.TheConstants.{REFUSED, READ_FAULT, MEMORY}
+use Rattle.pager_command.specs.Runs.{status_of}
 use Rattle.pager_command.proofs.Completeness.{refused_stores, enough_stores, not_refused_text, refused_text, status_told}
 use Rattle.pager_command.proofs.running.trace_to_run.Goals as goal
 
@@ -14,6 +18,7 @@ returns-in-Err-clause-stopped g c =
       told = search rules;
       refused = λ is. refused_text left c.in-Err.fault c.args.stores status c.refused.result.refusal c.in-Err.ensures.refused told.status told.refusal is;
       read_fault = search rules;
+      no_fault = λ other. c.in-Err.ensures.no_other_fault (λ is. other (told.status ∙ ap status_of (same_Some _ _ (ap result_err is))));
       memory = search rules;
       complete = λ text no_read. not_refused_text left c.in-Err.fault c.args.stores status text c.in-Err.ensures.refused told.status (λ is. no_read (c.in-Err.ensures.fault (ap Err is)));
     }
@@ -28,6 +33,7 @@ returns-then-stores-from-clause-stopped g c =
       told = search rules;
       refused = λ is. refused_stores left _ c.in-Ok.trace c.args.stores c.refused-then-stores-from.result.refusal c.in-Ok.ensures.ok (few, told.refusal ∙ ap (λ k. Some (TooFewStores c.args.stores k)) c.spaces-spaces.ensures.spaces);
       read_fault = search rules;
+      no_fault = λ _. c.in-Ok.ensures.no_other_fault (λ is. false≢true (ap is_err is));
       memory = search rules;
       complete = λ text no_read. absurd (enough_stores left _ c.in-Ok.trace c.args.stores text c.in-Ok.ensures.ok few);
     }

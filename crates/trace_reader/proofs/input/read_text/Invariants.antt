@@ -1,11 +1,12 @@
-use Rattle.std.proofs.Common.{◌-◌, ◌≤◌, vec_len}
+use Rattle.std.proofs.Common.{◌≡◌, ◌+◌, ◌-◌, ◌≤◌, vec_len}
 use Rattle.trace_reader.proofs.SourceBytes.{Took}
 use Rattle.trace_reader.proofs.input.read_text.Given as goal
 
 abbrev pub invariant-pieces : goal.invariant-pieces
 invariant-pieces g l = record {
   took : Took (g.T.Source.left l.fn.source) (g.T.Source.left l.source) l.text.items;
-  never_falls : g.T.Source.faults l.fn.source ≤ g.T.Source.faults l.source;
+  no_fault : g.T.Source.faults l.source ≡ g.T.Source.faults l.fn.source;
+  reads_few : g.T.Source.reads l.source ≤ g.T.Source.reads l.fn.source + vec_len l.text;
   short : vec_len l.text ≤ 16777216;
 }
 
