@@ -95,9 +95,9 @@ IsPool-reclaimed frames l claimers st at claim pool sound =
     (AreHere-same frames st.used (set st.used at (with_claim claim (used_at st at))) pool.here still)
     (omega (arith, pool.few_broken))
 
-pub IsPool-claimed : (frames : List (Option Framed)) (l : Layout) (claimers : ℕ) (st : FrameState) (at c : ℕ) → IsPool frames l claimers st → c < length st.held → HasNothing st c → IsPool frames l claimers (counted (claimed st at (Some c)))
-IsPool-claimed frames l claimers st at c pool known nothing =
-    IsPool-reclaimed frames l claimers st at (Some c) pool (IsSound-claimed _ _ st at c pool.sound known nothing)
+pub IsPool-claimed : (frames : List (Option Framed)) (l : Layout) (claimers : ℕ) (st : FrameState) (at c : ℕ) → IsPool frames l claimers st → c < length st.held → HasNothing st c → is_evictable (used_at st at) ≡ true → IsPool frames l claimers (counted (claimed st at (Some c)))
+IsPool-claimed frames l claimers st at c pool known nothing may =
+    IsPool-reclaimed frames l claimers st at (Some c) pool (IsSound-claimed _ _ st at c pool.sound known nothing may)
 
 pub IsPool-unclaimed : (frames : List (Option Framed)) (l : Layout) (claimers : ℕ) (st : FrameState) (at : ℕ) → IsPool frames l claimers st → IsPool frames l claimers (counted (claimed st at None))
 IsPool-unclaimed frames l claimers st at pool = IsPool-reclaimed frames l claimers st at None pool (IsSound-unclaimed _ _ st at pool.sound)

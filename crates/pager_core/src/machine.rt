@@ -4,6 +4,7 @@ ghost use Rattle.pager_model.specs.Agreement.{OwnsBy};
 ghost use Rattle.pager_model.specs.Counts.{counts};
 ghost use Rattle.pager_model.specs.FrameStates.{start_frames};
 ghost use Rattle.pager_model.specs.SizeSets.{all_sizes};
+ghost use Rattle.pager_model.specs.Headline.{IsNeverShort};
 ghost use Rattle.pager_model.specs.Laws.{KeepsLaws};
 ghost use Rattle.pager_model.specs.Legal.{entries_in};
 ghost use Rattle.pager_model.specs.Showing.{actors, jobs_of};
@@ -131,6 +132,7 @@ impl<S: Store + Send + Drop> Machine<S> {
         // After any turns.
         ensures lawful { IsLawful self.new }
         ensures laws { KeepsLaws self.new.given (entries_in self.new.history) }
+        ensures never_short { IsNeverShort self.new.given (entries_in self.new.history) }
     {
         let Some(flight) = self.flights[actor as usize] else {
             return Turn::Ended;
@@ -154,6 +156,7 @@ impl<S: Store + Send + Drop> Machine<S> {
         ensures same_unused { self.new.unused ≡ self.old.unused }
         ensures lawful { IsLawful self.new }
         ensures laws { KeepsLaws self.new.given (entries_in self.new.history) }
+        ensures never_short { IsNeverShort self.new.given (entries_in self.new.history) }
     {
         if is_kept_by_other(self.flights.as_slice(), actor, space) {
             return Turn::Waits(space);
@@ -180,6 +183,7 @@ impl<S: Store + Send + Drop> Machine<S> {
         ensures same_unused { self.new.unused ≡ self.old.unused }
         ensures lawful { IsLawful self.new }
         ensures laws { KeepsLaws self.new.given (entries_in self.new.history) }
+        ensures never_short { IsNeverShort self.new.given (entries_in self.new.history) }
     {
         let mut flight = flight;
         let entry = flight.step_frames(&mut self.pool);

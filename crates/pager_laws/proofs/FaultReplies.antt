@@ -17,7 +17,7 @@ use Rattle.pager_model.specs.declared.reply.Reply.{Reply}
 use Rattle.pager_model.specs.declared.reply.Reply.TheVariants.{NoFrames, StoreFault, NoMemory}
 use Rattle.pager_model.specs.Entries.{names_space, space_part, is_of, IsOn}
 use Rattle.pager_model.specs.Flat.{space_of_call}
-use Rattle.pager_model.specs.Headline.{IsServed, AllServed}
+use Rattle.pager_model.specs.Headline.{AllAnswered, AllServed, IsAnswered, IsServed}
 use Rattle.pager_model.specs.Legal.{IsLegal, MayFollow, SpaceJudges, state_of_space, space_at, progress_at}
 use Rattle.pager_model.specs.Order.{ForAccess, ForTurn, Doing, Idle, Looking, Cleared, Uncopied, Filling, Unfilling, Claiming, Emptied, Unwritten, Holding, Late, Faulted, Lacking, Refusing, Progress, leads, may_answer, is_answered_alone, is_unmap_in, is_copying, is_access, is_access_at, is_victim, between, after_answer, after_take, after_use, after_clear, after_out, after_failure, after_give, after_claim, after_got, after_unclaim, lacking_for, faulted_for, after_drop, dropped_for, after_refusal, after_rest, progress_after, progress_by}
 use Rattle.pager_model.specs.Settings.{Given, mark_of, is_told, faults_at_entry}
@@ -266,15 +266,31 @@ served_by st c call (StoreFault space count) allowed none = none space count ref
 served_by st c call NoMemory allowed none = tt
 served_by st c call reply allowed none = allowed.0
 
+-- an answer is allowed after the entries of its call's space before it
+allowed_answer : (g : Given) (before : List Entry) (e : Entry) (number : ℕ) (call : Call) (answered : Answered) → MayFollow g before e → e.what ≡ Answer number call answered → AnswerAllowed (space_at g before (space_of_call call)) e.frames e.processor number call answered
+allowed_answer g before e number call answered may is =
+    let st = space_at g before (space_of_call call) in
+    let named : e.space ≡ Some (space_of_call call) = subst (IsOn e.space e.frames) is may.parts in
+    let judged : SpaceAllows st e = subst (λ o. IfSome o (λ s. SpaceJudges g s (space_part s before) e)) named may.by_space in
+    subst (WhatAllowed st e.frames e.processor) is judged.1
+
 -- where no store failed each answer is the flat memory's, or says that no frame or no memory could be had
 pub AllServed-legal : (g : Given) (history : List Entry) → IsLegal g history → ((s count : ℕ) → HasFailed g history s count → ⊥) → AllServed g history
 AllServed-legal g history legal none before after e number call answered split is =
     let at = IsLegal-at g before after e (subst (IsLegal g) split legal) in
-    let st = space_at g before (space_of_call call) in
-    let named : e.space ≡ Some (space_of_call call) = subst (IsOn e.space e.frames) is at.1.parts in
-    let judged : SpaceAllows st e = subst (λ o. IfSome o (λ s. SpaceJudges g s (space_part s before) e)) named at.1.by_space in
-    let allowed : AnswerAllowed st e.frames e.processor number call answered = subst (WhatAllowed st e.frames e.processor) is judged.1 in
-    served_by st e.processor call answered.reply allowed.reply
+    served_by (space_at g before (space_of_call call)) e.processor call answered.reply (allowed_answer g before e number call answered at.1 is).reply
     (λ s count told.
     none s count (subst (λ h. HasFailed g h s count) (sym split)
     (HasFailed-along g before (e ∷ after) s count (HasFailed-told g before e number call answered s count at.0 at.1 is told))))
+
+answered_by : (st : SpaceState) (c : ℕ) (call : Call) (reply : Reply) → ReplyAllowed st c call reply → IsAnswered st call reply
+answered_by st c call (NoFrames wired claimed held) allowed = tt
+answered_by st c call (StoreFault space count) allowed = tt
+answered_by st c call NoMemory allowed = tt
+answered_by st c call reply allowed = allowed.0
+
+-- whatever stores did each answer is the flat memory's, or says why it is not
+pub AllAnswered-legal : (g : Given) (history : List Entry) → IsLegal g history → AllAnswered g history
+AllAnswered-legal g history legal before after e number call answered split is =
+    let at = IsLegal-at g before after e (subst (IsLegal g) split legal) in
+    answered_by (space_at g before (space_of_call call)) e.processor call answered.reply (allowed_answer g before e number call answered at.1 is).reply

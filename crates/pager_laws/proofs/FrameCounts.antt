@@ -20,13 +20,13 @@ use Rattle.pager_laws.proofs.Partition.{IsPartition-sound, count-nowhere}
 -- Sums.
 
 -- a sum of sums
-sum_by-plus : {X : Type 0} (f g : X → ℕ) (xs : List X) → sum_by (λ x. f x + g x) xs ≡ sum_by f xs + sum_by g xs
+pub sum_by-plus : {X : Type 0} (f g : X → ℕ) (xs : List X) → sum_by (λ x. f x + g x) xs ≡ sum_by f xs + sum_by g xs
 sum_by-plus f g [] = refl
 sum_by-plus f g (x ∷ xs) =
     omega (arith, sum_by-cons (λ y. f y + g y) x xs, sum_by-cons f x xs, sum_by-cons g x xs, sum_by-plus f g xs)
 
 -- term by term one sum is at most the other
-sum_by-le_at : {X : Type 0} (f g : X → ℕ) (xs : List X) (d : X) → ((i : ℕ) → i < length xs → f (get_or xs i d) ≤ g (get_or xs i d)) → sum_by f xs ≤ sum_by g xs
+pub sum_by-le_at : {X : Type 0} (f g : X → ℕ) (xs : List X) (d : X) → ((i : ℕ) → i < length xs → f (get_or xs i d) ≤ g (get_or xs i d)) → sum_by f xs ≤ sum_by g xs
 sum_by-le_at f g [] d each = omega arith
 sum_by-le_at f g (x ∷ xs) d each =
     let head : f x ≤ g x = each 0 (omega arith) in
@@ -34,14 +34,14 @@ sum_by-le_at f g (x ∷ xs) d each =
     omega (arith, sum_by-cons f x xs, sum_by-cons g x xs, head, rest)
 
 -- term by term two sums are the same
-sum_by-same_at : {X : Type 0} (f g : X → ℕ) (xs : List X) (d : X) → ((i : ℕ) → i < length xs → f (get_or xs i d) ≡ g (get_or xs i d)) → sum_by f xs ≡ sum_by g xs
+pub sum_by-same_at : {X : Type 0} (f g : X → ℕ) (xs : List X) (d : X) → ((i : ℕ) → i < length xs → f (get_or xs i d) ≡ g (get_or xs i d)) → sum_by f xs ≡ sum_by g xs
 sum_by-same_at f g xs d each =
     let most = sum_by-le_at f g xs d (λ i known. omega (arith, each i known)) in
     let least = sum_by-le_at g f xs d (λ i known. omega (arith, each i known)) in
     omega (arith, most, least)
 
 -- a sum of ones
-sum_by-ones : (xs : List ℕ) → sum_by (λ x. 1) xs ≡ length xs
+pub sum_by-ones : (xs : List ℕ) → sum_by (λ x. 1) xs ≡ length xs
 sum_by-ones [] = refl
 sum_by-ones (x ∷ xs) = omega (arith, sum_by-cons (λ y. 1) x xs, sum_by-ones xs)
 
@@ -50,7 +50,7 @@ count-never : (xs : List ℕ) → count_by (λ x. false) xs ≡ 0
 count-never xs = count-nowhere (λ x. false) xs 0 (λ i is. false≢true is)
 
 -- pairs that pass are as many, whichever of the two is counted over first
-exchange : {X : Type 0} (p : ℕ → X → Bool) (xs : List X) (fs : List ℕ) → sum_by (λ f. count_by (p f) xs) fs ≡ sum_by (λ x. count_by (λ f. p f x) fs) xs
+pub exchange : {X : Type 0} (p : ℕ → X → Bool) (xs : List X) (fs : List ℕ) → sum_by (λ f. count_by (p f) xs) fs ≡ sum_by (λ x. count_by (λ f. p f x) fs) xs
 exchange p [] fs = count-never fs
 exchange p (x ∷ xs) fs =
     let split = ap (λ h. sum_by h fs) (fun_ext (λ f. sum_by-cons (λ y. cond (p f y) 1 0) x xs)) in
@@ -71,7 +71,7 @@ count-first_indexes p xs d (suc n) within =
     subst (λ k. sum_by at (range_with_len 0 k) ≡ count_by p (take k xs)) next step
 
 -- the elements that pass are as many as their indexes
-count-indexes : {X : Type 0} (p : X → Bool) (xs : List X) (d : X) (n : ℕ) → length xs ≡ n → count_by (λ i. p (get_or xs i d)) (range_with_len 0 n) ≡ count_by p xs
+pub count-indexes : {X : Type 0} (p : X → Bool) (xs : List X) (d : X) (n : ℕ) → length xs ≡ n → count_by (λ i. p (get_or xs i d)) (range_with_len 0 n) ≡ count_by p xs
 count-indexes p xs d n long = count-first_indexes p xs d n (omega arith) ∙ ap (count_by p) (take_all n xs (omega arith))
 
 -- Frames below a number.
@@ -96,7 +96,7 @@ count-places_in n None within = count-never (range_with_len 0 n)
 count-places_in n (Some r) within = count-between r.frame (8 ^ r.size) n (within r refl)
 
 -- a known frame that is held is one
-count-held : (n : ℕ) (o : Option ℕ) → ((f : ℕ) → o ≡ Some f → f < n) → count_by (λ g. is_that g o) (range_with_len 0 n) ≡ cond (is_some o) 1 0
+pub count-held : (n : ℕ) (o : Option ℕ) → ((f : ℕ) → o ≡ Some f → f < n) → count_by (λ g. is_that g o) (range_with_len 0 n) ≡ cond (is_some o) 1 0
 count-held n None known = count-never (range_with_len 0 n)
 count-held n (Some f) known =
     let one_more = count-one_more (λ g. false) (λ g. eqb f g) f refl (eq-eqb f f refl)
@@ -117,7 +117,7 @@ all_places_of frames records within =
     (λ i _. count-places_in frames (get_or records i None) (within i))
 
 -- where the element of one index at most passes, one is counted at most
-count-one_most : {X : Type 0} (p : X → Bool) (xs : List X) (d : X) → ((i j : ℕ) → p (get_or xs i d) ≡ true → p (get_or xs j d) ≡ true → i ≡ j) → count_by p xs ≤ 1
+pub count-one_most : {X : Type 0} (p : X → Bool) (xs : List X) (d : X) → ((i j : ℕ) → p (get_or xs i d) ≡ true → p (get_or xs j d) ≡ true → i ≡ j) → count_by p xs ≤ 1
 count-one_most p [] d only = omega arith
 count-one_most p (x ∷ xs) d only =
     let both = sum_by-cons (λ y. weight (p y)) x xs in
@@ -143,13 +143,13 @@ places_few l laid =
 
 module _ (frames processors : ℕ) (st : FrameState) (sound : IsSound frames processors st) where
   -- each number of the range is a frame's
-  below : (i : ℕ) → i < length (range_with_len 0 frames) → get_or (range_with_len 0 frames) i 0 < frames
+  pub below : (i : ℕ) → i < length (range_with_len 0 frames) → get_or (range_with_len 0 frames) i 0 < frames
   below i within =
       let known : i < frames = omega (arith, length-range_with_len 0 frames) in
       omega (arith, known, get_or-range_with_len 0 frames i 0 known)
 
   -- over all frames the processors that hold each are the ones that hold one
-  all_held : sum_by (λ f. count_by (is_that f) st.held) (range_with_len 0 frames) ≡ held_count st
+  pub all_held : sum_by (λ f. count_by (is_that f) st.held) (range_with_len 0 frames) ≡ held_count st
   all_held =
       exchange is_that st.held (range_with_len 0 frames)
       ∙ sum_by-same_at (λ o. count_by (λ f. is_that f o) (range_with_len 0 frames)) (λ o. cond (is_some o) 1 0) st.held None
@@ -159,9 +159,13 @@ module _ (frames processors : ℕ) (st : FrameState) (sound : IsSound frames pro
   all_free : sum_by (λ f. cond (is_free (layout_of st) f) 1 0) (range_with_len 0 frames) ≡ free_count st
   all_free = count-indexes (λ free. free) st.free false frames sound.known
 
+  -- of each frame something may be noted
+  pub used_long : length st.used ≡ frames
+  used_long = sym (length-map st.used is_some) ∙ sound.laid.used_long ∙ sound.known
+
   -- over all frames the used ones
   all_used : sum_by (λ f. cond (is_some (used_at st f)) 1 0) (range_with_len 0 frames) ≡ used_count st
-  all_used = count-indexes is_some st.used None frames (sym (length-map st.used is_some) ∙ sound.laid.used_long ∙ sound.known)
+  all_used = count-indexes is_some st.used None frames used_long
 
   -- over all frames the places
   all_places : sum_by (λ f. count_by (has_frame f) st.records) (range_with_len 0 frames) ≡ sum_by places_in st.records

@@ -28,6 +28,7 @@ pub mod LegalHistories
 pub mod LegalPrefixes
 pub mod OldestBroken
 pub mod RefusedFrames
+pub mod OutOfFrames
 pub mod OrderedRefusals
 pub mod KeptFrames
 pub mod KeptSizes

@@ -1,4 +1,5 @@
--- An answer that no frame could be had comes after a refusal, which was its processor's last entry.
+-- An answer that no frame could be had comes after a refusal, which was its processor's last entry; and a refusal comes where frames are fewer
+-- than wired places and processors.
 use Rattle.std.proofs.Common.{◌≡◌, ℕ, zero, suc, ◌+◌, Bool, true, false, cond, eqb, ◌&&◌, List, [], ◌∷◌, ◌++◌, length, Option, Some, None, IfSome, refl, sym, ap, subst, ◌∙◌, append_assoc}
 use Rattle.std.specs.Option.{option_and_then}
 use Rattle.std.proofs.lemmas.Bool.{and_parts, eqb-true, false≢true}
@@ -13,8 +14,8 @@ use Rattle.pager_model.specs.declared.entry.What.TheVariants.{Answer, Out, Faile
 use Rattle.pager_model.specs.declared.reply.Reply.{Reply}
 use Rattle.pager_model.specs.declared.reply.Reply.TheVariants.{NoFrames}
 use Rattle.pager_model.specs.Entries.{is_of, IsOn}
-use Rattle.pager_model.specs.FrameStates.{FramesAllow}
-use Rattle.pager_model.specs.Headline.{NoneToHave, WasRefused, RefusesRightly}
+use Rattle.pager_model.specs.FrameStates.{FramesAllow, HasNothing, IsRefused}
+use Rattle.pager_model.specs.Headline.{IsNeverShort, IsOutOfFrames, NoneToHave, WasRefused, RefusesRightly}
 use Rattle.pager_model.specs.Legal.{IsLegal, MayFollow, frames_at, progress_at}
 use Rattle.pager_model.specs.Order.{Purpose, Doing, Progress, between, at_rest, leads, is_answered_alone, may_answer, after_answer, after_take, after_use, after_clear, after_out, after_failure, after_give, after_claim, after_got, after_unclaim, lacking_for, faulted_for, after_drop, dropped_for, after_refusal, after_rest, progress_after}
 use Rattle.pager_model.specs.Order.Purpose.{ForAccess, ForTurn}
@@ -23,6 +24,7 @@ use Rattle.pager_model.specs.Settings.{Given, mark_of}
 use Rattle.pager_model.proofs.Histories.{filter-push_out, progress_at-own, progress_at-other, IsLegal-push, IsLegal-keeps}
 use Rattle.pager_laws.proofs.LegalHistories.{IsKept-legal, progress_before}
 use Rattle.pager_laws.proofs.LegalPrefixes.{IsLegal-at}
+use Rattle.pager_laws.proofs.OutOfFrames.{IsOutOfFrames-refused}
 use Rattle.pager_laws.proofs.RefusedFrames.{NoneToHave-refused}
 
 -- the refusal that a processor's place comes after, where it comes after one
@@ -174,13 +176,22 @@ answered_from p q number call reply w c h goes same =
 
 -- Every legal history.
 
--- the entry is a refusal, and no frame can be had where it may follow
+-- the entry is a refusal, and the frames allow it where it may follow
+allowed_refusal : (g : Given) (h : List Entry) (e : Entry) (wired claimed held : ℕ) → MayFollow g h e → e.what ≡ Refused wired claimed held → HasNothing (frames_at g h) e.processor × IsRefused (frames_at g h) wired claimed held
+allowed_refusal g h e wired claimed held may what =
+    let on = subst (IsOn e.space e.frames) what may.parts in
+    subst (FramesAllow (frames_at g h) (mark_of g e.processor) e.processor e.space) what (may.by_frames on.1)
+
+-- so no frame can be had there
 none_to_have : (g : Given) (h : List Entry) (e : Entry) (wired claimed held : ℕ) → IsLegal g h → MayFollow g h e → e.what ≡ Refused wired claimed held → NoneToHave g.frames (frames_at g h)
 none_to_have g h e wired claimed held legal may what =
-    let st = frames_at g h in
-    let on = subst (IsOn e.space e.frames) what may.parts in
-    let allowed = subst (FramesAllow st (mark_of g e.processor) e.processor e.space) what (may.by_frames on.1) in
-    NoneToHave-refused g.frames (length g.marks) st wired claimed held (IsKept-legal g h legal).sound allowed.1
+    NoneToHave-refused g.frames (length g.marks) (frames_at g h) wired claimed held (IsKept-legal g h legal).sound (allowed_refusal g h e wired claimed held may what).1
+
+-- and its numbers sum to all frames
+out_of_frames : (g : Given) (h : List Entry) (e : Entry) (wired claimed held : ℕ) → IsLegal g h → MayFollow g h e → e.what ≡ Refused wired claimed held → IsOutOfFrames g (frames_at g h) wired claimed held
+out_of_frames g h e wired claimed held legal may what =
+    let allowed = allowed_refusal g h e wired claimed held may what in
+    IsOutOfFrames-refused g (frames_at g h) e.processor wired claimed held (IsKept-legal g h legal).sound may.processor allowed.0 allowed.1
 
 -- whose place comes after a refusal, its last entry was this refusal, and no frame could be had then
 abbrev RefusedLast : Given → List Entry → Type 0
@@ -201,6 +212,7 @@ RefusedLast-more g h e legal refused may c wired claimed held p goes is =
             numbers = what;
             last = refl;
             none = none_to_have g h e wired claimed held legal may what;
+            all = (out_of_frames g h e wired claimed held legal may what).all;
           }
       | false ↦ λ other.
           let was = refused c wired claimed held p (sym (progress_at-other g h e c other) ∙ goes) is in
@@ -213,6 +225,7 @@ RefusedLast-more g h e legal refused may c wired claimed held p goes is =
             numbers = was.numbers;
             last = filter-push_out (is_of c) was.since e other ∙ was.last;
             none = was.none;
+            all = was.all;
           }
     ] refl
 
@@ -238,3 +251,9 @@ RefusesRightly-legal g history legal before after e number call answered wired c
     let goes = ap (progress_after from.0 e.space) (sym what) ∙ from.2 in
     RefusedLast-legal g before at.0 e.processor wired claimed held from.0 from.1
     (answered_from from.0 at.1.ordered.0 number call answered.reply wired claimed held goes reply)
+
+-- The law: no refusal comes while wired places and processors together are at most the frames.
+pub IsNeverShort-legal : (g : Given) (history : List Entry) → IsLegal g history → IsNeverShort g history
+IsNeverShort-legal g history legal before after e wired claimed held split what =
+    let at = IsLegal-at g before after e (subst (IsLegal g) split legal) in
+    out_of_frames g before e wired claimed held at.0 at.1 what

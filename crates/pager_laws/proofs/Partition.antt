@@ -34,7 +34,7 @@ count-once p (x ∷ xs) d (suc k) past passes only =
     omega (arith, head, rest, both)
 
 -- the frame that passes is the one held
-is_that-same : (f : ℕ) (o : Option ℕ) → is_that f o ≡ true → o ≡ Some f
+pub is_that-same : (f : ℕ) (o : Option ℕ) → is_that f o ≡ true → o ≡ Some f
 is_that-same f None is = absurd (false≢true is)
 is_that-same f (Some g) is = ap Some (eqb-true g f is)
 
@@ -44,11 +44,11 @@ module _ (frames processors : ℕ) (st : FrameState) (sound : IsSound frames pro
   one_place id has = count-once (has_frame f) st.records None id refl has (λ other also. sound.laid.apart f other id also has)
 
   -- a frame in the layout is held by nobody
-  none_holds : IsIn (layout_of st) f → count_by (is_that f) st.held ≡ 0
+  pub none_holds : IsIn (layout_of st) f → count_by (is_that f) st.held ≡ 0
   none_holds within = count-nowhere (is_that f) st.held None (λ c is. (sound.held_apart c f (is_that-same f (held_by st c) is)).1 within)
 
   -- a frame that is held is held by one processor
-  one_holds : (c : ℕ) → held_by st c ≡ Some f → count_by (is_that f) st.held ≡ 1
+  pub one_holds : (c : ℕ) → held_by st c ≡ Some f → count_by (is_that f) st.held ≡ 1
   one_holds c holds =
       count-once (is_that f) st.held None c refl (ap (is_that f) holds ∙ eq-eqb f f refl)
       (λ other is. sound.held_once other c f (is_that-same f (held_by st other) is) holds)

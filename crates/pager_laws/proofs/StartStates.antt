@@ -42,4 +42,5 @@ IsSound-start z frames processors = record {
   ages_differ = λ f other u v is _ _. absurd (none-some u (sym (get_or-alike frames f None) ∙ is));
   claims_once = λ f other c claims _. absurd (none-some c (sym (ap claim_in (get_or-alike frames f None)) ∙ claims));
   claims_known = λ f c claims. absurd (none-some c (sym (ap claim_in (get_or-alike frames f None)) ∙ claims));
+  claims_unwired = λ f c claims. absurd (none-some c (sym (ap claim_in (get_or-alike frames f None)) ∙ claims));
 }

@@ -1,6 +1,7 @@
 -- What every entry that the frames allow keeps of their state.
-use Rattle.std.proofs.Common.{◌≡◌, ◌≢◌, ◌⊎◌, inl, inr, ℕ, ◌<◌, Bool, true, cond, List, [], ◌∷◌, length, get_or, set, map, fold, is_some, Option, Some, None, IsSomeAnd, option_map, refl, sym, ap, subst, ◌∙◌, arith}
-use Rattle.std.proofs.lemmas.Bool.{cases_eq, cases_lt, false≢true}
+use Rattle.std.proofs.Common.{◌≡◌, ◌≢◌, ◌⊎◌, inl, inr, ℕ, ◌<◌, Bool, true, false, not, cond, List, [], ◌∷◌, length, get_or, set, map, fold, is_some, Option, Some, None, IsSomeAnd, option_map, refl, sym, ap, subst, ◌∙◌, arith}
+use Rattle.std.proofs.lemmas.Bool.{cases_eq, cases_lt, false≢true, and_parts}
+use Rattle.std.specs.Option.{is_none}
 use Rattle.std.proofs.lemmas.List.{get_or-set_same, get_or-set_other, length-set, map-set, set_past, get_or_past}
 use Rattle.std.proofs.Math.ListN.{get_or-map}
 use Rattle.std.proofs.Math.Seq.{map-set_same}
@@ -14,7 +15,7 @@ use Rattle.pager_model.specs.declared.entry.What.TheVariants.{Answer, Out, Faile
 use Rattle.pager_model.specs.declared.reservation.Reservation.{Reservation}
 use Rattle.pager_model.specs.declared.reservation.Used.{Used}
 use Rattle.pager_model.specs.Agreement.{has_frame}
-use Rattle.pager_model.specs.FrameStates.{FrameState, Taking, layout_of, used_at, held_by, claim_in, frame_of, HasNothing, taken, taking, take_frame, state_taken, layout_given, held_given, given, given_in, give_page, give_if_used, with_claim, claimed, dropped, dropped_in, counted, named_space, moved, moved_by_answer, AllowsAnswer, FramesAllow}
+use Rattle.pager_model.specs.FrameStates.{FrameState, Taking, layout_of, used_at, held_by, claim_in, frame_of, HasNothing, taken, taking, take_frame, state_taken, layout_given, held_given, given, given_in, give_page, give_if_used, with_claim, claimed, is_evictable, is_wired_place, dropped, dropped_in, counted, named_space, moved, moved_by_answer, AllowsAnswer, FramesAllow}
 use Rattle.pager_model.specs.Layouts.{Layout, Placing, placing, frame_for, record_at}
 use Rattle.pager_model.specs.Records.{is_used}
 use Rattle.pager_model.proofs.Lists.{get_or-set_default, unset_before}
@@ -110,17 +111,21 @@ IsSound-counted frames processors st sound = record {
   ages_differ = sound.ages_differ;
   claims_once = sound.claims_once;
   claims_known = sound.claims_known;
+  claims_unwired = sound.claims_unwired;
 }
 
--- a frame that was taken is claimed by nobody, and the claims of the others stay
-pub claim_taken : (st : FrameState) (want : Want) (place : Placing) (f c : ℕ) → claim_in (used_at (taken st want place) f) ≡ Some c → claim_in (used_at st f) ≡ Some c
-claim_taken st want place f c claims =
+-- a frame that was taken is claimed by nobody, and of those that are claimed the same is noted as before
+still_noted : (st : FrameState) (want : Want) (place : Placing) (f c : ℕ) → claim_in (used_at (taken st want place) f) ≡ Some c → used_at (taken st want place) f ≡ used_at st f
+still_noted st want place f c claims =
     let note : Used = record { age = st.entries; wired = want.wired; claim = None } in
     let noted = claim_from (used_at (taken st want place) f) c claims in
     elim (set_cases st.used place.frame f (Some note) noted.0 noted.1) [
       | inl here ↦ absurd (none-some c (ap (λ u. u.claim) (same_Some note noted.0 here.1) ∙ noted.2))
-      | inr there ↦ ap claim_in there.1 ∙ noted.2
+      | inr there ↦ noted.1 ∙ sym there.1
     ]
+
+pub claim_taken : (st : FrameState) (want : Want) (place : Placing) (f c : ℕ) → claim_in (used_at (taken st want place) f) ≡ Some c → claim_in (used_at st f) ≡ Some c
+claim_taken st want place f c claims = ap claim_in (sym (still_noted st want place f c claims)) ∙ claims
 
 -- the state after a taking at a place
 IsSound-taken : (frames processors : ℕ) (st : FrameState) (space page : ℕ) (want : Want) (place : Placing) → IsSound frames processors st → WasPlaced (layout_of st) place.layout space page place.frame → IsSound frames processors (counted (taken st want place))
@@ -150,6 +155,7 @@ IsSound-taken frames processors st space page want place sound places =
       ];
       claims_once = λ f other c one two. sound.claims_once f other c (claim_taken st want place f c one) (claim_taken st want place other c two);
       claims_known = λ f c claims. sound.claims_known f c (claim_taken st want place f c claims);
+      claims_unwired = λ f c claims. ap is_wired_place (still_noted st want place f c claims) ∙ sound.claims_unwired f c (claim_taken st want place f c claims);
     }
 
 pub IsSound-take : (frames processors : ℕ) (st : FrameState) (space page : ℕ) (want : Want) (t : Taking) → IsSound frames processors st → frame_of st space page ≡ None → take_frame st space page want ≡ Some t → IsSound frames processors (counted t.state)
@@ -173,12 +179,22 @@ given_by claim st frame r =
       preemptions = st.preemptions;
     }
 
--- what was given up has no claim, and the claims of the others stay
-pub claim_given : (st : FrameState) (frame f c : ℕ) → claim_in (get_or (set st.used frame None) f None) ≡ Some c → (f ≢ frame) × (claim_in (used_at st f) ≡ Some c)
-claim_given st frame f c claims =
+-- what was given up has no claim, and of the others that are claimed the same is noted as before
+kept_noted : (st : FrameState) (frame f c : ℕ) → claim_in (get_or (set st.used frame None) f None) ≡ Some c → (f ≢ frame) × (get_or (set st.used frame None) f None ≡ used_at st f)
+kept_noted st frame f c claims =
     let noted = claim_from (get_or (set st.used frame None) f None) c claims in
     let before = unset_cases st.used frame f noted.0 noted.1 in
-    (before.0, ap claim_in before.1 ∙ noted.2)
+    (before.0, noted.1 ∙ sym before.1)
+
+pub claim_given : (st : FrameState) (frame f c : ℕ) → claim_in (get_or (set st.used frame None) f None) ≡ Some c → (f ≢ frame) × (claim_in (used_at st f) ≡ Some c)
+claim_given st frame f c claims =
+    let kept = kept_noted st frame f c claims in
+    (kept.0, ap claim_in (sym kept.1) ∙ claims)
+
+-- and so none of a wired place
+unwired_given : (frames processors : ℕ) (st : FrameState) (frame f c : ℕ) → IsSound frames processors st → claim_in (get_or (set st.used frame None) f None) ≡ Some c → is_wired_place (get_or (set st.used frame None) f None) ≡ false
+unwired_given frames processors st frame f c sound claims =
+    ap is_wired_place (kept_noted st frame f c claims).1 ∙ sound.claims_unwired f c (claim_given st frame f c claims).1
 
 -- the layout after a frame was given up is the one that the giving makes
 pub layout_of-given : (l : Layout) (st : FrameState) (frame : ℕ) (in_after : ℕ → Type 0) → Gives (layout_of st) l frame in_after → record { sizes = l.sizes; free = l.free; records = l.records; used = map is_some (set st.used frame None) } ≡ l
@@ -213,6 +229,7 @@ module _ (frames processors : ℕ) (st : FrameState) (id frame : ℕ) (r : Reser
         ages_differ = λ f other u v at also. sound.ages_differ f other u v (unset_cases st.used frame f u at).1 (unset_cases st.used frame other v also).1;
         claims_once = λ f other c one two. sound.claims_once f other c (claim_given st frame f c one).1 (claim_given st frame other c two).1;
         claims_known = λ f c claims. sound.claims_known f c (claim_given st frame f c claims).1;
+        claims_unwired = λ f c claims. unwired_given frames processors st frame f c sound claims;
       }
 
   IsSound-carved : (c : ℕ) → claim_in (used_at st frame) ≡ Some c → IsSound frames processors (given_by (Some c) st frame r)
@@ -257,6 +274,7 @@ module _ (frames processors : ℕ) (st : FrameState) (id frame : ℕ) (r : Reser
             let known = sound.claims_known f d before.1 in
             let another : d ≢ c = λ same. before.0 (sound.claims_once f frame c (before.1 ∙ ap Some same) claims) in
             (known.0, get_or-set_other st.held c d (Some frame) None another ∙ known.1);
+        claims_unwired = λ f d still. unwired_given frames processors st frame f d sound still;
       }
 
 pub IsSound-given : (frames processors : ℕ) (st : FrameState) (id frame : ℕ) (r : Reservation) → IsSound frames processors st → record_at (layout_of st) id ≡ Some r → has_frame frame (Some r) ≡ true → used_at st frame ≢ None → IsSound frames processors (given st frame r)
@@ -313,8 +331,34 @@ claim_claimed st frame claim f c claims =
       | inr there ↦ inr (there.0, ap claim_in there.1 ∙ noted.2)
     ]
 
--- a claim by nobody, or by a processor with nothing
-IsSound-reclaimed : (frames processors : ℕ) (st : FrameState) (frame : ℕ) (claim : Option ℕ) → IsSound frames processors st → ((c : ℕ) → claim ≡ Some c → (c < processors) × HasNothing st c) → IsSound frames processors (claimed st frame claim)
+-- a claim doesn't wire a place
+wired_with_claim : (claim : Option ℕ) (o : Option Used) → is_wired_place (with_claim claim o) ≡ is_wired_place o
+wired_with_claim claim None = refl
+wired_with_claim claim (Some u) = refl
+
+-- what is claimed then is the frame, with this claim and wired as it was, or the same is noted of it as before
+claim_renoted : (st : FrameState) (frame : ℕ) (claim : Option ℕ) (f c : ℕ) → claim_in (used_at (claimed st frame claim) f) ≡ Some c → ((claim ≡ Some c) × (is_wired_place (used_at (claimed st frame claim) f) ≡ is_wired_place (used_at st frame))) ⊎ (used_at (claimed st frame claim) f ≡ used_at st f)
+claim_renoted st frame claim f c claims =
+    let noted = claim_from (used_at (claimed st frame claim) f) c claims in
+    elim (set_cases st.used frame f (with_claim claim (used_at st frame)) noted.0 noted.1) [
+      | inl here ↦ inl (
+        claim_written claim (used_at st frame) c (ap claim_in here.1 ∙ noted.2),
+        ap is_wired_place (noted.1 ∙ sym here.1) ∙ wired_with_claim claim (used_at st frame),
+      )
+      | inr there ↦ inr (noted.1 ∙ sym there.1)
+    ]
+
+-- a place that may be paged out is not wired
+unwired_evictable : (o : Option Used) → is_evictable o ≡ true → is_wired_place o ≡ false
+unwired_evictable None may = refl
+unwired_evictable (Some u) may = by_wired u.wired (and_parts (not u.wired) (is_none u.claim) may).0
+  where
+    by_wired : (wired : Bool) → not wired ≡ true → wired ≡ false
+    by_wired true is = absurd (false≢true is)
+    by_wired false is = refl
+
+-- a claim by nobody, or by a processor with nothing, and of a place that isn't wired
+IsSound-reclaimed : (frames processors : ℕ) (st : FrameState) (frame : ℕ) (claim : Option ℕ) → IsSound frames processors st → ((c : ℕ) → claim ≡ Some c → (c < processors) × HasNothing st c × (is_wired_place (used_at st frame) ≡ false)) → IsSound frames processors (claimed st frame claim)
 IsSound-reclaimed frames processors st frame claim sound may = record {
   known = sound.known;
   processors_known = sound.processors_known;
@@ -343,13 +387,17 @@ IsSound-reclaimed frames processors st frame claim sound may = record {
     | inl here ↦ ((may c here.1).0, (may c here.1).1.holds_none)
     | inr there ↦ sound.claims_known f c there.1
   ];
+  claims_unwired = λ f c claims. elim (claim_renoted st frame claim f c claims) [
+    | inl here ↦ here.1 ∙ (may c here.0).2
+    | inr same ↦ ap is_wired_place same ∙ sound.claims_unwired f c (ap claim_in (sym same) ∙ claims)
+  ];
 }
 
--- a claim of a used frame that nobody claims, by a processor with nothing, and the end of one
-pub IsSound-claimed : (frames processors : ℕ) (st : FrameState) (frame c : ℕ) → IsSound frames processors st → c < processors → HasNothing st c → IsSound frames processors (claimed st frame (Some c))
-IsSound-claimed frames processors st frame c sound known nothing =
+-- a claim of a frame that may be paged out, by a processor with nothing, and the end of one
+pub IsSound-claimed : (frames processors : ℕ) (st : FrameState) (frame c : ℕ) → IsSound frames processors st → c < processors → HasNothing st c → is_evictable (used_at st frame) ≡ true → IsSound frames processors (claimed st frame (Some c))
+IsSound-claimed frames processors st frame c sound known nothing may =
     IsSound-reclaimed frames processors st frame (Some c) sound
-    (λ d is. subst (λ e. (e < processors) × HasNothing st e) (same_Some c d is) (known, nothing))
+    (λ d is. subst (λ e. (e < processors) × HasNothing st e × (is_wired_place (used_at st frame) ≡ false)) (same_Some c d is) (known, nothing, unwired_evictable (used_at st frame) may))
 
 pub IsSound-unclaimed : (frames processors : ℕ) (st : FrameState) (frame : ℕ) → IsSound frames processors st → IsSound frames processors (claimed st frame None)
 IsSound-unclaimed frames processors st frame sound =
@@ -394,6 +442,7 @@ IsSound-dropped_in frames processors st c frame sound holds =
               | inr other ↦ get_or-set_other st.held c d None None other ∙ known.1
             ],
           );
+      claims_unwired = sound.claims_unwired;
     }
 
 pub IsSound-dropped : (frames processors : ℕ) (st : FrameState) (c : ℕ) → IsSound frames processors st → IsSound frames processors (dropped st c)
@@ -455,7 +504,7 @@ IsSound-moved frames processors st mark c space (Give page frame) sound known al
 IsSound-moved frames processors st mark c space (Clear first len) sound known allowed =
     IsSound-counted frames processors _ (IsSound-give_each frames processors (named_space space) (range_with_len first len) st sound)
 IsSound-moved frames processors st mark c space (Claim victim page frame need) sound known allowed =
-    IsSound-counted frames processors _ (IsSound-claimed frames processors st frame c sound known allowed.0)
+    IsSound-counted frames processors _ (IsSound-claimed frames processors st frame c sound known allowed.0 allowed.1.evictable)
 IsSound-moved frames processors st mark c space (UseHeld page frame want) sound known allowed =
     let none = frame_of-dropped frames processors st c (named_space space) page sound ∙ allowed.0 in
     IsSound-take_some frames processors (dropped st c) (named_space space) page want (λ t. t.frame ≡ frame) (IsSound-dropped frames processors st c sound) none allowed.2

@@ -1,9 +1,9 @@
 -- What every layout of the frames keeps, and what every state of the frames keeps beside it.
-use Rattle.std.specs.Prelude.{ℕ, ◌≡◌, ◌<◌, ◌⊎◌, true, length, Some, None}
+use Rattle.std.specs.Prelude.{ℕ, ◌≡◌, ◌<◌, ◌⊎◌, true, false, length, Some, None}
 use Rattle.pager_model.specs.declared.reservation.Reservation.{Reservation}
 use Rattle.pager_model.specs.declared.reservation.Used.{Used}
 use Rattle.pager_model.specs.Agreement.{has_frame}
-use Rattle.pager_model.specs.FrameStates.{FrameState, layout_of, used_at, held_by, claim_in}
+use Rattle.pager_model.specs.FrameStates.{FrameState, layout_of, used_at, held_by, claim_in, is_wired_place}
 use Rattle.pager_model.specs.Layouts.{Layout, covers, record_at, is_free}
 use Rattle.pager_model.specs.Records.{is_used}
 use Rattle.pager_model.specs.RecordPlaces.{ArePlaced}
@@ -29,7 +29,7 @@ pub record IsLaid (l : Layout) : Type 0 where
   pub one_cover : (id other space page : ℕ) (r q : Reservation) → record_at l id ≡ Some r → record_at l other ≡ Some q → covers space page r ≡ true → covers space page q ≡ true → id ≡ other
 
 -- What every state of the frames keeps: each frame is free, a place of one reservation, or held by one processor; every
--- reservation has a used place, and no page of a space is in two; ages differ; and no processor claims or holds two frames.
+-- reservation has a used place, and no page of a space is in two; ages differ; no processor claims or holds two frames, and none a wired one.
 pub record IsSound (frames processors : ℕ) (st : FrameState) : Type 0 where
   pub known : length st.free ≡ frames
   pub processors_known : length st.held ≡ processors
@@ -43,3 +43,5 @@ pub record IsSound (frames processors : ℕ) (st : FrameState) : Type 0 where
   -- a processor that claims a frame claims no other and holds none
   pub claims_once : (frame other c : ℕ) → claim_in (used_at st frame) ≡ Some c → claim_in (used_at st other) ≡ Some c → frame ≡ other
   pub claims_known : (frame c : ℕ) → claim_in (used_at st frame) ≡ Some c → (c < processors) × (held_by st c ≡ None)
+  -- no wired place is claimed
+  pub claims_unwired : (frame c : ℕ) → claim_in (used_at st frame) ≡ Some c → is_wired_place (used_at st frame) ≡ false

@@ -17,7 +17,7 @@ ghost use Rattle.pager_model.specs.Agreement.{Agrees, IsPartition, NothingHeld, 
 ghost use Rattle.pager_model.specs.CallEntries.{answer_entry};
 ghost use Rattle.pager_model.specs.Flat.{Flat, after_call, space_of_call};
 ghost use Rattle.pager_model.specs.FrameStates.{layout_of, frame_of, take_frame, IsFull, free_count, reserved_count, used_count, held_count};
-ghost use Rattle.pager_model.specs.Headline.{PreemptsOldest, RefusesRightly, AllServed};
+ghost use Rattle.pager_model.specs.Headline.{PreemptsOldest, RefusesRightly, IsNeverShort, AllAnswered, AllServed};
 ghost use Rattle.pager_model.specs.Images.{still_tiles};
 ghost use Rattle.pager_model.specs.Laws.{KeepsFrames, EqualsItsCopy, WasCleared, KeepsLawsAllAlong};
 ghost use Rattle.pager_model.specs.Layouts.{Layout, break_layout, meets_any, record_at};
@@ -107,6 +107,12 @@ pub fn the_oldest_is_preempted()
 /// claimed.
 pub fn a_refusal_finds_no_frame()
     ensures { (g : Given) (history : List Entry) → IsLegal g history → RefusesRightly g history }
+{}
+
+/// In every legal history a refusal's numbers sum to all frames, and the wired places that it tells are, together with the processors, more than the
+/// frames.
+pub fn no_frame_is_refused_before_all_are_kept()
+    ensures { (g : Given) (history : List Entry) → IsLegal g history → IsNeverShort g history }
 {}
 
 /// After every legal history the free frames, the unused and the used places of reservations, and the frames that are held are all frames.
@@ -221,4 +227,9 @@ pub fn a_legal_history_keeps_its_laws()
 /// Where no store failed, each answer of a legal history is the flat memory's, or says that no frame or no memory could be had.
 pub fn an_answer_is_served_where_no_store_failed()
     ensures { (g : Given) (history : List Entry) → IsLegal g history → ((s count : ℕ) → HasFailed g history s count → ⊥) → AllServed g history }
+{}
+
+/// Whatever stores did, each answer of a legal history is the flat memory's, or says that no frame or no memory could be had or that a store failed.
+pub fn an_answer_is_served_or_says_why()
+    ensures { (g : Given) (history : List Entry) → IsLegal g history → AllAnswered g history }
 {}

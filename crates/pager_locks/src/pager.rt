@@ -7,6 +7,7 @@ ghost use Rattle.journal_core.specs.Journals.{new_author};
 ghost use Rattle.pager_model.specs.Agreement.{NothingHeld};
 ghost use Rattle.pager_model.specs.Counts.{counts};
 ghost use Rattle.pager_model.specs.FrameStates.{start_frames};
+ghost use Rattle.pager_model.specs.Headline.{IsNeverShort};
 ghost use Rattle.pager_model.specs.Laws.{KeepsLawsAllAlong};
 ghost use Rattle.pager_model.specs.Legal.{entries_in, frames_at};
 ghost use Rattle.pager_model.specs.Order.{IsWhole};
@@ -182,6 +183,7 @@ impl<N: Named, S: Store + Send + Drop> Pager<N, S> {
         // Each pass's list is its processor's.
         ensures passes { All (λ p. IsOwnOf p (entries_in result.history.items)) passes.items }
         ensures laws { KeepsLawsAllAlong N.journal.setting (entries_in result.history.items) }
+        ensures never_short { IsNeverShort N.journal.setting (entries_in result.history.items) }
         ensures none_held { NothingHeld (frames_at N.journal.setting (entries_in result.history.items)) }
         ensures stores { StoresEnd N.journal.setting result.history.items (map S.seen result.stores.items) }
         ensures count { length result.stores.items ≡ length N.journal.setting.told }

@@ -1,6 +1,6 @@
 -- What a history says of those who read it: that each answer is the flat memory's, which reservation was preempted, and when a frame was
 -- refused.
-use Rattle.std.specs.Prelude.{ℕ, ◌≡◌, ◌≢◌, ◌<◌, ◌⊎◌, Bool, true, false, ◌||◌, List, [], ◌∷◌, ◌++◌, option_map, Option, Some, None, is_some}
+use Rattle.std.specs.Prelude.{ℕ, ◌≡◌, ◌≢◌, ◌+◌, ◌<◌, ◌⊎◌, Bool, true, false, ◌||◌, List, [], ◌∷◌, ◌++◌, length, option_map, Option, Some, None, is_some}
 use Rattle.pager_model.specs.declared.call.Call.{Call}
 use Rattle.pager_model.specs.declared.entry.Entry.{Entry}
 use Rattle.pager_model.specs.declared.entry.What.{What}
@@ -13,7 +13,7 @@ use Rattle.pager_model.specs.declared.reservation.Used.{Used}
 use Rattle.pager_model.specs.Ages.{Member, is_before}
 use Rattle.pager_model.specs.Entries.{entries_of}
 use Rattle.pager_model.specs.Flat.{space_of_call}
-use Rattle.pager_model.specs.FrameStates.{FrameState, layout_of, used_at, held_by}
+use Rattle.pager_model.specs.FrameStates.{FrameState, layout_of, used_at, held_by, wired_count}
 use Rattle.pager_model.specs.Layouts.{record_at}
 use Rattle.pager_model.specs.Legal.{space_at, frames_at}
 use Rattle.pager_model.specs.Records.{is_used, yield_in}
@@ -35,6 +35,20 @@ AllServed g history =
     (before after : List Entry) (e : Entry) (number : ℕ) (call : Call) (answered : Answered)
     → history ≡ before ++ e ∷ after → e.what ≡ Answer number call answered
     → IsServed (space_at g before (space_of_call call)) call answered.reply
+
+-- whatever stores did, the reply is the flat memory's, or says why it is not: no frame, a store's fault, no memory
+abbrev pub IsAnswered : SpaceState → Call → Reply → Type 0
+IsAnswered st call (NoFrames wired claimed held) = Unit {0}
+IsAnswered st call (StoreFault space count) = Unit {0}
+IsAnswered st call NoMemory = Unit {0}
+IsAnswered st call reply = IsAsked st call reply
+
+-- each answer of a history is so, after the entries of its call's space before it
+abbrev pub AllAnswered : Given → List Entry → Type 0
+AllAnswered g history =
+    (before after : List Entry) (e : Entry) (number : ℕ) (call : Call) (answered : Answered)
+    → history ≡ before ++ e ∷ after → e.what ≡ Answer number call answered
+    → IsAnswered (space_at g before (space_of_call call)) call answered.reply
 
 -- Preemptions.
 
@@ -87,6 +101,20 @@ abbrev pub NoneToHave : ℕ → FrameState → Type 0
 NoneToHave frames st =
     (frame : ℕ) → frame < frames → ((c : ℕ) × (held_by st c ≡ Some frame)) ⊎ (is_kept_place (used_at st frame) ≡ true)
 
+-- What a refusal says where it is made: so many places are wired, and with as many frames as are claimed and held they are all frames. And the
+-- wired places and the processors, the daemon with them, are more than the frames.
+pub record IsOutOfFrames (g : Given) (st : FrameState) (wired claimed held : ℕ) : Type 0 where
+  pub wired_are : wired ≡ wired_count st
+  pub all : wired + claimed + held ≡ g.frames
+  pub above : g.frames < wired + length g.marks
+
+-- So each refusal of a history is: while wired places and processors together are at most the frames, no processor is refused a frame.
+abbrev pub IsNeverShort : Given → List Entry → Type 0
+IsNeverShort g history =
+    (before after : List Entry) (e : Entry) (wired claimed held : ℕ)
+    → history ≡ before ++ e ∷ after → e.what ≡ Refused wired claimed held
+    → IsOutOfFrames g (frames_at g before) wired claimed held
+
 -- after these entries the processor's last one is a refusal with these numbers, and when it was made no frame could be had
 pub record WasRefused (g : Given) (entries : List Entry) (c wired claimed held : ℕ) : Type 0 where
   pub earlier : List Entry
@@ -97,6 +125,7 @@ pub record WasRefused (g : Given) (entries : List Entry) (c wired claimed held :
   pub numbers : refusal.what ≡ Refused wired claimed held
   pub last : entries_of c since ≡ []
   pub none : NoneToHave g.frames (frames_at g earlier)
+  pub all : wired + claimed + held ≡ g.frames
 
 -- each answer of a history that says that no frame could be had comes after such a refusal
 abbrev pub RefusesRightly : Given → List Entry → Type 0

@@ -26,12 +26,12 @@ use Rattle.pager_model.specs.SpaceStates.{Rises, last_count}
 use Rattle.pager_model.specs.Stores.{setting_over, EndsWith, StoresEnd, AreCapped}
 use Rattle.pager_model.specs.Stored.{Stored}
 use Rattle.pager_laws.proofs.OldestBroken.{PreemptsOldest-legal}
-use Rattle.pager_laws.proofs.OrderedRefusals.{RefusesRightly-legal}
+use Rattle.pager_laws.proofs.OrderedRefusals.{IsNeverShort-legal, RefusesRightly-legal}
 use Rattle.pager_core.specs.Running.{Running, calls_among, jobs_at, IsLawful, IsWholeRun}
 use Rattle.pager_laws.proofs.KeptLaws.{KeepsLawsAllAlong-legal}
 use Rattle.replay_core.specs.Replays.{NoneFailed, IsReplay, AreItsCounts}
 use Rattle.pager_laws.specs.Faults.{HasFailed}
-use Rattle.pager_laws.proofs.FaultReplies.{AllServed-legal}
+use Rattle.pager_laws.proofs.FaultReplies.{AllAnswered-legal, AllServed-legal}
 
 -- The machine runs this trace over these stores.
 pub record IsRunOf (plan : Plan) (stores : List Stored) (run : Running) : Type 0 where
@@ -186,6 +186,8 @@ IsReplay-of plan has stores after given jobs history enough capped g are whole e
       laws = KeepsLawsAllAlong-legal (setting_over plan stores) (entries_in history) legal;
       oldest = PreemptsOldest-legal (setting_over plan stores) (entries_in history) legal;
       refusals = RefusesRightly-legal (setting_over plan stores) (entries_in history) legal;
+      never_short = IsNeverShort-legal (setting_over plan stores) (entries_in history) legal;
+      answered = AllAnswered-legal (setting_over plan stores) (entries_in history) legal;
       served = λ none. AllServed-legal (setting_over plan stores) (entries_in history) legal (none_failed plan stores after history enough capped ended none);
       partition = subst (λ g. IsPartition g.frames (frames_at g (entries_in history))) g whole.partition;
       none_held = subst (λ g. NothingHeld (frames_at g (entries_in history))) g whole.none_held;

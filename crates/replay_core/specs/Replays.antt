@@ -5,7 +5,7 @@ use Rattle.pager_model.specs.declared.entry.Entry.{Entry}
 use Rattle.pager_model.specs.declared.entry.Numbered.{Numbered}
 use Rattle.pager_model.specs.Agreement.{IsPartition, NothingHeld, Agrees}
 use Rattle.pager_model.specs.Counts.{counts}
-use Rattle.pager_model.specs.Headline.{AllServed, PreemptsOldest, RefusesRightly}
+use Rattle.pager_model.specs.Headline.{AllAnswered, AllServed, IsNeverShort, PreemptsOldest, RefusesRightly}
 use Rattle.pager_model.specs.Laws.{KeepsLawsAllAlong}
 use Rattle.pager_model.specs.Legal.{IsLegal, frames_at, entries_in}
 use Rattle.pager_model.specs.Plans.{Plan}
@@ -35,6 +35,8 @@ pub record IsReplay (plan : Plan) (before : List Stored) (history : List Numbere
   pub laws : KeepsLawsAllAlong (setting_over plan before) (entries_in history)
   pub oldest : PreemptsOldest (setting_over plan before) (entries_in history)
   pub refusals : RefusesRightly (setting_over plan before) (entries_in history)
+  pub never_short : IsNeverShort (setting_over plan before) (entries_in history)
+  pub answered : AllAnswered (setting_over plan before) (entries_in history)
   pub served : NoneFailed plan.spaces before after → AllServed (setting_over plan before) (entries_in history)
   pub partition : IsPartition plan.frames (frames_at (setting_over plan before) (entries_in history))
   pub none_held : NothingHeld (frames_at (setting_over plan before) (entries_in history))

@@ -32,7 +32,7 @@ pub invariant_of-self : goal.invariant_of-self
 invariant_of-self c =
     let known = rw (← c.self.view_is) at c.requires.known in
     let nothing = rw (← c.self.view_is) at c.requires.nothing in
-    rw c.claim.ensures (IsPool-claimed _ _ _ (state_of c.self.inside) c.in-Some.frame c.args.processor c.self.invariant known nothing)
+    rw c.claim.ensures (IsPool-claimed _ _ _ (state_of c.self.inside) c.in-Some.frame c.args.processor c.self.invariant known nothing c.in-Some.ensures.found.evictable)
 
 pub page_at-requires-clause-pages : goal.page_at-requires-clause-pages
 page_at-requires-clause-pages c =

@@ -3,7 +3,8 @@ use Rattle.std.proofs.Math.ListN.{set, length-set, length-map}
 use Rattle.pager_model.specs.Legal.{space_at, entries_in}
 use Rattle.pager_core.specs.Running.{Running}
 use Rattle.pager_laws.proofs.KeptLaws.{KeepsLaws-legal}
-use Rattle.pager_core.proofs.Laws.{KeepsLaws-machine}
+use Rattle.pager_laws.proofs.OrderedRefusals.{IsNeverShort-legal}
+use Rattle.pager_core.proofs.Laws.{IsNeverShort-machine, KeepsLaws-machine}
 use Rattle.pager_core.proofs.MachineTurns.{Goes}
 use Rattle.pager_core.proofs.ReadyFlights.{number-few, OwnsBy-machine, entries-below, known-machine, space_within}
 use Rattle.pager_core.proofs.WholeTurns.{flies_in, finds, jobs_read, Goes-of, IsMachine-turned, IsLawful-turned, OneMore-turned}
@@ -127,5 +128,11 @@ returns-clause-lawful g c =
 pub returns-then-is_kept_by_other-clause-laws : goal.returns-then-is_kept_by_other-clause-laws
 returns-then-is_kept_by_other-clause-laws g c = KeepsLaws-machine _ c.args.self.now c.self.inside.spaces.items c.self.inside.pool _ c.self.invariant.0 c.self.view_is
 
+pub returns-then-is_kept_by_other-clause-never_short : goal.returns-then-is_kept_by_other-clause-never_short
+returns-then-is_kept_by_other-clause-never_short g c = IsNeverShort-machine _ c.args.self.now c.self.inside.spaces.items c.self.inside.pool _ c.self.invariant.0 c.self.view_is
+
 pub returns-clause-laws : goal.returns-clause-laws
 returns-clause-laws g c = KeepsLaws-legal _ _ (returns-clause-lawful g c).legal
+
+pub returns-clause-never_short : goal.returns-clause-never_short
+returns-clause-never_short g c = IsNeverShort-legal _ _ (returns-clause-lawful g c).legal

@@ -2,6 +2,7 @@ use Rattle.std.proofs.Common.{◌≡◌, length, map, reverse, refl, sym, ap, �
 use Rattle.std.proofs.Math.ListN.{set, length-map}
 use Rattle.pager_core.specs.Running.{Running}
 use Rattle.pager_laws.proofs.KeptLaws.{KeepsLaws-legal}
+use Rattle.pager_laws.proofs.OrderedRefusals.{IsNeverShort-legal}
 use Rattle.pager_core.proofs.MachineTurns.{Goes}
 use Rattle.pager_core.proofs.ReadyFlights.{number-few, needs-frames, OwnsBy-machine, entries-below, known-machine, room_on_frames}
 use Rattle.pager_core.proofs.WholeTurns.{flies_in, jobs_read, Goes-of_frames, IsMachine-turned, IsLawful-turned, OneMore-turned}
@@ -95,3 +96,6 @@ returns-clause-lawful g c =
 
 pub returns-clause-laws : goal.returns-clause-laws
 returns-clause-laws g c = KeepsLaws-legal _ _ (returns-clause-lawful g c).legal
+
+pub returns-clause-never_short : goal.returns-clause-never_short
+returns-clause-never_short g c = IsNeverShort-legal _ _ (returns-clause-lawful g c).legal

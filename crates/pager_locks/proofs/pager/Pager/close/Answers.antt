@@ -6,12 +6,14 @@ use Rattle.journal_core.specs.Journals.{JournalName, AuthorState, PassState}
 use Rattle.pager_model.specs.declared.entry.Numbered.{Numbered}
 use Rattle.pager_model.specs.Agreement.{NothingHeld}
 use Rattle.pager_model.specs.Counts.{counts}
+use Rattle.pager_model.specs.Headline.{IsNeverShort}
 use Rattle.pager_model.specs.Laws.{KeepsLawsAllAlong}
 use Rattle.pager_model.specs.Legal.{entries_in, frames_at}
 use Rattle.pager_model.specs.Stores.{StoresEnd}
 use Rattle.pager_core.specs.RunParts.{AreAtRest}
 use Rattle.pager_core.specs.Running.{IsNumbered}
 use Rattle.pager_laws.proofs.KeptLaws.{KeepsLawsAllAlong-legal}
+use Rattle.pager_laws.proofs.OrderedRefusals.{IsNeverShort-legal}
 use Rattle.pager_locks.proofs.ClosedPagers.{journals_all, AreAtRest-closed, IsNumbered-closed, whole_at}
 use Rattle.pager_locks.proofs.Histories.{few_numbered}
 use Rattle.pager_locks.proofs.pager.Pager.close.Given.{Over}
@@ -48,6 +50,9 @@ returns-clause-passes g c = subst (λ h. All (λ (p : PassState). IsOwnOf p (ent
 
 pub returns-clause-laws : goal.returns-clause-laws
 returns-clause-laws g c = subst (λ h. KeepsLawsAllAlong g.N.Named.journal.setting (entries_in h)) (kept g c) (KeepsLawsAllAlong-legal _ _ (met g c).legal)
+
+pub returns-clause-never_short : goal.returns-clause-never_short
+returns-clause-never_short g c = subst (λ h. IsNeverShort g.N.Named.journal.setting (entries_in h)) (kept g c) (IsNeverShort-legal _ _ (met g c).legal)
 
 pub returns-clause-none_held : goal.returns-clause-none_held
 returns-clause-none_held g c =
