@@ -1,10 +1,10 @@
 -- The one table of locks: for each place of the order, the space whose lock the next step from there is made under, and the space whose
--- lock is kept until that step. Where there is none the step is made under the frames' lock alone, and no space's is kept. The first
--- argument is the space of the processor's call; a turn of a daemon has none of its own.
+-- lock is kept until that step. Where the first is none the step is made under the frames' lock alone; where the second is, no space's lock is
+-- kept. The first argument is the space of the processor's call; a turn of a daemon has none of its own.
 use Rattle.std.specs.Prelude.{ℕ, ◌==◌, if◌then◌else◌, Option, Some, None}
 use Rattle.pager_model.specs.Order.{Doing, Idle, Looking, Cleared, Uncopied, Filling, Unfilling, Claiming, Emptied, Unwritten, Holding, Late, Faulted, Lacking, Refusing}
 
--- the space, where it is the call's own: what goes on in another one after this keeps no lock between
+-- the space, where it is the call's own: in another one, and in a turn, no lock is kept between this step and the next
 abbrev pub own_if : Option ℕ → ℕ → Option ℕ
 own_if None space = None
 own_if (Some own) space = if space == own then Some own else None

@@ -19,9 +19,16 @@
 --                       DropHeld Late, Answer         the frame isn't needed any more, or
 --                       UseHeld Filling, and on as filled or not filled
 --
--- A turn of a daemon is a row of evictions, at most as many as its mark, each a Claim Claiming, and then Out Emptied and Give Holding, or
--- Got Holding, and DropHeld Looking. It ends with a Rest, which is short only after as many as its mark; or with an Unclaim, where the last
--- Claim Claiming, or that and Failed Unwritten, can't be gone on with.
+-- A turn of a daemon is a row of evictions, at most as many as its mark, and then one of two ends:
+--
+--   evicted           Claim Claiming, and then
+--                       Out Emptied, Give Holding     the victim's page is paged out, or
+--                       Got Holding                   it gave the frame up meanwhile;
+--                     DropHeld Looking                and the frame goes free
+--   rested            Rest                            short only after as many evictions as the mark
+--   given up          Claim Claiming, and then
+--                       Failed Unwritten, Unclaim     its store failed, or
+--                       Unclaim                       there was no memory to write it
 use Rattle.std.specs.Prelude.{ℕ, zero, suc, ◌≡◌, ◌+◌, Bool, true, false, ◌&&◌, ◌||◌, ◌==◌, not, nat_lt, if◌then◌else◌, List, [], ◌∷◌, Option, Some, None}
 use Rattle.std.specs.Option.{option_and_then}
 use Rattle.pager_model.specs.declared.call.Call.{Call}

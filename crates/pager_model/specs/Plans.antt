@@ -1,4 +1,4 @@
--- What a trace says: the frames, processors and spaces, and the calls in order.
+-- What a trace says: the frames, processors and spaces, the daemon where there is one, and the calls in order.
 use Rattle.std.specs.Prelude.{ℕ, List, Option}
 use Rattle.pager_model.specs.declared.call.Line.{Line}
 use Rattle.pager_model.specs.declared.trace.Daemon.{Daemon}

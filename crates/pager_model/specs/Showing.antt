@@ -48,7 +48,7 @@ turns_of (Some d) = replicate d.turns (Turn d.low)
 abbrev pub jobs_of : ℕ → Plan → List Job
 jobs_of c plan = map MakesCall (calls_of c plan.calls) ++ (if c == plan.processors then turns_of plan.daemon else [])
 
--- the daemon's list is exactly its turns, each whole
+-- the daemon's list is exactly its turns, each whole; without a daemon there is no such processor, and no entry of it is legal
 abbrev pub MakesTurns : Plan → Option Daemon → List Entry → Type 0
 MakesTurns plan None history = Unit {0}
 MakesTurns plan (Some d) history = progress_of d.low (entries_of plan.processors history) ≡ Some (at_rest d.low d.turns)
@@ -87,6 +87,7 @@ FilesLines c mark zero (line ∷ lines) history =
 FilesLines c mark (suc n) (line ∷ lines) history =
     (turn piece rest : List Entry) × (history ≡ turn ++ (piece ++ rest)) × IsTurn c mark turn × IsSequence line piece × FilesLines c mark n lines rest
 
+-- a trace without a daemon is as one whose daemon has no turn
 abbrev pub FilesBy : Plan → Option Daemon → List Entry → Type 0
 FilesBy plan None history = FilesLines plan.processors 0 0 plan.calls history
 FilesBy plan (Some d) history = FilesLines plan.processors d.low d.turns plan.calls history

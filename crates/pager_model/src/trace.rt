@@ -20,7 +20,7 @@ pub enum Job {
     Turn { mark: u32 },
 }
 
-/// A trace: the frames, processors and spaces of a run, and the calls in the order of their lines.
+/// A trace: the frames, processors and spaces of a run, its daemon where it has one, and the calls in the order of their lines.
 ///
 /// Every trace has a text of the grammar, so what it holds is within the grammar's ranges.
 #[derive(Debug, Drop)]

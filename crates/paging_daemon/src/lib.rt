@@ -18,7 +18,7 @@ use store_core::Store;
 pub struct Turned {
     /// Paged out, written to their copies.
     pub written: u32,
-    /// Paged out, equal to their copies.
+    /// Paged out, equal to their copies. A page that gave its frame up before it was paged out is in none of these counts.
     pub clean: u32,
     /// Not paged out, since their store failed: at most one, and the turn ends with it.
     pub faults: u32,
@@ -26,8 +26,9 @@ pub struct Turned {
     pub memory: u32,
 }
 
-/// Makes a turn of the pass's processor, which is a daemon of this low mark: it evicts while free frames or unused places are fewer than the mark
-/// and a page can be evicted, and at most as many pages as the mark. Each frame that it wins goes free.
+/// Makes a turn of the pass's processor, which is a daemon of this low mark: it evicts while free frames and unused places together are fewer than
+/// the mark and a page can be evicted, at most as many times as the mark. Each frame that it wins goes free. A write that fails, or that finds no
+/// memory, ends the turn; any other ends with a rest.
 pub fn turn<N: Named, S: Store + Send + Drop, R: Wait>(
     pager: &Pager<N, S>,
     rt: &R,

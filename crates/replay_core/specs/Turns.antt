@@ -5,7 +5,7 @@ use Rattle.pager_core.specs.declared.flight.Flight.{Flight}
 use Rattle.pager_core.specs.Running.{Running, flight_at, MustWait, OneMore, IsLawful}
 use Rattle.pager_model.specs.TurnOrders.{drawn, turned}
 
--- the processor has a call left
+-- the processor has a call left, or the daemon a turn
 abbrev pub flies : List (Option Flight) → ℕ → Bool
 flies flights c = is_some (flight_at flights c)
 
@@ -13,7 +13,7 @@ flies flights c = is_some (flight_at flights c)
 abbrev pub flying_in : Running → List ℕ
 flying_in run = filter (flies run.flights) (range_with_len 0 (length run.jobs))
 
--- the processor can't step: it has no call left, or its next step is made under a space that another flight keeps
+-- the processor can't step: it has no call or turn left, or its next step is made under a space that another flight keeps
 abbrev pub IsStuck : Running → ℕ → Type 0
 IsStuck run c = (flight_at run.flights c ≡ None) ⊎ ((space : ℕ) × MustWait run c space)
 
@@ -31,6 +31,6 @@ pub record FirstStepped (old new : Running) (actors : List ℕ) : Type 0 where
   pub same_unused : new.unused ≡ old.unused
   pub lawful : IsLawful new
 
--- the processors that have a call left, in cyclic order from the place that is drawn from this state
+-- the processors that have one, in cyclic order from the place that is drawn from this state
 abbrev pub drawn_order : Running → ℕ → List ℕ
 drawn_order run x = turned (drawn x (length (flying_in run))) (flying_in run)
