@@ -5,7 +5,7 @@ use Rattle.pager_model.specs.declared.call.Call.TheVariants.{Map, Load, Store}
 use Rattle.pager_model.specs.declared.entry.Entry.{Entry}
 use Rattle.pager_model.specs.declared.entry.Want.{Want}
 use Rattle.pager_model.specs.declared.entry.What.{What}
-use Rattle.pager_model.specs.declared.entry.What.TheVariants.{Answer, Out, Failed, Take, Give, Claim, DropHeld, Unclaim, Rest}
+use Rattle.pager_model.specs.declared.entry.What.TheVariants.{Answer, Out, Failed, Take, Give, Claim, DropHeld, Got, Unclaim, Rest}
 use Rattle.pager_model.specs.declared.region.Kind.TheVariants.{Fixed}
 use Rattle.pager_model.specs.declared.region.Rights.TheVariants.{Read, Write}
 use Rattle.pager_model.specs.declared.reply.Reply.{Reply}
@@ -148,6 +148,32 @@ on_both s what = record { processor = 0; space = Some s; frames = true; what = w
 abbrev pub one_turn : List Entry
 one_turn =
     on_frames (Claim 1 6 2 None) ∷ on_space 1 (Out 6 true) ∷ on_both 1 (Give 6 2) ∷ on_frames (DropHeld 2) ∷ on_frames (Rest false) ∷ []
+
+-- one that got the frame since the page gave it up meanwhile
+abbrev pub got_turn : List Entry
+got_turn = on_frames (Claim 1 6 2 None) ∷ on_frames (Got 2) ∷ on_frames (DropHeld 2) ∷ on_frames (Rest false) ∷ []
+
+-- one whose write fails
+abbrev pub failing_turn : List Entry
+failing_turn = on_frames (Claim 1 6 2 None) ∷ on_space 1 (Failed 6 true 3) ∷ on_both 1 (Unclaim 2) ∷ []
+
+-- one that rests at once, short of frames or not
+abbrev pub idle_turn : Bool → List Entry
+idle_turn short = on_frames (Rest short) ∷ []
+
+-- one that evicts one page, and rests though frames are short
+abbrev pub spent_turn : List Entry
+spent_turn =
+    on_frames (Claim 1 6 2 None) ∷ on_space 1 (Out 6 true) ∷ on_both 1 (Give 6 2) ∷ on_frames (DropHeld 2) ∷ on_frames (Rest true) ∷ []
+
+-- one that evicts one page and claims another
+abbrev pub second_claim : List Entry
+second_claim =
+    on_frames (Claim 1 6 2 None) ∷ on_frames (Got 2) ∷ on_frames (DropHeld 2) ∷ on_frames (Claim 1 7 3 None) ∷ []
+
+-- one that claims another page after its write failed
+abbrev pub goes_on_failing : List Entry
+goes_on_failing = on_frames (Claim 1 6 2 None) ∷ on_space 1 (Failed 6 true 3) ∷ on_frames (Claim 1 7 3 None) ∷ []
 
 -- a load of page 1 of space 0 that claims a frame of space 1, whose write fails
 abbrev pub failing_load : List Entry

@@ -7,7 +7,7 @@ ghost use Rattle.pager_model.specs.declared.call.Call.TheVariants.{Grow, Unmap, 
 ghost use Rattle.pager_model.specs.declared.region.Rights.TheVariants.{NoAccess};
 ghost use Rattle.pager_model.specs.declared.reply.Reply.TheVariants.{Value, Unmapped};
 ghost use Rattle.pager_model.specs.Ages.{with_member, oldest_in};
-ghost use Rattle.pager_model.specs.Examples.{eight_pages, two_frames, one_taken, one_broken, one_given, one_carved, both_taken, want_eight, small_setting, legal_history, exchanged_history, small_plan, take_page_one, on_both, on_frames, eight_places, eight_parts_used, one_turn, failing_load, made_up_fault, untold_space, run_of_pages, with_dirty, with_read, with_region, writable, small_tile, base_and_64, base_and_512, all_but_8, one_of_sixty_four, sixty_four_places, all_places, is_spread};
+ghost use Rattle.pager_model.specs.Examples.{eight_pages, two_frames, one_taken, one_broken, one_given, one_carved, both_taken, want_eight, small_setting, legal_history, exchanged_history, small_plan, take_page_one, on_both, on_frames, eight_places, eight_parts_used, one_turn, got_turn, failing_turn, idle_turn, spent_turn, second_claim, goes_on_failing, failing_load, made_up_fault, untold_space, run_of_pages, with_dirty, with_read, with_region, writable, small_tile, base_and_64, base_and_512, all_but_8, one_of_sixty_four, sixty_four_places, all_places, is_spread};
 ghost use Rattle.pager_model.specs.Order.{progress_of, at_rest};
 ghost use Rattle.pager_model.specs.SpaceStates.{IsAsked};
 ghost use Rattle.pager_model.specs.Flat.{after_call, reply_of};
@@ -111,6 +111,18 @@ pub fn a_break_goes_on_where_no_part_is_empty()
 pub fn a_turn_ends_with_a_rest()
     ensures whole { progress_of 2 one_turn ≡ Some (at_rest 2 1) }
     ensures no_call { progress_of 0 one_turn ≡ None }
+    ensures got { progress_of 2 got_turn ≡ Some (at_rest 2 1) }
+    ensures idle { progress_of 2 (idle_turn false) ≡ Some (at_rest 2 1) }
+{}
+
+/// A turn is short of frames at its end only after as many evictions as its mark, and makes no more than these. A write that fails ends it.
+pub fn a_turn_ends_by_its_mark_or_a_fault()
+    ensures short { progress_of 1 spent_turn ≡ Some (at_rest 1 1) }
+    ensures early { progress_of 2 spent_turn ≡ None }
+    ensures at_once { progress_of 1 (idle_turn true) ≡ None }
+    ensures over { progress_of 1 second_claim ≡ None }
+    ensures failed { progress_of 2 failing_turn ≡ Some (at_rest 2 1) }
+    ensures gone_on { progress_of 2 goes_on_failing ≡ None }
 {}
 
 /// A load whose victim could not be written is answered with the fault of the victim's store, and with no other.
