@@ -1,5 +1,8 @@
 pub mod Blocks
 pub mod SizeChanges
+pub mod ChangedTiles
+pub mod Pieces
+pub mod PageChanges
 pub mod Cleared
 pub mod Counting
 pub mod CutTiles

@@ -1,5 +1,6 @@
 pub mod Beside
 pub mod Blocks
+pub mod Changes
 pub mod Cleared
 pub mod Kept
 pub mod Parts

@@ -4,10 +4,12 @@ ghost use Rattle.std.specs.Prelude.{◌≡◌, ◌≢◌, ◌∷◌, [], ℕ, �
 ghost use Rattle.pager_model.specs.Tiles.{tile_of, is_tile, size_at, tiles_of_size};
 ghost use Rattle.pager_model.specs.declared.tile.Mapping.{Mapping};
 ghost use Rattle.tiles.specs.Resident.{mapping_at, frames_in, frame_of_page, Maps, Protects, AreMoves, IsNextResident, NoneResident, with_flag, with_rights, begins_large, begins_before, large_tiles_begun, large_tiles_meeting};
+ghost use Rattle.tiles.specs.Changes.{AreChanges};
 ghost use Rattle.tiles.specs.Kept.{KeepsFrame};
 ghost use Rattle.tiles.specs.Blocks.{KeepsRights, ProtectsTo, ProtectsInBlock, AreSizesOfBlock, OutsideSame, AreMovesOf, begun_at};
 ghost use Rattle.pager_model.specs.Bounds.{most_frames, space_pages};
 
+use crate::changes::Changes;
 use crate::moves::Moves;
 use crate::pages::Pages;
 use pager_model::{Extent, Mapping, NoMemory, PAGES, PageRange, Rights, Size, Tile};
@@ -17,7 +19,7 @@ use std::marker::Model;
 /// The pages of the largest extent.
 const BLOCK: u32 = 512;
 
-/// The resident pages of a space, and the size of the tile of each.
+/// The resident pages of a space, and which extents of them are eligible.
 #[derive(Drop)]
 pub struct Base {
     pages: Pages,
@@ -95,56 +97,51 @@ impl Base {
     }
 
     /// A page that isn't resident is, with this mapping; no other page has its frame.
-    pub fn after_fill(&mut self, page: u32, mapping: Mapping) -> Moves
+    pub fn after_fill(&mut self, page: u32, mapping: Mapping) -> Changes
         requires page { page < space_pages }
         requires absent { mapping_at self.old page ≡ None }
         requires known { mapping.frame < frames_in self.old }
         requires other { (p : ℕ) → frame_of_page self.old p ≢ Some mapping.frame }
         ensures maps { Maps page (Some mapping) self.old self.new }
-        ensures moves { AreMoves self.old self.new result }
+        ensures changes { AreChanges self.old self.new result }
     {
-        self.pages.fill(page, mapping);
-        let size = self.size(page);
-        if size.level() == 0 {
-            return Moves::NONE;
-        }
-        Moves::of_one(page, Size::at_level(0), size)
+        let turn = self.pages.fill(page, mapping);
+        Changes::of(page, turn)
     }
 
     /// A page is resident no more.
-    pub fn after_remove(&mut self, page: u32) -> Moves
+    pub fn after_remove(&mut self, page: u32) -> Changes
         ensures maps { Maps page None self.old self.new }
-        ensures moves { AreMoves self.old self.new result }
+        ensures changes { AreChanges self.old self.new result }
     {
         match self.pages.mapping(page) {
             Some(_) => self.change(page, None),
-            None => Moves::NONE,
+            None => Changes::none(),
         }
     }
 
     /// A page has this dirty flag, where it is resident.
-    pub fn after_dirty(&mut self, page: u32, dirty: bool) -> Moves
+    pub fn after_dirty(&mut self, page: u32, dirty: bool) -> Changes
         ensures maps { Maps page (option_map (with_flag dirty) (mapping_at self.old page)) self.old self.new }
-        ensures moves { AreMoves self.old self.new result }
+        ensures changes { AreChanges self.old self.new result }
     {
         match self.pages.mapping(page) {
             Some(mapping) if mapping.dirty != dirty => {
                 self.change(page, Some(Mapping { dirty, ..mapping }))
             }
-            _ => Moves::NONE,
+            _ => Changes::none(),
         }
     }
 
     /// A resident page has this mapping, in the frame that it has, or is resident no more.
-    fn change(&mut self, page: u32, mapping: Option<Mapping>) -> Moves
+    fn change(&mut self, page: u32, mapping: Option<Mapping>) -> Changes
         requires page { page < space_pages }
         requires keeps { KeepsFrame page mapping self.old }
         ensures maps { Maps page mapping self.old self.new }
-        ensures moves { AreMoves self.old self.new result }
+        ensures changes { AreChanges self.old self.new result }
     {
-        let before = self.size(page);
-        self.pages.change(page, mapping);
-        Moves::of_one(page, before, self.size(page))
+        let turn = self.pages.change(page, mapping);
+        Changes::of(page, turn)
     }
 
     /// Whether a page is resident with other rights.

@@ -5,7 +5,7 @@ ghost use Rattle.extent_tree.specs.Rows.{is_split};
 ghost use Rattle.pager_model.specs.Tiles.{tile_of};
 ghost use Rattle.tiles.specs.Kept.{AreRight, HasRoom, pages_of, resident_with};
 
-use crate::rows;
+use crate::rows::{self, Turn};
 use extent_tree::ExtentTree;
 use pager_model::{Mapping, Size, Steps, Tile};
 use std::sync::ledger::{Blank, Ledger};
@@ -54,13 +54,13 @@ pub(crate) fn tile_of<L: Ledger>(
     rows::tile_of(tree, page, &mut Steps::begin(book, share))
 }
 
-/// The page has this mapping, or none, and each extent of size 1 to 3 that is eligible then has its row.
-pub(crate) fn change<L: Ledger>(
+/// The page has this mapping, or none, and each extent of size 1 to 3 that is eligible then has its row. The page's tile before and after.
+pub(crate) fn replace<L: Ledger>(
     tree: &mut ExtentTree<Mapping>,
     page: u32,
     mapping: Option<Mapping>,
     blank: Blank,
-)
+) -> Turn
     requires name { blank.name ≡ L.name }
     requires parts { blank.parts ≡ L.parts }
     requires share { 0 < blank.parts }
@@ -73,7 +73,9 @@ pub(crate) fn change<L: Ledger>(
     ensures roots { tree.new.roots ≡ tree.old.roots }
     ensures capacity { tree.new.room ≡ tree.old.room }
     ensures room { HasRoom tree.new }
+    ensures before { result.before ≡ tile_of (pages_of tree.old) page }
+    ensures after { result.after ≡ tile_of (pages_of tree.new) page }
 {
     let (book, share) = blank.open::<L>();
-    rows::change(tree, page, mapping, &mut Steps::begin(book, share));
+    rows::replace(tree, page, mapping, &mut Steps::begin(book, share))
 }

@@ -3,10 +3,12 @@
 ghost use Rattle.std.specs.Prelude.{◌≡◌, ◌≢◌, ◌/◌, ◌<◌, ◌≤◌, ℕ, false, None, Some, IfOk, IfSome};
 ghost use Rattle.pager_model.specs.Bounds.{most_frames, space_pages};
 ghost use Rattle.pager_model.specs.Tiles.{tile_of};
+ghost use Rattle.tiles.specs.Changes.{IsTurn};
 ghost use Rattle.tiles.specs.Kept.{KeepsFrame, MayHave};
 ghost use Rattle.tiles.specs.Resident.{mapping_at, frame_of_page, frames_in, Maps};
 
 use crate::counted;
+use crate::rows::Turn;
 use extent_tree::ExtentTree;
 use pager_model::{Mapping, NoMemory, Tile};
 use std::alloc::Global;
@@ -71,32 +73,35 @@ impl Pages {
         counted::tile_of::<Brand>(&self.rows, page, Blank::new(1))
     }
 
-    /// A page that isn't resident is, with this mapping; no other page has its frame.
-    pub(crate) fn fill(&mut self, page: u32, mapping: Mapping)
+    /// A page that isn't resident is, with this mapping; no other page has its frame. Its tile before and after.
+    pub(crate) fn fill(&mut self, page: u32, mapping: Mapping) -> Turn
         requires page { page < space_pages }
         requires known { mapping.frame < frames_in self.old }
         requires other { (p : ℕ) → frame_of_page self.old p ≢ Some mapping.frame }
-        ensures { Maps page (Some mapping) self.old self.new }
+        ensures maps { Maps page (Some mapping) self.old self.new }
+        ensures turn { IsTurn page self.old self.new result }
     {
-        self.set(page, Some(mapping));
+        self.set(page, Some(mapping))
     }
 
-    /// A resident page has this mapping, in the frame that it has, or is resident no more.
-    pub(crate) fn change(&mut self, page: u32, mapping: Option<Mapping>)
+    /// A resident page has this mapping, in the frame that it has, or is resident no more. Its tile before and after.
+    pub(crate) fn change(&mut self, page: u32, mapping: Option<Mapping>) -> Turn
         requires page { page < space_pages }
         requires keeps { KeepsFrame page mapping self.old }
-        ensures { Maps page mapping self.old self.new }
+        ensures maps { Maps page mapping self.old self.new }
+        ensures turn { IsTurn page self.old self.new result }
     {
         let _ = &self.rows;
-        self.set(page, mapping);
+        self.set(page, mapping)
     }
 
-    /// A page has this mapping, or none.
-    fn set(&mut self, page: u32, mapping: Option<Mapping>)
+    /// A page has this mapping, or none. Its tile before and after.
+    fn set(&mut self, page: u32, mapping: Option<Mapping>) -> Turn
         requires page { page < space_pages }
         requires frame { (number : ℕ) × MayHave self.old page number mapping }
-        ensures { Maps page mapping self.old self.new }
+        ensures maps { Maps page mapping self.old self.new }
+        ensures turn { IsTurn page self.old self.new result }
     {
-        counted::change::<Brand>(&mut self.rows, page, mapping, Blank::new(1));
+        counted::replace::<Brand>(&mut self.rows, page, mapping, Blank::new(1))
     }
 }

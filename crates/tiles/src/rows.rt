@@ -140,7 +140,7 @@ fn set<L: Ledger>(
 }
 
 /// The page has this mapping, or none, and each extent of size 1 to 3 that is eligible then has its row.
-pub(crate) fn change<L: Ledger>(
+fn change<L: Ledger>(
     tree: &mut ExtentTree<Mapping>,
     page: u32,
     mapping: Option<Mapping>,
@@ -164,6 +164,39 @@ pub(crate) fn change<L: Ledger>(
     renew(tree, 1, page, steps);
     renew(tree, 2, page, steps);
     renew(tree, 3, page, steps);
+}
+
+/// The tile of a page before a change of it, and after.
+#[derive(Clone, Copy, Debug, PartialEq, Eq)]
+pub(crate) struct Turn {
+    pub(crate) before: Option<Tile>,
+    pub(crate) after: Option<Tile>,
+}
+
+/// The same change, with the page's tile before and after it.
+pub(crate) fn replace<L: Ledger>(
+    tree: &mut ExtentTree<Mapping>,
+    page: u32,
+    mapping: Option<Mapping>,
+    steps: &mut Steps<L>,
+) -> Turn
+    requires page { page < 512 * tree.old.roots }
+    requires right { AreRight tree.old }
+    requires room { HasRoom tree.old }
+    requires few { 3 * resident_with tree.old page ≤ tree.old.room }
+    ensures right { AreRight tree.new }
+    ensures pages { (p : ℕ) → pages_of tree.new p ≡ (if p == page then mapping else pages_of tree.old p) }
+    ensures roots { tree.new.roots ≡ tree.old.roots }
+    ensures capacity { tree.new.room ≡ tree.old.room }
+    ensures room { HasRoom tree.new }
+    ensures before { result.before ≡ tile_of (pages_of tree.old) page }
+    ensures after { result.after ≡ tile_of (pages_of tree.new) page }
+    ensures cost { steps.new ≤ steps.old + 61 }
+{
+    let before = tile_of(tree, page, steps);
+    change(tree, page, mapping, steps);
+    let after = tile_of(tree, page, steps);
+    Turn { before, after }
 }
 
 /// The extent of a size round a page as a tile, from its first page's mapping.

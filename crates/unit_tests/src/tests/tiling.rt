@@ -7,7 +7,7 @@ use super::{NO_MEMORY, size};
 use pager_model::{Extent, Generator, Mapping, NoMemory, PageRange, Rights, Size, Tile};
 use std::alloc::Global;
 use std::process::Abort;
-use tiles::{Base, Moves};
+use tiles::{Base, Changes, Moves, TileList};
 
 /// The pages that the tests use, and the frames.
 const PAGES: u32 = 1024;
@@ -22,6 +22,15 @@ const NO_MOVES: Moves = Moves {
         length: 0,
     },
 };
+
+/// What the base told of a drawn change.
+#[derive(Drop)]
+enum Told {
+    /// No change was made.
+    Nothing,
+    OfPage(Changes),
+    OfRange(Moves),
+}
 
 /// The base beside a plain list of mappings.
 #[derive(Drop)]
@@ -126,53 +135,53 @@ impl Beside {
     }
 
     /// Fills a page that has no frame with one that no page has.
-    fn fill(&mut self, page: u32, mapping: Mapping) -> Moves {
+    fn fill(&mut self, page: u32, mapping: Mapping) -> Told {
         if page >= PAGES || mapping.frame >= FRAMES || self.base.mapping(page).is_some() {
-            return NO_MOVES;
+            return Told::Nothing;
         }
         if !is_free(&self.base, mapping.frame) {
-            return NO_MOVES;
+            return Told::Nothing;
         }
         if let Some(at) = self.pages.get_mut(page as usize) {
             *at = Some(mapping);
         }
-        self.base.after_fill(page, mapping)
+        Told::OfPage(self.base.after_fill(page, mapping))
     }
 
-    fn remove(&mut self, page: u32) -> Moves {
+    fn remove(&mut self, page: u32) -> Told {
         if let Some(at) = self.pages.get_mut(page as usize) {
             *at = None;
         }
-        self.base.after_remove(page)
+        Told::OfPage(self.base.after_remove(page))
     }
 
-    fn set_dirty(&mut self, page: u32, dirty: bool) -> Moves {
+    fn set_dirty(&mut self, page: u32, dirty: bool) -> Told {
         if let Some(Some(mapping)) = self.pages.get_mut(page as usize) {
             mapping.dirty = dirty;
         }
-        self.base.after_dirty(page, dirty)
+        Told::OfPage(self.base.after_dirty(page, dirty))
     }
 
-    fn protect(&mut self, first: u32, length: u32, rights: Rights) -> Moves {
+    fn protect(&mut self, first: u32, length: u32, rights: Rights) -> Told {
         if first > PAGES || length > PAGES {
-            return NO_MOVES;
+            return Told::Nothing;
         }
         for page in first..first + length {
             if let Some(Some(mapping)) = self.pages.get_mut(page as usize) {
                 mapping.rights = rights;
             }
         }
-        self.base.after_rights(first, length, rights)
+        Told::OfRange(self.base.after_rights(first, length, rights))
     }
 
     /// Sets rights in a block of 64 pages and behind it.
-    fn protect_round(&mut self, page: u32, is_read: bool) -> Moves {
+    fn protect_round(&mut self, page: u32, is_read: bool) -> Told {
         let rights = if is_read { Rights::Read } else { Rights::Write };
         self.protect(page / 64 * 64, 640, rights)
     }
 
     /// A drawn change.
-    fn change(&mut self, random: &mut Generator) -> Moves {
+    fn change(&mut self, random: &mut Generator) -> Told {
         let page = random.draw(PAGES);
         let is_odd = random.draw(2) == 1;
         match random.draw(16) {
@@ -242,10 +251,24 @@ fn filled(alloc: Global) -> Result<Beside, NoMemory> {
     Ok(both)
 }
 
-/// Whether these are the moves from the first tiles to the second.
+/// Whether this is what became of the first tiles, where there are the second ones then.
+fn is_told(told: &Told, before: &[Option<Tile>], after: &[Option<Tile>]) -> bool {
+    match told {
+        Told::Nothing => true,
+        Told::OfRange(moves) => are_moves(moves, before, after),
+        Told::OfPage(changes) => {
+            are_moves(&changes.moves, before, after)
+                && are_new(&changes.gone, after, before)
+                && are_new(&changes.came, before, after)
+        }
+    }
+}
+
+/// Whether these are the moves from the first tiles to the second, and each tile that begins outside of what they touched is one still.
 fn are_moves(moves: &Moves, before: &[Option<Tile>], after: &[Option<Tile>]) -> bool {
     moves.promotions as usize == came(before, after)
         && moves.demotions as usize == came(after, before)
+        && keeps_outside(moves, before, after)
 }
 
 /// Whether each tile that begins outside of what was touched is a tile still.
@@ -254,21 +277,32 @@ fn keeps_outside(moves: &Moves, before: &[Option<Tile>], after: &[Option<Tile>])
     gone.all(|(old, _)| old.is_none_or(|tile| begins_in(moves.touched, &tile)))
 }
 
+/// Whether the list has each of the second tiles that is none of the first, once, and no other.
+fn are_new(list: &TileList, before: &[Option<Tile>], after: &[Option<Tile>]) -> bool {
+    let tiles = before.iter().zip(after).enumerate();
+    let mut new = tiles.filter(|(page, (old, new))| begins(new, *page) && old != new);
+    list.len() == count_new(before, after)
+        && new.all(|(_, (_, new))| new.is_some_and(|tile| list.has(&tile)))
+}
+
+/// How many of the second tiles are none of the first.
+fn count_new(before: &[Option<Tile>], after: &[Option<Tile>]) -> usize {
+    let tiles = before.iter().zip(after).enumerate();
+    let new = tiles.filter(|(page, (old, new))| begins(new, *page) && old != new);
+    new.count()
+}
+
 /// Whether a tile begins in a range.
 fn begins_in(range: PageRange, tile: &Tile) -> bool {
     tile.extent.first.wrapping_sub(range.first) < range.length
 }
 
-/// Makes a drawn change. Answers whether the tiles after it and the moves are those of a scan.
+/// Makes a drawn change. Answers whether the tiles after it and what was told of it are those of a scan.
 fn goes_alike(both: &mut Beside, alloc: Global, random: &mut Generator) -> Result<bool, NoMemory> {
     let before = tiles(alloc, &both.pages)?;
-    let moves = both.change(random);
+    let told = both.change(random);
     let after = tiles(alloc, &both.pages)?;
-    Ok(
-        both.is_alike(&after)
-            && are_moves(&moves, &before, &after)
-            && keeps_outside(&moves, &before, &after),
-    )
+    Ok(both.is_alike(&after) && is_told(&told, &before, &after))
 }
 
 /// Whether the base has as many tiles as a scan finds, of each size and below page 900.
@@ -284,7 +318,7 @@ fn has_tiles(both: &Beside, alloc: Global) -> Result<bool, NoMemory> {
     Ok(both.is_alike(&tiles(alloc, &both.pages)?))
 }
 
-/// Makes drawn changes, and asserts that the tiles and the moves are those of a scan.
+/// Makes drawn changes, and asserts that the tiles and what was told are those of a scan.
 fn go_alike(rt: &impl Abort, alloc: Global, both: &mut Beside) {
     let mut random = Generator::of(7);
     for change in 0..100 {
@@ -301,9 +335,18 @@ fn drawn_changes_leave_the_tiles_of_a_scan(rt: HostRuntime) {
     assert!(rt; counts_alike(&both, rt.alloc()).expect(&rt, NO_MEMORY));
 }
 
+/// The moves that were told of a change.
+fn moves_of(told: &Told) -> Moves {
+    match told {
+        Told::Nothing => NO_MOVES,
+        Told::OfPage(changes) => changes.moves,
+        Told::OfRange(moves) => *moves,
+    }
+}
+
 /// The promotions and demotions of a fill.
 fn moves_of_fill(both: &mut Beside, page: u32) -> (u32, u32) {
-    let moves = both.fill(page, mapping(page));
+    let moves = moves_of(&both.fill(page, mapping(page)));
     (moves.promotions, moves.demotions)
 }
 
@@ -318,7 +361,7 @@ fn fill_half(rt: &impl Abort, both: &mut Beside) {
 /// How many tiles there are of each size before a page is dirty and then, and the demotions between.
 fn make_dirty(both: &mut Beside) -> ([u32; 4], u32, [u32; 4]) {
     let before = both.base.counts();
-    let demotions = both.set_dirty(100, true).demotions;
+    let demotions = moves_of(&both.set_dirty(100, true)).demotions;
     (before, demotions, both.base.counts())
 }
 
@@ -334,16 +377,19 @@ fn meeting(base: &Base) -> [u32; 4] {
 
 /// The demotions where some pages can only be read, and the promotions where all can, none of which is dirty.
 fn make_read_only(both: &mut Beside) -> (u32, u32) {
-    let demotions = both.protect(64, 192, Rights::Read).demotions;
+    let demotions = moves_of(&both.protect(64, 192, Rights::Read)).demotions;
     both.set_dirty(100, false);
-    (demotions, both.protect(0, 512, Rights::Read).promotions)
+    (
+        demotions,
+        moves_of(&both.protect(0, 512, Rights::Read)).promotions,
+    )
 }
 
 #[test]
 fn a_change_touches_the_larger_of_its_tiles(rt: HostRuntime) {
     let mut both = Beside::create(rt.alloc()).expect(&rt, NO_MEMORY);
     fill_half(&rt, &mut both);
-    assert!(rt; touched_by_one(&mut both) == [(0, 0), (600, 1), (0, 512), (101, 1), (64, 8)]);
+    assert!(rt; touched_by_one(&mut both) == [(600, 1), (600, 1), (0, 512), (101, 1), (64, 8)]);
     assert!(rt; touched_by_rights(&mut both) == [(0, 0), (0, 0), (0, 512)]);
 }
 
@@ -351,29 +397,56 @@ fn a_change_touches_the_larger_of_its_tiles(rt: HostRuntime) {
 /// one of one page, and a page of a tile of eight goes.
 fn touched_by_one(both: &mut Beside) -> [(u32, u32); 5] {
     [
-        range_of(both.fill(600, mapping(600))),
-        range_of(both.remove(600)),
-        range_of(both.set_dirty(100, true)),
-        range_of(both.set_dirty(101, true)),
-        range_of(both.remove(70)),
+        range_of(&both.fill(600, mapping(600))),
+        range_of(&both.remove(600)),
+        range_of(&both.set_dirty(100, true)),
+        range_of(&both.set_dirty(101, true)),
+        range_of(&both.remove(70)),
     ]
 }
 
 /// The range that each of some changes of rights touches: of no page, to the rights that the pages have, and to others.
 fn touched_by_rights(both: &mut Beside) -> [(u32, u32); 3] {
     [
-        range_of(both.protect(8, 0, Rights::Read)),
-        range_of(both.protect(8, 8, Rights::Write)),
-        range_of(both.protect(8, 8, Rights::Read)),
+        range_of(&both.protect(8, 0, Rights::Read)),
+        range_of(&both.protect(8, 8, Rights::Write)),
+        range_of(&both.protect(8, 8, Rights::Read)),
     ]
 }
 
 /// The first page and the length of the range that a change touched.
-fn range_of(moves: Moves) -> (u32, u32) {
+fn range_of(told: &Told) -> (u32, u32) {
+    let moves = moves_of(told);
     match moves.touched.length {
         0 => (0, 0),
         length => (moves.touched.first, length),
     }
+}
+
+/// How many tiles went and came.
+fn tiles_told(told: &Told) -> (usize, usize) {
+    match told {
+        Told::OfPage(changes) => (changes.gone.len(), changes.came.len()),
+        Told::Nothing | Told::OfRange(_) => (0, 0),
+    }
+}
+
+/// The tiles that went and came as a page of a tile of 512 is dirty, is so again, and is clean, and as it goes and comes back.
+fn told_of_one(both: &mut Beside) -> [(usize, usize); 5] {
+    [
+        tiles_told(&both.set_dirty(100, true)),
+        tiles_told(&both.set_dirty(100, true)),
+        tiles_told(&both.set_dirty(100, false)),
+        tiles_told(&both.remove(100)),
+        tiles_told(&both.fill(100, mapping(100))),
+    ]
+}
+
+#[test]
+fn a_large_tile_comes_apart_and_together(rt: HostRuntime) {
+    let mut both = Beside::create(rt.alloc()).expect(&rt, NO_MEMORY);
+    fill_half(&rt, &mut both);
+    assert!(rt; told_of_one(&mut both) == [(1, 22), (0, 0), (22, 1), (1, 21), (21, 1)]);
 }
 
 #[test]

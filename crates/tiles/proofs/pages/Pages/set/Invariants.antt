@@ -1,4 +1,4 @@
 use Rattle.tiles.proofs.pages.Pages.set.Given as goal
 
-abbrev pub ghosts-change : goal.ghosts-change
-ghosts-change a = record { name = a.blank.name; parts = a.blank.parts }
+abbrev pub ghosts-replace : goal.ghosts-replace
+ghosts-replace a = record { name = a.blank.name; parts = a.blank.parts }

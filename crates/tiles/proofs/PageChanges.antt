@@ -1,0 +1,89 @@
+-- What a change of one page does to the tiles, by the page's tile before it and after.
+use Rattle.std.proofs.Common.{◌≡◌, ◌≢◌, ℕ, ◌+◌, ◌<◌, Bool, true, false, not, ◌&&◌, List, [], length, max, if◌then◌else◌, nat_lt, Option, Some, None, option_map, refl, sym, ap, inl, inr, ◌∙◌, ◌⊎◌, arith}
+use Rattle.std.specs.List.{list_any}
+use Rattle.std.specs.Option.{IfSome}
+use Rattle.std.proofs.lemmas.Bool.{cases_Bool, true≢false}
+use Rattle.std.proofs.lemmas.Option.{none-some, same_Some}
+use Rattle.pager_model.specs.declared.tile.Mapping.{Mapping}
+use Rattle.pager_model.specs.declared.tile.Tile.{Tile}
+use Rattle.pager_model.specs.Tiles.{tile_of, size_in, is_tile, same_tile}
+use Rattle.pager_model.proofs.ExtentLemmas.{eight_pos, eight_small}
+use Rattle.pager_model.proofs.TileParts.{same_tile-true, same_tile-refl}
+use Rattle.tiles.specs.declared.moves.Moves.{Moves}
+use Rattle.tiles.specs.declared.rows.Turn.{Turn}
+use Rattle.tiles.specs.Beside.{OthersSame}
+use Rattle.tiles.specs.Changes.{AreChanges, Came, HasPieces, IsRound, IsTurn, times, pieces}
+use Rattle.tiles.specs.Kept.{ArePages}
+use Rattle.tiles.specs.Resident.{Resident, mapping_at, Maps}
+use Rattle.tiles.specs.Touched.{IsInSpace, extent_range}
+use Rattle.tiles.proofs.MoveCounts.{others_same, moves_in_larger, moves_same}
+use Rattle.tiles.proofs.Pieces.{came_none, came_pieces, none_stands, one_stands}
+use Rattle.tiles.proofs.SizeChanges.{others_back}
+use Rattle.tiles.proofs.TileLaws.{tile_largest, tile_uniform}
+
+-- a page's tile lies round it, in frames that there are
+pub round_of : (r : Resident) → ArePages r → (page : ℕ) (o : Option Tile) → o ≡ tile_of (mapping_at r) page → IfSome o (IsRound page)
+round_of r kept page None at = tt
+round_of r kept page (Some t) at =
+    let is = tile_largest (mapping_at r) page t (sym at) in
+    let uniform = tile_uniform (mapping_at r) t is.0 in
+    let frame : t.frame + 0 < r.frames = kept.known (t.extent.first + 0) (t.frame + 0) (ap (option_map (λ (m : Mapping). m.frame)) (uniform.1 0 (eight_pos t.extent.size))) in
+    record { low = is.0.extent.0; starts = is.1; fits = omega (arith, frame, kept.few, eight_small t.extent.size is.0.extent.0) }
+
+pub turn_of : (r s : Resident) → ArePages r → ArePages s → (page : ℕ) (turn : Turn) → turn.before ≡ tile_of (mapping_at r) page → turn.after ≡ tile_of (mapping_at s) page → IsTurn page r s turn
+turn_of r s kept later page turn before after =
+    record { before = before; after = after; before_round = round_of r kept page turn.before before; after_round = round_of s later page turn.after after }
+
+same_or_other : (a b : Option Tile) → (a ≡ b) ⊎ (a ≢ b)
+same_or_other None None = inl refl
+same_or_other None (Some u) = inr (none-some u)
+same_or_other (Some t) None = inr (λ e. none-some t (sym e))
+same_or_other (Some t) (Some u) = elim (cases_Bool (same_tile t u)) [
+  | inl same ↦ inl (ap Some (same_tile-true t u same))
+  | inr other ↦ inr (λ e. true≢false (sym (ap (same_tile t) (sym (same_Some t u e)) ∙ same_tile-refl t) ∙ other))
+]
+
+came_as : (old new : ℕ → Option Mapping) (tiles others : List Tile) → others ≡ tiles → Came old new tiles → Came old new others
+came_as old new tiles others e came = record { each = λ t. ap (times t) e ∙ came.each t; few = omega (arith, ap length e, came.few) }
+
+-- the tiles that came, from the page's tile
+pub came_of : (old new : ℕ → Option Mapping) (page : ℕ) (before after : Option Tile) (tiles : List Tile) → OthersSame page old new → before ≡ tile_of old page → after ≡ tile_of new page → HasPieces page before after tiles → Came old new tiles
+came_of old new page before after tiles others had has list = elim (same_or_other before after) [
+  | inl same ↦ came_as old new [] tiles (list.same same) (came_none old new page others (sym had ∙ same ∙ has))
+  | inr other ↦ came_as old new (pieces page (tile_of old page) (tile_of new page)) tiles
+      (list.other other ∙ ap (λ o. pieces page o after) had ∙ ap (pieces page (tile_of old page)) has)
+      (came_pieces old new page others (λ e. other (had ∙ e ∙ sym has)))
+]
+
+pub changes_of : (r s : Resident) (page : ℕ) (given : Option Mapping) (turn : Turn) (gone came : List Tile) (moves : Moves) → page < 1048576 → Maps page given r s → IsTurn page r s turn
+    → HasPieces page turn.after turn.before gone → HasPieces page turn.before turn.after came
+    → moves.promotions ≡ (if nat_lt (size_in turn.before) (size_in turn.after) then 1 else 0) → moves.demotions ≡ (if nat_lt (size_in turn.after) (size_in turn.before) then 1 else 0)
+    → moves.touched ≡ extent_range (max (size_in turn.before) (size_in turn.after)) page → AreChanges r s (record { gone = gone; came = came; moves = moves })
+changes_of r s page given turn gone came moves in_space maps turned gone_list came_list promoted demoted touched =
+    let others = others_same r s page given maps in
+    record {
+      gone = came_of (mapping_at s) (mapping_at r) page turn.after turn.before gone (others_back (mapping_at r) (mapping_at s) page others) turned.after turned.before gone_list;
+      came = came_of (mapping_at r) (mapping_at s) page turn.before turn.after came others turned.before turned.after came_list;
+      moves = moves_in_larger r s page (size_in turn.before) (size_in turn.after) given moves maps in_space (ap size_in turned.before) (ap size_in turned.after) promoted demoted touched;
+    }
+
+-- nothing goes or comes where each page is as it was
+pub changes_none : (r s : Resident) (moves : Moves) → ((p : ℕ) → mapping_at s p ≡ mapping_at r p) → moves.promotions ≡ 0 → moves.demotions ≡ 0 → IsInSpace moves.touched → AreChanges r s (record { gone = []; came = []; moves = moves })
+changes_none r s moves same no_promotion no_demotion in_range =
+    let one : mapping_at s ≡ mapping_at r = λ i p. same p i in
+    record {
+      gone = came_none (mapping_at s) (mapping_at r) 0 (λ p _. sym (same p)) (ap (λ (pages : ℕ → Option Mapping). tile_of pages 0) one);
+      came = came_none (mapping_at r) (mapping_at s) 0 (λ p _. same p) (ap (λ (pages : ℕ → Option Mapping). tile_of pages 0) (sym one));
+      moves = moves_same r s moves same no_promotion no_demotion in_range;
+    }
+
+-- what was a tile is one still where it isn't among those that went
+pub stays_where : (new old : ℕ → Option Mapping) (gone : List Tile) (t : Tile) → Came new old gone → is_tile old t ≡ true → not (list_any (same_tile t) gone) ≡ is_tile new t
+stays_where new old gone t went was = by (is_tile new t) refl
+  where
+    standing : (after : Bool) → is_tile new t ≡ after → times t gone ≡ (if not after then 1 else 0)
+    standing after is = went.each t ∙ ap (λ b. if b && not (is_tile new t) then 1 else 0) was ∙ ap (λ b. if not b then 1 else 0) is
+
+    by : (after : Bool) → is_tile new t ≡ after → not (list_any (same_tile t) gone) ≡ is_tile new t
+    by true is = ap not (none_stands t gone (standing true is)) ∙ sym is
+    by false is = ap not (one_stands t gone (omega (arith, standing false is))) ∙ sym is

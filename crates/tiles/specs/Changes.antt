@@ -1,0 +1,76 @@
+-- Which tiles came with a change of pages, and which went.
+use Rattle.std.specs.Prelude.{ℕ, zero, suc, ◌≡◌, ◌≢◌, ◌+◌, ◌-◌, ◌*◌, ◌/◌, ◌%◌, ◌^◌, ◌≤◌, ◌&&◌, ◌==◌, not, if◌then◌else◌, count_by, List, [], ◌∷◌, ◌++◌, length, Option, Some, None, IfSome}
+use Rattle.std.specs.Option.{option_to_list}
+use Rattle.pager_model.specs.declared.tile.Mapping.{Mapping}
+use Rattle.pager_model.specs.declared.tile.Tile.{Tile}
+use Rattle.pager_model.specs.Extents.{extent_start}
+use Rattle.pager_model.specs.Tiles.{same_tile, tile_of, is_tile, size_in}
+use Rattle.tiles.specs.declared.changes.Changes.{Changes}
+use Rattle.tiles.specs.declared.rows.Turn.{Turn}
+use Rattle.tiles.specs.Resident.{Resident, mapping_at, AreMoves}
+
+-- how often a tile stands in a list
+abbrev pub times : Tile → List Tile → ℕ
+times t tiles = count_by (same_tile t) tiles
+
+-- They are the tiles after a change that were none before it, each once. Those that went are those that came in the change back.
+pub record Came (before after : ℕ → Option Mapping) (tiles : List Tile) : Type 0 where
+  pub each : (t : Tile) → times t tiles ≡ (if is_tile after t && not (is_tile before t) then 1 else 0)
+  pub few : length tiles ≤ 22
+
+-- the tile lies round the page, and its frames have numbers of 32 bits
+pub record IsRound (page : ℕ) (t : Tile) : Type 0 where
+  pub low : t.extent.size ≤ 3
+  pub starts : extent_start t.extent.size page ≡ t.extent.first
+  pub fits : t.frame + 8 ^ t.extent.size ≤ 2 ^ 32
+
+-- the part of a level of a tile from a page on
+abbrev pub part_from : ℕ → ℕ → Tile → Tile
+part_from level first whole =
+    record { extent = record { size = level; first = first }; frame = whole.frame + (first - whole.extent.first); rights = whole.rights; dirty = whole.dirty }
+
+-- the first page of one of the eight extents of a level that lie in the extent of the next one round a page
+abbrev pub part_start : ℕ → ℕ → ℕ → ℕ
+part_start level page part = extent_start (suc level) page + part * 8 ^ level
+
+-- which of them has the page
+abbrev pub own_part : ℕ → ℕ → ℕ
+own_part level page = page / 8 ^ level % 8
+
+-- the first so many of these parts of a tile, but for the one that has the page
+unfoldable pub beside : ℕ → ℕ → Tile → ℕ → List Tile
+beside level page whole zero = []
+beside level page whole (suc part) =
+    beside level page whole part ++ (if part == own_part level page then [] else part_from level (part_start level page part) whole ∷ [])
+
+-- all those of so many levels, from one on
+unfoldable pub cut_round : ℕ → Tile → ℕ → ℕ → List Tile
+cut_round page whole from zero = []
+cut_round page whole from (suc more) = cut_round page whole from more ++ beside (from + more) page whole 8
+
+-- what is cut from a tile round a page down to the size of the page's own one
+abbrev pub cut_from : ℕ → Option Tile → Option Tile → List Tile
+cut_from page None own = []
+cut_from page (Some whole) own = cut_round page whole (size_in own) (whole.extent.size - size_in own)
+
+-- the page's own tile, and what is cut from the one before down to it
+abbrev pub pieces : ℕ → Option Tile → Option Tile → List Tile
+pieces page whole own = option_to_list own ++ cut_from page whole own
+
+-- The list has these pieces, where the page's tile is another one than before, and else nothing.
+pub record HasPieces (page : ℕ) (before after : Option Tile) (tiles : List Tile) : Type 0 where
+  pub same : before ≡ after → tiles ≡ []
+  pub other : before ≢ after → tiles ≡ pieces page before after
+
+-- the tile of the page in the pages before a change and in those after it
+pub record IsTurn (page : ℕ) (old new : Resident) (turn : Turn) : Type 0 where
+  pub before : turn.before ≡ tile_of (mapping_at old) page
+  pub after : turn.after ≡ tile_of (mapping_at new) page
+  pub before_round : IfSome turn.before (IsRound page)
+  pub after_round : IfSome turn.after (IsRound page)
+
+-- They are the tiles that went with a change of the pages and those that came, and its moves.
+pub record AreChanges (old new : Resident) (changes : Changes) : Type 0 where
+  pub gone : Came (mapping_at new) (mapping_at old) changes.gone
+  pub came : Came (mapping_at old) (mapping_at new) changes.came
+  pub moves : AreMoves old new changes.moves
