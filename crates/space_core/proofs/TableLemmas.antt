@@ -1,6 +1,6 @@
 -- What becomes of a table of pages when a page gets a frame, loses it, has its words written, or is marked dirty or clean, and when a
 -- range gets rights.
-use Rattle.std.proofs.Common.{◌≡◌, ◌≢◌, ℕ, ◌<◌, ◌≤◌, true, false, ◌==◌, if◌then◌else◌, List, Bool, Option, Some, None, length, replicate, slice_index_or, slice_set, option_map, refl, sym, ap, inl, inr, ◌∙◌, arith, subst}
+use Rattle.std.proofs.Common.{◌≡◌, ◌≢◌, ℕ, ◌<◌, ◌≤◌, true, false, ◌==◌, ◌&&◌, if◌then◌else◌, List, Bool, Option, Some, None, length, replicate, slice_index_or, slice_set, option_map, refl, sym, ap, inl, inr, ◌∙◌, arith, subst}
 use Rattle.std.specs.Option.{option_and_then, IfSome, IfNone}
 use Rattle.std.proofs.lemmas.Bool.{cases_eq, cond-true, cond-false, eq-eqb, ne_eqb}
 use Rattle.std.proofs.lemmas.Bool.Decides.{nat_tests}
@@ -13,7 +13,7 @@ use Rattle.pager_model.specs.declared.tile.Mapping.{Mapping}
 use Rattle.pager_model.specs.Frame.{Framed}
 use Rattle.pager_model.proofs.Lists.{get_or_within}
 use Rattle.page_rights.specs.Rights.{RightsTree, rights_of}
-use Rattle.space_core.specs.Pages.{IsFrameAt, IsPaged, IsFresh, Maps, Refills, HasWords, Writes, Cleans, Protects, Forgets, IsFirstResident, NoneFrom}
+use Rattle.space_core.specs.Pages.{IsFrameAt, IsPaged, IsFresh, Maps, Refills, HasWords, SetsWord, Writes, Cleans, Protects, Forgets, IsFirstResident, NoneFrom}
 use Rattle.space_core.specs.Tables.{Table, mapping_in, frame_in, word_in, word_in_frame, own_in, flag_in, dirty_in}
 use Rattle.tiles.specs.Resident.{Resident, IsNextResident, NoneResident, mapping_at, frames_in, with_flag, with_rights, Maps as MapsTo, Protects as ProtectsIn}
 
@@ -351,8 +351,9 @@ module _ (t : Table) (page : ℕ) (flag : Bool) (pages : Resident) (maps : MapsT
   pub word_flagged : (p i : ℕ) → word_in flagged p i ≡ word_in t p i
   word_flagged p i = word-same t flagged p i refl (frame_flagged p)
 
-pub cleans_paged : (t : Table) → IsPaged t → (page : ℕ) (pages : Resident) (maps : MapsTo page (option_map (with_flag false) (mapping_at t.pages page)) t.pages pages) → IsPaged (record { pages = pages; own = t.own; frames = t.frames })
-cleans_paged t paged page pages maps = said_paged t paged pages maps.frames (frame_flagged t page false pages maps)
+-- and each keeps its frame
+pub flagged_paged : (t : Table) → IsPaged t → (page : ℕ) (flag : Bool) (pages : Resident) (maps : MapsTo page (option_map (with_flag flag) (mapping_at t.pages page)) t.pages pages) → IsPaged (record { pages = pages; own = t.own; frames = t.frames })
+flagged_paged t paged page flag pages maps = said_paged t paged pages maps.frames (frame_flagged t page flag pages maps)
 
 pub cleans : (t : Table) (page : ℕ) (pages : Resident) (maps : MapsTo page (option_map (with_flag false) (mapping_at t.pages page)) t.pages pages) → Cleans page t (record { pages = pages; own = t.own; frames = t.frames })
 cleans t page pages maps =
@@ -374,34 +375,46 @@ cleans_none t page clean =
     unflagged None h = refl
     unflagged (Some m) h = ap (λ d. Some (with_flag d m)) (sym h)
 
--- A word of a resident page's frame is written, and the page is dirty then.
-module _ (t : Table) (paged : IsPaged t) (page k : ℕ) (f : Framed) (has : frame_in t page ≡ Some k) (number : f.number ≡ k)
-    (pages : Resident) (maps : MapsTo page (option_map (with_flag true) (mapping_at t.pages page)) t.pages pages) where
-  abbrev pub stored : Table
-  stored = record { pages = pages; own = t.own; frames = slice_set t.frames k (Some f) }
+-- A word of a resident page's frame is written.
+pub sets_word : (t : Table) (paged : IsPaged t) (page k : ℕ) (f : Framed) (has : frame_in t page ≡ Some k) (number : f.number ≡ k) (index w : ℕ) (g : Framed) → slice_index_or t.frames k None ≡ Some g → f.words ≡ slice_set g.words index w → index < length g.words
+    → SetsWord page index w t (rewritten t paged page k f has number)
+sets_word t paged page k f has number index w g was set in_page =
+    let refilled = refills t paged page k f has number in
+    record {
+      same = refilled.same;
+      pages = refl;
+      word = λ p i. elim (cases_eq p page) [
+        | inl e ↦
+            let old : word_in t page i ≡ slice_index_or g.words i 0 = word_in-found t page i k has ∙ ap (λ x. word_in_frame x i) was in
+            rw e (rewritten_has t paged page k f has number i ∙ ap (λ (ws : List ℕ). slice_index_or ws i 0) set ∙ grind (arith, common_steps, nat_tests, cases_eq i index))
+        | inr n ↦ refilled.word p i n ∙ grind (arith, nat_tests)
+      ];
+    }
 
-  abbrev was_stored : Table
-  was_stored = rewritten t paged page k f has number
+-- so a dirty page has it, and is dirty still
+pub sets_dirty : (page index w : ℕ) (t u : Table) → dirty_in t page ≡ true → SetsWord page index w t u → Writes page index w t u
+sets_dirty page index w t u dirty sets =
+    record {
+      same = sets.same;
+      mapping = λ p. ap (λ (r : Resident). mapping_at r p) sets.pages ∙ elim (cases_eq p page) [
+        | inl e ↦ rw e (sym (cond-true _ _ _ (eq-eqb page page refl) ∙ flagged_already (mapping_in t page) (sym (dirty_in-is t page) ∙ dirty)))
+        | inr n ↦ sym (cond-false _ _ _ (ne_eqb p page n))
+      ];
+      word = sets.word;
+    }
+  where
+    flagged_already : (o : Option Mapping) → flag_in o ≡ true → option_map (with_flag true) o ≡ o
+    flagged_already None h = refl
+    flagged_already (Some m) h = ap (λ d. Some (with_flag d m)) (sym h)
 
-  frame_stored : (p : ℕ) → frame_in stored p ≡ frame_in was_stored p
-  frame_stored p = frame_flagged was_stored page true pages maps p
-
-  pub stored_paged : IsPaged stored
-  stored_paged = said_paged was_stored (rewritten_paged t paged page k f has number) pages maps.frames frame_stored
-
-  pub writes : (index w : ℕ) (g : Framed) → slice_index_or t.frames k None ≡ Some g → f.words ≡ slice_set g.words index w → index < length g.words → Writes page index w t stored
-  writes index w g was set in_page =
-      let refilled = refills t paged page k f has number in
-      record {
-        same = record { count = refilled.same.count; own = λ p. own_in-is stored p ∙ sym (own_in-is t p) };
-        mapping = mapping_flagged was_stored page true pages maps;
-        word = λ p i. word_flagged was_stored page true pages maps p i ∙ elim (cases_eq p page) [
-          | inl e ↦
-              let old : word_in t page i ≡ slice_index_or g.words i 0 = word_in-found t page i k has ∙ ap (λ x. word_in_frame x i) was in
-              rw e (rewritten_has t paged page k f has number i ∙ ap (λ (ws : List ℕ). slice_index_or ws i 0) set ∙ grind (arith, common_steps, nat_tests, cases_eq i index))
-          | inr n ↦ refilled.word p i n ∙ grind (arith, nat_tests)
-        ];
-      }
+-- and a page that becomes dirty first has it then
+pub sets_flagged : (t : Table) (page index w : ℕ) (pages : Resident) (maps : MapsTo page (option_map (with_flag true) (mapping_at t.pages page)) t.pages pages) (u : Table) → SetsWord page index w (record { pages = pages; own = t.own; frames = t.frames }) u → Writes page index w t u
+sets_flagged t page index w pages maps u sets =
+    record {
+      same = record { count = sets.same.count; own = λ p. sets.same.own p ∙ own_in-is _ p ∙ sym (own_in-is t p) };
+      mapping = λ p. ap (λ (r : Resident). mapping_at r p) sets.pages ∙ mapping_flagged t page true pages maps p;
+      word = λ p i. sets.word p i ∙ ap (λ n. if (p == page) && (i == index) then w else n) (word_flagged t page true pages maps p i);
+    }
 
 -- a table of empty places
 module _ (t : Table) (frames : ℕ) (count : frames_in t.pages ≡ frames) (none : (p : ℕ) → mapping_at t.pages p ≡ None) (own : (p : ℕ) → rights_of t.own p ≡ None) (places : t.frames ≡ replicate frames None) where

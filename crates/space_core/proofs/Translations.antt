@@ -1,6 +1,7 @@
 -- What becomes of what a space and a state have in common of translations, as pages change and tiles are used.
 use Rattle.std.proofs.Common.{◌≡◌, ℕ, ◌+◌, ◌<◌, ◌≤◌, Bool, true, false, ◌==◌, not, ◌||◌, nat_lt, min, if◌then◌else◌, List, [], ◌∷◌, filter, map, length, slice_index_or, Option, Some, None, is_some, option_map, refl, sym, ap, subst, inl, inr, ◌∙◌, arith}
-use Rattle.std.proofs.lemmas.Bool.{cases_Bool, cases_lt, cond-true, cond-false}
+use Rattle.std.specs.List.{list_any}
+use Rattle.std.proofs.lemmas.Bool.{eqb-true, cases_Bool, cases_lt, cond-true, cond-false}
 use Rattle.std.proofs.lemmas.Bool.Decides.{nat_tests}
 use Rattle.std.proofs.lemmas.List.{get_or-map, length-map}
 use Rattle.std.proofs.Math.Nat.{min-eq_left, min-eq_right}
@@ -13,15 +14,18 @@ use Rattle.pager_model.specs.Images.{still_tiles, touched_by, images_with}
 use Rattle.pager_model.specs.Regions.{region_at}
 use Rattle.pager_model.specs.SpaceStates.{SpaceState, last_count, pages_of}
 use Rattle.pager_model.specs.SizeSets.{SizeSet, all_sizes}
-use Rattle.pager_model.specs.Tiles.{mapping_with, is_tile, tile_of, tile_in, promotions_between, demotions_between, promotions_in, demotions_in}
+use Rattle.pager_model.specs.Tiles.{mapping_with, same_tile, is_tile, tile_of, tile_in, promotions_between, demotions_between, promotions_in, demotions_in}
 use Rattle.space_core.specs.Keeping.{IsMapped}
 use Rattle.space_core.specs.Standing.{Kept, Translates, image_at, frame_at, dirty_at, rights_at, rights_by}
 use Rattle.space_core.specs.Tables.{Table, mapping_in, own_in}
-use Rattle.space_core.specs.Translating.{Retouches, Touches, counted_up, untouched_tiles}
+use Rattle.space_core.specs.Translating.{Retouches, Touches, counted_up, untouched_tiles, without}
 use Rattle.space_core.proofs.TableLemmas.{frame-absent, frame-mapped, dirty-mapped}
+use Rattle.tiles.specs.declared.changes.Changes.{Changes}
 use Rattle.tiles.specs.declared.moves.Moves.{Moves}
+use Rattle.tiles.specs.Changes.{AreChanges, Came}
 use Rattle.tiles.specs.Resident.{AreMoves, with_flag}
 use Rattle.tiles.specs.Touched.{KeepsOutside, is_touched}
+use Rattle.tiles.proofs.PageChanges.{stays_where}
 use Rattle.tiles.proofs.Cleared.{no_promotions, no_demotions}
 use Rattle.pager_laws.proofs.ImageTiles.{touched_if, still_again, used_at, IsUsed}
 
@@ -269,6 +273,36 @@ untouched_none range pages images none = all images
     all : (is : List (List Tile)) → map (untouched_tiles range pages) is ≡ is
     all [] = refl
     all (ts ∷ is) = ap (λ us. us ∷ map (untouched_tiles range pages) is) (one ts) ∙ ap (λ us. ts ∷ us) (all is)
+
+-- of an image that had tiles alone it is what is a tile still, without those that went
+without_gone : (gone : List Tile) (old new : ℕ → Option Mapping) (ts : List Tile) → Came new old gone → still_tiles all_sizes old ts ≡ ts → without gone ts ≡ still_tiles all_sizes new ts
+without_gone gone old new ts went had =
+    ap (without gone) (sym had) ∙ filter_alike (is_tile old) (λ t. not (list_any (same_tile t) gone)) (is_tile new) ts (λ t is. stays_where new old gone t went is) ∙ ap (still_tiles all_sizes new) had
+
+-- all of it, where none went
+pub without_none : (gone : List Tile) (images : List (List Tile)) → (length gone == 0) ≡ true → map (without gone) images ≡ images
+without_none [] images none = all images
+  where
+    one : (ts : List Tile) → without [] ts ≡ ts
+    one [] = refl
+    one (t ∷ ts) = ap (λ us. t ∷ us) (one ts)
+
+    all : (is : List (List Tile)) → map (without []) is ≡ is
+    all [] = refl
+    all (ts ∷ is) = ap (λ us. us ∷ map (without []) is) (one ts) ∙ ap (λ us. ts ∷ us) (all is)
+without_none (g ∷ gs) images none = absurd (omega (arith, eqb-true (length (g ∷ gs)) 0 none))
+
+-- the tiles that went are in no image, and the moves were counted
+pub retouched_one : (old new : Kept) (changes : Changes) → AreChanges old.table.pages new.table.pages changes → new.images ≡ map (without changes.gone) old.images
+    → new.promotions ≡ counted_up old.promotions changes.moves.promotions → new.demotions ≡ counted_up old.demotions changes.moves.demotions → Retouches old new
+retouched_one old new changes are images promotions demotions =
+    record {
+      processors = ap length images ∙ length-map old.images (without changes.gone);
+      images = λ c within had. ap (λ (ts : List (List Tile)). slice_index_or ts c []) images ∙ get_or-map (without changes.gone) old.images c [] [] within
+          ∙ without_gone changes.gone (mapping_in old.table) (mapping_in new.table) (image_at old c) are.gone had;
+      promotions = promotions ∙ ap (counted_up old.promotions) are.moves.promotions;
+      demotions = demotions ∙ ap (counted_up old.demotions) are.moves.demotions;
+    }
 
 -- the moves were counted, and each image keeps what they left alone and what is a tile still
 pub retouched_by : (old new : Kept) (moves : Moves) → AreMoves old.table.pages new.table.pages moves → new.images ≡ map (untouched_tiles moves.touched (mapping_in new.table)) old.images → new.promotions ≡ counted_up old.promotions moves.promotions → new.demotions ≡ counted_up old.demotions moves.demotions → Retouches old new

@@ -50,6 +50,12 @@ pub record Refills (page : ℕ) (old new : Table) : Type 0 where
 abbrev pub HasWords : Table → ℕ → List ℕ → Type 0
 HasWords table page words = (i : ℕ) → word_in table page i ≡ slice_index_or words i 0
 
+-- the page has this word, and all else is as before
+pub record SetsWord (page index written : ℕ) (old new : Table) : Type 0 where
+  pub same : SameOwn old new
+  pub pages : new.pages ≡ old.pages
+  pub word : (p i : ℕ) → word_in new p i ≡ (if (p == page) && (i == index) then written else word_in old p i)
+
 -- the page has this word and is dirty, and all else is as before
 pub record Writes (page index written : ℕ) (old new : Table) : Type 0 where
   pub same : SameOwn old new

@@ -1,12 +1,13 @@
 -- What becomes of a space's translations as its pages change and are used.
 use Rattle.std.specs.Prelude.{ℕ, ◌≡◌, ◌+◌, ◌<◌, ◌==◌, true, false, not, ◌||◌, nat_lt, if◌then◌else◌, List, filter, length, Option, Some, None}
+use Rattle.std.specs.List.{list_any}
 use Rattle.pager_model.specs.declared.page_range.PageRange.{PageRange}
 use Rattle.pager_model.specs.declared.tile.Mapping.{Mapping}
 use Rattle.pager_model.specs.declared.tile.Tile.{Tile}
 use Rattle.pager_model.specs.Images.{still_tiles, touched_by}
 use Rattle.pager_model.specs.SpaceStates.{last_count}
 use Rattle.pager_model.specs.SizeSets.{all_sizes}
-use Rattle.pager_model.specs.Tiles.{is_tile, promotions_between, demotions_between}
+use Rattle.pager_model.specs.Tiles.{same_tile, is_tile, promotions_between, demotions_between}
 use Rattle.space_core.specs.Pages.{Cleans}
 use Rattle.space_core.specs.Standing.{Kept, range_of, image_at, dirty_at, is_clearing}
 use Rattle.space_core.specs.Tables.{mapping_in}
@@ -20,6 +21,10 @@ counted_up count by = if nat_lt (count + by) last_count then count + by else las
 -- what begins outside of the range, or is a tile of these pages
 abbrev pub untouched_tiles : PageRange → (ℕ → Option Mapping) → List Tile → List Tile
 untouched_tiles range pages image = filter (λ t. not (is_touched range t.extent.first) || is_tile pages t) image
+
+-- the image without the tiles that went
+abbrev pub without : List Tile → List Tile → List Tile
+without gone image = filter (λ t. not (list_any (same_tile t) gone)) image
 
 -- The pages changed: each image that had tiles alone keeps what is a tile still, and the moves are counted.
 pub record Retouches (old new : Kept) : Type 0 where

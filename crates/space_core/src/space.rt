@@ -15,7 +15,7 @@ ghost use Rattle.space_core.specs.Saving.{Saves, FailsToSave, LacksRoom, unwritt
 ghost use Rattle.space_core.specs.Standing.{StandsFor, IsResting, range_of, frame_at, dirty_at, image_at, rights_by, is_allowed, CanBegin};
 ghost use Rattle.space_core.specs.Tables.{mapping_in, own_in};
 ghost use Rattle.tiles.specs.Touched.{is_touched};
-ghost use Rattle.space_core.specs.Translating.{counted_up, untouched_tiles, Retouches, ChangesPages, CleansPage, Touches, BeginsClear};
+ghost use Rattle.space_core.specs.Translating.{counted_up, untouched_tiles, without, Retouches, ChangesPages, CleansPage, Touches, BeginsClear};
 ghost use Rattle.pager_model.specs.Bounds.{space_bytes, space_pages};
 
 use crate::access::{accessed_page, answered, page_of, permits, want_in, word_of};
@@ -25,7 +25,7 @@ use pager_model::{Answered, Call, Frame, Kind, PageRange, Region, Reply, Rights,
 use region_table::Regions;
 use std::marker::Model;
 use store_core::{Store, StoreFailed, WriteRefused};
-use tiles::Moves;
+use tiles::{Changes, Moves, TileList};
 use tlb_images::Image;
 
 /// What a call needs first.
@@ -204,9 +204,9 @@ impl<S: Store + Send + Drop> Space<S> {
             unreachable!()
         };
         let rights = self.rights(page, region);
-        let moves = self.table.put(page, frame, region.first, rights);
+        let changes = self.table.put(page, frame, region.first, rights);
         self.pending = Some(page);
-        self.retouch(moves);
+        self.follow(&changes);
     }
 
     /// Reads the copy of the pending page in. Where the store's read fails, the error is its count of faults, and the page stays pending.
@@ -522,12 +522,12 @@ impl<S: Store + Send + Drop> Space<S> {
     {
         let page = page_of(address);
         if self.table.is_dirty(page) {
-            self.table.set_word(page, word_of(address), word);
+            self.table.write_word(page, word_of(address), word);
             return self.touch(processor, page, Reply::Done);
         }
         let hit = self.has_translation(processor, page);
-        let moves = self.table.set_word(page, word_of(address), word);
-        self.retouch(moves);
+        let changes = self.table.set_word(page, word_of(address), word);
+        self.follow(&changes);
         let answered = self.touch(processor, page, Reply::Done);
         Answered { hit, ..answered }
     }
@@ -568,8 +568,8 @@ impl<S: Store + Send + Drop> Space<S> {
         ensures { CleansPage self.old self.new page }
     {
         if self.table.is_dirty(page) {
-            let moves = self.table.set_clean(page);
-            self.retouch(moves);
+            let changes = self.table.set_clean(page);
+            self.follow(&changes);
         }
     }
 
@@ -581,14 +581,26 @@ impl<S: Store + Send + Drop> Space<S> {
         ensures retouched { Retouches self.old self.new }
         ensures same { ChangesPages self.old self.new }
     {
-        let Some((frame, moves)) = self.table.take(page) else {
+        let Some((frame, changes)) = self.table.take(page) else {
             unreachable!()
         };
-        self.retouch(moves);
+        self.follow(&changes);
         frame
     }
 
-    /// Counts the moves of a change of the pages, after which each image keeps what they didn't touch, and what is a tile still.
+    /// Counts the moves of a change of one page, after which no image has a tile that went.
+    fn follow(&mut self, changes: &Changes)
+        ensures { self.new ≡ record self.old {
+          images = map (without changes.now.gone) self.old.images;
+          promotions = counted_up self.old.promotions changes.now.moves.promotions;
+          demotions = counted_up self.old.demotions changes.now.moves.demotions;
+        } }
+    {
+        self.count(changes.moves);
+        drop_gone(self.images.as_mut_slice(), &changes.gone);
+    }
+
+    /// Counts the moves of a change of rights, after which each image keeps what they didn't touch, and what is a tile still.
     fn retouch(&mut self, moves: Moves)
         ensures { self.new ≡ record self.old {
           images = map (untouched_tiles moves.touched (mapping_in self.old.table)) self.old.images;
@@ -596,9 +608,19 @@ impl<S: Store + Send + Drop> Space<S> {
           demotions = counted_up self.old.demotions moves.demotions;
         } }
     {
+        self.count(moves);
+        keep_untouched(self.images.as_mut_slice(), &self.table, moves.touched);
+    }
+
+    /// Counts moves; each count stands still at its type's end.
+    fn count(&mut self, moves: Moves)
+        ensures { self.new ≡ record self.old {
+          promotions = counted_up self.old.promotions moves.promotions;
+          demotions = counted_up self.old.demotions moves.demotions;
+        } }
+    {
         self.promotions = self.promotions.saturating_add(u64::from(moves.promotions));
         self.demotions = self.demotions.saturating_add(u64::from(moves.demotions));
-        keep_untouched(self.images.as_mut_slice(), &self.table, moves.touched);
     }
 
     /// Each image keeps what is a tile still.
@@ -652,6 +674,18 @@ fn keep_tiles(images: &mut [Image], table: &PageTable)
 {
     for image in images.iter_mut() {
         image.retain(|tile| table.is_tile(tile));
+    }
+}
+
+/// No image has a tile that went.
+fn drop_gone(images: &mut [Image], gone: &TileList)
+    ensures { images.new ≡ map (without gone.now) images.old }
+{
+    if gone.is_empty() {
+        return;
+    }
+    for image in images.iter_mut() {
+        image.retain(|tile| !gone.has(tile));
     }
 }
 

@@ -4,9 +4,10 @@ ghost use Rattle.std.specs.Prelude.{◌≡◌, ◌≢◌, ◌∷◌, [], ◌+◌
 ghost use Rattle.pager_model.specs.SpaceStates.{Rises};
 ghost use Rattle.pager_model.specs.Tiles.{tile_of, is_tile, tiles_of_size};
 ghost use Rattle.pager_model.specs.Stored.{copy_at, keeps_at, SameCopies, SetsCopy};
+ghost use Rattle.tiles.specs.Changes.{AreChanges};
 ghost use Rattle.tiles.specs.Resident.{AreMoves, large_tiles_meeting};
 ghost use Rattle.space_core.specs.Tables.{mapping_in, frame_in, word_in, own_in, dirty_in};
-ghost use Rattle.space_core.specs.Pages.{IsFresh, Maps, Refills, HasWords, Writes, Cleans, Protects, Forgets, IsFirstResident, NoneFrom};
+ghost use Rattle.space_core.specs.Pages.{IsFresh, Maps, Refills, HasWords, SetsWord, Writes, Cleans, Protects, Forgets, IsFirstResident, NoneFrom};
 ghost use Rattle.pager_model.specs.Bounds.{most_frames, space_pages};
 
 use crate::frames::{set_word, set_words, word};
@@ -15,7 +16,7 @@ use pager_model::{Frame, Mapping, NoMemory, Rights, Tile, WORDS};
 use std::alloc::Global;
 use std::marker::Model;
 use store_core::{Store, StoreFailed, WriteRefused};
-use tiles::{Base, Moves};
+use tiles::{Base, Changes, Moves};
 
 /// The pages of a space. A resident page is found by its number, and its frame by the frame's.
 #[derive(Drop)]
@@ -130,13 +131,13 @@ impl PageTable {
     }
 
     /// Puts a frame under a page that isn't resident, of the region that begins at this page and with these rights.
-    pub fn put(&mut self, page: u32, frame: Frame, region: u32, rights: Rights) -> Moves
+    pub fn put(&mut self, page: u32, frame: Frame, region: u32, rights: Rights) -> Changes
         requires page { page < space_pages }
         requires absent { frame_in self.old page ≡ None }
         requires known { frame.number < length self.old.frames }
         requires other { (p : ℕ) → frame_in self.old p ≢ Some frame.number }
         ensures maps { Maps page (Some (record { frame = frame.number; region = region; rights = rights; dirty = false })) self.old self.new }
-        ensures moves { AreMoves self.old.pages self.new.pages result }
+        ensures changes { AreChanges self.old.pages self.new.pages result }
     {
         let number = frame.number();
         self.frames[number as usize] = Some(frame);
@@ -152,15 +153,15 @@ impl PageTable {
     }
 
     /// Takes the frame of a page away, where it is resident.
-    pub fn take(&mut self, page: u32) -> Option<(Frame, Moves)>
-        ensures some { IfSome result (λ taken. (frame_in self.old page ≡ Some taken.0.number) × AreMoves self.old.pages self.new.pages taken.1) }
+    pub fn take(&mut self, page: u32) -> Option<(Frame, Changes)>
+        ensures some { IfSome result (λ taken. (frame_in self.old page ≡ Some taken.0.number) × AreChanges self.old.pages self.new.pages taken.1) }
         ensures none { IfNone result (frame_in self.old page ≡ None) }
         ensures after { Maps page None self.old self.new }
     {
         let number = self.number(page)?;
-        let moves = self.pages.after_remove(page);
+        let changes = self.pages.after_remove(page);
         let frame = self.frames[number as usize].take()?;
-        Some((frame, moves))
+        Some((frame, changes))
     }
 
     /// Reads the copy of a resident page from the store.
@@ -217,28 +218,40 @@ impl PageTable {
     }
 
     /// A page is equal to its copy.
-    pub fn set_clean(&mut self, page: u32) -> Moves
+    pub fn set_clean(&mut self, page: u32) -> Changes
         ensures cleans { Cleans page self.old self.new }
-        ensures moves { AreMoves self.old.pages self.new.pages result }
+        ensures changes { AreChanges self.old.pages self.new.pages result }
     {
         self.pages.after_dirty(page, false)
     }
 
     /// Writes a word of a resident page, which is dirty then.
-    pub fn set_word(&mut self, page: u32, index: usize, word: u64) -> Moves
+    pub fn set_word(&mut self, page: u32, index: usize, word: u64) -> Changes
         requires page { page < space_pages }
         requires index { index < 1024 }
         requires resident { frame_in self.old page ≢ None }
         ensures writes { Writes page index word self.old self.new }
-        ensures moves { AreMoves self.old.pages self.new.pages result }
+        ensures changes { AreChanges self.old.pages self.new.pages result }
+    {
+        let changes = self.pages.after_dirty(page, true);
+        self.write_word(page, index, word);
+        changes
+    }
+
+    /// Writes a word of a resident page, whose dirty flag stays.
+    pub fn write_word(&mut self, page: u32, index: usize, word: u64)
+        requires page { page < space_pages }
+        requires index { index < 1024 }
+        requires resident { frame_in self.old page ≢ None }
+        ensures { SetsWord page index word self.old self.new }
     {
         let Some(number) = self.number(page) else {
             unreachable!()
         };
-        if let Some(frame) = &mut self.frames[number as usize] {
-            set_word(frame, index, word);
-        }
-        self.pages.after_dirty(page, true)
+        let Some(frame) = &mut self.frames[number as usize] else {
+            unreachable!()
+        };
+        set_word(frame, index, word);
     }
 
     /// Gives the pages of a range these rights of their own.

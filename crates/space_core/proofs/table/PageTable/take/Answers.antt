@@ -16,7 +16,7 @@ index_mut-requires c =
 pub invariant_of-self : goal.invariant_of-self
 invariant_of-self c =
     let has = sym (rw (← c.self.view_is) at c.number.ensures.number) ∙ c.in_ok-number.was in
-    rw c.take.ensures.after (take_paged (the_view c.self.inside) c.self.invariant c.args.page _ _ c.after_remove-moves.ensures.maps has)
+    rw c.take.ensures.after (take_paged (the_view c.self.inside) c.self.invariant c.args.page _ _ c.after_remove-changes.ensures.maps has)
 
 pub returns-in_err-frame-clause-none : goal.returns-in_err-frame-clause-none
 returns-in_err-frame-clause-none c =
@@ -29,12 +29,12 @@ returns-in_err-frame-clause-none c =
 pub returns-in_err-frame-clause-after : goal.returns-in_err-frame-clause-after
 returns-in_err-frame-clause-after c =
     let has = sym (rw (← c.self.view_is) at c.number.ensures.number) ∙ c.in_ok-number.was in
-    rw (← c.self.view_is, c.take.ensures.after) (take_maps (the_view c.self.inside) c.self.invariant c.args.page _ _ c.after_remove-moves.ensures.maps has)
+    rw (← c.self.view_is, c.take.ensures.after) (take_maps (the_view c.self.inside) c.self.invariant c.args.page _ _ c.after_remove-changes.ensures.maps has)
 
 pub invariant_of-self-2 : goal.invariant_of-self-2
 invariant_of-self-2 c =
     let has = sym (rw (← c.self.view_is) at c.number.ensures.number) ∙ c.in_ok-number.was in
-    rw c.take.ensures.after (take_paged (the_view c.self.inside) c.self.invariant c.args.page _ _ c.after_remove-moves.ensures.maps has)
+    rw c.take.ensures.after (take_paged (the_view c.self.inside) c.self.invariant c.args.page _ _ c.after_remove-changes.ensures.maps has)
 
 pub returns-clause-some : goal.returns-clause-some
 returns-clause-some c =
@@ -42,9 +42,9 @@ returns-clause-some c =
     let has = sym (rw (← c.self.view_is) at c.number.ensures.number) ∙ c.in_ok-number.was in
     let at = c.self.invariant.found _ _ has in
     let is = sym at.is ∙ frame-read t _ _ (found_within _ c.self.invariant _ _ has) c.index_mut.ensures.value ∙ sym c.take.ensures.value in
-    rw (← c.self.view_is) (has ∙ ap Some (sym at.number_is) ∙ ap (λ (f : Framed). Some f.number) (same_Some _ _ (is ∙ c.in_ok-frame.was)), c.after_remove-moves.ensures.moves)
+    rw (← c.self.view_is) (has ∙ ap Some (sym at.number_is) ∙ ap (λ (f : Framed). Some f.number) (same_Some _ _ (is ∙ c.in_ok-frame.was)), c.after_remove-changes.ensures.changes)
 
 pub returns-clause-after : goal.returns-clause-after
 returns-clause-after c =
     let has = sym (rw (← c.self.view_is) at c.number.ensures.number) ∙ c.in_ok-number.was in
-    rw (← c.self.view_is, c.take.ensures.after) (take_maps (the_view c.self.inside) c.self.invariant c.args.page _ _ c.after_remove-moves.ensures.maps has)
+    rw (← c.self.view_is, c.take.ensures.after) (take_maps (the_view c.self.inside) c.self.invariant c.args.page _ _ c.after_remove-changes.ensures.maps has)

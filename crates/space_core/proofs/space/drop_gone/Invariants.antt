@@ -1,0 +1,12 @@
+use Rattle.std.proofs.Common.{◌≡◌, ℕ, ◌<◌, ◌≤◌, List, [], length, get_or}
+use Rattle.pager_model.specs.declared.tile.Tile.{Tile}
+use Rattle.space_core.specs.Translating.{without}
+use Rattle.space_core.proofs.space.drop_gone.Given as goal
+
+abbrev pub invariant-loop-image : goal.invariant-loop-image
+invariant-loop-image l =
+    record {
+      done : (k : ℕ) (d : List Tile) → k < l.image-index → get_or l.images k d ≡ without l.gone (get_or l.fn.images k []);
+      rest : (k : ℕ) (d : List Tile) → l.image-index ≤ k → get_or l.images k d ≡ get_or l.fn.images k d;
+      whole : length l.images ≡ length l.fn.images;
+    }
