@@ -1,10 +1,14 @@
--- What a first line, a daemon's line and a call's name say.
-use Rattle.std.specs.Prelude.{◌≡◌, ◌%◌, ◌≤◌, List, ℕ, Option, Some, None, codes}
+-- What a first line, a daemon's line and a call's name and line say.
+use Rattle.std.specs.Prelude.{◌≡◌, ◌%◌, ◌≤◌, List, ℕ, Option, Some, None, Result, IfOk, IfErr, codes}
+use Rattle.trace_reader.specs.declared.fault.LineCause.{LineCause}
 use Rattle.trace_reader.specs.declared.line.Head.{Head}
 use Rattle.trace_reader.specs.declared.line.Name.{Name}
 use Rattle.trace_reader.specs.declared.line.Name.TheVariants.{Map, Grow, Unmap, Protect, Load, Store, Sync, Evict}
 use Rattle.pager_model.specs.declared.trace.Daemon.{Daemon}
+use Rattle.pager_model.specs.declared.call.Line.{Line}
 use Rattle.pager_model.specs.Bounds.{most_frames}
+use Rattle.pager_model.specs.TraceText.{IsLine, line_words}
+use Rattle.trace_reader.specs.Forms.{Place, line_fault}
 
 -- a multiple of 512 frames from 512 to 32,768, and one to sixteen processors and spaces
 abbrev pub IsInRange : Head → Type 0
@@ -24,3 +28,9 @@ word_of_name Load = codes "load"
 word_of_name Store = codes "store"
 word_of_name Sync = codes "sync"
 word_of_name Evict = codes "evict"
+
+-- in these forms, behind this first line, the words are read as a line that has them, or refused for their fault
+pub record IsRead (head : Head) (forms : List (List Place)) (words : List (List ℕ)) (line : Result Line LineCause) : Type 0 where
+  pub range : IfOk line (λ l. IsLine head.processors head.spaces l)
+  pub text : IfOk line (λ l. words ≡ line_words l)
+  pub err : IfErr line (λ cause. line_fault forms words ≡ Some cause)

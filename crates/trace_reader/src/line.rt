@@ -1,10 +1,10 @@
 //! Lines: the first one, a daemon's, and those of calls.
-ghost use Rattle.std.specs.Prelude.{◌≡◌, ◌≤◌, ◌%◌, ◌∷◌, [], true, false, Some, IfSome, IfNone, IfOk, IfErr, OnOk, codes};
+ghost use Rattle.std.specs.Prelude.{◌≡◌, ◌<◌, ◌≤◌, ◌%◌, ◌∷◌, [], true, false, Some, IfSome, IfNone, IfOk, IfErr, OnOk, codes, decimal};
 ghost use Rattle.std.specs.Str.{bytes_eq};
 ghost use Rattle.pager_model.specs.TraceText.{IsDaemon, IsLine, line_words, first_words, daemon_words};
-ghost use Rattle.trace_reader.specs.Forms.{number_in, fits, leftmost, line_fault, first_form, daemon_form, map_form, grow_form, unmap_form, protect_form, load_form, store_form, sync_form, evict_form, call_forms};
+ghost use Rattle.trace_reader.specs.Forms.{Number, number_in, fits, leftmost, line_fault, first_form, daemon_form, page, map_form, grow_form, protect_form, load_form, store_form, call_forms};
 ghost use Rattle.trace_reader.specs.declared.line.Name.{Name};
-ghost use Rattle.trace_reader.specs.Heads.{IsInRange, word_of_name};
+ghost use Rattle.trace_reader.specs.Heads.{IsInRange, IsRead, word_of_name};
 ghost use Rattle.trace_reader.specs.Refusals.{words_of};
 ghost use Rattle.trace_reader.specs.Words.{seen};
 
@@ -114,10 +114,7 @@ pub fn daemon(low: &[u8], turns: &[u8]) -> Result<Daemon, LineCause>
 
 /// The call that a line says, in a trace with this first line.
 pub fn call(line: &[u8], head: Head) -> Result<Line, LineCause>
-    ensures range { IfOk result (λ l. IsLine head.processors head.spaces l) }
-    ensures text { IfOk result (λ l. words_of line.now ≡ line_words l) }
-    ensures err { IfErr result
-        (λ cause. line_fault (call_forms head.processors head.spaces) (words_of line.now) ≡ Some cause) }
+    ensures { IsRead head (call_forms head.processors head.spaces) (words_of line.now) result }
 {
     let Some(words) = words(line) else {
         return Err(LineCause::Form);
@@ -135,20 +132,41 @@ fn call_of(
     name: &[u8],
     arguments: &[&[u8]],
 ) -> Result<Line, LineCause>
-    ensures range { IfOk result (λ l. IsLine head.processors head.spaces l) }
-    ensures text { IfOk result (λ l. processor.now ∷ name.now ∷ seen arguments.now ≡ line_words l) }
-    ensures err { IfErr result (λ cause. line_fault (call_forms head.processors head.spaces)
-        (processor.now ∷ name.now ∷ seen arguments.now) ≡ Some cause) }
+    ensures { IsRead head (call_forms head.processors head.spaces) (processor.now ∷ name.now ∷ seen arguments.now) result }
 {
     match name_of(name) {
         Some(Name::Map) => map(head, processor, arguments),
         Some(Name::Grow) => grow(head, processor, arguments),
-        Some(Name::Unmap) => unmap(head, processor, arguments),
+        Some(Name::Unmap) => {
+            let OnePage {
+                processor,
+                space,
+                page,
+            } = one_page(head, processor, arguments)?;
+            let call = Call::Unmap { space, page };
+            Ok(Line { processor, call })
+        }
         Some(Name::Protect) => protect(head, processor, arguments),
         Some(Name::Load) => load(head, processor, arguments),
         Some(Name::Store) => store(head, processor, arguments),
-        Some(Name::Sync) => sync(head, processor, arguments),
-        Some(Name::Evict) => evict(head, processor, arguments),
+        Some(Name::Sync) => {
+            let OnePage {
+                processor,
+                space,
+                page,
+            } = one_page(head, processor, arguments)?;
+            let call = Call::Sync { space, page };
+            Ok(Line { processor, call })
+        }
+        Some(Name::Evict) => {
+            let OnePage {
+                processor,
+                space,
+                page,
+            } = one_page(head, processor, arguments)?;
+            let call = Call::Evict { space, page };
+            Ok(Line { processor, call })
+        }
         None => Err(LineCause::Form),
     }
 }
@@ -186,10 +204,7 @@ fn name_of(word: &[u8]) -> Option<Name>
 
 /// The call `map` of this processor, with these arguments.
 fn map(head: Head, processor: &[u8], arguments: &[&[u8]]) -> Result<Line, LineCause>
-    ensures range { IfOk result (λ l. IsLine head.processors head.spaces l) }
-    ensures text { IfOk result (λ l. processor.now ∷ codes "map" ∷ seen arguments.now ≡ line_words l) }
-    ensures err { IfErr result (λ cause. line_fault (map_form head.processors head.spaces ∷ [])
-        (processor.now ∷ codes "map" ∷ seen arguments.now) ≡ Some cause) }
+    ensures { IsRead head (map_form head.processors head.spaces ∷ []) (processor.now ∷ codes "map" ∷ seen arguments.now) result }
 {
     let [space, page, length, kind_word, rights_word] = arguments else {
         return Err(LineCause::Form);
@@ -212,10 +227,7 @@ fn map(head: Head, processor: &[u8], arguments: &[&[u8]]) -> Result<Line, LineCa
 
 /// The call `grow` of this processor, with these arguments.
 fn grow(head: Head, processor: &[u8], arguments: &[&[u8]]) -> Result<Line, LineCause>
-    ensures range { IfOk result (λ l. IsLine head.processors head.spaces l) }
-    ensures text { IfOk result (λ l. processor.now ∷ codes "grow" ∷ seen arguments.now ≡ line_words l) }
-    ensures err { IfErr result (λ cause. line_fault (grow_form head.processors head.spaces ∷ [])
-        (processor.now ∷ codes "grow" ∷ seen arguments.now) ≡ Some cause) }
+    ensures { IsRead head (grow_form head.processors head.spaces ∷ []) (processor.now ∷ codes "grow" ∷ seen arguments.now) result }
 {
     let [space, page, by] = arguments else {
         return Err(LineCause::Form);
@@ -228,12 +240,21 @@ fn grow(head: Head, processor: &[u8], arguments: &[&[u8]]) -> Result<Line, LineC
     Ok(Line { processor, call })
 }
 
-/// The call `unmap` of this processor, with these arguments.
-fn unmap(head: Head, processor: &[u8], arguments: &[&[u8]]) -> Result<Line, LineCause>
-    ensures range { IfOk result (λ l. IsLine head.processors head.spaces l) }
-    ensures text { IfOk result (λ l. processor.now ∷ codes "unmap" ∷ seen arguments.now ≡ line_words l) }
-    ensures err { IfErr result (λ cause. line_fault (unmap_form head.processors head.spaces ∷ [])
-        (processor.now ∷ codes "unmap" ∷ seen arguments.now) ≡ Some cause) }
+/// Where a call is made that names a page and nothing else.
+struct OnePage {
+    processor: u32,
+    space: u32,
+    page: u32,
+}
+
+/// Where such a call of this processor is made, with these arguments.
+fn one_page(head: Head, processor: &[u8], arguments: &[&[u8]]) -> Result<OnePage, LineCause>
+    ensures range { IfOk result
+        (λ at. (at.processor < head.processors) × (at.space < head.spaces) × (at.page < PAGES)) }
+    ensures text { IfOk result (λ at. processor.now ∷ seen arguments.now
+        ≡ decimal at.processor ∷ decimal at.space ∷ decimal at.page ∷ []) }
+    ensures err { IfErr result (λ cause. line_fault ((Number 1 0 head.processors ∷ Number 1 0 head.spaces ∷ page ∷ []) ∷ [])
+        (processor.now ∷ seen arguments.now) ≡ Some cause) }
 {
     let [space, page] = arguments else {
         return Err(LineCause::Form);
@@ -241,16 +262,16 @@ fn unmap(head: Head, processor: &[u8], arguments: &[&[u8]]) -> Result<Line, Line
     let processor = small(processor, 1, 0..head.processors)?;
     let space = small(space, 1, 0..head.spaces)?;
     let page = small(page, 1, 0..PAGES)?;
-    let call = Call::Unmap { space, page };
-    Ok(Line { processor, call })
+    Ok(OnePage {
+        processor,
+        space,
+        page,
+    })
 }
 
 /// The call `protect` of this processor, with these arguments.
 fn protect(head: Head, processor: &[u8], arguments: &[&[u8]]) -> Result<Line, LineCause>
-    ensures range { IfOk result (λ l. IsLine head.processors head.spaces l) }
-    ensures text { IfOk result (λ l. processor.now ∷ codes "protect" ∷ seen arguments.now ≡ line_words l) }
-    ensures err { IfErr result (λ cause. line_fault (protect_form head.processors head.spaces ∷ [])
-        (processor.now ∷ codes "protect" ∷ seen arguments.now) ≡ Some cause) }
+    ensures { IsRead head (protect_form head.processors head.spaces ∷ []) (processor.now ∷ codes "protect" ∷ seen arguments.now) result }
 {
     let [space, page, length, rights_word] = arguments else {
         return Err(LineCause::Form);
@@ -271,10 +292,7 @@ fn protect(head: Head, processor: &[u8], arguments: &[&[u8]]) -> Result<Line, Li
 
 /// The call `load` of this processor, with these arguments.
 fn load(head: Head, processor: &[u8], arguments: &[&[u8]]) -> Result<Line, LineCause>
-    ensures range { IfOk result (λ l. IsLine head.processors head.spaces l) }
-    ensures text { IfOk result (λ l. processor.now ∷ codes "load" ∷ seen arguments.now ≡ line_words l) }
-    ensures err { IfErr result (λ cause. line_fault (load_form head.processors head.spaces ∷ [])
-        (processor.now ∷ codes "load" ∷ seen arguments.now) ≡ Some cause) }
+    ensures { IsRead head (load_form head.processors head.spaces ∷ []) (processor.now ∷ codes "load" ∷ seen arguments.now) result }
 {
     let [space, address] = arguments else {
         return Err(LineCause::Form);
@@ -288,10 +306,7 @@ fn load(head: Head, processor: &[u8], arguments: &[&[u8]]) -> Result<Line, LineC
 
 /// The call `store` of this processor, with these arguments.
 fn store(head: Head, processor: &[u8], arguments: &[&[u8]]) -> Result<Line, LineCause>
-    ensures range { IfOk result (λ l. IsLine head.processors head.spaces l) }
-    ensures text { IfOk result (λ l. processor.now ∷ codes "store" ∷ seen arguments.now ≡ line_words l) }
-    ensures err { IfErr result (λ cause. line_fault (store_form head.processors head.spaces ∷ [])
-        (processor.now ∷ codes "store" ∷ seen arguments.now) ≡ Some cause) }
+    ensures { IsRead head (store_form head.processors head.spaces ∷ []) (processor.now ∷ codes "store" ∷ seen arguments.now) result }
 {
     let [space, address, word] = arguments else {
         return Err(LineCause::Form);
@@ -305,39 +320,5 @@ fn store(head: Head, processor: &[u8], arguments: &[&[u8]]) -> Result<Line, Line
         address,
         word,
     };
-    Ok(Line { processor, call })
-}
-
-/// The call `sync` of this processor, with these arguments.
-fn sync(head: Head, processor: &[u8], arguments: &[&[u8]]) -> Result<Line, LineCause>
-    ensures range { IfOk result (λ l. IsLine head.processors head.spaces l) }
-    ensures text { IfOk result (λ l. processor.now ∷ codes "sync" ∷ seen arguments.now ≡ line_words l) }
-    ensures err { IfErr result (λ cause. line_fault (sync_form head.processors head.spaces ∷ [])
-        (processor.now ∷ codes "sync" ∷ seen arguments.now) ≡ Some cause) }
-{
-    let [space, page] = arguments else {
-        return Err(LineCause::Form);
-    };
-    let processor = small(processor, 1, 0..head.processors)?;
-    let space = small(space, 1, 0..head.spaces)?;
-    let page = small(page, 1, 0..PAGES)?;
-    let call = Call::Sync { space, page };
-    Ok(Line { processor, call })
-}
-
-/// The call `evict` of this processor, with these arguments.
-fn evict(head: Head, processor: &[u8], arguments: &[&[u8]]) -> Result<Line, LineCause>
-    ensures range { IfOk result (λ l. IsLine head.processors head.spaces l) }
-    ensures text { IfOk result (λ l. processor.now ∷ codes "evict" ∷ seen arguments.now ≡ line_words l) }
-    ensures err { IfErr result (λ cause. line_fault (evict_form head.processors head.spaces ∷ [])
-        (processor.now ∷ codes "evict" ∷ seen arguments.now) ≡ Some cause) }
-{
-    let [space, page] = arguments else {
-        return Err(LineCause::Form);
-    };
-    let processor = small(processor, 1, 0..head.processors)?;
-    let space = small(space, 1, 0..head.spaces)?;
-    let page = small(page, 1, 0..PAGES)?;
-    let call = Call::Evict { space, page };
     Ok(Line { processor, call })
 }

@@ -2,5 +2,5 @@ use Rattle.trace_reader.specs.Refusals.{words_of}
 use Rattle.trace_reader.proofs.Forms.{call_too_long}
 use Rattle.trace_reader.proofs.line.call.Goals as goal
 
-pub returns-in_default-clause-err : goal.returns-in_default-clause-err
-returns-in_default-clause-err c = call_too_long c.args.head.processors c.args.head.spaces (words_of c.args.line.now) c.in_default.ensures.none
+pub returns-in_default : goal.returns-in_default
+returns-in_default c = record { range = tt; text = tt; err = call_too_long c.args.head.processors c.args.head.spaces (words_of c.args.line.now) c.in_default.ensures.none }
