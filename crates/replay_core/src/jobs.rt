@@ -136,7 +136,7 @@ fn do_one<N: Named, S: Store + Send + Drop, R: Wait>(
 {
     match job {
         Job::Call(call) => pager.call(rt, pass, call).1,
-        Job::Turn { mark } => pager.turn(rt, pass, *mark),
+        Job::Turn { mark } => paging_daemon::turn(pager, rt, pass, *mark).1,
     }
 }
 
