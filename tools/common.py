@@ -2,10 +2,14 @@
 import argparse
 import os
 import re
+import signal
 import sys
 from contextlib import suppress
 from subprocess import SubprocessError
 from typing import Callable, NoReturn, Optional
+
+# Until `end` calls a tool's main function an interrupt ends it without a word: Python would tell which module it was reading.
+signal.signal(signal.SIGINT, signal.SIG_DFL)
 
 TOP = os.path.dirname(os.path.dirname(os.path.abspath(__file__)))
 PROGRAM = os.path.join(TOP, 'crates', 'superpager', 'out', 'superpager')
@@ -49,6 +53,7 @@ def say(why: object) -> None:
 def status_of(main: Callable[[], int]) -> int:
     """The status of `main`, or that which argparse ended it with: 1 with a message where it stopped, and 130 where it was interrupted."""
     try:
+        signal.signal(signal.SIGINT, signal.default_int_handler)
         return main()
     except SystemExit as ended:
         if ended.code is None or isinstance(ended.code, int):
