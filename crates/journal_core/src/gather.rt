@@ -1,4 +1,4 @@
-// What closing a journal takes: all seats in one, and a merge by the entries' places.
+//! What closing a journal takes: all seats in one, and a merge by the entries' places.
 ghost use Rattle.std.specs.Prelude.{◌≡◌, ◌+◌, ◌≤◌, ◌<◌, true, List, [], map, reverse, length, vec_len, vec_capacity};
 ghost use Rattle.std.specs.List.{All, AllByRecursion};
 ghost use Rattle.pager_model.specs.declared.entry.Numbered.{Numbered};
@@ -76,7 +76,7 @@ pub fn merge(mut history: Vec<Numbered>, long: u64, logs: &[Vec<Numbered>]) -> V
     history
 }
 
-// Makes the list so long.
+/// Makes the list so long.
 fn fill(history: &mut Vec<Numbered>, long: u64)
     requires { (vec_len history.old ≡ 0) × (long ≤ vec_capacity history.old) }
     ensures { vec_len history.new ≡ long }
@@ -86,6 +86,7 @@ fn fill(history: &mut Vec<Numbered>, long: u64)
     }
 }
 
+/// Adds an entry that stands for none.
 fn push_blank(history: &mut Vec<Numbered>)
     requires { vec_len history.old < vec_capacity history.old }
     ensures { (vec_len history.new ≡ vec_len history.old + 1) × (vec_capacity history.new ≡ vec_capacity history.old) }
@@ -99,7 +100,7 @@ fn push_blank(history: &mut Vec<Numbered>)
     history.push_reserved(Numbered { number: 0, entry });
 }
 
-// Puts each entry at its place.
+/// Puts each entry at its place.
 fn place_all(history: &mut [Numbered], logs: &[Vec<Numbered>])
     requires { All (λ v. IsPlaced (length history.old) v.items) logs.now }
     ensures { history.new ≡ placed_all history.old (map (λ v. v.items) logs.now) }

@@ -23,7 +23,7 @@ use std::marker::Model;
 #[derive(Drop)]
 pub struct Journal {
     table: Table<(), View, Setting, Order, Global>,
-    // Room for what `close` gathers.
+    /// Room for what `close` gathers: the lists, and the history that they are merged into.
     logs: Vec<Vec<Numbered>>,
     history: Vec<Numbered>,
 }
@@ -90,7 +90,7 @@ fn total(rooms: &[usize]) -> usize
     total
 }
 
-// The authors of the first parts, cast off from the seat that has them all.
+/// The authors of the first parts, cast off from the seat that has them all.
 fn deal_authors(
     alloc: Global,
     word: &Word,
@@ -111,7 +111,7 @@ fn deal_authors(
     Ok(authors)
 }
 
-// The passes of all processors, cast off from the seat that has them all.
+/// The passes of all processors, cast off from the seat that has them all.
 fn deal_passes(
     alloc: Global,
     word: &Word,

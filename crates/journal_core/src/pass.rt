@@ -7,7 +7,7 @@ use crate::view::Seat;
 use pager_model::{Entry, Numbered, What};
 use std::marker::Model;
 
-// A processor's entries, with the room for more.
+/// A processor's entries, with the room for more.
 #[derive(Drop)]
 pub struct Log {
     pub processor: u32,
@@ -17,6 +17,7 @@ pub struct Log {
 }
 
 impl Log {
+    /// None yet; the list is empty, and its capacity is the room.
     pub fn new(processor: u32, entries: Vec<Numbered>) -> Log
         requires { entries.items ≡ [] }
         ensures { (result.processor ≡ processor) × (result.entries ≡ entries) }
@@ -28,6 +29,7 @@ impl Log {
         }
     }
 
+    /// Adds an entry behind the others.
     pub fn add(&mut self, number: u64, entry: Entry)
         requires room { vec_len self.old.entries < vec_capacity self.old.entries }
         requires most { vec_capacity self.old.entries ≤ most_entries }

@@ -1,4 +1,4 @@
-// The steps on the journal's word: authors and passes board a seat and alight from it, and a seat enters, looks and commits.
+//! The steps on the journal's word: authors and passes board a seat and alight from it, and a seat enters, looks and commits.
 ghost use Rattle.std.specs.Prelude.{◌≡◌, true, []};
 ghost use Rattle.journal_core.specs.Views.{word_count, Meets, MayGrow, first_author, without_author, first_pass, without_pass, joined, grown, rest_view};
 

@@ -1,4 +1,4 @@
-// What a seat at the journal's word knows, and the names of the steps on the word.
+//! What a seat at the journal's word knows, and the names of the steps on the word.
 
 use atomic_table::{Join, Play, Shared, Split, TableRule};
 use pager_model::{Entry, Numbered, Setting};
@@ -112,6 +112,8 @@ impl<N: Naming> Play<(), View> for Commit<N> {
     ghost then = { Commits N.entry };
 }
 
+/// The journal's word, which all threads share.
 pub type Word = Shared<(), View, Setting, Order>;
 
+/// A seat at the word, with its view.
 pub type Seat = atomic_table::Seat<(), View>;

@@ -38,6 +38,7 @@ impl<N: Named> Model for LockedPool<N> {
 }
 
 impl<N: Named> LockedPool<N> {
+    /// The pool, with the author of the frames' part.
     pub fn new(pool: Pool, author: Author) -> LockedPool<N>
         requires { IsPoolAt N.journal pool author }
         ensures { result ≡ pool }
@@ -136,6 +137,7 @@ impl<N: Named, P: Place, S: Store + Send + Drop> Model for LockedSpace<N, P, S> 
 }
 
 impl<N: Named, P: Place, S: Store + Send + Drop> LockedSpace<N, P, S> {
+    /// The space, with its part's author.
     pub fn new(space: Space<S>, author: Author) -> LockedSpace<N, P, S>
         requires { IsLockedSpace N.journal P.number space (Some author) }
         ensures { result ≡ space }
