@@ -1,7 +1,7 @@
 -- Runs of free frames, maximal blocks, and the choice.
-use Rattle.std.proofs.Common.{◌≡◌, ℕ, suc, ◌+◌, ◌-◌, ◌*◌, ◌/◌, ◌^◌, ◌<◌, ◌≤◌, Bool, true, false, List, length, Option, Some, None, inl, inr, refl, sym, subst, ◌∙◌, ap, arith}
-use Rattle.std.proofs.lemmas.Bool.{and_parts, false≢true, eqb-true, false_from_ne_true, cases_lt}
-use Rattle.std.proofs.lemmas.Nat.{div-mul-add, pow_pos}
+use Rattle.std.proofs.Common.{◌≡◌, ℕ, suc, ◌+◌, ◌-◌, ◌*◌, ◌^◌, ◌<◌, ◌≤◌, Bool, true, false, List, length, Option, Some, None, refl, sym, ◌∙◌, arith}
+use Rattle.std.proofs.lemmas.Bool.{and_parts, false≢true}
+use Rattle.std.proofs.lemmas.Nat.{pow_pos}
 use Rattle.pager_model.specs.FreeBlocks.{is_maximal, lowest_block, least_block}
 use Rattle.pager_model.proofs.Ranges.{find_passes, find_first}
 use Rattle.pager_model.proofs.FreeRuns.{run_free_within}
@@ -17,23 +17,6 @@ least_later free n h e =
 -- no block of the order begins before the multiple of its frames with this number
 abbrev pub NoneBefore : List Bool → ℕ → ℕ → Type 0
 NoneBefore free order block = (f : ℕ) → f < block * 2 ^ order → is_maximal free order f ≡ false
-
--- a block begins at a multiple of its frames
-starts_at_multiple : (free : List Bool) (order f : ℕ) → is_maximal free order f ≡ true → f / 2 ^ order * 2 ^ order ≡ f
-starts_at_multiple free order f is = eqb-true _ _ (and_parts _ _ is).0
-
--- where none begins at a multiple, none begins before the next one
-pub NoneBefore-more : (free : List Bool) (order block first : ℕ) → NoneBefore free order block → first ≡ block * 2 ^ order → is_maximal free order first ≡ false → NoneBefore free order (block + 1)
-NoneBefore-more free order block first none at here f below =
-    elim (cases_lt f (block * 2 ^ order)) [
-      | inl before ↦ none f before
-      | inr from ↦ false_from_ne_true _ (λ is.
-          let start = starts_at_multiple free order f is in
-          let split : block * 2 ^ order + (f - block * 2 ^ order) ≡ f = omega arith in
-          let quotient : f / 2 ^ order ≡ block = subst (λ n. n / 2 ^ order ≡ block) split (div-mul-add block (2 ^ order) (f - block * 2 ^ order) (omega (arith, below, from))) in
-          let same : f ≡ first = sym start ∙ ap (λ q. q * 2 ^ order) quotient ∙ sym at in
-          false≢true (sym here ∙ ap (is_maximal free order) (sym same) ∙ is))
-    ]
 
 -- the first one from 0 on is the lowest
 pub lowest_block-first : (free : List Bool) (order block first : ℕ) → NoneBefore free order block → first ≡ block * 2 ^ order → is_maximal free order first ≡ true → lowest_block free order ≡ Some first

@@ -3,7 +3,7 @@ use Rattle.std.proofs.Common.{◌≡◌, ◌≢◌, ℕ, zero, suc, ◌+◌, ◌
 use Rattle.std.specs.List.{count_by}
 use Rattle.std.proofs.lemmas.Bool.{cases_eq, cases_lt, cond-true, cond-false, eq-eqb, ne_eqb}
 use Rattle.std.proofs.lemmas.Bool.Decides.{nat_tests}
-use Rattle.std.proofs.lemmas.List.{get_or-set_other, get_or-set_same, length-set, get_or-replicate, length-replicate, length-take, get_or_append_left, get_or-append_right, get_or-take, get_or-drop, length-append, get_or_past}
+use Rattle.std.proofs.lemmas.List.{get_or-set_other, get_or-set_same, length-set, get_or-replicate, length-replicate, length-take, get_or_append_left, get_or-append_right, get_or-take, get_or-drop, length-append}
 use Rattle.std.proofs.lemmas.List.Sums.{sum_by-set, count_by-le-length}
 use Rattle.std.proofs.lemmas.Option.{none-some, same_Some}
 use Rattle.std.proofs.Math.Seq.{get_or-append_seam}
@@ -41,13 +41,6 @@ module _ (t : RightsTree) (blocks : t.blocks ≡ replicate 2048 plain) (leaves :
     known = λ b n is. absurd (none-some n (sym (ap leaf_of (plain-at b)) ∙ is));
     apart = λ b c n is other. absurd (none-some n (sym (ap leaf_of (plain-at b)) ∙ is));
   }
-
--- a block is there that isn't plain
-pub block_there : (t : RightsTree) (b n : ℕ) → leaf_of (block_at t b) ≡ Some n → b < length t.blocks
-block_there t b n is = elim (cases_lt b (length t.blocks)) [
-  | inl there ↦ there
-  | inr past ↦ absurd (none-some n (sym (ap leaf_of (get_or_past t.blocks b plain past)) ∙ is))
-]
 
 -- one block is another one, and the leaves are these
 abbrev pub with_block : RightsTree → ℕ → Block → List (List (Option Rights)) → RightsTree

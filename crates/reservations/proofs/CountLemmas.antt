@@ -1,10 +1,9 @@
 -- Counting the used places of extents.
-use Rattle.std.proofs.Common.{◌≡◌, ◌≢◌, ◌<◌, ◌≤◌, ℕ, zero, suc, ◌+◌, ◌-◌, ◌*◌, ◌/◌, ◌%◌, ◌^◌, Bool, true, false, not, ◌&&◌, ◌||◌, cond, eqb, ltb, List, [], ◌∷◌, length, get_or, set, replicate, refl, ap, sym, subst, ◌∙◌, arith, inl, inr, count_by}
-use Rattle.std.specs.List.{range_with_len, list_all, list_any}
+use Rattle.std.proofs.Common.{◌≡◌, ◌≢◌, ◌<◌, ◌≤◌, ℕ, zero, suc, ◌+◌, ◌-◌, ◌*◌, ◌/◌, ◌%◌, ◌^◌, Bool, true, false, not, ◌&&◌, ◌||◌, cond, ltb, List, length, get_or, set, replicate, refl, ap, sym, subst, ◌∙◌, arith, inl, inr, count_by}
+use Rattle.std.specs.List.{range_with_len, list_any}
 use Rattle.std.proofs.lemmas.List.{get_or-set_same, get_or-set_other, length-set, length-replicate, get_or_read}
 use Rattle.std.proofs.Math.Nat.{div-mul-le_self, lt-div-mul-add}
-use Rattle.std.proofs.lemmas.List.Sums.{sum_by-cons}
-use Rattle.std.proofs.lemmas.Bool.{cases_eq, ne_eqb, lt-ltb}
+use Rattle.std.proofs.lemmas.Bool.{cases_eq, lt-ltb}
 use Rattle.std.proofs.lemmas.Bool.Decides.{nat_tests}
 use Rattle.std.proofs.lemmas.Nat.{div_below, div-add-mod', mod_below}
 use Rattle.pager_model.specs.Records.{is_used, none_used}
@@ -12,17 +11,6 @@ use Rattle.pager_model.proofs.CountLemmas.{count-suc, count-agree, count-one_mor
 use Rattle.pager_model.proofs.ExtentLemmas.{extent_of_frame}
 use Rattle.pager_model.proofs.Lists.{get_or-alike}
 use Rattle.reservations.specs.Counts.{used_in, AreCounts}
-
--- nothing passes where the count is 0
-pub none-count : (p : ℕ → Bool) (xs : List ℕ) → list_all (λ x. not (p x)) xs ≡ eqb (count_by p xs) 0
-none-count p [] = refl
-none-count p (x ∷ xs) =
-    let by_p = sum_by-cons (λ y. cond (p y) 1 0) x xs in
-    let rest = none-count p xs in
-    rw by_p (elim (p x) as (λ b. (not b && list_all (λ y. not (p y)) xs) ≡ eqb (cond b 1 0 + count_by p xs) 0) [
-      | true ↦ sym (ne_eqb (1 + count_by p xs) 0 (λ same. absurd (omega arith)))
-      | false ↦ rest ∙ ap (λ n. eqb n 0) (omega arith)
-    ])
 
 -- some frame from first on is unused where fewer than all are used
 pub any-count : (p : ℕ → Bool) (first n b : ℕ) → list_any (λ i. none_used p (first + i * 1) 1) (range_with_len b n) ≡ ltb (count_by p (range_with_len (first + b) n)) n

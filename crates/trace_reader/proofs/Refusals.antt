@@ -22,10 +22,6 @@ use Rattle.trace_reader.proofs.Numbers.{decimal_value}
 use Rattle.trace_reader.specs.Refusals.{lines_of, words_of, end_refusal, calls_refusal, second_refusal, forms_behind, refusal_of_lines, refusal_of}
 use Rattle.trace_reader.proofs.Splits.{some_piece}
 
--- what the next line, in front of this rest, says of the refusal
-pub no_line : (forms : List (List Place)) (number calls : ℕ) (rest : List ℕ) → lines_of rest ≡ rest ∷ [] → calls_refusal forms number calls (lines_of rest) ≡ Some NoEnd
-no_line forms number calls rest last = rw last refl
-
 pub faulty_line : (forms : List (List Place)) (number calls : ℕ) (rest line after : List ℕ) (cause : LineCause) → lines_of rest ≡ line ∷ lines_of after → bytes_eq line (codes "end") ≡ false → line_fault forms (words_of line) ≡ Some cause → calls_refusal forms number calls (lines_of rest) ≡ Some (Line number cause)
 faulty_line forms number calls rest line after cause first other fault = let p = some_piece 10 after in rw (first, p.2, other, fault) refl
 
@@ -46,10 +42,6 @@ pub past_the_end : (forms : List (List Place)) (number calls : ℕ) (rest line a
 past_the_end forms number calls rest line after first same some =
     let p = some_piece 10 after in
     rw (first, p.2, same) (something number after p.0 p.1 p.2 some)
-
--- what the second line says of the refusal
-pub no_second_line : (forms : List (List Place)) (rest : List ℕ) → lines_of rest ≡ rest ∷ [] → second_refusal forms (lines_of rest) ≡ calls_refusal forms 2 0 (lines_of rest)
-no_second_line forms rest last = rw last refl
 
 pub no_daemon : (forms : List (List Place)) (rest line after : List ℕ) → lines_of rest ≡ line ∷ lines_of after → fits daemon_form (words_of line) ≡ false → second_refusal forms (lines_of rest) ≡ calls_refusal forms 2 0 (lines_of rest)
 no_daemon forms rest line after first other = let p = some_piece 10 after in rw (first, p.2, other) refl
