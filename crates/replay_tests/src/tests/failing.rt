@@ -1,4 +1,5 @@
-//! Runs over stores that fail, with few frames left: each failure that is answered is one that the call met.
+//! Runs over stores that fail, with few frames left, of which some have a daemon: each failure that is answered is one that the call met, and
+//! the daemon makes all its turns.
 ghost use Rattle.std.specs.Prelude.{◌^◌, ◌<◌};
 
 use super::printed::{read_text, run_threads};
@@ -22,17 +23,24 @@ const CALLS: u32 = 200;
 /// How many pages lie from the beginning of a processor's region to that of the next one's.
 const REGION: u64 = 512;
 
-const MOST_PROCESSORS: usize = 6;
+/// How many turns a daemon makes, and its low mark.
+const TURNS: usize = 200;
+
+const LOW: u32 = 4;
+
+/// With the daemon.
+const MOST_PROCESSORS: usize = 7;
 
 /// How often each store has failed before the run.
 const FAILED_BEFORE: u64 = 3;
 
-/// What a drawn run has: its processors, its spaces, and how many pages a processor's region has.
+/// What a drawn run has: its processors, its spaces, how many pages a processor's region has, and whether there is a daemon.
 #[derive(Clone, Copy)]
 struct Shape {
     processors: u32,
     spaces: u32,
     pages: u32,
+    daemon: bool,
     ghost some_processors: { 0 < processors },
     ghost some_spaces: { 0 < spaces },
     ghost some_pages: { 0 < pages },
@@ -44,6 +52,7 @@ fn draw_shape(random: &mut Generator) -> Shape {
         processors,
         spaces: 1 + random.draw(3),
         pages: PAGES / processors,
+        daemon: random.draw(2) == 0,
     }
 }
 
@@ -101,6 +110,9 @@ fn put_call(
 fn draw_text(alloc: Global, shape: Shape, random: &mut Generator) -> Result<String, AllocError> {
     let (processors, spaces) = (shape.processors, shape.spaces);
     let mut text = format!(in alloc; "trace 1 512 {processors} {spaces}\n")?;
+    if shape.daemon {
+        text.push_str(format!(in alloc; "daemon {LOW} {TURNS}\n")?.as_str())?;
+    }
     for processor in 0..processors {
         put_region(alloc, &mut text, shape, processor)?;
     }
@@ -197,28 +209,45 @@ fn count_failures(rt: &impl Abort, history: &[Numbered]) -> u32 {
     answered
 }
 
-/// The run of a seed: its history, and how many spaces it has.
+/// How many turns of this processor have ended.
+fn turns_of(daemon: u32, history: &[Numbered]) -> usize {
+    history
+        .iter()
+        .filter(|numbered| numbered.entry.processor == daemon)
+        .filter(|numbered| matches!(
+            numbered.entry.what,
+            What::Rest { .. } | What::Unclaim { .. }
+        ))
+        .count()
+}
+
+/// The run of a seed: its history, and what it has.
 fn run_drawn<R: Abort + Threads + Wait + Sync>(
     rt: &R,
     alloc: Global,
     seed: u64,
-) -> Result<(Vec<Numbered>, u32), Fail> {
+) -> Result<(Vec<Numbered>, Shape), Fail> {
     let mut random = Generator::of(seed);
     let shape = draw_shape(&mut random);
     let text = draw_text(alloc, shape, &mut random)?;
     let stores = draw_stores(alloc, shape.spaces, &mut random)?;
     let trace = read_text(alloc, text.as_str())?;
     let gathered = run_threads(rt, alloc, &trace, stores)?;
-    Ok((gathered.history, shape.spaces))
+    Ok((gathered.history, shape))
 }
 
 #[test]
-fn a_failure_is_answered_where_the_call_met_it(rt: HostRuntime) -> Result<(), Fail> {
+fn a_failure_is_answered_where_the_call_met_it_beside_a_daemon_too(
+    rt: HostRuntime,
+) -> Result<(), Fail> {
     for seed in 0..RUNS {
-        let (history, spaces) = run_drawn(&rt, rt.alloc(), seed)?;
+        let (history, shape) = run_drawn(&rt, rt.alloc(), seed)?;
         let answered = count_failures(&rt, history.as_slice());
         // The first read of each store fails.
-        assert!(rt; answered >= spaces, "seed {seed}");
+        assert!(rt; answered >= shape.spaces, "seed {seed}");
+        let turns = turns_of(shape.processors, history.as_slice());
+        let wanted = if shape.daemon { TURNS } else { 0 };
+        assert_eq!(rt; turns, wanted, "seed {seed}");
     }
     Ok(())
 }
