@@ -3,10 +3,11 @@
     python3 crates/machine_tests/draw_run.py 17 trace >run.trace
     python3 crates/machine_tests/draw_run.py 17 turns
     python3 crates/machine_tests/draw_run.py 17 faults
+    python3 crates/machine_tests/draw_run.py 17 trace --daemon
 
 The trace begins with lines of processor 0 that use most of the 512 frames or all of them, and the turns with as many of processor 0 as
-these lines have steps. The faults are each space's reads and writes that fail and the writes that find no memory, counted from 1. Equal
-seeds give equal bytes.
+these lines have steps. The faults are each space's reads and writes that fail and the writes that find no memory, counted from 1. With
+--daemon a daemon keeps frames free beside the processors, and fewer pages are wired. Equal seeds give equal bytes.
 """
 import argparse
 import json
@@ -16,9 +17,11 @@ FRAMES = 512
 PAGE = 8192
 
 
-def fill(r):
+def fill(r, daemon):
     """The regions of space 0 that use the frames: how many, of how many pages each, and their kind."""
     left = r.randrange(1, 4)
+    if daemon:
+        return r.choices(([(1, FRAMES, 'fixed')], [(1, FRAMES - left, 'wired'), (1, left, 'fixed')]), (3, 1))[0]
     return r.choices((
         [(1, FRAMES - left, 'wired')],
         [(1, FRAMES - left, 'wired'), (1, left, r.choice(('fixed', 'growing')))],
@@ -73,26 +76,30 @@ def numbers(r):
     return sorted(r.sample(range(1, 5), r.choice((0, 0, 1, 2))))
 
 
-def draw(seed):
+def draw(seed, daemon=False):
     """The run as a dictionary."""
     r = random.Random(seed)
-    run = {'processors': r.randrange(2, 5), 'spaces': r.randrange(1, 4), 'fill': fill(r)}
+    run = {'processors': r.randrange(2, 5), 'spaces': r.randrange(1, 4), 'fill': fill(r, daemon)}
     run['stored'] = run['fill'][0][2] == 'fixed' and r.random() < 0.5
     lines, pages = maps(r, run['spaces'])
     filled = sum(count * length for count, length, kind in run['fill'])
     pages.append((0, r.choice((0, filled - 1, 600))))
-    run['turns'] = '0' * len(lines) + ''.join(str(r.randrange(run['processors'])) for _ in range(r.randrange(20, 45)))
+    actors = run['processors'] + (1 if daemon else 0)
+    run['turns'] = '0' * len(lines) + ''.join(str(r.randrange(actors)) for _ in range(r.randrange(20, 45)))
     run['lines'] = lines + [call(r, r.randrange(run['processors']), pages) for _ in range(r.randrange(6, 16))]
     run['full'] = r.random() < 0.15
     run['reads'], run['writes'] = ([], []) if run['full'] else (numbers(r), numbers(r))
+    run['daemon'] = (r.choice((1, 1, 2, 3, 64)), r.randrange(1, 6)) if daemon else None
     return run
 
 
 def trace(run):
     """The lines of the trace, and how many entries those that use the frames make."""
     first, filled = fill_lines(run['fill'], run['stored'])
-    head = 'trace 1 %d %d %d' % (FRAMES, run['processors'], run['spaces'])
-    return [head] + first + run['lines'] + ['end'], len(first) + filled
+    head = ['trace 1 %d %d %d' % (FRAMES, run['processors'], run['spaces'])]
+    if run['daemon']:
+        head.append('daemon %d %d' % run['daemon'])
+    return head + first + run['lines'] + ['end'], len(first) + filled
 
 
 def faults(run):
@@ -107,8 +114,9 @@ if __name__ == '__main__':
     words = argparse.ArgumentParser(description=__doc__, formatter_class=argparse.RawDescriptionHelpFormatter)
     words.add_argument('seed', type=int)
     words.add_argument('part', choices=('trace', 'turns', 'faults'))
+    words.add_argument('--daemon', action='store_true', help='a daemon beside the processors')
     words = words.parse_args()
-    drawn = draw(words.seed)
+    drawn = draw(words.seed, words.daemon)
     lines, before = trace(drawn)
     print({
         'trace': '\n'.join(lines),

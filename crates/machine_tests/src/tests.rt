@@ -1,4 +1,5 @@
 //! Whole histories, entry by entry. Those that are expected were made by an independent checker.
+mod beside_daemons;
 mod daemons;
 mod drawn;
 mod fills;

@@ -1,6 +1,7 @@
 //! Machines with a daemon, in listed turns, in the order of the lines and in drawn turns: their histories are those of an independent checker.
 ghost use Rattle.std.specs.Prelude.{◌≡◌, IfOk, length};
 
+use super::beside_daemons::{FIRST, SECOND};
 use super::lines::{assert_recorded, hash_of, report_of};
 use super::runs::assert_runs;
 use super::{put_lines, read_text};
@@ -155,6 +156,12 @@ fn assert_beside(rt: &impl Abort, alloc: Global, beside: &Beside) -> Result<(), 
 #[test]
 fn listed_turns_of_a_daemon_make_the_recorded_histories(rt: HostRuntime) -> Result<(), Fail> {
     assert_runs(&rt, rt.alloc(), LISTED)
+}
+
+#[test]
+fn drawn_runs_beside_a_daemon_make_the_recorded_histories(rt: HostRuntime) -> Result<(), Fail> {
+    assert_runs(&rt, rt.alloc(), FIRST)?;
+    assert_runs(&rt, rt.alloc(), SECOND)
 }
 
 #[test]
