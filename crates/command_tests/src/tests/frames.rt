@@ -1,7 +1,7 @@
 //! Runs in which all frames are used, and what is printed of them.
 
 use super::runs::{
-    AMPLE, Ending, Setup, assert_cut, assert_done, push, push_number, ran_in_order, text_of,
+    AMPLE, Ending, Setup, assert_cut, assert_done, push, push_number, ran, ran_in_order, text_of,
 };
 use super::texts::{EMPTY, EMPTY_TEXT, LAST_PAGE, LAST_PAGE_TEXT};
 use std::process::Abort;
@@ -49,6 +49,14 @@ const PAGED_OUT: Loads = Loads {
 const NOT_WRITTEN: Loads = Loads {
     rest: b"0 map 1 0 8 fixed write\n0 load 1 0\n0 load 1 0\nend\n",
     text_rest: b"0 513 done\n0 514 storefault 0 1\n0 515 value 0 miss 0\ntiles 8 7 7 0\npromotions 64\ndemotions 1\npreemptions 0\nimages 0 513\nframes 0 0 512\nend\n",
+    ..PAGED_OUT
+};
+
+/// Beside loads of 513 pages a daemon keeps two frames free: it pages out those that were filled first, of which page 0 is read back then.
+const KEPT_FREE: Loads = Loads {
+    head: b"trace 1 512 1 1\ndaemon 2 2000\n0 map 0 0 520 fixed write\n0 store 0 0 5\n",
+    rest: b"0 load 0 4194304\n0 load 0 0\nend\n",
+    text_rest: b"0 513 value 0 miss 0\n0 514 value 5 miss 0\ntiles 6 7 7 0\npromotions 64\ndemotions 1\npreemptions 0\nimages 0 514\nframes 2 0 510\nend\n",
     ..PAGED_OUT
 };
 
@@ -199,4 +207,15 @@ fn where_frames_run_short_the_page_that_was_filled_first_is_paged_out(rt: HostRu
     assert_done_over(&rt, &PAGED_OUT, two);
     assert_done_over(&rt, &NOT_WRITTEN, failing);
     assert_done_over(&rt, &WIRED, two);
+}
+
+/// The order of the lines, and drawn turns, in which one load comes before the daemon and claims a frame itself.
+static ORDERS: [&[&str]; 2] = [&["order"], &["turns", "3"]];
+
+#[test]
+fn a_daemon_keeps_frames_free_and_each_load_finds_its_word(rt: HostRuntime) {
+    let (trace, text) = (KEPT_FREE.trace(&rt), KEPT_FREE.text(&rt));
+    for words in &ORDERS {
+        assert_done(&rt, &ran(&rt, words, &trace, AMPLE), &text);
+    }
 }
