@@ -1,2 +1,4 @@
+pub mod AllStacks
 pub mod StackLemmas
 pub mod Standing
+pub mod Usual

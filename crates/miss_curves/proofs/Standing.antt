@@ -1,10 +1,10 @@
 -- The stack stands for the images of all capacities after each entry.
-use Rattle.std.proofs.Common.{◌≡◌, ℕ, zero, suc, ◌+◌, ◌-◌, ◌<◌, ◌≤◌, Bool, true, false, not, cond, List, [], ◌∷◌, length, get_or, set, take, map, filter, nat_lt, sum, replicate, Some, None, Option, inl, inr, refl, sym, ap, ◌∙◌, subst, if◌then◌else◌, arith}
+use Rattle.std.proofs.Common.{◌≡◌, ℕ, zero, suc, ◌+◌, ◌<◌, ◌≤◌, Bool, true, false, List, [], ◌∷◌, length, get_or, set, take, map, filter, nat_lt, sum, replicate, Some, None, Option, inl, inr, refl, sym, ap, ◌∙◌, if◌then◌else◌, arith}
 use Rattle.std.specs.Option.{IfSome}
-use Rattle.std.specs.List.{All, list_any, position, position_or_len, slice_index}
-use Rattle.std.proofs.lemmas.Bool.{cases_Bool, cases_lt, lt-ltb, le-ltb, ltb-true, cond-true, cond-false}
-use Rattle.std.proofs.lemmas.List.{length-map, length-take-le, length-take, get_or-take, take-set-le, take-append-drop}
-use Rattle.std.proofs.lemmas.List.Sums.{sum_by-set, sum_by-take-le}
+use Rattle.std.specs.List.{All, list_any, position, position_or_len}
+use Rattle.std.proofs.lemmas.Bool.{cases_Bool, cases_lt, lt-ltb, le-ltb, cond-true, cond-false}
+use Rattle.std.proofs.lemmas.List.{length-map, length-take-le, get_or-take, take-set-le}
+use Rattle.std.proofs.lemmas.List.Sums.{sum_by-set}
 use Rattle.pager_model.specs.declared.entry.Entry.{Entry}
 use Rattle.pager_model.specs.declared.tile.Mapping.{Mapping}
 use Rattle.pager_model.specs.declared.tile.Tile.{Tile}
@@ -12,7 +12,8 @@ use Rattle.pager_model.specs.Images.{is_in_image}
 use Rattle.pager_model.specs.SpaceStates.{SpaceState, empty_state, space_after, pages_of, pages_after, tile_at}
 use Rattle.pager_model.specs.SizeSets.{SizeSet}
 use Rattle.pager_model.specs.Tiles.{same_tile, is_tile_in}
-use Rattle.miss_curves.specs.declared.Use.{Use}
+use Rattle.pager_laws.proofs.ImageTiles.{tile_in-is_tile}
+use Rattle.miss_curves.specs.declared.stack.Use.{Use}
 use Rattle.miss_curves.specs.Curves.{Follower, begun, follow, page_used, image_after, missed, without}
 use Rattle.miss_curves.specs.Stacks.{Kept, Passes, Stands, is_at, kept_at, tiles_in, moved_down, found_at, place_of, kept_after, StandsAt, StandsFor, IsUse}
 use Rattle.miss_curves.proofs.StackLemmas.{tiles_in-kept, moved_down-some, length-moved_down, All-kept, All-moved}
@@ -66,8 +67,8 @@ counts b = if b then 1 else 0
 sum-found_some : (k place : ℕ) (found : List ℕ) → k ≤ length found → sum (take k (found_at (Some place) found)) ≡ sum (take k found) + counts (nat_lt place k)
 sum-found_some k place found within = elim (cases_lt place k) [
   | inl below ↦
-    rw (lt-ltb place k below, take-set_lt k found place (get_or found place 0 + 1) below)
-    (omega (arith, sum_by-set (λ x. x) (take k found) place (get_or found place 0 + 1) 0 (omega (arith, length-take-le k found within)), get_or-take k found place 0 below))
+      rw (lt-ltb place k below, take-set_lt k found place (get_or found place 0 + 1) below)
+      (omega (arith, sum_by-set (λ x. x) (take k found) place (get_or found place 0 + 1) 0 (omega (arith, length-take-le k found within)), get_or-take k found place 0 below))
   | inr past ↦ rw (le-ltb place k past, take-set-le k found place (get_or found place 0 + 1) past) (omega arith)
 ]
 
@@ -105,8 +106,13 @@ after_use z k kept used old new (Some page) image misses within long is same tol
     let hit : is_in_image image was ≡ is_found k (place_of was kept.places) = ap (λ ts. is_in_image ts was) same ∙ hit-place_of was kept.places k within in
     rw (is.2) (record {
       same = rw (is.1) (ap (λ ts. take k (t ∷ without t ts)) kept_row ∙ sym moved);
-      counts = omega (arith, told, sum-found k (place_of was kept.places) kept.found (omega arith), missed-counts page (is_found k (place_of was kept.places)),
-        ap (missed (Some page)) hit);
+      counts = omega (
+        arith,
+        told,
+        sum-found k (place_of was kept.places) kept.found (omega arith),
+        missed-counts page (is_found k (place_of was kept.places)),
+        ap (missed (Some page)) hit,
+      );
     })
 
 pub stands-after : (z : SizeSet) (st : SpaceState) (e : Entry) (followers : ℕ → Follower) (kept : Kept) (used : Option Use)
@@ -155,15 +161,20 @@ pub tiles-after : (test : Tile → Bool) (used : Option Use) (kept : Kept) → I
 tiles-after test None kept passes = All-kept test kept.places
 tiles-after test (Some use') kept passes = All-moved test use'.after (Some use'.after) (map (kept_at test) kept.places) passes (All-kept test kept.places)
 
+-- what was used is a tile then
+used-is_tile : (z : SizeSet) (before after : ℕ → Option Mapping) (page : Option ℕ) (used : Option Use) → IsUse z before after page used
+    → IfSome used (λ (u : Use). is_tile_in z after u.after ≡ true)
+used-is_tile z before after None used is = rw is tt
+used-is_tile z before after (Some page) used is = rw is.2 (tile_in-is_tile z after page is.0 is.1)
+
 pub stands-again : (z : SizeSet) (st : SpaceState) (e : Entry) (followers : ℕ → Follower) (kept : Kept) (used : Option Use)
     → length kept.found ≡ length kept.places
     → IsUse z (pages_of st) (pages_after st e.frames e.what) (page_used e.processor e.what) used
-    → IfSome used (λ (u : Use). is_tile_in z (pages_after st e.frames e.what) u.after ≡ true)
     → Stands z kept st followers
     → Stands z (kept_after (is_tile_in z (pages_after st e.frames e.what)) used kept) (space_after st e) (λ capacity. follow z capacity (followers capacity) e)
-stands-again z st e followers kept used long is tile stands =
+stands-again z st e followers kept used long is stands =
     let test : Tile → Bool = is_tile_in z (pages_after st e.frames e.what) in
     record {
       images = λ k within. stands-after z st e followers kept used long is stands.images k (omega (arith, within, length-kept_after test used kept));
-      tiles = tiles-after test used kept tile;
+      tiles = tiles-after test used kept (used-is_tile z (pages_of st) (pages_after st e.frames e.what) (page_used e.processor e.what) used is);
     }

@@ -1,6 +1,6 @@
 -- The misses of images of any capacity, with tiles by any sizes.
-use Rattle.std.specs.Prelude.{ℕ, ◌+◌, Bool, true, false, ◌&&◌, ◌==◌, not, if◌then◌else◌, List, [], ◌∷◌, filter, fold, take, Option, Some, None, is_some, sum_by, length}
-use Rattle.std.specs.List.{range_with_len}
+use Rattle.std.specs.Prelude.{ℕ, ◌≡◌, ◌+◌, Bool, true, false, ◌&&◌, ◌==◌, not, if◌then◌else◌, List, [], ◌∷◌, filter, fold, take, Option, Some, None, is_some, sum_by, length}
+use Rattle.std.specs.List.{All, range_with_len}
 use Rattle.pager_model.specs.declared.entry.Entry.{Entry}
 use Rattle.pager_model.specs.declared.entry.What.{What}
 use Rattle.pager_model.specs.declared.entry.What.TheVariants.{Answer}
@@ -74,3 +74,12 @@ misses g history capacity = misses_by g.sizes g history capacity
 -- the same with base pages alone
 abbrev pub page_misses : Given → List Entry → ℕ → ℕ
 page_misses g history capacity = misses_by base_alone g history capacity
+
+-- the entry answers a call
+abbrev pub is_answer : What → Bool
+is_answer (Answer number call answered) = true
+is_answer what = false
+
+-- processor 0 alone answers, as in a history of one processor's calls
+abbrev pub AnswersAlone : List Entry → Type 0
+AnswersAlone history = All (λ (e : Entry). is_answer e.what ≡ true → e.processor ≡ 0) history

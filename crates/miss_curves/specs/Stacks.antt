@@ -1,13 +1,14 @@
 -- A stack of places, each of which has a tile or is a hole: the images of all capacities at once.
-use Rattle.std.specs.Prelude.{ℕ, ◌≡◌, ◌+◌, ◌≤◌, Bool, false, if◌then◌else◌, List, [], ◌∷◌, length, take, map, sum, slice_index, slice_set, Option, Some, None, true, IfSome}
+use Rattle.std.specs.Prelude.{ℕ, ◌≡◌, ◌+◌, ◌-◌, ◌≤◌, Bool, false, if◌then◌else◌, List, [], ◌∷◌, length, take, map, sum, slice_index, slice_set, Option, Some, None, true, IfSome}
 use Rattle.std.specs.List.{position, All}
+use Rattle.pager_model.specs.declared.entry.Entry.{Entry}
 use Rattle.pager_model.specs.declared.tile.Mapping.{Mapping}
 use Rattle.pager_model.specs.declared.tile.Tile.{Tile}
 use Rattle.pager_model.specs.SizeSets.{SizeSet}
-use Rattle.pager_model.specs.SpaceStates.{SpaceState, pages_of, tile_at}
+use Rattle.pager_model.specs.SpaceStates.{SpaceState, empty_state, pages_of, pages_after, tile_at}
 use Rattle.pager_model.specs.Tiles.{same_tile, is_tile_in}
-use Rattle.miss_curves.specs.declared.Use.{Use}
-use Rattle.miss_curves.specs.Curves.{Follower}
+use Rattle.miss_curves.specs.declared.stack.Use.{Use}
+use Rattle.miss_curves.specs.Curves.{Follower, begun, page_used}
 
 -- the tile stands at the place
 abbrev pub is_at : Tile → Option Tile → Bool
@@ -97,6 +98,22 @@ pub record Stands (z : SizeSet) (kept : Kept) (st : SpaceState) (followers : ℕ
 abbrev pub AnswersFor : (Tile → Bool → Type 0) → (Tile → Bool) → (Tile → Bool) → Type 0
 AnswersFor answers was test = (t : Tile) (b : Bool) → was t ≡ true → answers t b → b ≡ test t
 
--- what a caller's closure answers of a tile is the test of it
-abbrev pub AnswersTest : (Tile → Bool → Type 0) → (Tile → Bool) → Type 0
-AnswersTest answers test = (t : Tile) (b : Bool) → answers t b → b ≡ test t
+-- What is told of an entry, by sizes z: of each tile before it whether it is one after it, and what was used.
+pub record Tells (answers : Tile → Bool → Type 0) (z : SizeSet) (st : SpaceState) (e : Entry) (used : Option Use) : Type 0 where
+  pub tiles : AnswersFor answers (is_tile_in z (pages_of st)) (is_tile_in z (pages_after st e.frames e.what))
+  pub used_page : IsUse z (pages_of st) (pages_after st e.frames e.what) (page_used e.processor e.what) used
+
+-- the same of an entry that changes no page
+pub record TellsSame (z : SizeSet) (st : SpaceState) (e : Entry) (used : Option Use) : Type 0 where
+  pub pages : pages_after st e.frames e.what ≡ pages_of st
+  pub used_page : IsUse z (pages_of st) (pages_after st e.frames e.what) (page_used e.processor e.what) used
+
+-- a stack of so many places, which stands for the images of every space at its beginning
+pub record IsBlank (n : ℕ) (kept : Kept) : Type 0 where
+  pub places : length kept.places ≡ n
+  pub unused : kept.uses ≡ 0
+  pub stands : (z sizes : SizeSet) (told : Bool) (faults : ℕ) → Stands z kept (empty_state sizes told faults) (λ _. begun sizes told faults)
+
+-- the misses at the capacity that ends with the place: the uses that found their tile neither there nor before
+abbrev pub missed_at : ℕ → Kept → ℕ
+missed_at place kept = kept.uses - sum (take (place + 1) kept.found)

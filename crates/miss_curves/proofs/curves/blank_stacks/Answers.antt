@@ -1,0 +1,11 @@
+use Rattle.std.proofs.Common.{[], rules}
+use Rattle.std.proofs.lemmas.List.Elements.{All-append, All-cons, All-nil}
+use Rattle.miss_curves.specs.Stacks.{IsBlank}
+use Rattle.miss_curves.proofs.curves.blank_stacks.Goals as goal
+
+pub loop-preserved : goal.loop-preserved
+loop-preserved c = (
+  search rules,
+  rw c.in_ok-push.ensures.items
+      (All-append (IsBlank 1024) _ _ c.loop.invariant.1 (All-cons (IsBlank 1024) _ [] c.in_ok-create.ensures.blank (All-nil (IsBlank 1024)))),
+)

@@ -1,0 +1,152 @@
+//! The stacks of all spaces, and the misses of a history at each capacity.
+
+ghost use Rattle.std.specs.Prelude.{◌≡◌, ℕ, ◌+◌, ◌-◌, ◌<◌, ◌≤◌, ◌^◌, [], ◌∷◌, ◌++◌, List, Some, None, length, slice_index, slice_index_or, IfOk, IfSome};
+ghost use Rattle.std.specs.Fn.{FnReturnsAt};
+ghost use Rattle.std.specs.List.{All};
+ghost use Rattle.pager_model.specs.declared.entry.Entry.{Entry as Item};
+ghost use Rattle.pager_model.specs.Counts.{counts};
+ghost use Rattle.pager_model.specs.Legal.{IsLegal, space_at};
+ghost use Rattle.pager_model.specs.Settings.{Given};
+ghost use Rattle.pager_model.specs.SizeSets.{SizeSet};
+ghost use Rattle.miss_curves.specs.Curves.{AnswersAlone, base_alone, misses_by, misses, page_misses};
+ghost use Rattle.miss_curves.specs.Rows.{AreStacks, StandEach, StandAfter, uses_in};
+ghost use Rattle.miss_curves.specs.Stacks.{IsBlank, Tells, TellsSame};
+
+use crate::stack::{Stack, Use};
+use pager_model::{Entry, NoMemory, Tile};
+use std::alloc::Global;
+use std::marker::Model;
+
+/// The largest capacity: how many places a row has.
+pub const CAPACITIES: usize = 1024;
+
+/// The misses at each capacity, the first at capacity 1: with the tiles of the run, and with base pages alone.
+#[derive(Debug, Drop)]
+pub struct Curves {
+    pub tiles: Vec<u64>,
+    pub pages: Vec<u64>,
+}
+
+/// Of each space the stack of its tiles, and that of its base pages.
+#[derive(Drop)]
+pub struct Stacks {
+    tiles: Vec<Stack>,
+    pages: Vec<Stack>,
+    entries: u64,
+}
+
+impl Model for Stacks {
+    ghost use Rattle.miss_curves.specs.Rows.{Rows, AreRows};
+
+    ghost Value = { Rows };
+
+    ghost view = { λ s. record { tiles = s.tiles.items; pages = s.pages.items; entries = s.entries } };
+
+    ghost invariant = { λ s. AreRows (record { tiles = s.tiles.items; pages = s.pages.items; entries = s.entries }) };
+}
+
+impl Stacks {
+    /// The stacks of so many spaces before any entry.
+    pub fn create(alloc: Global, spaces: usize) -> Result<Stacks, NoMemory>
+        requires { spaces ≤ 16 }
+        ensures spaces { IfOk result (λ s. length s.tiles ≡ spaces) }
+        ensures unused { IfOk result (λ s. s.entries ≡ 0) }
+        ensures stands { IfOk result (λ s. (g : Given) → length g.told ≡ spaces → StandAfter g s []) }
+    {
+        Ok(Stacks {
+            tiles: blank_stacks(alloc, spaces)?,
+            pages: blank_stacks(alloc, spaces)?,
+            entries: 0,
+        })
+    }
+
+    /// Follows an entry: of its space the tests tell which of the tiles before it, and which of the base pages, are left, and which page was
+    /// used. An entry without a space changes nothing.
+    pub fn follow<F: Fn(&Tile) -> bool, G: Fn(&Tile) -> bool>(
+        &mut self,
+        entry: &Entry,
+        is_tile: &F,
+        used: Option<Use>,
+        is_page: &G,
+        used_page: Option<Use>,
+    )
+        requires tests { F.IsAlwaysCallable is_tile.now }
+        requires page_tests { G.IsAlwaysCallable is_page.now }
+        requires known { IfSome entry.now.space (λ s. s < length self.old.tiles) }
+        requires room { self.old.entries < 2 ^ 64 - 1 }
+        ensures spaces { length self.new.tiles ≡ length self.old.tiles }
+        ensures entries { self.new.entries ≤ self.old.entries + 1 }
+        ensures stands { (g : Given) (history : List Item)
+            → IfSome entry.now.space (λ s. Tells (FnReturnsAt F.Fn is_tile.now) g.sizes (space_at g history s) entry.now used
+            × Tells (FnReturnsAt G.Fn is_page.now) base_alone (space_at g history s) entry.now used_page)
+            → StandAfter g self.old history → StandAfter g self.new (history ++ entry.now ∷ []) }
+    {
+        if let Some(space) = entry.space {
+            let space = space as usize;
+            self.tiles[space].follow(is_tile, used);
+            self.pages[space].follow(is_page, used_page);
+            self.entries += 1;
+        }
+    }
+
+    /// Follows an entry that changed no page of its space, if it has one, and which page was used.
+    pub fn follow_same(&mut self, entry: &Entry, used: Option<Use>, used_page: Option<Use>)
+        requires known { IfSome entry.now.space (λ s. s < length self.old.tiles) }
+        requires room { self.old.entries < 2 ^ 64 - 1 }
+        ensures spaces { length self.new.tiles ≡ length self.old.tiles }
+        ensures entries { self.new.entries ≤ self.old.entries + 1 }
+        ensures stands { (g : Given) (history : List Item)
+            → IfSome entry.now.space (λ s. TellsSame g.sizes (space_at g history s) entry.now used
+            × TellsSame base_alone (space_at g history s) entry.now used_page)
+            → StandAfter g self.old history → StandAfter g self.new (history ++ entry.now ∷ []) }
+    {
+        if let Some(space) = entry.space {
+            let space = space as usize;
+            self.tiles[space].follow_same(used);
+            self.pages[space].follow_same(used_page);
+            self.entries += 1;
+        }
+    }
+
+    /// The misses at each capacity.
+    pub fn curves(&self, alloc: Global) -> Result<Curves, NoMemory>
+        ensures capacities { IfOk result (λ c. (length c.tiles.items ≡ 1024) × (length c.pages.items ≡ 1024)) }
+        ensures tiles { IfOk result (λ c. (g : Given) (history : List Item) → StandAfter g self.now history
+            → (k : ℕ) → k < 1024 → slice_index c.tiles.items k ≡ misses g history (k + 1)) }
+        ensures pages { IfOk result (λ c. (g : Given) (history : List Item) → StandAfter g self.now history
+            → (k : ℕ) → k < 1024 → slice_index c.pages.items k ≡ page_misses g history (k + 1)) }
+        ensures usual { IfOk result (λ c. (g : Given) (history : List Item) → StandAfter g self.now history → IsLegal g history → AnswersAlone history
+            → slice_index c.tiles.items 127 ≡ (counts g history).misses) }
+    {
+        let tiles = curve_of(alloc, &self.tiles)?;
+        let pages = curve_of(alloc, &self.pages)?;
+        Ok(Curves { tiles, pages })
+    }
+}
+
+/// So many stacks of holes.
+fn blank_stacks(alloc: Global, spaces: usize) -> Result<Vec<Stack>, NoMemory>
+    requires { spaces ≤ 16 }
+    ensures spaces { IfOk result (λ stacks. length stacks.items ≡ spaces) }
+    ensures blank { IfOk result (λ stacks. All (λ s. IsBlank 1024 s) stacks.items) }
+{
+    let mut stacks = Vec::with_capacity(alloc, spaces)?;
+    for _ in 0..spaces {
+        stacks.push(Stack::create(alloc, CAPACITIES)?)?;
+    }
+    Ok(stacks)
+}
+
+/// The misses of some stacks at each capacity.
+fn curve_of(alloc: Global, stacks: &[Stack]) -> Result<Vec<u64>, NoMemory>
+    requires stacks { AreStacks (length stacks.now) (2 ^ 64 - 1) stacks.now }
+    ensures capacities { IfOk result (λ curve. length curve.items ≡ 1024) }
+    ensures misses { IfOk result (λ curve. (z : SizeSet) (g : Given) (history : List Item) → StandEach z g stacks.now history
+        → (k : ℕ) → k < 1024 → slice_index curve.items k ≡ misses_by z g history (k + 1)) }
+{
+    let mut curve = vec![in alloc; 0; CAPACITIES]?;
+    for stack in stacks {
+        stack.add_to(&mut curve);
+    }
+    Ok(curve)
+}
