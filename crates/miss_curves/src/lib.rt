@@ -2,6 +2,7 @@
 #![tactic(auto)]
 
 mod curves;
+pub mod examples;
 mod stack;
 
 pub use curves::{Curves, Stacks};
