@@ -2,6 +2,7 @@
 ghost use Rattle.std.specs.Prelude.{◌≡◌, min};
 
 mod blocks;
+mod curves;
 mod history;
 mod images;
 mod mapped;
