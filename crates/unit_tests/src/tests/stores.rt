@@ -1,6 +1,7 @@
-//! A store in memory beside a plain table of copies, and what other stores may answer.
+//! A store in memory beside a plain table of copies, a store over slots in rows of calls, and what other stores may answer.
 mod full;
 mod silent;
+mod slots;
 mod table;
 
 use super::NO_MEMORY;
