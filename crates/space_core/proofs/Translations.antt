@@ -20,9 +20,8 @@ use Rattle.space_core.specs.Standing.{Kept, Translates, image_at, frame_at, dirt
 use Rattle.space_core.specs.Tables.{Table, mapping_in, own_in}
 use Rattle.space_core.specs.Translating.{Retouches, Touches, counted_up, untouched_tiles, without}
 use Rattle.space_core.proofs.TableLemmas.{frame-absent, frame-mapped, dirty-mapped}
-use Rattle.tiles.specs.declared.changes.Changes.{Changes}
 use Rattle.tiles.specs.declared.moves.Moves.{Moves}
-use Rattle.tiles.specs.Changes.{AreChanges, Came}
+use Rattle.tiles.specs.Changes.{AreChanges, Came, PageChange, gone_of}
 use Rattle.tiles.specs.Resident.{AreMoves, with_flag}
 use Rattle.tiles.specs.Touched.{KeepsOutside, is_touched}
 use Rattle.tiles.proofs.PageChanges.{stays_where}
@@ -280,8 +279,8 @@ without_gone gone old new ts went had =
     ap (without gone) (sym had) ∙ filter_alike (is_tile old) (λ t. not (list_any (same_tile t) gone)) (is_tile new) ts (λ t is. stays_where new old gone t went is) ∙ ap (still_tiles all_sizes new) had
 
 -- all of it, where none went
-pub without_none : (gone : List Tile) (images : List (List Tile)) → (length gone == 0) ≡ true → map (without gone) images ≡ images
-without_none [] images none = all images
+pub without_none : (gone : List Tile) (images : List (List Tile)) → gone ≡ [] → map (without gone) images ≡ images
+without_none gone images none = ap (λ (ts : List Tile). map (without ts) images) none ∙ all images
   where
     one : (ts : List Tile) → without [] ts ≡ ts
     one [] = refl
@@ -290,16 +289,15 @@ without_none [] images none = all images
     all : (is : List (List Tile)) → map (without []) is ≡ is
     all [] = refl
     all (ts ∷ is) = ap (λ us. us ∷ map (without []) is) (one ts) ∙ ap (λ us. ts ∷ us) (all is)
-without_none (g ∷ gs) images none = absurd (omega (arith, eqb-true (length (g ∷ gs)) 0 none))
 
 -- the tiles that went are in no image, and the moves were counted
-pub retouched_one : (old new : Kept) (changes : Changes) → AreChanges old.table.pages new.table.pages changes → new.images ≡ map (without changes.gone) old.images
+pub retouched_one : (old new : Kept) (changes : PageChange) → AreChanges old.table.pages new.table.pages changes → new.images ≡ map (without (gone_of changes)) old.images
     → new.promotions ≡ counted_up old.promotions changes.moves.promotions → new.demotions ≡ counted_up old.demotions changes.moves.demotions → Retouches old new
 retouched_one old new changes are images promotions demotions =
     record {
-      processors = ap length images ∙ length-map old.images (without changes.gone);
-      images = λ c within had. ap (λ (ts : List (List Tile)). slice_index_or ts c []) images ∙ get_or-map (without changes.gone) old.images c [] [] within
-          ∙ without_gone changes.gone (mapping_in old.table) (mapping_in new.table) (image_at old c) are.gone had;
+      processors = ap length images ∙ length-map old.images (without (gone_of changes));
+      images = λ c within had. ap (λ (ts : List (List Tile)). slice_index_or ts c []) images ∙ get_or-map (without (gone_of changes)) old.images c [] [] within
+          ∙ without_gone (gone_of changes) (mapping_in old.table) (mapping_in new.table) (image_at old c) are.gone had;
       promotions = promotions ∙ ap (counted_up old.promotions) are.moves.promotions;
       demotions = demotions ∙ ap (counted_up old.demotions) are.moves.demotions;
     }

@@ -14,6 +14,7 @@ ghost use Rattle.space_core.specs.Pages.{Maps};
 ghost use Rattle.space_core.specs.Saving.{Saves, FailsToSave, LacksRoom, unwritten_by};
 ghost use Rattle.space_core.specs.Standing.{StandsFor, IsResting, range_of, frame_at, dirty_at, image_at, rights_by, is_allowed, CanBegin};
 ghost use Rattle.space_core.specs.Tables.{mapping_in, own_in};
+ghost use Rattle.tiles.specs.Changes.{gone_of};
 ghost use Rattle.tiles.specs.Touched.{is_touched};
 ghost use Rattle.space_core.specs.Translating.{counted_up, untouched_tiles, without, Retouches, ChangesPages, CleansPage, Touches, BeginsClear};
 ghost use Rattle.pager_model.specs.Bounds.{space_bytes, space_pages};
@@ -25,7 +26,7 @@ use pager_model::{Answered, Call, Frame, Kind, PageRange, Region, Reply, Rights,
 use region_table::Regions;
 use std::marker::Model;
 use store_core::{Store, StoreFailed, WriteRefused};
-use tiles::{Changes, Moves, TileList};
+use tiles::{Changes, Moves};
 use tlb_images::Image;
 
 /// What a call needs first.
@@ -591,13 +592,13 @@ impl<S: Store + Send + Drop> Space<S> {
     /// Counts the moves of a change of one page, after which no image has a tile that went.
     fn follow(&mut self, changes: &Changes)
         ensures { self.new ≡ record self.old {
-          images = map (without changes.now.gone) self.old.images;
+          images = map (without (gone_of changes.now)) self.old.images;
           promotions = counted_up self.old.promotions changes.now.moves.promotions;
           demotions = counted_up self.old.demotions changes.now.moves.demotions;
         } }
     {
-        self.count(changes.moves);
-        drop_gone(self.images.as_mut_slice(), &changes.gone);
+        self.count(changes.moves());
+        drop_gone(self.images.as_mut_slice(), changes);
     }
 
     /// Counts the moves of a change of rights, after which each image keeps what they didn't touch, and what is a tile still.
@@ -678,12 +679,13 @@ fn keep_tiles(images: &mut [Image], table: &PageTable)
 }
 
 /// No image has a tile that went.
-fn drop_gone(images: &mut [Image], gone: &TileList)
-    ensures { images.new ≡ map (without gone.now) images.old }
+fn drop_gone(images: &mut [Image], changes: &Changes)
+    ensures { images.new ≡ map (without (gone_of changes.now)) images.old }
 {
-    if gone.is_empty() {
+    if !changes.takes_any() {
         return;
     }
+    let gone = changes.gone();
     for image in images.iter_mut() {
         image.retain(|tile| !gone.has(tile));
     }

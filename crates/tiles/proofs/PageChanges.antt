@@ -1,8 +1,8 @@
 -- What a change of one page does to the tiles, by the page's tile before it and after.
-use Rattle.std.proofs.Common.{◌≡◌, ◌≢◌, ℕ, ◌+◌, ◌<◌, Bool, true, false, not, ◌&&◌, List, [], length, max, if◌then◌else◌, nat_lt, Option, Some, None, option_map, refl, sym, ap, inl, inr, ◌∙◌, ◌⊎◌, arith}
+use Rattle.std.proofs.Common.{◌≡◌, ◌≢◌, ℕ, ◌+◌, ◌<◌, Bool, true, false, not, ◌&&◌, List, [], length, max, if◌then◌else◌, nat_lt, ◌-◌, is_some, Option, Some, None, option_map, refl, sym, ap, inl, inr, ◌∙◌, ◌⊎◌, arith}
 use Rattle.std.specs.List.{list_any}
 use Rattle.std.specs.Option.{IfSome}
-use Rattle.std.proofs.lemmas.Bool.{cases_Bool, true≢false}
+use Rattle.std.proofs.lemmas.Bool.{cases_Bool, cond-true, cond-false, false_from_ne_true, true≢false}
 use Rattle.std.proofs.lemmas.Option.{none-some, same_Some}
 use Rattle.pager_model.specs.declared.tile.Mapping.{Mapping}
 use Rattle.pager_model.specs.declared.tile.Tile.{Tile}
@@ -12,12 +12,12 @@ use Rattle.pager_model.proofs.TileParts.{same_tile-true, same_tile-refl}
 use Rattle.tiles.specs.declared.moves.Moves.{Moves}
 use Rattle.tiles.specs.declared.rows.Turn.{Turn}
 use Rattle.tiles.specs.Beside.{OthersSame}
-use Rattle.tiles.specs.Changes.{AreChanges, Came, HasPieces, IsRound, IsTurn, times, pieces}
+use Rattle.tiles.specs.Changes.{AreChanges, Came, HasPieces, IsRound, IsTurn, are_same, coming, cut_round, times, pieces}
 use Rattle.tiles.specs.Kept.{ArePages}
 use Rattle.tiles.specs.Resident.{Resident, mapping_at, Maps}
 use Rattle.tiles.specs.Touched.{IsInSpace, extent_range}
 use Rattle.tiles.proofs.MoveCounts.{others_same, moves_in_larger, moves_same}
-use Rattle.tiles.proofs.Pieces.{came_none, came_pieces, none_stands, one_stands}
+use Rattle.tiles.proofs.Pieces.{came_none, came_pieces, cut_round-none, none_stands, one_stands}
 use Rattle.tiles.proofs.SizeChanges.{others_back}
 use Rattle.tiles.proofs.TileLaws.{tile_largest, tile_uniform}
 
@@ -43,6 +43,37 @@ same_or_other (Some t) (Some u) = elim (cases_Bool (same_tile t u)) [
   | inr other ↦ inr (λ e. true≢false (sym (ap (same_tile t) (sym (same_Some t u e)) ∙ same_tile-refl t) ∙ other))
 ]
 
+-- the test is right
+are_same-true : (a b : Option Tile) → are_same a b ≡ true → a ≡ b
+are_same-true None None same = refl
+are_same-true None (Some u) same = absurd (true≢false (sym same))
+are_same-true (Some t) None same = absurd (true≢false (sym same))
+are_same-true (Some t) (Some u) same = ap Some (same_tile-true t u same)
+
+are_same-refl : (a : Option Tile) → are_same a a ≡ true
+are_same-refl None = refl
+are_same-refl (Some t) = same_tile-refl t
+
+-- the tiles that come have their pieces
+pub has_pieces : (page : ℕ) (before after : Option Tile) → HasPieces page before after (coming page before after)
+has_pieces page before after = record {
+  same = λ same. cond-true _ _ _ (ap (are_same before) (sym same) ∙ are_same-refl before);
+  other = λ other. cond-false _ _ _ (false_from_ne_true (are_same before after) (λ same. other (are_same-true before after same)));
+}
+
+-- and what has these pieces is these tiles
+pub coming_is : (page : ℕ) (before after : Option Tile) (tiles : List Tile) → HasPieces page before after tiles → tiles ≡ coming page before after
+coming_is page before after tiles has = elim (same_or_other before after) [
+  | inl same ↦ has.same same ∙ sym ((has_pieces page before after).same same)
+  | inr other ↦ has.other other ∙ sym ((has_pieces page before after).other other)
+]
+
+-- none go where a page had no tile and has one of one page at most
+pub none_goes : (page : ℕ) (before after : Option Tile) → is_some before ≡ false → size_in after ≡ 0 → coming page after before ≡ []
+none_goes page (Some u) after some small = absurd (true≢false some)
+none_goes page None None none small = refl
+none_goes page None (Some t) none small = ap (cut_round page t 0) {x = t.extent.size - 0} {y = 0} (omega (arith, small)) ∙ cut_round-none page t 0
+
 came_as : (old new : ℕ → Option Mapping) (tiles others : List Tile) → others ≡ tiles → Came old new tiles → Came old new others
 came_as old new tiles others e came = record { each = λ t. ap (times t) e ∙ came.each t; few = omega (arith, ap length e, came.few) }
 
@@ -55,20 +86,19 @@ came_of old new page before after tiles others had has list = elim (same_or_othe
       (came_pieces old new page others (λ e. other (had ∙ e ∙ sym has)))
 ]
 
-pub changes_of : (r s : Resident) (page : ℕ) (given : Option Mapping) (turn : Turn) (gone came : List Tile) (moves : Moves) → page < 1048576 → Maps page given r s → IsTurn page r s turn
-    → HasPieces page turn.after turn.before gone → HasPieces page turn.before turn.after came
+pub changes_of : (r s : Resident) (page : ℕ) (given : Option Mapping) (turn : Turn) (moves : Moves) → page < 1048576 → Maps page given r s → IsTurn page r s turn
     → moves.promotions ≡ (if nat_lt (size_in turn.before) (size_in turn.after) then 1 else 0) → moves.demotions ≡ (if nat_lt (size_in turn.after) (size_in turn.before) then 1 else 0)
-    → moves.touched ≡ extent_range (max (size_in turn.before) (size_in turn.after)) page → AreChanges r s (record { gone = gone; came = came; moves = moves })
-changes_of r s page given turn gone came moves in_space maps turned gone_list came_list promoted demoted touched =
+    → moves.touched ≡ extent_range (max (size_in turn.before) (size_in turn.after)) page → AreChanges r s (record { page = page; before = turn.before; after = turn.after; moves = moves })
+changes_of r s page given turn moves in_space maps turned promoted demoted touched =
     let others = others_same r s page given maps in
     record {
-      gone = came_of (mapping_at s) (mapping_at r) page turn.after turn.before gone (others_back (mapping_at r) (mapping_at s) page others) turned.after turned.before gone_list;
-      came = came_of (mapping_at r) (mapping_at s) page turn.before turn.after came others turned.before turned.after came_list;
+      gone = came_of (mapping_at s) (mapping_at r) page turn.after turn.before _ (others_back (mapping_at r) (mapping_at s) page others) turned.after turned.before (has_pieces page turn.after turn.before);
+      came = came_of (mapping_at r) (mapping_at s) page turn.before turn.after _ others turned.before turned.after (has_pieces page turn.before turn.after);
       moves = moves_in_larger r s page (size_in turn.before) (size_in turn.after) given moves maps in_space (ap size_in turned.before) (ap size_in turned.after) promoted demoted touched;
     }
 
 -- nothing goes or comes where each page is as it was
-pub changes_none : (r s : Resident) (moves : Moves) → ((p : ℕ) → mapping_at s p ≡ mapping_at r p) → moves.promotions ≡ 0 → moves.demotions ≡ 0 → IsInSpace moves.touched → AreChanges r s (record { gone = []; came = []; moves = moves })
+pub changes_none : (r s : Resident) (moves : Moves) → ((p : ℕ) → mapping_at s p ≡ mapping_at r p) → moves.promotions ≡ 0 → moves.demotions ≡ 0 → IsInSpace moves.touched → AreChanges r s (record { page = 0; before = None; after = None; moves = moves })
 changes_none r s moves same no_promotion no_demotion in_range =
     let one : mapping_at s ≡ mapping_at r = λ i p. same p i in
     record {

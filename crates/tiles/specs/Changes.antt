@@ -1,11 +1,12 @@
 -- Which tiles came with a change of pages, and which went.
-use Rattle.std.specs.Prelude.{ℕ, zero, suc, ◌≡◌, ◌≢◌, ◌+◌, ◌-◌, ◌*◌, ◌/◌, ◌%◌, ◌^◌, ◌≤◌, ◌&&◌, ◌==◌, not, if◌then◌else◌, count_by, List, [], ◌∷◌, ◌++◌, length, Option, Some, None, IfSome}
+use Rattle.std.specs.Prelude.{ℕ, zero, suc, ◌≡◌, ◌≢◌, ◌+◌, ◌-◌, ◌*◌, ◌/◌, ◌%◌, ◌^◌, ◌<◌, ◌≤◌, Bool, true, false, ◌&&◌, ◌==◌, not, if◌then◌else◌, count_by, List, [], ◌∷◌, ◌++◌, length, Option, Some, None, IfSome}
 use Rattle.std.specs.Option.{option_to_list}
 use Rattle.pager_model.specs.declared.tile.Mapping.{Mapping}
 use Rattle.pager_model.specs.declared.tile.Tile.{Tile}
+use Rattle.pager_model.specs.Bounds.{space_pages}
 use Rattle.pager_model.specs.Extents.{extent_start}
 use Rattle.pager_model.specs.Tiles.{same_tile, tile_of, is_tile, size_in}
-use Rattle.tiles.specs.declared.changes.Changes.{Changes}
+use Rattle.tiles.specs.declared.moves.Moves.{Moves}
 use Rattle.tiles.specs.declared.rows.Turn.{Turn}
 use Rattle.tiles.specs.Resident.{Resident, mapping_at, AreMoves}
 
@@ -57,7 +58,18 @@ cut_from page (Some whole) own = cut_round page whole (size_in own) (whole.exten
 abbrev pub pieces : ℕ → Option Tile → Option Tile → List Tile
 pieces page whole own = option_to_list own ++ cut_from page whole own
 
--- The list has these pieces, where the page's tile is another one than before, and else nothing.
+-- both are none, or both the same tile
+abbrev pub are_same : Option Tile → Option Tile → Bool
+are_same None None = true
+are_same None (Some u) = false
+are_same (Some t) None = false
+are_same (Some t) (Some u) = same_tile t u
+
+-- the tiles that come where a page's tile was the one and is the other: these pieces, where it is another one than before
+abbrev pub coming : ℕ → Option Tile → Option Tile → List Tile
+coming page before after = if are_same before after then [] else pieces page before after
+
+-- the list is this, by whether the page's tile is another one than before
 pub record HasPieces (page : ℕ) (before after : Option Tile) (tiles : List Tile) : Type 0 where
   pub same : before ≡ after → tiles ≡ []
   pub other : before ≢ after → tiles ≡ pieces page before after
@@ -69,8 +81,28 @@ pub record IsTurn (page : ℕ) (old new : Resident) (turn : Turn) : Type 0 where
   pub before_round : IfSome turn.before (IsRound page)
   pub after_round : IfSome turn.after (IsRound page)
 
+-- What is told of a change of one page: its tile before and after, and the moves.
+pub record PageChange : Type 0 where
+  pub page : ℕ
+  pub before : Option Tile
+  pub after : Option Tile
+  pub moves : Moves
+
+-- the tiles that went with it, and those that came
+abbrev pub gone_of : PageChange → List Tile
+gone_of changes = coming changes.page changes.after changes.before
+
+abbrev pub came_of : PageChange → List Tile
+came_of changes = coming changes.page changes.before changes.after
+
+-- it is of a page of the space, and of tiles round it
+pub record IsTold (changes : PageChange) : Type 0 where
+  pub page : changes.page < space_pages
+  pub before : IfSome changes.before (IsRound changes.page)
+  pub after : IfSome changes.after (IsRound changes.page)
+
 -- They are the tiles that went with a change of the pages and those that came, and its moves.
-pub record AreChanges (old new : Resident) (changes : Changes) : Type 0 where
-  pub gone : Came (mapping_at new) (mapping_at old) changes.gone
-  pub came : Came (mapping_at old) (mapping_at new) changes.came
+pub record AreChanges (old new : Resident) (changes : PageChange) : Type 0 where
+  pub gone : Came (mapping_at new) (mapping_at old) (gone_of changes)
+  pub came : Came (mapping_at old) (mapping_at new) (came_of changes)
   pub moves : AreMoves old new changes.moves

@@ -257,9 +257,9 @@ fn is_told(told: &Told, before: &[Option<Tile>], after: &[Option<Tile>]) -> bool
         Told::Nothing => true,
         Told::OfRange(moves) => are_moves(moves, before, after),
         Told::OfPage(changes) => {
-            are_moves(&changes.moves, before, after)
-                && are_new(&changes.gone, after, before)
-                && are_new(&changes.came, before, after)
+            are_moves(&changes.moves(), before, after)
+                && are_new(&changes.gone(), after, before)
+                && are_new(&changes.came(), before, after)
         }
     }
 }
@@ -339,7 +339,7 @@ fn drawn_changes_leave_the_tiles_of_a_scan(rt: HostRuntime) {
 fn moves_of(told: &Told) -> Moves {
     match told {
         Told::Nothing => NO_MOVES,
-        Told::OfPage(changes) => changes.moves,
+        Told::OfPage(changes) => changes.moves(),
         Told::OfRange(moves) => *moves,
     }
 }
@@ -426,7 +426,7 @@ fn range_of(told: &Told) -> (u32, u32) {
 /// How many tiles went and came.
 fn tiles_told(told: &Told) -> (usize, usize) {
     match told {
-        Told::OfPage(changes) => (changes.gone.len(), changes.came.len()),
+        Told::OfPage(changes) => (changes.gone().len(), changes.came().len()),
         Told::Nothing | Told::OfRange(_) => (0, 0),
     }
 }

@@ -1,12 +1,13 @@
 use Rattle.std.proofs.Common.{◌≡◌, ℕ, ◌<◌, ◌≤◌, List, [], length, get_or}
 use Rattle.pager_model.specs.declared.tile.Tile.{Tile}
+use Rattle.tiles.specs.Changes.{gone_of}
 use Rattle.space_core.specs.Translating.{without}
 use Rattle.space_core.proofs.space.drop_gone.Given as goal
 
 abbrev pub invariant-loop-image : goal.invariant-loop-image
 invariant-loop-image l =
     record {
-      done : (k : ℕ) (d : List Tile) → k < l.image-index → get_or l.images k d ≡ without l.gone (get_or l.fn.images k []);
+      done : (k : ℕ) (d : List Tile) → k < l.image-index → get_or l.images k d ≡ without (gone_of l.fn.changes) (get_or l.fn.images k []);
       rest : (k : ℕ) (d : List Tile) → l.image-index ≤ k → get_or l.images k d ≡ get_or l.fn.images k d;
       whole : length l.images ≡ length l.fn.images;
     }

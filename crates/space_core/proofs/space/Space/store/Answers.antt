@@ -1,4 +1,5 @@
 use Rattle.std.proofs.Common.{◌∙◌, refl, sym, map, inl, inr}
+use Rattle.tiles.specs.Changes.{gone_of}
 use Rattle.space_core.specs.Translating.{counted_up, without}
 use Rattle.space_core.proofs.ServedPages.{stores, stores_same, stored_kept, same_stored}
 use Rattle.space_core.proofs.TableLemmas.{sets_dirty, writes_frame}
@@ -50,7 +51,7 @@ returns g c =
     let writes = rw (c.page_of-page.ensures.page, c.word_of-2.ensures.word) at c.set_word-changes.ensures.writes in
     let u = c.set_word-changes.new.self in
     rw (c.touch-answered.ensures.answered, c.has_translation-hit.ensures, c.page_of-page.ensures.page, c.follow.ensures, ← c.self.view_is, rest.none_pending, rest.none_clearing, rest.none_paged)
-    (stores c.self.inside.number c.self.inside.regions c.self.inside.table u _ c.self.inside.images.items (map (without c.set_word-changes.result.gone) c.self.inside.images.items)
+    (stores c.self.inside.number c.self.inside.regions c.self.inside.table u _ c.self.inside.images.items (map (without (gone_of c.set_word-changes.result)) c.self.inside.images.items)
     c.self.inside.promotions (counted_up c.self.inside.promotions c.set_word-changes.result.moves.promotions) c.self.inside.demotions (counted_up c.self.inside.demotions c.set_word-changes.result.moves.demotions) c.self.inside.broken
     c.args.address c.args.word resident writes c.args.processor within may (inr (retouched_one _ _ c.set_word-changes.result c.set_word-changes.ensures.changes refl refl refl)) c.touch-answered.new.self
     (rw (c.page_of-page.ensures.page, c.follow.ensures, rest.none_pending, rest.none_clearing, rest.none_paged) at c.touch-answered.ensures.touched))

@@ -9,7 +9,7 @@ returns c old new given maps turned =
     let before = c.size_of.ensures in
     let after = c.size_of-2.ensures in
     let turn = c.args.turn in
-    changes_of old new c.args.page given turn c.coming.result c.coming-2.result c.of_one.result c.requires.page maps turned c.coming.ensures c.coming-2.ensures
+    changes_of old new c.args.page given turn c.of_one.result c.requires.page maps turned
     (c.of_one.ensures.promotions ∙ ap (λ n. if nat_lt n c.size_of-2.result then 1 else 0) before ∙ ap (λ n. if nat_lt (size_in turn.before) n then 1 else 0) after)
     (c.of_one.ensures.demotions ∙ ap (λ n. if nat_lt c.size_of-2.result n then 1 else 0) before ∙ ap (λ n. if nat_lt n (size_in turn.before) then 1 else 0) after)
     (c.of_one.ensures.touched ∙ ap (λ n. extent_range (max n c.size_of-2.result) c.args.page) before ∙ ap (λ n. extent_range (max (size_in turn.before) n) c.args.page) after)
