@@ -1,5 +1,5 @@
 //! The misses at every capacity, by rows of loads and stores of eight pages.
-ghost use Rattle.std.specs.Prelude.{◌≡◌, ◌+◌, ◌*◌, ◌<◌, ◌≤◌, ◌^◌, length};
+ghost use Rattle.std.specs.Prelude.{◌≡◌, ◌+◌, ◌*◌, ◌<◌, ◌≤◌, ◌^◌, length, Some};
 
 use super::size;
 use miss_curves::{Curves, Stacks, Use};
@@ -83,7 +83,9 @@ impl Pages {
 }
 
 /// An answer of the first space.
-fn answer() -> Entry {
+fn answer() -> Entry
+    ensures { result.space ≡ Some 0 }
+{
     let call = Call::Load {
         space: 0,
         address: 0,
