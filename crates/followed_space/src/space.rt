@@ -1,0 +1,353 @@
+//! A space whose entries are followed.
+
+ghost use Rattle.std.specs.Prelude.{◌≡◌, ℕ, ◌+◌, ◌/◌, ◌<◌, ◌≤◌, Bool, true, false, Some, None, IfOk, option_map};
+ghost use Rattle.pager_model.specs.declared.call.Call.TheVariants.{Map, Grow, Unmap, Protect, Store, Sync, Evict};
+ghost use Rattle.pager_model.specs.declared.entry.Entry.{Entry as Item};
+ghost use Rattle.pager_model.specs.declared.entry.What.TheVariants.{Out, Give, Clear};
+ghost use Rattle.pager_model.specs.Bounds.{most_frames, space_bytes, space_pages};
+ghost use Rattle.pager_model.specs.Regions.{in_range};
+ghost use Rattle.pager_model.specs.SizeSets.{SizeSet};
+ghost use Rattle.pager_model.specs.SpaceStates.{SpaceState, empty_state, space_after};
+ghost use Rattle.pager_model.specs.Tiles.{tile_of, is_tile};
+ghost use Rattle.page_rights.specs.Rights.{rights_of};
+ghost use Rattle.tiles.specs.Cleared.{Clears};
+ghost use Rattle.tiles.specs.Resident.{Maps, frames_in, mapping_at, with_flag};
+ghost use Rattle.tiles.specs.Touched.{IsInSpace, is_touched};
+ghost use Rattle.followed_space.specs.Changed.{IsChange};
+ghost use Rattle.followed_space.specs.Follows.{AnswersBy, Follows, IsNext, MapsOne, Serves, filled, rights_by};
+
+use crate::changed::Changed;
+use crate::reply::{is_lawful, page_of};
+use page_rights::PageRights;
+use pager_model::{
+    Call, Entry, Kind, Mapping, NoMemory, PageRange, Region, Reply, Rights, Tile, What,
+};
+use region_table::Regions;
+use std::alloc::Global;
+use std::marker::Model;
+use tiles::Base;
+
+/// The pages of the largest extent.
+const BLOCK: u32 = 512;
+
+/// The regions of a space, the rights of its pages and its resident pages with their tiles.
+#[derive(Drop)]
+pub struct FollowedSpace {
+    regions: Regions,
+    /// The rights that a protect gave pages.
+    own: PageRights,
+    pages: Base,
+}
+
+impl Model for FollowedSpace {
+    ghost use Rattle.followed_space.specs.Follows.{Followed, AreOwned};
+
+    ghost Value = { Followed };
+
+    ghost view = { λ s. record { regions = s.regions; own = s.own; pages = s.pages } };
+
+    ghost invariant = { λ s. AreOwned s.regions s.own };
+}
+
+impl FollowedSpace {
+    /// A space before its first entry, and room for its pages in so many frames.
+    pub fn create(alloc: Global, frames: u32) -> Result<FollowedSpace, NoMemory>
+        requires { frames ≤ most_frames }
+        ensures frames { IfOk result (λ s. frames_in s.pages ≡ frames) }
+        ensures follows { IfOk result (λ s. (sizes : SizeSet) (told : Bool) (faults : ℕ) → Follows s (empty_state sizes told faults)) }
+    {
+        Ok(FollowedSpace {
+            regions: Regions::create(),
+            own: PageRights::create(alloc)?,
+            pages: Base::create(alloc, frames)?,
+        })
+    }
+
+    /// The tile of a page, where it is resident.
+    pub fn tile_of(&self, page: u32) -> Option<Tile>
+        ensures { result ≡ tile_of (mapping_at self.now.pages) page }
+    {
+        self.pages.tile_of(page)
+    }
+
+    /// Whether it is a tile of the pages as they are.
+    pub fn is_tile(&self, tile: &Tile) -> bool
+        ensures { result ≡ is_tile (mapping_at self.now.pages) tile.now }
+    {
+        self.pages.is_tile(tile)
+    }
+
+    /// A page got this frame, which no other page has.
+    fn fill(&mut self, page: u32, frame: u32) -> Changed
+        requires next { (st : SpaceState) × (e : Item) × (filled e.what ≡ Some (page, frame)) × IsNext self.old st e }
+        ensures frames { frames_in self.new.pages ≡ frames_in self.old.pages }
+        ensures follows { (st : SpaceState) (e : Item) → filled e.what ≡ Some (page, frame) → IsNext self.old st e
+            → Follows self.new (space_after st e) }
+        ensures changed { IsChange self.old.pages self.new.pages result }
+    {
+        let Some(region) = self.regions.find(page) else {
+            unreachable!()
+        };
+        let rights = self.rights(page, region);
+        let changes = self.pages.after_fill(
+            page,
+            Mapping {
+                frame,
+                region: region.first,
+                rights,
+                dirty: false,
+            },
+        );
+        Changed::Page { page, changes }
+    }
+
+    /// The rights of a page of a region: its own, or else the region's first.
+    fn rights(&self, page: u32, region: Region) -> Rights
+        requires { page < space_pages }
+        ensures { result ≡ rights_by (rights_of self.now.own page) (Some region) }
+    {
+        self.own.get(page).unwrap_or(region.rights)
+    }
+
+    /// A page is resident no more.
+    fn remove(&mut self, page: u32) -> Changed
+        ensures after { MapsOne page None self.old self.new }
+        ensures changed { IsChange self.old.pages self.new.pages result }
+    {
+        if self.pages.mapping(page).is_none() {
+            return Changed::Nothing;
+        }
+        let changes = self.pages.after_remove(page);
+        Changed::Page { page, changes }
+    }
+
+    /// A page has this dirty flag, where it is resident.
+    fn mark(&mut self, page: u32, dirty: bool) -> Changed
+        ensures after { MapsOne page (option_map (with_flag dirty) (mapping_at self.old.pages page)) self.old self.new }
+        ensures changed { IsChange self.old.pages self.new.pages result }
+    {
+        match self.pages.mapping(page) {
+            Some(mapping) if mapping.dirty != dirty => {
+                let changes = self.pages.after_dirty(page, dirty);
+                Changed::Page { page, changes }
+            }
+            _ => Changed::Nothing,
+        }
+    }
+
+    /// A page gave its frame up.
+    fn give(&mut self, page: u32) -> Changed
+        ensures frames { frames_in self.new.pages ≡ frames_in self.old.pages }
+        ensures follows { (st : SpaceState) (e : Item) (frame : ℕ) → e.what ≡ Give page frame → IsNext self.old st e
+            → Follows self.new (space_after st e) }
+        ensures changed { IsChange self.old.pages self.new.pages result }
+    {
+        self.remove(page)
+    }
+
+    /// A page was made equal to its copy.
+    fn page_out(&mut self, page: u32) -> Changed
+        ensures frames { frames_in self.new.pages ≡ frames_in self.old.pages }
+        ensures follows { (st : SpaceState) (e : Item) (written : Bool) → e.what ≡ Out page written → IsNext self.old st e
+            → Follows self.new (space_after st e) }
+        ensures changed { IsChange self.old.pages self.new.pages result }
+    {
+        self.mark(page, false)
+    }
+
+    /// A store to a page was done.
+    fn store(&mut self, address: u64) -> Changed
+        requires { address < space_bytes }
+        ensures frames { frames_in self.new.pages ≡ frames_in self.old.pages }
+        ensures follows { (st : SpaceState) (e : Item) (space word : ℕ) → Serves e (Store space address word) → IsNext self.old st e
+            → Follows self.new (space_after st e) }
+        ensures changed { IsChange self.old.pages self.new.pages result }
+    {
+        self.mark(page_of(address), true)
+    }
+
+    /// A page's copy was written where it was dirty.
+    fn sync(&mut self, page: u32) -> Changed
+        ensures frames { frames_in self.new.pages ≡ frames_in self.old.pages }
+        ensures follows { (st : SpaceState) (e : Item) (space : ℕ) → Serves e (Sync space page) → IsNext self.old st e
+            → Follows self.new (space_after st e) }
+        ensures changed { IsChange self.old.pages self.new.pages result }
+    {
+        self.mark(page, false)
+    }
+
+    /// A page was evicted.
+    fn evict(&mut self, page: u32) -> Changed
+        ensures frames { frames_in self.new.pages ≡ frames_in self.old.pages }
+        ensures follows { (st : SpaceState) (e : Item) (space : ℕ) → Serves e (Evict space page) → IsNext self.old st e
+            → Follows self.new (space_after st e) }
+        ensures changed { IsChange self.old.pages self.new.pages result }
+    {
+        self.remove(page)
+    }
+
+    /// A region was mapped.
+    fn map(&mut self, page: u32, length: u32, kind: Kind, rights: Rights)
+        requires next { (st : SpaceState) × (e : Item) × (space : ℕ) × Serves e (Map space page length kind rights) × IsNext self.old st e }
+        ensures pages { self.new.pages ≡ self.old.pages }
+        ensures follows { (st : SpaceState) (e : Item) (space : ℕ) → Serves e (Map space page length kind rights) → IsNext self.old st e
+            → Follows self.new (space_after st e) }
+    {
+        let Ok(()) = self.regions.map(page, length, kind, rights) else {
+            unreachable!()
+        };
+    }
+
+    /// A region grew.
+    fn grow(&mut self, page: u32, by: u32)
+        requires next { (st : SpaceState) × (e : Item) × (space : ℕ) × Serves e (Grow space page by) × IsNext self.old st e }
+        ensures pages { self.new.pages ≡ self.old.pages }
+        ensures follows { (st : SpaceState) (e : Item) (space : ℕ) → Serves e (Grow space page by) → IsNext self.old st e
+            → Follows self.new (space_after st e) }
+    {
+        let Ok(()) = self.regions.grow(page, by) else {
+            unreachable!()
+        };
+    }
+
+    /// A region went, after its pages gave their frames up.
+    fn unmap(&mut self, page: u32)
+        requires next { (st : SpaceState) × (e : Item) × (space : ℕ) × Serves e (Unmap space page) × IsNext self.old st e }
+        ensures pages { self.new.pages ≡ self.old.pages }
+        ensures follows { (st : SpaceState) (e : Item) (space : ℕ) → Serves e (Unmap space page) → IsNext self.old st e
+            → Follows self.new (space_after st e) }
+    {
+        let Ok(region) = self.regions.unmap(page) else {
+            unreachable!()
+        };
+        self.own.set(region.first, region.length, None);
+    }
+
+    /// The pages of a range got these rights.
+    fn protect(&mut self, page: u32, length: u32, rights: Rights) -> Changed
+        requires next { (st : SpaceState) × (e : Item) × (space : ℕ) × Serves e (Protect space page length rights) × IsNext self.old st e }
+        ensures frames { frames_in self.new.pages ≡ frames_in self.old.pages }
+        ensures follows { (st : SpaceState) (e : Item) (space : ℕ) → Serves e (Protect space page length rights) → IsNext self.old st e
+            → Follows self.new (space_after st e) }
+        ensures changed { IsChange self.old.pages self.new.pages result }
+    {
+        self.own.set(page, length, Some(rights));
+        self.pages.after_rights(page, length, rights);
+        Changed::Range(blocks_round(page, length))
+    }
+
+    /// The pages of a region gave their frames up.
+    fn clear(&mut self, first: u32, length: u32) -> Changed
+        requires next { (st : SpaceState) × (e : Item) × (e.what ≡ Clear first length) × IsNext self.old st e }
+        ensures frames { frames_in self.new.pages ≡ frames_in self.old.pages }
+        ensures follows { (st : SpaceState) (e : Item) → e.what ≡ Clear first length → IsNext self.old st e → Follows self.new (space_after st e) }
+        ensures changed { IsChange self.old.pages self.new.pages result }
+    {
+        remove_all(&mut self.pages, first, length);
+        Changed::Range(blocks_round(first, length))
+    }
+
+    /// A call was answered with what it asked for.
+    fn serve(&mut self, call: &Call) -> Changed
+        requires next { (st : SpaceState) × (e : Item) × Serves e call.now × IsNext self.old st e }
+        ensures frames { frames_in self.new.pages ≡ frames_in self.old.pages }
+        ensures follows { (st : SpaceState) (e : Item) → Serves e call.now → IsNext self.old st e → Follows self.new (space_after st e) }
+        ensures changed { IsChange self.old.pages self.new.pages result }
+    {
+        match *call {
+            Call::Map {
+                page,
+                length,
+                kind,
+                rights,
+                ..
+            } => {
+                self.map(page, length, kind, rights);
+                Changed::Nothing
+            }
+            Call::Grow { page, by, .. } => {
+                self.grow(page, by);
+                Changed::Nothing
+            }
+            Call::Unmap { page, .. } => {
+                self.unmap(page);
+                Changed::Nothing
+            }
+            Call::Protect {
+                page,
+                length,
+                rights,
+                ..
+            } => self.protect(page, length, rights),
+            Call::Load { .. } => Changed::Nothing,
+            Call::Store { address, .. } => self.store(address),
+            Call::Sync { page, .. } => self.sync(page),
+            Call::Evict { page, .. } => self.evict(page),
+        }
+    }
+
+    /// A call was answered. A refusal changes nothing, nor does an answer for want of a frame, of a store or of memory.
+    fn answer(&mut self, call: &Call, reply: Reply) -> Changed
+        requires next { (st : SpaceState) × (e : Item) × AnswersBy e call.now reply × IsNext self.old st e }
+        ensures frames { frames_in self.new.pages ≡ frames_in self.old.pages }
+        ensures follows { (st : SpaceState) (e : Item) → AnswersBy e call.now reply → IsNext self.old st e → Follows self.new (space_after st e) }
+        ensures changed { IsChange self.old.pages self.new.pages result }
+    {
+        if is_lawful(reply) {
+            self.serve(call)
+        } else {
+            Changed::Nothing
+        }
+    }
+
+    /// Follows the next entry of the space.
+    pub fn follow(&mut self, entry: &Entry) -> Changed
+        requires next { (st : SpaceState) × IsNext self.old st entry.now }
+        ensures frames { frames_in self.new.pages ≡ frames_in self.old.pages }
+        ensures follows { (st : SpaceState) → IsNext self.old st entry.now → Follows self.new (space_after st entry.now) }
+        ensures changed { IsChange self.old.pages self.new.pages result }
+    {
+        match entry.what {
+            What::Answer { call, answered, .. } => self.answer(&call, answered.reply),
+            What::Out { page, .. } => self.page_out(page),
+            What::Take { page, frame, .. } => self.fill(page, frame),
+            What::UseHeld { page, frame, .. } => self.fill(page, frame),
+            What::Give { page, .. } => self.give(page),
+            What::Clear { first, length } => self.clear(first, length),
+            What::Failed { .. }
+            | What::Claim { .. }
+            | What::DropHeld { .. }
+            | What::Got { .. }
+            | What::Unclaim { .. }
+            | What::Refused { .. }
+            | What::Rest { .. } => Changed::Nothing,
+        }
+    }
+}
+
+/// No page of a range is resident any more.
+fn remove_all(pages: &mut Base, first: u32, length: u32)
+    requires { first + length ≤ space_pages }
+    ensures frames { frames_in pages.new ≡ frames_in pages.old }
+    ensures clears { Clears first length (mapping_at pages.old) (mapping_at pages.new) }
+{
+    let mut from = first;
+    while let Some(page) = pages.next_resident(from, first + length) {
+        pages.after_remove(page);
+        from = page + 1;
+    }
+}
+
+/// The blocks of 512 pages that have a page of a range.
+fn blocks_round(first: u32, length: u32) -> PageRange
+    requires { first + length ≤ space_pages }
+    ensures in_space { IsInSpace result }
+    ensures round { (p q : ℕ) → in_range first length p ≡ true → q / 512 ≡ p / 512 → is_touched result q ≡ true }
+{
+    let from = first / BLOCK * BLOCK;
+    let end = (first + length).div_ceil(BLOCK) * BLOCK;
+    PageRange {
+        first: from,
+        length: end - from,
+    }
+}
