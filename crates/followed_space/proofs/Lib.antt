@@ -6,3 +6,4 @@ pub mod RegionCalls
 pub mod IdleEntries
 pub mod LegalEntries
 pub mod ClearedPages
+pub mod BaseTiles

@@ -8,7 +8,7 @@ ghost use Rattle.pager_model.specs.Bounds.{most_frames, space_bytes, space_pages
 ghost use Rattle.pager_model.specs.Regions.{in_range};
 ghost use Rattle.pager_model.specs.SizeSets.{SizeSet};
 ghost use Rattle.pager_model.specs.SpaceStates.{SpaceState, empty_state, space_after};
-ghost use Rattle.pager_model.specs.Tiles.{tile_of, is_tile};
+ghost use Rattle.pager_model.specs.Tiles.{tile_of, is_tile, eligible_at, is_that_tile};
 ghost use Rattle.page_rights.specs.Rights.{rights_of};
 ghost use Rattle.tiles.specs.Cleared.{Clears};
 ghost use Rattle.tiles.specs.Resident.{Maps, frames_in, mapping_at, with_flag};
@@ -20,7 +20,8 @@ use crate::changed::Changed;
 use crate::reply::{is_lawful, page_of};
 use page_rights::PageRights;
 use pager_model::{
-    Call, Entry, Kind, Mapping, NoMemory, PageRange, Region, Reply, Rights, Tile, What,
+    Call, Entry, Extent, Kind, Mapping, NoMemory, PageRange, Region, Reply, Rights, Size, Tile,
+    What,
 };
 use region_table::Regions;
 use std::alloc::Global;
@@ -75,6 +76,29 @@ impl FollowedSpace {
         ensures { result ≡ is_tile (mapping_at self.now.pages) tile.now }
     {
         self.pages.is_tile(tile)
+    }
+
+    /// The tile of a page by base pages alone, where it is resident.
+    pub fn base_tile_of(&self, page: u32) -> Option<Tile>
+        ensures { result ≡ eligible_at (mapping_at self.now.pages) 0 page }
+    {
+        let mapping = self.pages.mapping(page)?;
+        Some(Tile {
+            extent: Extent {
+                size: Size::at_level(0),
+                first: page,
+            },
+            frame: mapping.frame,
+            rights: mapping.rights,
+            dirty: mapping.dirty,
+        })
+    }
+
+    /// Whether it is a tile of the pages as they are, by base pages alone.
+    pub fn is_base_tile(&self, tile: &Tile) -> bool
+        ensures { result ≡ is_that_tile tile.now (eligible_at (mapping_at self.now.pages) 0 tile.now.extent.first) }
+    {
+        self.base_tile_of(tile.extent.first) == Some(*tile)
     }
 
     /// A page got this frame, which no other page has.
