@@ -7,3 +7,4 @@ pub mod IdleEntries
 pub mod LegalEntries
 pub mod ClearedPages
 pub mod BaseTiles
+pub mod AnsweredLines
