@@ -1,0 +1,6 @@
+//! Which aligned extent of frames could be emptied by the fewest evictions, and of which pages: what a kernel's compaction would choose.
+#![tactic(auto)]
+
+mod plan;
+
+pub use plan::{PageOf, Plan};
