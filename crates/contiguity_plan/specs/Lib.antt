@@ -1,1 +1,4 @@
 pub mod Emptying
+pub mod Places
+pub mod Tables
+pub mod Costs

@@ -1,6 +1,13 @@
 //! The cheapest extent of a size after a history.
 
-use pager_model::Extent;
+ghost use Rattle.std.specs.Prelude.{◌≤◌, IfOk};
+ghost use Rattle.pager_model.specs.Legal.{entries_in, frames_at};
+ghost use Rattle.pager_model.specs.Settings.{Given};
+ghost use Rattle.contiguity_plan.specs.Emptying.{IsOver, IsPlanned};
+
+use crate::table::Table;
+use pager_model::{Extent, NoMemory, Numbered, Size};
+use std::alloc::Global;
 
 /// A page of a space.
 #[derive(Clone, Copy, Debug, PartialEq, Eq)]
@@ -14,4 +21,23 @@ pub struct PageOf {
 pub struct Plan {
     pub extent: Extent,
     pub pages: Vec<PageOf>,
+}
+
+/// What is to be evicted to empty an extent of this size, after a history over so many frames: of the extents without a wired, claimed or
+/// held frame the one that the fewest evictions empty, the lowest of equal ones, and the pages of its used frames.
+pub fn plan_emptying(
+    alloc: Global,
+    frames: u32,
+    history: &[Numbered],
+    size: Size,
+) -> Result<Option<Plan>, NoMemory>
+    requires frames { frames ≤ 32768 }
+    requires legal { (g : Given) × IsOver frames g (entries_in history.now) }
+    ensures planned { IfOk result (λ plan. (g : Given) → IsOver frames g (entries_in history.now)
+        → IsPlanned (frames_at g (entries_in history.now)) frames size plan) }
+{
+    let mut table = Table::create(alloc, frames)?;
+    table.follow(history)?;
+    let planned = table.plan(alloc, frames, size)?;
+    Ok(planned)
 }

@@ -1,0 +1,6 @@
+pub mod PlaceLemmas
+pub mod RangeGives
+pub mod RightTables
+pub mod Extents
+pub mod Planned
+pub mod Followed

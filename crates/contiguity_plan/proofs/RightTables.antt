@@ -1,0 +1,299 @@
+-- What each move of the frames does to a table that is right.
+use Rattle.std.proofs.Common.{◌≡◌, ◌≢◌, ◌≤◌, ◌<◌, ◌⊎◌, ℕ, zero, suc, Bool, true, false, cond, eqb, ◌&&◌, List, [], ◌∷◌, length, map, set, get_or, replicate, is_some, option_map, Option, Some, None, IsSome, IsSomeAnd, inl, inr, refl, sym, ap, subst, ◌∙◌, arith}
+use Rattle.std.specs.BTreeMap.{BTreeMap}
+use Rattle.std.proofs.Math.ListN.{get_or-map}
+use Rattle.std.proofs.lemmas.Bool.{cases_Bool, cases_eq, cases_lt, and_parts, and_from, cond-true, cond-false, eq-eqb, eqb-true}
+use Rattle.std.proofs.lemmas.List.{map-set, length-set, get_or-set_same, get_or-set_other, get_or_past, set_past, length-replicate}
+use Rattle.std.proofs.lemmas.Grind.{get_or-set_at}
+use Rattle.std.proofs.lemmas.Option.{none-some, same_Some}
+use Rattle.pager_model.specs.declared.call.Call.{Call}
+use Rattle.pager_model.specs.declared.call.Call.TheVariants.{Map, Grow, Unmap, Protect, Load, Store, Sync, Evict}
+use Rattle.pager_model.specs.declared.entry.Want.{Want}
+use Rattle.pager_model.specs.declared.reservation.Used.{Used}
+use Rattle.pager_model.specs.FrameStates.{FrameState, Taking, start_frames, layout_of, used_at, held_by, claim_in, frame_of, taken, taking, take_frame, state_taken, held_given, give_page, give_if_used, with_claim, claimed, dropped, dropped_in, counted, give_range, AllowsAnswer, moved_by_answer}
+use Rattle.pager_model.specs.Layouts.{Placing, placing, frame_in}
+use Rattle.pager_model.specs.Regions.{in_range}
+use Rattle.pager_model.specs.SizeSets.{SizeSet}
+use Rattle.pager_model.proofs.Lists.{get_or-alike, get_or-set_default, unset_before}
+use Rattle.pager_model.proofs.Options.{some_from_is_some}
+use Rattle.pager_laws.specs.Laid.{IsSound}
+use Rattle.pager_laws.proofs.LayoutPlacing.{WasPlaced, WasPlaced-placing}
+use Rattle.pager_laws.proofs.LegalHistories.{frame_of-start}
+use Rattle.pager_laws.proofs.PageMoves.{GivesPage, GivesPage-give_page, frame_of-give_page}
+use Rattle.pager_laws.proofs.StateSoundness.{taking_from, layout_of-taken, layout_of-claimed}
+use Rattle.contiguity_plan.specs.declared.plan.PageOf.{PageOf}
+use Rattle.contiguity_plan.specs.declared.table.Use.{Use}
+use Rattle.contiguity_plan.specs.Places.{place_in}
+use Rattle.contiguity_plan.specs.Tables.{Note, note_of, noted, use_in, use_for, claim_of, reclaimed, evicted, AreRight}
+use Rattle.contiguity_plan.proofs.RangeGives.{give_if_used-none, give_if_used-some, give_range-lowest}
+
+-- Notes.
+
+-- alike at each frame
+pub note_at : (uses : List (Option Use)) (used : List (Option Used)) → map (option_map note_of) uses ≡ map (option_map noted) used
+    → (f : ℕ) → option_map note_of (get_or uses f None) ≡ option_map noted (get_or used f None)
+note_at uses used same f =
+    sym (get_or-map (option_map note_of) uses f None) ∙ ap (λ (ns : List (Option Note)). get_or ns f None) same ∙ get_or-map (option_map noted) used f None
+
+-- written alike they stay alike
+notes-set : (uses : List (Option Use)) (used : List (Option Used)) → map (option_map note_of) uses ≡ map (option_map noted) used
+    → (f : ℕ) (u : Option Use) (v : Option Used) → option_map note_of u ≡ option_map noted v → map (option_map note_of) (set uses f u) ≡ map (option_map noted) (set used f v)
+notes-set uses used same f u v alike =
+    map-set (option_map note_of) uses f u
+    ∙ ap (λ (ns : List (Option Note)). set ns f (option_map note_of u)) same
+    ∙ ap (set (map (option_map noted) used) f) alike
+    ∙ sym (map-set (option_map noted) used f v)
+
+pub claims_alike : (u : Option Use) (v : Option Used) → option_map note_of u ≡ option_map noted v → claim_of u ≡ claim_in v
+claims_alike None None same = refl
+claims_alike None (Some v) same = absurd (none-some _ same)
+claims_alike (Some u) None same = absurd (none-some _ (sym same))
+claims_alike (Some u) (Some v) same = ap (λ (n : Note). n.claim) (same_Some _ _ same)
+
+reclaimed_alike : (claim : Option ℕ) (u : Option Use) (v : Option Used) → option_map note_of u ≡ option_map noted v → option_map note_of (reclaimed claim u) ≡ option_map noted (with_claim claim v)
+reclaimed_alike claim None None same = refl
+reclaimed_alike claim None (Some v) same = absurd (none-some _ same)
+reclaimed_alike claim (Some u) None same = absurd (none-some _ (sym same))
+reclaimed_alike claim (Some u) (Some v) same = ap (λ (n : Note). Some (record { wired = n.wired; claim = claim })) (same_Some _ _ same)
+
+-- a use with another claim is of the same page
+claimed_before : (claim : Option ℕ) (o : Option Use) (u : Use) → reclaimed claim o ≡ Some u → (v : Use) × (o ≡ Some v) × (v.page ≡ u.page)
+claimed_before claim None u is = absurd (none-some u is)
+claimed_before claim (Some v) u is = (v, refl, ap (λ (w : Use). w.page) (same_Some _ u is))
+
+-- what stands somewhere after a write was written there, or stood there before
+written_cases : (xs : List (Option Use)) (i j : ℕ) (o : Option Use) (x : Use) → get_or (set xs i o) j None ≡ Some x → ((j ≡ i) × (o ≡ Some x)) ⊎ ((j ≢ i) × (get_or xs j None ≡ Some x))
+written_cases xs i j o x is = elim (cases_eq j i) [
+  | inl here ↦
+      let at : get_or (set xs i o) i None ≡ Some x = ap (λ k. get_or (set xs i o) k None) (sym here) ∙ is in
+      elim (cases_lt i (length xs)) [
+        | inl known ↦ inl (here, sym (get_or-set_same xs i o None known) ∙ at)
+        | inr past ↦ absurd (none-some x (sym (ap (λ ys. get_or ys i None) (set_past xs i o past) ∙ get_or_past xs i None past) ∙ at))
+      ]
+  | inr other ↦ inr (other, sym (get_or-set_other xs i j o None other) ∙ is)
+]
+
+length-held_given : (o : Option ℕ) (frame : ℕ) (held : List (Option ℕ)) → length (held_given o frame held) ≡ length held
+length-held_given None frame held = refl
+length-held_given (Some d) frame held = length-set held d (Some frame)
+
+-- lists that are equal are as right
+pub AreRight-as : (st : FrameState) (uses now_uses : List (Option Use)) (held now_held : List (Option ℕ)) (places now_places : List (BTreeMap ℕ ℕ))
+    → now_uses ≡ uses → now_held ≡ held → now_places ≡ places → AreRight st uses held places → AreRight st now_uses now_held now_places
+AreRight-as st uses now_uses held now_held places now_places same also too right =
+    subst (λ u. AreRight st u now_held now_places) (sym same) (subst (λ h. AreRight st uses h now_places) (sym also) (subst (AreRight st uses held) (sym too) right))
+
+-- Moves.
+
+module _ (st : FrameState) (uses : List (Option Use)) (held : List (Option ℕ)) (places : List (BTreeMap ℕ ℕ)) (right : AreRight st uses held places) where
+  -- an entry is counted
+  pub AreRight-counted : AreRight (counted st) uses held places
+  AreRight-counted = record { notes = right.notes; pages = right.pages; places_are = right.places_are; hands = right.hands; room = right.room }
+
+  -- a frame is claimed, or no more
+  pub AreRight-claimed : (frame : ℕ) (claim : Option ℕ) → AreRight (claimed st frame claim) (set uses frame (reclaimed claim (use_in uses frame))) held places
+  AreRight-claimed frame claim = record {
+    notes = notes-set uses st.used right.notes frame (reclaimed claim (use_in uses frame)) (with_claim claim (used_at st frame))
+        (reclaimed_alike claim (use_in uses frame) (used_at st frame) (note_at uses st.used right.notes frame));
+    pages = λ f u is.
+        ap (λ l. frame_in l u.page.space u.page.page) (layout_of-claimed st frame claim)
+        ∙ elim (written_cases uses frame f (reclaimed claim (use_in uses frame)) u is) [
+          | inl here ↦
+              let before = claimed_before claim (use_in uses frame) u here.1 in
+              ap (λ (q : PageOf). frame_of st q.space q.page) (sym before.2) ∙ right.pages frame before.0 before.1 ∙ ap Some (sym here.0)
+          | inr there ↦ right.pages f u there.1
+        ];
+    places_are = λ s p. right.places_are s p ∙ sym (ap (λ l. frame_in l s p) (layout_of-claimed st frame claim));
+    hands = right.hands;
+    room = right.room;
+  }
+
+  -- a processor lets its frame go
+  pub AreRight-dropped : (c : ℕ) → AreRight (dropped st c) uses (set held c None) places
+  AreRight-dropped c = elim (held_by st c) as (λ o. held_by st c ≡ o → AreRight (dropped_in st c o) uses (set held c None) places) [
+    | None ↦ λ none. record {
+        notes = right.notes;
+        pages = right.pages;
+        places_are = right.places_are;
+        hands = λ d. elim (cases_eq d c) [
+          | inl same ↦ get_or-set_default held c d None same ∙ sym none ∙ ap (held_by st) (sym same)
+          | inr other ↦ get_or-set_other held c d None None other ∙ right.hands d
+        ];
+        room = let long = length-set held c None in omega (arith, right.room, long);
+      }
+    | Some frame ↦ λ holds. record {
+        notes = right.notes;
+        pages = right.pages;
+        places_are = right.places_are;
+        hands = λ d. elim (cases_eq d c) [
+          | inl same ↦ get_or-set_default held c d None same ∙ sym (get_or-set_default st.held c d None same)
+          | inr other ↦ get_or-set_other held c d None None other ∙ right.hands d ∙ sym (get_or-set_other st.held c d None None other)
+        ];
+        room = let long = length-set held c None in let also = length-set st.held c None in omega (arith, right.room, long, also);
+      }
+  ] refl
+
+  -- a page is placed
+  taken_right : (space page : ℕ) (want : Want) (place : Placing) (after : List (BTreeMap ℕ ℕ)) → frame_of st space page ≡ None
+      → WasPlaced (layout_of st) place.layout space page place.frame
+      → ((s p : ℕ) → place_in after s p ≡ cond (eqb space s && eqb p page) (Some place.frame) (place_in places s p))
+      → AreRight (taken st want place) (set uses place.frame (Some (use_for (record { space = space; page = page }) want))) held after
+  taken_right space page want place after none was placed =
+      let pages : (s p : ℕ) → frame_of (taken st want place) s p ≡ cond (eqb space s && eqb p page) (Some place.frame) (frame_of st s p) =
+      λ s p. ap (λ l. frame_in l s p) (layout_of-taken st space page want place was) ∙ was.pages s p in
+      let value : Use = use_for (record { space = space; page = page }) want in
+      record {
+        notes = notes-set uses st.used right.notes place.frame (Some value) (Some (record { age = st.entries; wired = want.wired; claim = None })) refl;
+        pages = λ f u is. elim (written_cases uses place.frame f (Some value) u is) [
+          | inl here ↦
+              subst (λ (x : Use). frame_of (taken st want place) x.page.space x.page.page ≡ Some f) (same_Some value u here.1)
+              (pages space page ∙ cond-true _ _ _ (and_from _ _ (eq-eqb space space refl) (eq-eqb page page refl)) ∙ ap Some (sym here.0))
+          | inr there ↦
+              let at = right.pages f u there.1 in
+              let apart : (eqb space u.page.space && eqb u.page.page page) ≡ false = elim (cases_Bool (eqb space u.page.space && eqb u.page.page page)) [
+                | inl same ↦
+                    let parts = and_parts _ _ same in
+                    let here : frame_of st u.page.space u.page.page ≡ None =
+                    subst (λ q. frame_of st u.page.space q ≡ None) (sym (eqb-true u.page.page page parts.1)) (subst (λ t. frame_of st t page ≡ None) (eqb-true space u.page.space parts.0) none) in
+                    absurd (none-some f (sym here ∙ at))
+                | inr apart ↦ apart
+              ] in
+              pages u.page.space u.page.page ∙ cond-false _ _ _ apart ∙ at
+        ];
+        places_are = λ s p. placed s p ∙ ap (cond (eqb space s && eqb p page) (Some place.frame)) (right.places_are s p) ∙ sym (pages s p);
+        hands = right.hands;
+        room = right.room;
+      }
+
+  module _ (frames processors : ℕ) (sound : IsSound frames processors st) where
+    -- a page takes a frame
+    pub AreRight-take : (space page frame : ℕ) (want : Want) (after : List (BTreeMap ℕ ℕ)) → frame_of st space page ≡ None
+        → ((s p : ℕ) → place_in after s p ≡ cond (eqb space s && eqb p page) (Some frame) (place_in places s p))
+        → IsSomeAnd (take_frame st space page want) (λ t. t.frame ≡ frame)
+        → AreRight (state_taken st (take_frame st space page want)) (set uses frame (Some (use_for (record { space = space; page = page }) want))) held after
+    AreRight-take space page frame want after none placed takes =
+        elim (take_frame st space page want) as (λ o. take_frame st space page want ≡ o → IsSomeAnd o (λ t. t.frame ≡ frame)
+            → AreRight (state_taken st o) (set uses frame (Some (use_for (record { space = space; page = page }) want))) held after) [
+          | None ↦ λ _ no. absurd no
+          | Some t ↦ λ is same.
+              let found = taking_from st want (placing st.entries space page want (layout_of st)) t is in
+              let was = WasPlaced-placing (layout_of st) st.entries space page want found.0 sound.laid none found.1 in
+              subst (λ (u : Taking). u.frame ≡ frame → AreRight u.state (set uses frame (Some (use_for (record { space = space; page = page }) want))) held after) found.2
+              (λ at. subst (λ f. ((s p : ℕ) → place_in after s p ≡ cond (eqb space s && eqb p page) (Some f) (place_in places s p))
+                  → AreRight (taken st want found.0) (set uses f (Some (use_for (record { space = space; page = page }) want))) held after) at
+                (taken_right space page want found.0 after none was) placed)
+              same
+        ] refl takes
+
+    hands_given : (o : Option ℕ) (frame : ℕ) → claim_in (used_at st frame) ≡ o → (c : ℕ) → get_or (held_given o frame held) c None ≡ get_or (held_given o frame st.held) c None
+    hands_given None frame is c = right.hands c
+    hands_given (Some d) frame is c =
+        let known = (sound.claims_known frame d is).0 in
+        elim (cases_eq c d) [
+          | inl same ↦
+              get_or-set_at held d c (Some frame) None same (omega (arith, known, right.room, sound.processors_known))
+              ∙ sym (get_or-set_at st.held d c (Some frame) None same (omega (arith, known, sound.processors_known)))
+          | inr other ↦ get_or-set_other held d c (Some frame) None other ∙ right.hands c ∙ sym (get_or-set_other st.held d c (Some frame) None other)
+        ]
+
+    given_right : (space page frame : ℕ) (after : List (BTreeMap ℕ ℕ)) → frame_of st space page ≡ Some frame
+        → ((s p : ℕ) → place_in after s p ≡ cond (eqb space s && eqb p page) None (place_in places s p))
+        → AreRight (give_page st space page) (set uses frame None) (held_given (claim_of (use_in uses frame)) frame held) after
+    given_right space page frame after is placed =
+        let gives = GivesPage-give_page st space page frame sound.laid is in
+        let claim = claims_alike (use_in uses frame) (used_at st frame) (note_at uses st.used right.notes frame) in
+        let long = length-held_given (claim_of (use_in uses frame)) frame held in
+        let also = ap length gives.held ∙ length-held_given (claim_in (used_at st frame)) frame st.held in
+        record {
+          notes = notes-set uses st.used right.notes frame None None refl ∙ ap (map (option_map noted)) (sym gives.used);
+          pages = λ f u at. let before = unset_before uses frame f None (Some u) (none-some u) at in (gives.pages u.page.space u.page.page f).1 (before.0, right.pages f u before.1);
+          places_are = λ s p. placed s p ∙ ap (cond (eqb space s && eqb p page) None) (right.places_are s p) ∙ sym (frame_of-give_page st space page frame sound.laid is s p);
+          hands = λ c.
+              ap (λ o. get_or (held_given o frame held) c None) claim ∙ hands_given (claim_in (used_at st frame)) frame refl c
+              ∙ sym (ap (λ h. get_or h c None) gives.held);
+          room = omega (arith, right.room, long, also);
+        }
+
+    -- a page gives its frame up
+    pub AreRight-given : (space page frame : ℕ) (after : List (BTreeMap ℕ ℕ)) → place_in places space page ≡ Some frame
+        → ((s p : ℕ) → place_in after s p ≡ cond (eqb space s && eqb p page) None (place_in places s p))
+        → AreRight (give_if_used space st page) (set uses frame None) (held_given (claim_of (use_in uses frame)) frame held) after
+    AreRight-given space page frame after at placed =
+        let is : frame_of st space page ≡ Some frame = sym (right.places_are space page) ∙ at in
+        subst (λ s. AreRight s (set uses frame None) (held_given (claim_of (use_in uses frame)) frame held) after) (sym (give_if_used-some st space page frame is))
+        (given_right space page frame after is placed)
+
+    -- and one that has none does nothing
+    pub AreRight-not_given : (space page : ℕ) (after : List (BTreeMap ℕ ℕ)) → place_in places space page ≡ None
+        → ((s p : ℕ) → place_in after s p ≡ cond (eqb space s && eqb p page) None (place_in places s p))
+        → AreRight (give_if_used space st page) uses held after
+    AreRight-not_given space page after at placed =
+        subst (λ s. AreRight s uses held after) (sym (give_if_used-none st space page (sym (right.places_are space page) ∙ at)))
+        (record {
+          notes = right.notes;
+          pages = right.pages;
+          places_are = λ s p. placed s p ∙ elim (cases_Bool (eqb space s && eqb p page)) [
+            | inl here ↦
+                let parts = and_parts _ _ here in
+                let none : place_in places s p ≡ None =
+                subst (λ q. place_in places s q ≡ None) (sym (eqb-true p page parts.1)) (subst (λ t. place_in places t page ≡ None) (eqb-true space s parts.0) at) in
+                cond-true _ _ _ here ∙ sym none ∙ right.places_are s p
+            | inr other ↦ cond-false _ _ _ other ∙ right.places_are s p
+          ];
+          hands = right.hands;
+          room = right.room;
+        })
+
+-- The start.
+
+notes-none : (n : ℕ) → map (option_map note_of) (replicate n None) ≡ map (option_map noted) (replicate n None)
+notes-none zero = refl
+notes-none (suc n) = ap (λ ns. None ∷ ns) (notes-none n)
+
+pub AreRight-start : (z : SizeSet) (frames processors hands : ℕ) (places : List (BTreeMap ℕ ℕ)) → processors ≤ hands → ((s p : ℕ) → place_in places s p ≡ None)
+    → AreRight (start_frames z frames processors) (replicate frames None) (replicate hands None) places
+AreRight-start z frames processors hands places few none = record {
+  notes = notes-none frames;
+  pages = λ f u is. absurd (none-some u (sym (get_or-alike frames f None) ∙ is));
+  places_are = λ s p. none s p ∙ sym (frame_of-start z frames processors s p);
+  hands = λ c. get_or-alike hands c None ∙ sym (get_or-alike processors c None);
+  room =
+      let one : length (replicate {A = Option ℕ} processors None) ≡ processors = length-replicate processors None in
+      let two : length (replicate {A = Option ℕ} hands None) ≡ hands = length-replicate hands None in
+      omega (arith, few, one, two);
+}
+
+-- Answers and ranges.
+
+-- an answer that the frames allow is of an evict
+pub answer-some : (st : FrameState) (space : ℕ) (call : Call) (page : ℕ) → Some page ≡ evicted call → AllowsAnswer st space call → give_if_used space st page ≡ moved_by_answer st space call
+answer-some st space (Evict s p) page is allowed =
+    ap (give_if_used space st) (same_Some page p is) ∙ give_if_used-some st space p allowed.0 allowed.1
+answer-some st space (Map s p len kind rights) page is allowed = absurd allowed
+answer-some st space (Grow s p by) page is allowed = absurd allowed
+answer-some st space (Unmap s p) page is allowed = absurd allowed
+answer-some st space (Protect s p len rights) page is allowed = absurd allowed
+answer-some st space (Load s address) page is allowed = absurd allowed
+answer-some st space (Store s address word) page is allowed = absurd allowed
+answer-some st space (Sync s p) page is allowed = absurd allowed
+
+pub answer-none : (st : FrameState) (space : ℕ) (call : Call) → None ≡ evicted call → AllowsAnswer st space call → ⊥
+answer-none st space (Evict s p) is allowed = none-some p is
+answer-none st space (Map s p len kind rights) is allowed = allowed
+answer-none st space (Grow s p by) is allowed = allowed
+answer-none st space (Unmap s p) is allowed = allowed
+answer-none st space (Protect s p len rights) is allowed = allowed
+answer-none st space (Load s address) is allowed = allowed
+answer-none st space (Store s address word) is allowed = allowed
+answer-none st space (Sync s p) is allowed = allowed
+
+-- the lowest page of a range with a frame may give it up first
+pub lowest-gives : (frames processors : ℕ) (st : FrameState) (uses : List (Option Use)) (held : List (Option ℕ)) (places : List (BTreeMap ℕ ℕ)) (space first len page : ℕ)
+    → IsSound frames processors st → AreRight st uses held places → in_range first len page ≡ true → IsSome (place_in places space page)
+    → ((p : ℕ) → p < page → in_range first len p ≡ true → place_in places space p ≡ None)
+    → give_range (give_if_used space st page) space first len ≡ give_range st space first len
+lowest-gives frames processors st uses held places space first len page sound right within some lowest =
+    let found = some_from_is_some (place_in places space page) some in
+    let is : frame_of st space page ≡ Some found.0 = sym (right.places_are space page) ∙ found.1 in
+    ap (λ s. give_range s space first len) (give_if_used-some st space page found.0 is)
+    ∙ give_range-lowest frames processors space page found.0 st sound is first len within (λ p below in_it. sym (right.places_are space p) ∙ lowest p below in_it)
