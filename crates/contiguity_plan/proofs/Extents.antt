@@ -1,8 +1,8 @@
 -- Extents by their numbers, ranges with one number more, and what emptying costs.
 use Rattle.std.proofs.Common.{◌≡◌, ◌≤◌, ◌<◌, ℕ, zero, suc, ◌+◌, ◌-◌, ◌*◌, ◌/◌, ◌%◌, Bool, true, false, cond, not, List, [], ◌∷◌, ◌++◌, count_by, Option, Some, None, inl, inr, refl, sym, ap, subst, ◌∙◌, arith}
-use Rattle.std.specs.List.{range_with_len, list_all, flat_map}
+use Rattle.std.specs.List.{range_with_len, list_all}
 use Rattle.std.proofs.Math.Nat.{mul_comm, mul-suc, mul-le-mul_left, mul-div-le, div-add-mod, lt-mul-div-succ}
-use Rattle.std.proofs.lemmas.Bool.{cases_Bool, cases_lt, cond-true, cond-false, false≢true, not-true}
+use Rattle.std.proofs.lemmas.Bool.{cases_Bool, cases_lt, cond-true, cond-false, false≢true}
 use Rattle.std.proofs.lemmas.Grind.{flat_map-append}
 use Rattle.std.proofs.lemmas.List.{append-nil}
 use Rattle.std.proofs.lemmas.List.Concat.{flat_map-cons}
@@ -26,8 +26,7 @@ pub number_of : (first count frames : ℕ) → 0 < count → first % count ≡ 0
 number_of first count frames some aligned within =
     let parts = div-add-mod first count in
     let swapped = mul_comm (first / count) count in
-    let is : first / count * count ≡ first = omega (arith, parts, swapped, aligned) in
-    (
+    let is : first / count * count ≡ first = omega (arith, parts, swapped, aligned) in (
       elim (cases_lt (first / count) (frames / count)) [
         | inl below ↦ below
         | inr past ↦

@@ -1,7 +1,7 @@
 -- What a table that is right tells of the frames' state, and so which extent is the cheapest.
-use Rattle.std.proofs.Common.{◌≡◌, ◌≤◌, ◌<◌, ℕ, suc, ◌+◌, ◌*◌, ◌/◌, ◌^◌, Bool, true, false, cond, ◌||◌, not, List, [], ◌∷◌, ◌++◌, get_or, map, filter, count_by, is_some, option_map, Option, Some, None, inl, inr, refl, sym, ap, subst, ◌∙◌, arith}
+use Rattle.std.proofs.Common.{◌≡◌, ◌≤◌, ◌<◌, ℕ, suc, ◌*◌, ◌/◌, ◌^◌, Bool, true, false, ◌||◌, not, List, [], ◌∷◌, ◌++◌, get_or, map, filter, count_by, is_some, option_map, Option, Some, None, inl, inr, refl, sym, ap, subst, ◌∙◌, arith}
 use Rattle.std.specs.BTreeMap.{BTreeMap}
-use Rattle.std.specs.List.{range_with_len, list_all, list_any, flat_map}
+use Rattle.std.specs.List.{range_with_len, list_all, list_any}
 use Rattle.std.proofs.Math.Nat.{mul_comm, mul-le-mul_left, mul-mod_left}
 use Rattle.std.proofs.lemmas.Bool.{cases_Bool, cond-true, cond-false}
 use Rattle.std.proofs.lemmas.List.Concat.{flat_map-cons}
@@ -86,14 +86,13 @@ module _ (st : FrameState) (uses : List (Option Use)) (held : List (Option ℕ))
     numbered : (first : ℕ) → MayBeEmptied st frames k first
         → (n : ℕ) × (n < frames / 8 ^ k) × (n * 8 ^ k ≡ first) × (emptying (stays uses held) (has_use uses) (n * 8 ^ k) (8 ^ k) ≡ Some (cost_of st k first))
     numbered first may =
-        let at = number_of first (8 ^ k) frames (eight_pos k) may.extent.1 may.within in
-        (
+        let at = number_of first (8 ^ k) frames (eight_pos k) may.extent.1 may.within in (
           first / 8 ^ k,
           at.0,
           at.1,
           costs_are (first / 8 ^ k * 8 ^ k) (8 ^ k)
-          ∙ ap (λ f. emptying (is_fixed st) (is_used_frame st) f (8 ^ k)) at.1
-          ∙ cond-true _ (Some (cost_of st k first)) None may.loose,
+              ∙ ap (λ f. emptying (is_fixed st) (is_used_frame st) f (8 ^ k)) at.1
+              ∙ cond-true _ (Some (cost_of st k first)) None may.loose,
         )
 
     -- where none has a cost, none may be emptied
@@ -127,7 +126,7 @@ pub planned-by : (st : FrameState) (uses : List (Option Use)) (held : List (Opti
     → IsCheapest st frames k (number * count) × AreItsPages st k (number * count) (pages_in uses (range_with_len (number * count) count))
 planned-by st uses held places right frames k count number cost small is best =
     subst (λ n. IsLeast (λ m. emptying (stays uses held) (has_use uses) (m * n) n) (frames / n) number cost
-        → IsCheapest st frames k (number * n) × AreItsPages st k (number * n) (pages_in uses (range_with_len (number * n) n))) (sym is)
+    → IsCheapest st frames k (number * n) × AreItsPages st k (number * n) (pages_in uses (range_with_len (number * n) n))) (sym is)
     (λ least. (planned-some st uses held places right frames k small number cost least, planned-pages st uses held places right frames k small (number * 8 ^ k))) best
 
 pub planned-nothing : (st : FrameState) (uses : List (Option Use)) (held : List (Option ℕ)) (places : List (BTreeMap ℕ ℕ)) → AreRight st uses held places

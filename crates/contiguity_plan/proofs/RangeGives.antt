@@ -1,8 +1,8 @@
 -- A range of pages that give their frames up, from the lowest page with a frame on.
-use Rattle.std.proofs.Common.{◌≡◌, ◌≢◌, ◌≤◌, ◌<◌, ℕ, zero, suc, ◌+◌, Bool, true, false, cond, eqb, leb, ltb, ◌&&◌, fold, is_some, Option, Some, None, inl, inr, refl, sym, ap, subst, ◌∙◌, arith}
+use Rattle.std.proofs.Common.{◌≡◌, ◌≤◌, ◌<◌, ℕ, zero, suc, ◌+◌, Bool, true, false, cond, eqb, leb, ltb, ◌&&◌, fold, is_some, Option, Some, None, inl, inr, refl, sym, ap, ◌∙◌, arith}
 use Rattle.std.specs.List.{range_with_len}
-use Rattle.std.proofs.lemmas.Bool.{cases_Bool, cases_eq, and_parts, and_from, cond-true, cond-false, eq-eqb, le-leb, lt-ltb, leb-true, ltb-true}
-use Rattle.pager_model.specs.FrameStates.{FrameState, frame_of, layout_of, give_page, give_if_used, give_range}
+use Rattle.std.proofs.lemmas.Bool.{cases_eq, and_parts, and_from, cond-true, eq-eqb, le-leb, lt-ltb, leb-true, ltb-true}
+use Rattle.pager_model.specs.FrameStates.{FrameState, frame_of, give_page, give_if_used, give_range}
 use Rattle.pager_model.specs.Regions.{in_range}
 use Rattle.pager_laws.specs.Laid.{IsSound}
 use Rattle.pager_laws.proofs.PageMoves.{frame_of-give_page}

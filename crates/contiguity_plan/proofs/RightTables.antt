@@ -1,5 +1,5 @@
 -- What each move of the frames does to a table that is right.
-use Rattle.std.proofs.Common.{◌≡◌, ◌≢◌, ◌≤◌, ◌<◌, ◌⊎◌, ℕ, zero, suc, Bool, true, false, cond, eqb, ◌&&◌, List, [], ◌∷◌, length, map, set, get_or, replicate, is_some, option_map, Option, Some, None, IsSome, IsSomeAnd, inl, inr, refl, sym, ap, subst, ◌∙◌, arith}
+use Rattle.std.proofs.Common.{◌≡◌, ◌≢◌, ◌≤◌, ◌<◌, ◌⊎◌, ℕ, zero, suc, true, false, cond, eqb, ◌&&◌, List, ◌∷◌, length, map, set, get_or, replicate, option_map, Option, Some, None, IsSome, IsSomeAnd, inl, inr, refl, sym, ap, subst, ◌∙◌, arith}
 use Rattle.std.specs.BTreeMap.{BTreeMap}
 use Rattle.std.proofs.Math.ListN.{get_or-map}
 use Rattle.std.proofs.lemmas.Bool.{cases_Bool, cases_eq, cases_lt, and_parts, and_from, cond-true, cond-false, eq-eqb, eqb-true}
@@ -10,7 +10,7 @@ use Rattle.pager_model.specs.declared.call.Call.{Call}
 use Rattle.pager_model.specs.declared.call.Call.TheVariants.{Map, Grow, Unmap, Protect, Load, Store, Sync, Evict}
 use Rattle.pager_model.specs.declared.entry.Want.{Want}
 use Rattle.pager_model.specs.declared.reservation.Used.{Used}
-use Rattle.pager_model.specs.FrameStates.{FrameState, Taking, start_frames, layout_of, used_at, held_by, claim_in, frame_of, taken, taking, take_frame, state_taken, held_given, give_page, give_if_used, with_claim, claimed, dropped, dropped_in, counted, give_range, AllowsAnswer, moved_by_answer}
+use Rattle.pager_model.specs.FrameStates.{FrameState, Taking, start_frames, layout_of, used_at, held_by, claim_in, frame_of, taken, take_frame, state_taken, held_given, give_page, give_if_used, with_claim, claimed, dropped, dropped_in, counted, give_range, AllowsAnswer, moved_by_answer}
 use Rattle.pager_model.specs.Layouts.{Placing, placing, frame_in}
 use Rattle.pager_model.specs.Regions.{in_range}
 use Rattle.pager_model.specs.SizeSets.{SizeSet}
@@ -19,7 +19,7 @@ use Rattle.pager_model.proofs.Options.{some_from_is_some}
 use Rattle.pager_laws.specs.Laid.{IsSound}
 use Rattle.pager_laws.proofs.LayoutPlacing.{WasPlaced, WasPlaced-placing}
 use Rattle.pager_laws.proofs.LegalHistories.{frame_of-start}
-use Rattle.pager_laws.proofs.PageMoves.{GivesPage, GivesPage-give_page, frame_of-give_page}
+use Rattle.pager_laws.proofs.PageMoves.{GivesPage-give_page, frame_of-give_page}
 use Rattle.pager_laws.proofs.StateSoundness.{taking_from, layout_of-taken, layout_of-claimed}
 use Rattle.contiguity_plan.specs.declared.plan.PageOf.{PageOf}
 use Rattle.contiguity_plan.specs.declared.table.Use.{Use}
@@ -112,25 +112,25 @@ module _ (st : FrameState) (uses : List (Option Use)) (held : List (Option ℕ))
   pub AreRight-dropped : (c : ℕ) → AreRight (dropped st c) uses (set held c None) places
   AreRight-dropped c = elim (held_by st c) as (λ o. held_by st c ≡ o → AreRight (dropped_in st c o) uses (set held c None) places) [
     | None ↦ λ none. record {
-        notes = right.notes;
-        pages = right.pages;
-        places_are = right.places_are;
-        hands = λ d. elim (cases_eq d c) [
-          | inl same ↦ get_or-set_default held c d None same ∙ sym none ∙ ap (held_by st) (sym same)
-          | inr other ↦ get_or-set_other held c d None None other ∙ right.hands d
-        ];
-        room = let long = length-set held c None in omega (arith, right.room, long);
-      }
+      notes = right.notes;
+      pages = right.pages;
+      places_are = right.places_are;
+      hands = λ d. elim (cases_eq d c) [
+        | inl same ↦ get_or-set_default held c d None same ∙ sym none ∙ ap (held_by st) (sym same)
+        | inr other ↦ get_or-set_other held c d None None other ∙ right.hands d
+      ];
+      room = let long = length-set held c None in omega (arith, right.room, long);
+    }
     | Some frame ↦ λ holds. record {
-        notes = right.notes;
-        pages = right.pages;
-        places_are = right.places_are;
-        hands = λ d. elim (cases_eq d c) [
-          | inl same ↦ get_or-set_default held c d None same ∙ sym (get_or-set_default st.held c d None same)
-          | inr other ↦ get_or-set_other held c d None None other ∙ right.hands d ∙ sym (get_or-set_other st.held c d None None other)
-        ];
-        room = let long = length-set held c None in let also = length-set st.held c None in omega (arith, right.room, long, also);
-      }
+      notes = right.notes;
+      pages = right.pages;
+      places_are = right.places_are;
+      hands = λ d. elim (cases_eq d c) [
+        | inl same ↦ get_or-set_default held c d None same ∙ sym (get_or-set_default st.held c d None same)
+        | inr other ↦ get_or-set_other held c d None None other ∙ right.hands d ∙ sym (get_or-set_other st.held c d None None other)
+      ];
+      room = let long = length-set held c None in let also = length-set st.held c None in omega (arith, right.room, long, also);
+    }
   ] refl
 
   -- a page is placed
@@ -173,15 +173,15 @@ module _ (st : FrameState) (uses : List (Option Use)) (held : List (Option ℕ))
         → AreRight (state_taken st (take_frame st space page want)) (set uses frame (Some (use_for (record { space = space; page = page }) want))) held after
     AreRight-take space page frame want after none placed takes =
         elim (take_frame st space page want) as (λ o. take_frame st space page want ≡ o → IsSomeAnd o (λ t. t.frame ≡ frame)
-            → AreRight (state_taken st o) (set uses frame (Some (use_for (record { space = space; page = page }) want))) held after) [
+        → AreRight (state_taken st o) (set uses frame (Some (use_for (record { space = space; page = page }) want))) held after) [
           | None ↦ λ _ no. absurd no
           | Some t ↦ λ is same.
               let found = taking_from st want (placing st.entries space page want (layout_of st)) t is in
               let was = WasPlaced-placing (layout_of st) st.entries space page want found.0 sound.laid none found.1 in
               subst (λ (u : Taking). u.frame ≡ frame → AreRight u.state (set uses frame (Some (use_for (record { space = space; page = page }) want))) held after) found.2
               (λ at. subst (λ f. ((s p : ℕ) → place_in after s p ≡ cond (eqb space s && eqb p page) (Some f) (place_in places s p))
-                  → AreRight (taken st want found.0) (set uses f (Some (use_for (record { space = space; page = page }) want))) held after) at
-                (taken_right space page want found.0 after none was) placed)
+              → AreRight (taken st want found.0) (set uses f (Some (use_for (record { space = space; page = page }) want))) held after) at
+              (taken_right space page want found.0 after none was) placed)
               same
         ] refl takes
 

@@ -21,6 +21,7 @@ use std::alloc::Global;
 
 /// The largest numbers of spaces and of processors, the daemon with them.
 const SPACES: u32 = 16;
+
 const PROCESSORS: usize = 17;
 
 /// The page that uses a frame, whether its region is wired, and which processor claims the frame.

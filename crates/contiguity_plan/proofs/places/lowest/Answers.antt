@@ -1,5 +1,4 @@
-use Rattle.std.proofs.Common.{◌≡◌, ℕ, IsSome, sym, ◌∙◌, subst}
-use Rattle.std.proofs.lemmas.Option.{IfSome_then}
+use Rattle.std.proofs.Common.{IsSome, sym, ◌∙◌, subst}
 use Rattle.contiguity_plan.proofs.PlaceLemmas.{place_in-is, IfSome-mapped, IfNone-mapped}
 use Rattle.contiguity_plan.proofs.places.lowest.Goals as goal
 

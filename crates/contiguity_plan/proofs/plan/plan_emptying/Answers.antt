@@ -1,4 +1,4 @@
-use Rattle.std.proofs.Common.{◌≡◌, ◌≤◌, [], length, sym, subst}
+use Rattle.std.proofs.Common.{[], length, sym, subst}
 use Rattle.pager_model.specs.FrameStates.{start_frames}
 use Rattle.pager_model.specs.Legal.{frames_at, entries_in}
 use Rattle.contiguity_plan.specs.Tables.{IsRight}

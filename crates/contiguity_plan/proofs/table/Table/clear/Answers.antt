@@ -11,8 +11,7 @@ pub loop-page-preserved : goal.loop-page-preserved
 loop-page-preserved c = record {
   spaces = c.give.ensures.spaces ∙ c.loop-page.invariant.spaces;
   right = λ frames processors st sound right.
-      let now = c.loop-page.invariant.right frames processors st sound right in
-      (
+      let now = c.loop-page.invariant.right frames processors st sound right in (
         give_if_used c.args.space now.0 c.in-Some.page,
         IsSound-give_if_used frames processors now.0 c.args.space c.in-Some.page now.1,
         c.give.ensures.right frames processors now.0 now.1 now.2,
@@ -20,7 +19,7 @@ loop-page-preserved c = record {
             c.args.space c.args.first c.args.count c.in-Some.page now.1 now.2 c.in-Some.ensures.within
             (subst (λ ps. IsSome (place_in ps c.args.space c.in-Some.page)) c.deref.ensures.value c.in-Some.ensures.some)
             (λ p below within. ap (λ ps. place_in ps c.args.space p) (sym c.deref.ensures.value) ∙ c.in-Some.ensures.lowest p below within)
-        ∙ now.3,
+            ∙ now.3,
       );
 }
 
