@@ -4,3 +4,4 @@ pub mod RightTables
 pub mod Extents
 pub mod Planned
 pub mod Followed
+pub mod Emptied

@@ -1,9 +1,9 @@
 //! The cheapest extent of a size after a history.
 
-ghost use Rattle.std.specs.Prelude.{◌≤◌, IfOk};
+ghost use Rattle.std.specs.Prelude.{◌≤◌, IfOk, IfSome};
 ghost use Rattle.pager_model.specs.Legal.{entries_in, frames_at};
 ghost use Rattle.pager_model.specs.Settings.{Given};
-ghost use Rattle.contiguity_plan.specs.Emptying.{IsOver, IsPlanned};
+ghost use Rattle.contiguity_plan.specs.Emptying.{IsOver, IsPlanned, Empties};
 
 use crate::table::Table;
 use pager_model::{Extent, NoMemory, Numbered, Size};
@@ -35,6 +35,8 @@ pub fn plan_emptying(
     requires legal { (g : Given) × IsOver frames g (entries_in history.now) }
     ensures planned { IfOk result (λ plan. (g : Given) → IsOver frames g (entries_in history.now)
         → IsPlanned (frames_at g (entries_in history.now)) frames size plan) }
+    ensures empties { IfOk result (λ plan. (g : Given) → IsOver frames g (entries_in history.now)
+        → IfSome plan (Empties (frames_at g (entries_in history.now)))) }
 {
     let mut table = Table::create(alloc, frames)?;
     table.follow(history)?;
