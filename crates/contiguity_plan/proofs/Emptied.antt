@@ -1,14 +1,14 @@
 -- What carrying out a plan does: after its pages gave their frames up each frame of its extent is free or an unused place.
-use Rattle.std.proofs.Common.{◌≡◌, ◌≢◌, ◌≤◌, ◌<◌, ℕ, zero, suc, ◌+◌, ◌^◌, Bool, true, false, cond, ◌||◌, not, eqb, List, [], ◌∷◌, get_or, set, map, filter, fold, count_by, is_some, Option, Some, None, IfSome, inl, inr, refl, sym, ap, subst, ◌∙◌, arith}
-use Rattle.std.specs.List.{range_with_len, list_all, list_any}
+use Rattle.std.proofs.Common.{◌≡◌, ◌≢◌, ◌≤◌, ◌<◌, ℕ, zero, suc, ◌+◌, ◌^◌, Bool, true, false, ◌||◌, not, List, [], ◌∷◌, get_or, map, filter, count_by, is_some, Option, Some, None, IfSome, inl, inr, refl, sym, ap, subst, ◌∙◌, arith}
+use Rattle.std.specs.List.{range_with_len, list_any}
 use Rattle.std.specs.List.Sorted.{IsPermutation}
-use Rattle.std.proofs.lemmas.Bool.{cases_Bool, cases_eq, cond-true, cond-false, eq-eqb, eqb-true, ne_eqb, false≢true}
+use Rattle.std.proofs.lemmas.Bool.{cases_Bool, cases_eq, cond-true, cond-false, eq-eqb, ne_eqb, false≢true}
 use Rattle.std.proofs.lemmas.List.{get_or-set_other}
 use Rattle.std.proofs.lemmas.List.Sorted.{sum_by-IsPermutation}
 use Rattle.std.proofs.lemmas.List.Sums.{sum_by-cons}
-use Rattle.std.proofs.lemmas.Option.{none-some, same_Some}
+use Rattle.std.proofs.lemmas.Option.{none-some}
 use Rattle.pager_model.specs.Agreement.{has_frame}
-use Rattle.pager_model.specs.FrameStates.{FrameState, layout_of, used_at, held_by, claim_in, frame_of, held_given, give_page, is_wired_place, is_claimed_place}
+use Rattle.pager_model.specs.FrameStates.{FrameState, used_at, held_by, claim_in, frame_of, held_given, give_page, is_wired_place, is_claimed_place}
 use Rattle.pager_model.specs.Options.{is_that}
 use Rattle.pager_model.proofs.CountLemmas.{weight}
 use Rattle.pager_model.proofs.Lists.{get_or-set_default}
@@ -118,9 +118,8 @@ module _ (frames processors : ℕ) (st : FrameState) (p : PageOf) (f : ℕ) (sou
       let split = count-cons (λ (r : PageOf). is_that f (frame_of st r.space r.page)) q qs in
       let g = loose.0 in
       let other : g ≢ f = λ same.
-          (let mine : weight (is_that f (frame_of st q.space q.page)) ≡ 1 = ap (λ o. weight (is_that f o)) (loose.1 ∙ ap Some same) ∙ ap weight (eq-eqb f f refl) in
-          absurd (omega (arith, apart, split, mine))) in
-      (
+      (let mine : weight (is_that f (frame_of st q.space q.page)) ≡ 1 = ap (λ o. weight (is_that f o)) (loose.1 ∙ ap Some same) ∙ ap weight (eq-eqb f f refl) in
+      absurd (omega (arith, apart, split, mine))) in (
         g,
         (gives.pages q.space q.page g).1 (other, loose.1),
         ap claim_in (other_used g other) ∙ loose.2,
@@ -192,8 +191,7 @@ once_in used f a (suc n) = elim (cases_Bool (used a)) [
   | inr fails ↦
       let rest = filter used (range_with_len (a + 1) n) in
       let split = ap (λ l. count_by (is_that f) (map Some l)) (cond-false (used a) (a ∷ rest) rest fails) in
-      let later = once_in used f (a + 1) n in
-      (
+      let later = once_in used f (a + 1) n in (
         omega (arith, split, later.0),
         λ low high is.
             let other : a ≢ f = λ same. false≢true (sym fails ∙ ap used same ∙ is) in
@@ -246,8 +244,8 @@ module _ (frames processors : ℕ) (st : FrameState) (sound : IsSound frames pro
   emptied order frame permuted low high =
       let used = is_used_frame st in
       let loose = AreLoose-from st order
-          (λ f. let same = counted_in (is_that f) order permuted in let one = (once_in used f first (8 ^ k)).0 in omega (arith, same, one))
-          (counted_in (is_bad st) order permuted ∙ good_in used (is_bad st) first (8 ^ k) (λ f low high. (loose_at f low high).0)) in
+      (λ f. let same = counted_in (is_that f) order permuted in let one = (once_in used f first (8 ^ k)).0 in omega (arith, same, one))
+      (counted_in (is_bad st) order permuted ∙ good_in used (is_bad st) first (8 ^ k) (λ f low high. (loose_at f low high).0)) in
       let all = GivenUp-all frames processors order st sound loose in
       let after = given_up st order in
       let unused : used_at after frame ≡ None = by_use (used_at st frame) refl all in

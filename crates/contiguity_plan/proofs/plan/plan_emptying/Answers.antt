@@ -17,10 +17,10 @@ pub returns : goal.returns
 returns c =
     let history = entries_in c.args.history.now in
     let planned = λ (g : Given) (over : IsOver c.args.frames g history).
-        (let begun : IsRight (frames_at g []) c.in_ok-table.table =
-        subst (λ n. IsRight (start_frames g.sizes n (length g.marks)) c.in_ok-table.table) (sym over.frames_are)
-        (c.in_ok-table.ensures.right g.sizes (length g.marks) over.processors) in
-        c.in_ok-planned.ensures (frames_at g history) (c.in_ok-follow.ensures.right g over.legal begun)) in
+    (let begun : IsRight (frames_at g []) c.in_ok-table.table =
+    subst (λ n. IsRight (start_frames g.sizes n (length g.marks)) c.in_ok-table.table) (sym over.frames_are)
+    (c.in_ok-table.ensures.right g.sizes (length g.marks) over.processors) in
+    c.in_ok-planned.ensures (frames_at g history) (c.in_ok-follow.ensures.right g over.legal begun)) in
     record {
       planned = planned;
       empties = λ g over.
