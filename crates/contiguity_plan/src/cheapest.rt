@@ -28,11 +28,11 @@ fn is_that(hand: &Option<u32>, frame: u32) -> bool
 }
 
 /// Whether the page is wired or a processor claims its frame.
-fn is_kept(use_: Option<Use>) -> bool
-    ensures { result ≡ is_kept use_ }
+fn is_kept(used: Option<Use>) -> bool
+    ensures { result ≡ is_kept used }
 {
-    match use_ {
-        Some(use_) => use_.wired || use_.claim.is_some(),
+    match used {
+        Some(used) => used.wired || used.claim.is_some(),
         None => false,
     }
 }
@@ -110,11 +110,11 @@ pub(crate) fn cheapest(
 }
 
 /// One page more, where there is one.
-fn push_page(pages: &mut Vec<PageOf>, use_: Option<Use>) -> Result<(), NoMemory>
-    ensures { OnOk result (pages.new.items ≡ pages.old.items ++ page_list use_) }
+fn push_page(pages: &mut Vec<PageOf>, used: Option<Use>) -> Result<(), NoMemory>
+    ensures { OnOk result (pages.new.items ≡ pages.old.items ++ page_list used) }
 {
-    if let Some(use_) = use_ {
-        pages.push(use_.page)?;
+    if let Some(used) = used {
+        pages.push(used.page)?;
     }
     Ok(())
 }

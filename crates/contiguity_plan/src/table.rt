@@ -77,21 +77,21 @@ fn hand_over(held: &mut Vec<Option<u32>>, claim: Option<u32>, frame: u32)
 }
 
 /// The processor that claims the frame of a use.
-fn claim_of(use_: Option<Use>) -> Option<u32>
-    ensures { result ≡ claim_of use_ }
+fn claim_of(used: Option<Use>) -> Option<u32>
+    ensures { result ≡ claim_of used }
 {
-    match use_ {
-        Some(use_) => use_.claim,
+    match used {
+        Some(used) => used.claim,
         None => None,
     }
 }
 
 /// The use with this claim.
-fn reclaimed(use_: Option<Use>, claim: Option<u32>) -> Option<Use>
-    ensures { result ≡ reclaimed claim use_ }
+fn reclaimed(used: Option<Use>, claim: Option<u32>) -> Option<Use>
+    ensures { result ≡ reclaimed claim used }
 {
-    match use_ {
-        Some(use_) => Some(Use { claim, ..use_ }),
+    match used {
+        Some(used) => Some(Use { claim, ..used }),
         None => None,
     }
 }
