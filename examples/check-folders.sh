@@ -15,9 +15,14 @@ case ${1-} in
         exit 2
         ;;
 esac
+if [ ! -x "$program" ] || [ -d "$program" ]; then
+    printf 'check-folders.sh: no program at %s\n0 passed, 0 failed\n' "$program" >&2
+    exit 1
+fi
 made=$(mktemp -d) || exit 1
 trap 'rm -rf "$made"' EXIT
-trap 'exit 1' HUP INT TERM
+trap 'exit 1' HUP TERM
+trap 'echo "check-folders.sh: interrupted" >&2; exit 130' INT
 cd "$made" || exit 1
 passed=0
 failed=0

@@ -29,7 +29,8 @@ fi
 
 made=$(mktemp -d) || exit 1
 trap 'rm -rf "$made"' EXIT
-trap 'exit 1' HUP INT TERM
+trap 'exit 1' HUP TERM
+trap 'echo "check.sh: interrupted" >&2; exit 130' INT
 passed=0
 failed=0
 # A word that is no UTF-8, for `cases`.

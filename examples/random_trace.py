@@ -1,11 +1,15 @@
-"""Prints a random trace in which every call has its turn and frames soon run short.
-
-    python3 examples/random_trace.py SEED CALLS FRAMES PROCESSORS SPACES LOADS >random.trace
-
-It begins with LOADS loads of as many pages, so that few frames are left, and has CALLS more calls, and a few beyond them where the last
-draw is a run of loads. Equal words give equal bytes. CALLS and LOADS are at most 130000 each, so that there are no more calls than a trace
-may have.
-"""
+#!/bin/sh
+''':'
+# The shell reads these lines and Python the others. Python doesn't start where its input is a folder, and tells of an interrupt in its own
+# words until `common` is there: until then there is none.
+if [ -d /dev/stdin ]; then
+    echo "${0##*/}: the input can't be read: Is a directory" >&2
+    exit 1
+fi
+trap '' INT
+exec python3 "$0" "$@"
+'''
+# Prints a random trace in which every call has its turn and frames soon run short. `random_trace.py --help` says how.
 import argparse
 import os
 import random
@@ -13,6 +17,16 @@ import sys
 
 sys.path.insert(0, os.path.join(os.path.dirname(os.path.abspath(__file__)), os.pardir, 'tools'))
 from common import end, number_in  # noqa: E402: it stands beside the tools
+
+HELP = """\
+Prints a random trace in which every call has its turn and frames soon run short.
+
+    examples/random_trace.py SEED CALLS FRAMES PROCESSORS SPACES LOADS >random.trace
+
+It begins with LOADS loads of as many pages, so that few frames are left, and has CALLS more calls, and a few beyond them where the last
+draw is a run of loads. Equal words give equal bytes. CALLS and LOADS are at most 130000 each, so that there are no more calls than a trace
+may have.
+"""
 
 PAGE = 8192
 PAGES = 700
@@ -71,7 +85,7 @@ def some_calls(r, processor, space):
 
 def main():
     """Prints the trace that the words draw."""
-    parser = argparse.ArgumentParser('random_trace.py', description=__doc__, formatter_class=argparse.RawDescriptionHelpFormatter)
+    parser = argparse.ArgumentParser('random_trace.py', description=HELP, formatter_class=argparse.RawDescriptionHelpFormatter)
     parser.add_argument('seed', metavar='SEED', type=number_in(0, 2 ** 64 - 1))
     parser.add_argument('calls', metavar='CALLS', type=number_in(0, MOST))
     parser.add_argument('frames', metavar='FRAMES', type=number_in(512, 32768, 512))

@@ -5,7 +5,7 @@ import re
 import signal
 import sys
 from contextlib import suppress
-from subprocess import SubprocessError
+from subprocess import CalledProcessError, SubprocessError
 from typing import Callable, NoReturn, Optional
 
 # Until `end` calls a tool's main function an interrupt ends it without a word: Python would tell which module it was reading.
@@ -26,7 +26,7 @@ def tool_name() -> str:
 
 def program_at(given: Optional[str] = None) -> str:
     """The path of the program that is given, or else of the built one."""
-    program = os.path.abspath(given) if given else PROGRAM
+    program = PROGRAM if given is None else os.path.abspath(given)
     if not os.path.isfile(program) or not os.access(program, os.X_OK):
         raise Stopped('no program at %s. Build it: `cd crates/superpager && rt run -- order <../../examples/preempted.trace`' % program)
     return program
@@ -41,6 +41,15 @@ def number_in(low: int, high: int, step: int = 1) -> Callable[[str], int]:
             raise argparse.ArgumentTypeError('%r is not %s from %d to %d' % (text, kind, low, high))
         return int(text)
     return number
+
+
+def cause_of(why: Exception) -> str:
+    """What is said where the system refused something, without the system's number of it, or where a command failed."""
+    if isinstance(why, OSError) and why.strerror:
+        return why.strerror if why.filename is None else '%s: %r' % (why.strerror, why.filename)
+    if isinstance(why, CalledProcessError):
+        return '%s ended with status %d' % (why.cmd[0], why.returncode)
+    return str(why)
 
 
 def say(why: object) -> None:
@@ -61,7 +70,7 @@ def status_of(main: Callable[[], int]) -> int:
         say(ended.code)
         return 1
     except (Stopped, OSError, SubprocessError) as why:
-        say(why)
+        say(cause_of(why))
         return 1
     except KeyboardInterrupt:
         say('interrupted')
@@ -78,7 +87,7 @@ def end(main: Callable[[], int]) -> NoReturn:
         sys.stdout.flush()
     except OSError as why:
         if status == 0:
-            say(why)
+            say(cause_of(why))
             status = 1
         # The interpreter must not try again to write what couldn't be written.
         os.dup2(os.open(os.devnull, os.O_WRONLY), sys.stdout.fileno())
