@@ -3,11 +3,11 @@ import argparse
 import functools
 import os
 import stat
-import sys
 import time
 from array import array
 from typing import BinaryIO, Dict, List, Optional, Tuple
 
+from common import say
 from lackey.lines import FORMS, PAGE, SYSTEM_CALL, Access, Changes, Told
 
 MESSAGE = b'=='
@@ -124,7 +124,7 @@ class Reading:
         """Tells how much of the input was read, where that was some seconds ago."""
         if time.monotonic() - self.progressed >= SECONDS:
             self.progressed = time.monotonic()
-            sys.stderr.write('from-lackey: %s\n' % self.share(self.lines, self.bytes))
+            say(self.share(self.lines, self.bytes))
 
 
 def size_of(source: BinaryIO) -> Optional[int]:
