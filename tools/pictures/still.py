@@ -116,7 +116,7 @@ def legend(entries: List[Tuple[str, str]], y: int) -> Tuple[List[str], int]:
     """Colours with their names, in rows, and how far down they reach. No colour is an outline."""
     out, x = [], 0
     for colour, name in entries:
-        wide = 17 + LETTER * len(name) + 12
+        wide = 17 + LETTER * len(name) + 20
         if x and x + wide > layout.WIDTH:
             x, y = 0, y + LINE
         kind = 'k' if colour else 'o'
