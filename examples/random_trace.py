@@ -1,13 +1,6 @@
 #!/bin/sh
 ''':'
-# The shell reads these lines and Python the others. Python doesn't start where its input is a folder, and tells of an interrupt in its own
-# words until `common` is there: until then there is none.
-if [ -d /dev/stdin ]; then
-    echo "${0##*/}: the input can't be read: Is a directory" >&2
-    exit 1
-fi
-trap '' INT
-exec python3 "$0" "$@"
+. "$(dirname "$0")/../tools/start.sh"
 '''
 # Prints a random trace in which every call has its turn and frames soon run short. `random_trace.py --help` says how.
 import argparse
