@@ -1,6 +1,6 @@
 -- In a legal history of a trace each answer is of a call of the trace: a daemon answers none.
 use Rattle.std.proofs.Common.{◌≡◌, ℕ, zero, suc, ◌+◌, ◌-◌, ◌<◌, ◌≤◌, Bool, true, false, ◌&&◌, ◌==◌, if◌then◌else◌, List, [], ◌∷◌, ◌++◌, length, filter, map, replicate, Option, Some, None, refl, sym, ap, inl, inr, ◌∙◌, arith, subst, slice_index_or}
-use Rattle.std.specs.List.{AllByRecursion, enumerate_from, filter_map}
+use Rattle.std.specs.List.{AllByRecursion, enumerate_from}
 use Rattle.std.specs.Option.{option_and_then}
 use Rattle.std.proofs.lemmas.Bool.{cases_Bool, cases_lt, eq-eqb, cond-true, cond-false, true≢false}
 use Rattle.std.proofs.lemmas.List.Elements.{filter-append, filter_map-append, recursion_from_All}
@@ -17,7 +17,7 @@ use Rattle.pager_model.specs.declared.reply.Reply.{Reply}
 use Rattle.pager_model.specs.declared.trace.Daemon.{Daemon}
 use Rattle.pager_model.specs.Entries.{entries_of, is_of}
 use Rattle.pager_model.specs.Legal.{IsLegal, MayFollow, progress_in}
-use Rattle.pager_model.specs.Order.{Doing, Idle, Looking, Claiming, Emptied, Unwritten, Holding, Filling, Unfilling, Progress, Purpose, ForAccess, ForTurn, after_answer, after_claim, after_clear, after_drop, after_failure, after_give, after_got, after_out, after_refusal, after_rest, after_take, after_unclaim, after_use, at_rest, dropped_for, faulted_for, lacking_for, leads, may_answer, progress_after, progress_by, progress_from, progress_of}
+use Rattle.pager_model.specs.Order.{Doing, Idle, Looking, Claiming, Emptied, Unwritten, Holding, Filling, Unfilling, Progress, Purpose, ForAccess, ForTurn, after_answer, after_claim, after_clear, after_drop, after_failure, after_give, after_got, after_out, after_refusal, after_rest, after_take, after_unclaim, after_use, at_rest, leads, may_answer, progress_after, progress_from, progress_of}
 use Rattle.pager_model.specs.Plans.{Plan}
 use Rattle.pager_model.specs.Settings.{Given, mark_of}
 use Rattle.pager_model.specs.Showing.{Shows, answer_in, answers_in, calls_of, daemon_marks, marks_of}

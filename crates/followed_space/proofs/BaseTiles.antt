@@ -1,8 +1,7 @@
 -- The tile of a page by base pages alone.
-use Rattle.std.proofs.Common.{◌≡◌, ℕ, Option, Some, None, refl, sym, ap, ◌∙◌, arith}
+use Rattle.std.proofs.Common.{◌≡◌, ℕ, Option, Some, None, sym, ap, ◌∙◌, arith}
 use Rattle.std.proofs.lemmas.Option.{same_Some}
 use Rattle.pager_model.specs.declared.tile.Mapping.{Mapping}
-use Rattle.pager_model.specs.declared.tile.Tile.{Tile}
 use Rattle.pager_model.specs.Extents.{extent_start}
 use Rattle.pager_model.specs.Tiles.{eligible_at, eligible_with, tile_with}
 use Rattle.tiles.proofs.Eligible.{HasExtent, eligible_is, page_whole}
