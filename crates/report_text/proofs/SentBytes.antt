@@ -1,7 +1,9 @@
 -- Bytes that go out one after another.
 use Rattle.std.proofs.Common.{◌≡◌, ℕ, ◌+◌, ◌<◌, ◌≤◌, inl, inr, List, [], ◌∷◌, ◌++◌, length, take, drop, get_or, flat_map, Option, Some, None, IfSome, Result, Ok, Err, IsErr, ap, sym, subst, ◌∙◌, append_assoc, arith}
+use Rattle.std.specs.List.{range_with_len}
 use Rattle.std.proofs.Math.Seq.{take-append-add}
 use Rattle.std.proofs.lemmas.List.{append-nil, flat_map_more, length-append, take-append-le, take-append-drop, take_more}
+use Rattle.std.proofs.lemmas.List.FromFn.{get_or-range_with_len, length-range_with_len}
 use Rattle.std.proofs.lemmas.Bool.{false≢true}
 use Rattle.std.proofs.lemmas.Grind.{flat_map-append}
 use Rattle.io_core.specs.Faults.{Rose}
@@ -110,3 +112,7 @@ module _ {X : Type 0} (f : X → List ℕ) (xs : List X) (i : ℕ) (x d : X) (wi
   next_failed r {a = a} {c = c} rest fails first part =
       subst (λ l. Puts r a c (and_then l rest)) (ap (λ l. l ++ flat_map f (drop (i + 1) xs)) so_far ∙ all)
       (puts_failed r _ (flat_map f (drop (i + 1) xs) ∷ rest) fails (sent_part _ text first part))
+
+-- the number at a place of a range from 0 on
+pub at_place : (n i : ℕ) → i < n → (i < length (range_with_len 0 n)) × (i ≡ get_or (range_with_len 0 n) i 0)
+at_place n i below = (omega (arith, below, length-range_with_len 0 n), omega (arith, get_or-range_with_len 0 n i 0 below))

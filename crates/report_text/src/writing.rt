@@ -1,6 +1,7 @@
 //! Texts on their way out, in pieces.
 
-ghost use Rattle.std.specs.Prelude.{◌≡◌, [], OnOk, flat_map};
+ghost use Rattle.std.specs.Prelude.{◌≡◌, [], ◌∷◌, OnOk, codes, flat_map};
+ghost use Rattle.pager_model.specs.TraceText.{line_of_words};
 ghost use Rattle.report_text.specs.Lines.{line_text};
 ghost use Rattle.report_text.specs.Writing.{Puts, outgoing};
 
@@ -40,6 +41,18 @@ impl Room {
         Ok(())
     }
 
+    /// Ends a text by its last line, and sends what waits.
+    pub fn finish<K: Sink>(&mut self, sink: &mut K) -> Result<(), WriteFailed>
+        ensures puts { Puts result
+            (outgoing (K.taken sink.old) (K.faults sink.old) self.old.bytes.items)
+            (outgoing (K.taken sink.new) (K.faults sink.new) self.new.bytes.items)
+            (line_of_words (codes "end" ∷ [])) }
+        ensures empty { OnOk result (self.new.bytes.items ≡ []) }
+    {
+        self.put_line(sink, &last_line())?;
+        self.send(sink)
+    }
+
     /// Adds a line. The bytes that wait go out first where there is no room for it.
     pub fn put_line<K: Sink>(&mut self, sink: &mut K, line: &Line) -> Result<(), WriteFailed>
         ensures { Puts result
@@ -68,4 +81,13 @@ impl Room {
         }
         Ok(())
     }
+}
+
+/// The line that ends a text.
+fn last_line() -> Line
+    ensures { line_text result ≡ line_of_words (codes "end" ∷ []) }
+{
+    let mut line = Line::named("end");
+    line.end();
+    line
 }

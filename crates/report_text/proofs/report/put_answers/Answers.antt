@@ -1,16 +1,12 @@
-use Rattle.std.proofs.Common.{ℕ, ◌≡◌, ◌<◌, ◌≤◌, [], List, length, flat_map, get_or, refl, subst, arith}
+use Rattle.std.proofs.Common.{ℕ, ◌≤◌, [], List, length, flat_map, refl, subst, arith}
 use Rattle.std.specs.List.{range_with_len}
 use Rattle.std.proofs.lemmas.List.{take_all}
-use Rattle.std.proofs.lemmas.List.FromFn.{get_or-range_with_len, length-range_with_len}
+use Rattle.std.proofs.lemmas.List.FromFn.{length-range_with_len}
 use Rattle.pager_model.specs.Legal.{entries_in}
 use Rattle.pager_model.specs.PrintedText.{answers_of}
 use Rattle.report_text.specs.Writing.{Sent, outgoing}
-use Rattle.report_text.proofs.SentBytes.{sent_next, next_failed}
+use Rattle.report_text.proofs.SentBytes.{at_place, sent_next, next_failed}
 use Rattle.report_text.proofs.report.put_answers.Goals as goal
-
--- the processor of this place
-at_place : (n i : ℕ) → i < n → (i < length (range_with_len 0 n)) × (i ≡ get_or (range_with_len 0 n) i 0)
-at_place n i below = (omega (arith, below, length-range_with_len 0 n), omega (arith, get_or-range_with_len 0 n i 0 below))
 
 pub returns-in_err-put_answers_of : goal.returns-in_err-put_answers_of
 returns-in_err-put_answers_of g c =

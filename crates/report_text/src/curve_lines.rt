@@ -1,0 +1,77 @@
+//! The text of miss curves.
+
+ghost use Rattle.std.specs.Prelude.{◌≡◌, ◌+◌, ◌^◌, ◌<◌, ◌≤◌, [], ◌∷◌, codes, decimal, flat_map, length, OnOk, OnErr};
+ghost use Rattle.std.specs.List.{range_with_len};
+ghost use Rattle.io_core.specs.Faults.{Rose};
+ghost use Rattle.pager_model.specs.TraceText.{line_of_words};
+ghost use Rattle.report_text.specs.CurveText.{curve_line, curves_text};
+ghost use Rattle.report_text.specs.Lines.{line_text};
+ghost use Rattle.report_text.specs.Writing.{Puts, outgoing};
+ghost use Rattle.report_text.specs.Written.{WroteAll, WrotePart};
+
+use crate::line::Line;
+use crate::writing::Room;
+use io_core::{Sink, WriteFailed};
+
+/// Writes a line for each capacity from 1 on, with its misses by the tiles of a run and by base pages alone, and the end. After a failed write the
+/// sink has taken a beginning of that.
+///
+/// It takes no memory.
+pub fn write_curves<K: Sink>(sink: &mut K, tiles: &[u64], pages: &[u64]) -> Result<(), WriteFailed>
+    requires { length pages.now ≡ length tiles.now }
+    ensures whole { OnOk result (WroteAll (curves_text tiles.now pages.now) (K.taken sink.old) (K.taken sink.new)) }
+    ensures part { OnErr result (WrotePart (curves_text tiles.now pages.now) (K.taken sink.old) (K.taken sink.new)) }
+    ensures rose { OnErr result (Rose (K.faults sink.old) (K.faults sink.new)) }
+{
+    let mut room = Room::new();
+    put_curves(&mut room, sink, tiles, pages)
+}
+
+/// Puts the whole text, and sends it.
+fn put_curves<K: Sink>(
+    room: &mut Room,
+    sink: &mut K,
+    tiles: &[u64],
+    pages: &[u64],
+) -> Result<(), WriteFailed>
+    requires { length pages.now ≡ length tiles.now }
+    ensures puts { Puts result
+        (outgoing (K.taken sink.old) (K.faults sink.old) room.old.bytes.items)
+        (outgoing (K.taken sink.new) (K.faults sink.new) room.new.bytes.items)
+        (curves_text tiles.now pages.now) }
+    ensures empty { OnOk result (room.new.bytes.items ≡ []) }
+{
+    put_capacities(room, sink, tiles, pages)?;
+    room.finish(sink)
+}
+
+/// Puts a line for each capacity.
+fn put_capacities<K: Sink>(
+    room: &mut Room,
+    sink: &mut K,
+    tiles: &[u64],
+    pages: &[u64],
+) -> Result<(), WriteFailed>
+    requires { length pages.now ≡ length tiles.now }
+    ensures { Puts result
+        (outgoing (K.taken sink.old) (K.faults sink.old) room.old.bytes.items)
+        (outgoing (K.taken sink.new) (K.faults sink.new) room.new.bytes.items)
+        (flat_map (curve_line tiles.now pages.now) (range_with_len 0 (length tiles.now))) }
+{
+    for place in 0..tiles.len() {
+        room.put_line(sink, &line_of_capacity(place, tiles[place], pages[place]))?;
+    }
+    Ok(())
+}
+
+/// The line of the capacity at a place, which has so many misses by tiles and by base pages.
+fn line_of_capacity(place: usize, tiles: u64, pages: u64) -> Line
+    requires { place + 1 < 2 ^ 64 }
+    ensures { line_text result ≡ line_of_words (decimal (place + 1) ∷ decimal tiles ∷ decimal pages ∷ []) }
+{
+    let mut line = Line::numbered(place as u64 + 1);
+    line.add_number(tiles);
+    line.add_number(pages);
+    line.end();
+    line
+}
