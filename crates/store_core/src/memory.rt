@@ -136,6 +136,8 @@ fn drop_copies(copies: &mut BTreeMap<u32, Room>, first: u32, length: u32)
 impl Store for MemoryStore {
     ghost seen = { stored_of };
 
+    ghost reads = { λ s. s.reads };
+
     fn read(&mut self, page: u32, words: &mut [u64]) -> Result<(), StoreFailed>
         requires count { length words.old ≡ 1024 }
 
@@ -143,6 +145,7 @@ impl Store for MemoryStore {
         ensures read { IfOk result
             (λ _. (stored_of self.old).tells ≡ true → IfSome (copy_at (stored_of self.old) page) (λ copy. words.new ≡ copy)) }
         ensures same { SameCopies (stored_of self.old) (stored_of self.new) }
+        ensures counted { self.new.reads ≡ one_more self.old.reads }
         ensures rose { OnErr result (Rises self.old.faults self.new.faults) }
         ensures never_falls { self.old.faults ≤ self.new.faults }
         ensures capped { self.new.faults ≤ 2 ^ 64 - 1 }
@@ -177,6 +180,7 @@ impl Store for MemoryStore {
         ensures no_memory { result ≡ Err WriteRefused.NoMemory
             → (keeps_at (stored_of self.old) page ≡ false) × SameCopies (stored_of self.old) (stored_of self.new)
             × (self.new.faults ≡ self.old.faults) }
+        ensures unread { self.new.reads ≡ self.old.reads }
         ensures never_falls { self.old.faults ≤ self.new.faults }
         ensures capped { self.new.faults ≤ 2 ^ 64 - 1 }
 
@@ -208,6 +212,7 @@ impl Store for MemoryStore {
     fn drop_pages(&mut self, first: u32, length: u32)
         // As at any store.
         ensures dropped { DropsCopies first length (stored_of self.old) (stored_of self.new) }
+        ensures unread { self.new.reads ≡ self.old.reads }
 
         // It keeps none of the pages.
         ensures state { self.new ≡ record self.old {

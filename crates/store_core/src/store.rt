@@ -1,8 +1,9 @@
 //! What a backing store does.
 
-ghost use Rattle.std.specs.Prelude.{◌≡◌, ◌-◌, ◌^◌, ◌≤◌, true, false, length, Some, None, IfOk, IfSome, OnErr};
+ghost use Rattle.std.specs.Prelude.{◌≡◌, ℕ, ◌-◌, ◌^◌, ◌≤◌, true, false, length, Some, None, IfOk, IfSome, OnErr};
 ghost use Rattle.pager_model.specs.SpaceStates.{Rises};
 ghost use Rattle.pager_model.specs.Stored.{Stored, copy_at, keeps_at, SameCopies, SetsCopy, DropsCopies, TellsZero};
+ghost use Rattle.store_core.specs.MemoryState.{one_more};
 
 use pager_model::NoMemory;
 
@@ -32,10 +33,14 @@ impl From<NoMemory> for WriteRefused {
 
 /// What keeps a copy of each page of a space. Each page begins with a copy of zero words.
 ///
-/// It counts its faults: a call that fails raises the count, so whoever passes a failure on can show where it came from.
+/// It counts its faults: a call that fails raises the count, so whoever passes a failure on can show where it came from. And it counts its
+/// reads, so whoever says that it read once can be held to it.
 pub trait Store {
     // What contracts see of it.
     ghost seen: { Self → Stored };
+
+    // How many reads there were of it.
+    ghost reads: { Self → ℕ };
 
     /// Reads the copy of a page. Where it fails, or the copy is unknown, `words` may be anything.
     fn read(&mut self, page: u32, words: &mut [u64]) -> Result<(), StoreFailed>
@@ -46,6 +51,7 @@ pub trait Store {
             (λ _. (seen self.old).tells ≡ true → IfSome (copy_at (seen self.old) page) (λ copy. words.new ≡ copy)) }
 
         ensures same { SameCopies (seen self.old) (seen self.new) }
+        ensures counted { reads self.new ≡ one_more (reads self.old) }
         ensures rose { OnErr result (Rises (seen self.old).faults (seen self.new).faults) }
         ensures never_falls { (seen self.old).faults ≤ (seen self.new).faults }
         ensures capped { (seen self.new).faults ≤ 2 ^ 64 - 1 };
@@ -60,12 +66,14 @@ pub trait Store {
         ensures no_memory { result ≡ Err WriteRefused.NoMemory
             → (keeps_at (seen self.old) page ≡ false) × SameCopies (seen self.old) (seen self.new)
             × ((seen self.new).faults ≡ (seen self.old).faults) }
+        ensures unread { reads self.new ≡ reads self.old }
         ensures never_falls { (seen self.old).faults ≤ (seen self.new).faults }
         ensures capped { (seen self.new).faults ≤ 2 ^ 64 - 1 };
 
     /// Makes the copies of `length` pages from `first` on zero.
     fn drop_pages(&mut self, first: u32, length: u32)
-        ensures dropped { DropsCopies first length (seen self.old) (seen self.new) };
+        ensures dropped { DropsCopies first length (seen self.old) (seen self.new) }
+        ensures unread { reads self.new ≡ reads self.old };
 
     /// Whether it says that it tells its copies and that all of them are zero.
     fn told(&self) -> bool

@@ -5,6 +5,8 @@ use Rattle.pager_model.specs.Stored.{Stored}
 pub record FileState : Type 0 where
   -- whether it has its file
   pub opened : Bool
+  -- how many reads there were
+  pub reads : ℕ
   -- how many faults it has had
   pub faults : ℕ
 

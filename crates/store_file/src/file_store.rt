@@ -27,6 +27,7 @@ pub struct FileStore<F> {
     // Nothing where it could not be opened.
     file: Option<F>,
     copied: PageSet,
+    reads: u64,
     faults: u64,
 }
 
@@ -36,7 +37,7 @@ impl<F> Model for FileStore<F> {
 
     ghost Value = { FileState };
 
-    ghost view = { λ s. record { opened = is_some s.file; faults = s.faults } };
+    ghost view = { λ s. record { opened = is_some s.file; reads = s.reads; faults = s.faults } };
 
     ghost invariant = { λ s. s.faults ≤ 2 ^ 64 - 1 };
 }
@@ -44,7 +45,7 @@ impl<F> Model for FileStore<F> {
 impl<F: FileExt + Drop> FileStore<F> {
     /// A store over this file, with no copy and no fault so far. Without a file each write fails.
     pub fn over(alloc: Global, file: Option<F>) -> Result<FileStore<F>, NoMemory>
-        ensures new { IfOk result (λ store. store ≡ record { opened = is_some file; faults = 0 }) }
+        ensures new { IfOk result (λ store. store ≡ record { opened = is_some file; reads = 0; faults = 0 }) }
     {
         let copied = PageSet::create(alloc)?;
         Ok(FileStore::of(file, copied))
@@ -52,11 +53,12 @@ impl<F: FileExt + Drop> FileStore<F> {
 
     /// A store over this file whose pages that have a copy are these.
     fn of(file: Option<F>, copied: PageSet) -> FileStore<F>
-        ensures new { result ≡ record { opened = is_some file; faults = 0 } }
+        ensures new { result ≡ record { opened = is_some file; reads = 0; faults = 0 } }
     {
         FileStore {
             file,
             copied,
+            reads: 0,
             faults: 0,
         }
     }
@@ -99,7 +101,10 @@ fn open_anew<R: Files<File = File>>(rt: &R, path: Path<'_>) -> io::Result<File> 
 impl<F: FileExt + Drop> Store for FileStore<F> {
     ghost seen = { λ s. untold s.faults };
 
+    ghost reads = { λ s. s.reads };
+
     fn read(&mut self, page: u32, words: &mut [u64]) -> Result<(), StoreFailed> {
+        self.reads = self.reads.saturating_add(1);
         match &self.file {
             Some(file) if self.copied.has(page) => {
                 let mut bytes = [0; PAGE_BYTES];
@@ -123,6 +128,7 @@ impl<F: FileExt + Drop> Store for FileStore<F> {
             (λ _. SetsCopy page (Some words.now) (untold self.old.faults) (untold self.new.faults) × (keeps_at (untold self.new.faults) page ≡ true)) }
         ensures failed { result ≡ Err WriteRefused.Failed
             → SetsCopy page None (untold self.old.faults) (untold self.new.faults) × Rises self.old.faults self.new.faults }
+        ensures unread { self.new.reads ≡ self.old.reads }
         ensures never_falls { self.old.faults ≤ self.new.faults }
         ensures capped { self.new.faults ≤ 2 ^ 64 - 1 }
 

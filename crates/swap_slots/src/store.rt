@@ -36,6 +36,7 @@ pub enum PutRefused {
 pub struct SlotStore<B: Blocks> {
     blocks: B,
     table: SlotTable,
+    reads: u64,
     refused: u64,
 }
 
@@ -45,7 +46,7 @@ impl<B: Blocks> Model for SlotStore<B> {
 
     ghost Value = { SlotState };
 
-    ghost view = { λ s. record { device = B.device s.blocks; slots = s.table; refused = s.refused } };
+    ghost view = { λ s. record { device = B.device s.blocks; slots = s.table; reads = s.reads; refused = s.refused } };
 
     ghost invariant = { λ s. (s.table.count ≤ (B.device s.blocks).slots) × (s.refused ≤ 2 ^ 64 - 1) };
 }
@@ -57,6 +58,7 @@ impl<B: Blocks> SlotStore<B> {
         ensures made { IfOk result (λ store. store ≡ record {
           device = B.device blocks;
           slots = record { count = min (B.device blocks).slots 262144; pages = [] };
+          reads = 0;
           refused = 0;
         }) }
         ensures given_back { IfErr result (λ device. device ≡ blocks) }
@@ -65,6 +67,7 @@ impl<B: Blocks> SlotStore<B> {
             Ok(table) => Ok(SlotStore {
                 blocks,
                 table,
+                reads: 0,
                 refused: 0,
             }),
             Err(_) => Err(blocks),
@@ -100,7 +103,8 @@ impl<B: Blocks> SlotStore<B> {
         ensures full { (result ≡ Err PutRefused.SlotsFull) ↔ LacksSlot self.old.slots page }
         ensures full_same { result ≡ Err PutRefused.SlotsFull → self.new ≡ self.old }
 
-        // It counts no refusal of its own, and no two pages have the same slot.
+        // It counts no read and no refusal of its own, and no two pages have the same slot.
+        ensures unread { self.new.reads ≡ self.old.reads }
         ensures refused { self.new.refused ≡ self.old.refused }
         ensures never_falls { self.old.device.faults ≤ self.new.device.faults }
         ensures own { HaveOwnSlots self.old.slots × HaveOwnSlots self.new.slots }
@@ -120,6 +124,8 @@ impl<B: Blocks> SlotStore<B> {
 impl<B: Blocks> Store for SlotStore<B> {
     ghost seen = { stored_slots };
 
+    ghost reads = { λ s. s.reads };
+
     fn read(&mut self, page: u32, words: &mut [u64]) -> Result<(), StoreFailed>
         requires count { length words.old ≡ 1024 }
 
@@ -127,6 +133,7 @@ impl<B: Blocks> Store for SlotStore<B> {
         ensures read { IfOk result
             (λ _. (stored_slots self.old).tells ≡ true → IfSome (copy_at (stored_slots self.old) page) (λ copy. words.new ≡ copy)) }
         ensures same { SameCopies (stored_slots self.old) (stored_slots self.new) }
+        ensures counted { self.new.reads ≡ one_more self.old.reads }
         ensures rose { OnErr result (Rises (stored_slots self.old).faults (stored_slots self.new).faults) }
         ensures never_falls { (stored_slots self.old).faults ≤ (stored_slots self.new).faults }
         ensures capped { (stored_slots self.new).faults ≤ 2 ^ 64 - 1 }
@@ -137,6 +144,7 @@ impl<B: Blocks> Store for SlotStore<B> {
         ensures table { self.new.slots ≡ self.old.slots }
         ensures refused { self.new.refused ≡ self.old.refused }
     {
+        self.reads = self.reads.saturating_add(1);
         let Some(slot) = self.slot_of(page) else {
             words.fill(0);
             return Ok(());
@@ -160,6 +168,7 @@ impl<B: Blocks> Store for SlotStore<B> {
         ensures no_memory { result ≡ Err WriteRefused.NoMemory
             → (keeps_at (stored_slots self.old) page ≡ false) × SameCopies (stored_slots self.old) (stored_slots self.new)
             × ((stored_slots self.new).faults ≡ (stored_slots self.old).faults) }
+        ensures unread { self.new.reads ≡ self.old.reads }
         ensures never_falls { (stored_slots self.old).faults ≤ (stored_slots self.new).faults }
         ensures capped { (stored_slots self.new).faults ≤ 2 ^ 64 - 1 }
 
@@ -192,6 +201,7 @@ impl<B: Blocks> Store for SlotStore<B> {
     fn drop_pages(&mut self, first: u32, length: u32)
         // As at any store.
         ensures dropped { DropsCopies first length (stored_slots self.old) (stored_slots self.new) }
+        ensures unread { self.new.reads ≡ self.old.reads }
 
         // The pages are zero, so their slots are free; nothing else changes.
         ensures count { self.new.slots.count ≡ self.old.slots.count }

@@ -34,7 +34,7 @@ pub returns-in-Err-SlotsFull-clause-failed : goal.returns-in-Err-SlotsFull-claus
 returns-in-Err-SlotsFull-clause-failed g c = λ _.
     let before = c.args.self.now in
     let inside = c.self.inside in
-    let after : SlotState = record { device = g.B.Blocks.device inside.blocks; slots = c.set.new.self; refused = c.saturating_add-self-inside.result } in
+    let after : SlotState = record { device = g.B.Blocks.device inside.blocks; slots = c.set.new.self; reads = inside.reads; refused = c.saturating_add-self-inside.result } in
     let is = c.in-Err-SlotsFull.is ∙ ap (λ e. Err e) c.in-Err-SlotsFull.field-0-is in
     let same = c.self.view_is ∙ c.put.ensures.full_same is in
     let Sets : Slots → Type 0 = λ s. SetsPage c.args.page Lost s after.slots in (
