@@ -35,13 +35,13 @@ use Rattle.tiles.specs.Resident.{large_tiles_meeting}
 use Rattle.tiles.proofs.Cleared.{promotions_cleared, demotions_cleared}
 
 -- A page of the range that is cleared gives its frame up.
-module _ (number : ℕ) (regions : List Region) (t u : Table) (pending : Option ℕ) (was is : Option PageRange) (paged : Option ℕ) (store : Stored) (images : List (List Tile)) (promotions demotions had_broken broken : ℕ)
+module _ (number : ℕ) (regions : List Region) (t u : Table) (pending : Option ℕ) (was is : Option PageRange) (paged : Option ℕ) (store : Stored) (reads : ℕ) (images : List (List Tile)) (promotions demotions had_broken broken : ℕ)
     (first len page : ℕ) (within : in_range first len page ≡ true) (moves : Maps page None t u) where
   abbrev having : Kept
-  having = kept number regions t pending was paged store images promotions demotions had_broken
+  having = kept number regions t pending was paged store reads images promotions demotions had_broken
 
   abbrev lacking : Kept
-  lacking = kept number regions u pending is paged store images promotions demotions broken
+  lacking = kept number regions u pending is paged store reads images promotions demotions broken
 
   frame_gone : frame_in u page ≡ None
   frame_gone = maps_frame page None t u moves page ∙ grind (arith, nat_tests)
@@ -80,7 +80,7 @@ module _ (number : ℕ) (regions : List Region) (t u : Table) (pending : Option 
       record {
         within = within;
         lowest = lowest;
-        gave = record { had = had; same = same_taken; gone = frame_gone; same_others = frame_others };
+        gave = record { had = had; same = same_taken; unread = refl; gone = frame_gone; same_others = frame_others };
         same_pending = refl;
         same_paged = refl;
         stands = λ st s. record {
@@ -114,13 +114,13 @@ module _ (number : ℕ) (regions : List Region) (t u : Table) (pending : Option 
       }
 
 -- The range's pages are all cleared.
-module _ (number : ℕ) (regions : List Region) (t : Table) (was : Option PageRange) (paged : Option ℕ) (store : Stored) (images : List (List Tile)) (promotions demotions had_broken broken : ℕ)
+module _ (number : ℕ) (regions : List Region) (t : Table) (was : Option PageRange) (paged : Option ℕ) (store : Stored) (reads : ℕ) (images : List (List Tile)) (promotions demotions had_broken broken : ℕ)
     (first len : ℕ) (none : (p : ℕ) → in_range first len p ≡ true → frame_in t p ≡ None) where
   abbrev clearing : Kept
-  clearing = kept number regions t None was paged store images promotions demotions had_broken
+  clearing = kept number regions t None was paged store reads images promotions demotions had_broken
 
   abbrev all_cleared : Kept
-  all_cleared = kept number regions t None (Some (range_of first len)) paged store (map (still_tiles all_sizes (mapping_in t)) images) promotions (counted_up demotions broken) broken
+  all_cleared = kept number regions t None (Some (range_of first len)) paged store reads (map (still_tiles all_sizes (mapping_in t)) images) promotions (counted_up demotions broken) broken
 
   frame_cleared : (b : Bool) (o : Option ℕ) (p : ℕ) → (b ≡ true → frame_in t p ≡ None) → (b ≡ false → o ≡ frame_in t p) → (if b then None else o) ≡ frame_in t p
   frame_cleared true o p gone left = sym (gone refl)
@@ -138,6 +138,7 @@ module _ (number : ℕ) (regions : List Region) (t : Table) (was : Option PageRa
         same_pending = refl;
         same_paged = refl;
         same = record { same = record { number = refl; frames = refl; processors = length-map images (still_tiles all_sizes (mapping_in t)); regions = refl; rights = λ p. refl }; frame = λ p. refl };
+        unread = refl;
         stands = λ st c s.
             let after = space_after st (clear_entry c number first len) in
             let clears : Clears first len (pages_of st) (pages_of after) = λ p. said_gone (in_range first len p) (st.flat.dirty p) (st.base p) (region_at st.flat.regions p) (st.flat.rights p) in
@@ -182,9 +183,9 @@ none_below t first len from end page before found p inside below =
     ]
 
 -- A range's clearing goes on, or begins.
-module _ (old : Kept) (number : ℕ) (regions : List Region) (t : Table) (pending : Option ℕ) (is : Option PageRange) (paged : Option ℕ) (store : Stored) (images : List (List Tile)) (promotions demotions broken : ℕ)
-    (first len : ℕ) (begins : BeginsClear old (kept number regions t pending is paged store images promotions demotions broken) first len) where
-  as_begun : old ≡ kept number regions t pending old.clearing paged store images promotions demotions old.broken
+module _ (old : Kept) (number : ℕ) (regions : List Region) (t : Table) (pending : Option ℕ) (is : Option PageRange) (paged : Option ℕ) (store : Stored) (reads : ℕ) (images : List (List Tile)) (promotions demotions broken : ℕ)
+    (first len : ℕ) (begins : BeginsClear old (kept number regions t pending is paged store reads images promotions demotions broken) first len) where
+  as_begun : old ≡ kept number regions t pending old.clearing paged store reads images promotions demotions old.broken
   as_begun = ap (λ (k : Kept). record k { clearing = old.clearing; broken = old.broken }) (sym begins.same)
 
   table_was : old.table ≡ t
@@ -202,11 +203,11 @@ module _ (old : Kept) (number : ℕ) (regions : List Region) (t : Table) (pendin
   -- the lowest resident page gives its frame up
   pub clears_page : (u : Table) (from page frame : ℕ) → first ≤ from → ((p : ℕ) → first ≤ p → p < from → frame_at old p ≡ None) → IsFirstResident t from (first + len) page
       → Maps page None t u → frame_in t page ≡ Some frame
-      → ClearsOne old (kept number regions u pending is paged store images promotions demotions broken) first len page frame
+      → ClearsOne old (kept number regions u pending is paged store reads images promotions demotions broken) first len page frame
   clears_page u from page frame begun before found moves had =
       let within = bounds_in first len page (omega (arith, begun, found.from_on)) found.before_end in
-      subst (λ (k : Kept). ClearsOne k (kept number regions u pending is paged store images promotions demotions broken) first len page frame) (sym as_begun)
-      (clears_one number regions t u pending old.clearing is paged store images promotions demotions old.broken broken first len page within moves frame
+      subst (λ (k : Kept). ClearsOne k (kept number regions u pending is paged store reads images promotions demotions broken) first len page frame) (sym as_begun)
+      (clears_one number regions t u pending old.clearing is paged store reads images promotions demotions old.broken broken first len page within moves frame
       (ap (λ (o : Option PageRange). is_clearing o first len) here ∙ and_from _ _ (eq-eqb first first refl) (eq-eqb len len refl)) begins.went_on counted_first had
       (none_below t first len from (first + len) page (none_before from before) found))
 
@@ -223,7 +224,7 @@ module _ (old : Kept) (number : ℕ) (regions : List Region) (t : Table) (pendin
       )
 
   abbrev all_gone : Option ℕ → Option PageRange → Kept
-  all_gone o range = kept number regions t o range paged store (map (still_tiles all_sizes (mapping_in t)) images) promotions (counted_up demotions broken) broken
+  all_gone o range = kept number regions t o range paged store reads (map (still_tiles all_sizes (mapping_in t)) images) promotions (counted_up demotions broken) broken
 
   -- no page is resident
   pub clears_range : (from : ℕ) → old.pending ≡ None → ((p : ℕ) → first ≤ p → p < from → frame_at old p ≡ None) → NoneFrom t from (first + len)
@@ -236,12 +237,12 @@ module _ (old : Kept) (number : ℕ) (regions : List Region) (t : Table) (pendin
         | inr past ↦ none p past b.1
       ] in
       let empty : pending ≡ None = ap (λ (k : Kept). k.pending) (sym as_begun) ∙ none_pending in
-      let was : old ≡ kept number regions t None old.clearing paged store images promotions demotions old.broken =
-      as_begun ∙ ap (λ (o : Option ℕ). kept number regions t o old.clearing paged store images promotions demotions old.broken) empty in
-      let cleared : ClearsNone (kept number regions t None old.clearing paged store images promotions demotions old.broken) (all_gone None (Some (range_of first len))) first len =
+      let was : old ≡ kept number regions t None old.clearing paged store reads images promotions demotions old.broken =
+      as_begun ∙ ap (λ (o : Option ℕ). kept number regions t o old.clearing paged store reads images promotions demotions old.broken) empty in
+      let cleared : ClearsNone (kept number regions t None old.clearing paged store reads images promotions demotions old.broken) (all_gone None (Some (range_of first len))) first len =
       elim (cases_Bool (is_clearing old.clearing first len)) [
-        | inl on ↦ clears_none number regions t old.clearing paged store images promotions demotions old.broken broken first len inside on (begins.went_on on)
-        | inr off ↦ clears_at_once number regions t old.clearing paged store images promotions demotions old.broken broken first len inside off (counted_first off)
+        | inl on ↦ clears_none number regions t old.clearing paged store reads images promotions demotions old.broken broken first len inside on (begins.went_on on)
+        | inr off ↦ clears_at_once number regions t old.clearing paged store reads images promotions demotions old.broken broken first len inside off (counted_first off)
       ] in
       subst (λ (o : Option ℕ). ClearsNone old (all_gone o is) first len) (sym empty)
       (subst (λ (o : Option PageRange). ClearsNone old (all_gone None o) first len) (sym here)
@@ -296,12 +297,12 @@ module _ (number : ℕ) (regions : List Region) (t u : Table) (page : ℕ) (r : 
       ]
 
   -- and with it the copies of its pages
-  module _ (old new : Stored) (drops : DropsCopies r.first r.length old new) (images : List (List Tile)) (promotions demotions broken : ℕ) where
+  module _ (old new : Stored) (drops : DropsCopies r.first r.length old new) (reads new_reads : ℕ) (unread : new_reads ≡ reads) (images : List (List Tile)) (promotions demotions broken : ℕ) where
     abbrev cleared : Kept
-    cleared = kept number regions t None (Some (range_of r.first r.length)) None old images promotions demotions broken
+    cleared = kept number regions t None (Some (range_of r.first r.length)) None old reads images promotions demotions broken
 
     abbrev left : Kept
-    left = kept number rest u None None None new images promotions demotions broken
+    left = kept number rest u None None None new new_reads images promotions demotions broken
 
     dirty_rest : (dirty : Bool) (p : ℕ) → (has_page p r ≡ false → dirty ≡ dirty_in t p) → (if has_page p r then false else dirty) ≡ dirty_in u p
     dirty_rest dirty p was =
@@ -362,6 +363,7 @@ module _ (number : ℕ) (regions : List Region) (t u : Table) (page : ℕ) (r : 
           same_number = refl;
           same_frames = forgets.count;
           same_processors = refl;
+          unread = unread;
           resting = record { none_pending = refl; none_clearing = refl; none_paged = refl };
           allowed = λ st s c n q found next.
               let e : region_at st.flat.regions page ≡ Some q = ap (λ rs. region_at rs page) s.beside.regions ∙ found in

@@ -27,7 +27,7 @@ use Rattle.space_core.specs.Translating.{CleansPage}
 use Rattle.space_core.proofs.TableLemmas.{dirty_in-absent, cleans_none}
 use Rattle.space_core.proofs.Translations.{Still}
 use Rattle.space_core.proofs.SameView.{next_stands}
-use Rattle.space_core.proofs.SavedCopies.{with_flat, cleaned_resting, cleaned_same, cleaned_out, fails_to_write, leaves_unwritten, none_in, IsSaved, saved, copied_aside, store_frames, store_resting, store_still}
+use Rattle.space_core.proofs.SavedCopies.{with_flat, cleaned_resting, cleaned_same, cleaned_out, fails_to_write, leaves_unwritten, none_in, cleaned_reads, IsSaved, saved, copied_aside, store_frames, store_reads, store_resting, store_still}
 
 -- a page with a region is written where it is dirty
 sync_asked : (o : Option Region) (dirty : Bool) → is_some o ≡ true → sync_reply o dirty ≡ copied_reply dirty
@@ -89,6 +89,7 @@ syncs old mid new c page written resting has saves cleans =
       same_number = same.same.number;
       same_frames = same.same.frames;
       same_processors = same.same.processors;
+      unread = cleaned_reads old mid new page written resting saves cleans;
       resting = cleaned_resting old mid new page written resting saves cleans;
       answers = record {
         allowed = λ st s n. record { reply = allowed_copied st c (Sync old.number page) written (asked st s) tt; parts = refl; hit = refl; size = refl };
@@ -134,6 +135,7 @@ module _ (old new : Kept) (c page : ℕ) (resting : IsResting old) where
         same_number = leaves.same.same.number;
         same_frames = leaves.same.same.frames;
         same_processors = leaves.same.same.processors;
+        unread = leaves.unread;
         resting = leaves.resting;
         answers = record {
           allowed = λ st s n. record {
@@ -180,6 +182,7 @@ evicts_absent old c page resting unwired absent =
       same_number = refl;
       same_frames = refl;
       same_processors = refl;
+      unread = refl;
       resting = resting;
       answers = record {
         allowed = λ st s n. record { reply = (asked st s, λ l. tt); parts = sym (ap is_some (s.base page ∙ absent)); hit = refl; size = refl };
@@ -197,6 +200,7 @@ pub record PagesOut (old new : Kept) (page : ℕ) : Type 0 where
   pub clearing : new.clearing ≡ old.clearing
   pub paged : new.paged ≡ Some page
   pub store : new.store ≡ old.store
+  pub unread : new.reads ≡ old.reads
   pub still : Still old new
 
 -- the page's copy is saved, and the page gives its frame up next
@@ -227,6 +231,7 @@ begins_evicting old mid new page written resting in_space unwired resident saves
         none_clearing = clearing;
       };
       same = record { same = same; frame = frame };
+      unread = outs.unread ∙ store_reads old mid saves.same;
       stands = copied_aside old resting new page same clearing pending frame (λ p i. ap (λ t. word_in t p i) table)
           (subst (λ (store : Stored). IsSaved old store page) (sym outs.store) (saved old resting mid page written saves)) (λ p. ap (λ t. mapping_in t p) table)
           (let still = store_still old mid saves.same in record { images = outs.still.images ∙ still.images; promotions = outs.still.promotions ∙ still.promotions; demotions = outs.still.demotions ∙ still.demotions }) outs.paged;

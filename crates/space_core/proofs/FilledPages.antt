@@ -10,6 +10,7 @@ use Rattle.space_core.specs.Standing.{Kept, StandsFor, IsCopied, frame_at, dirty
 use Rattle.pager_model.specs.CallEntries.{failed_entry}
 use Rattle.pager_model.specs.Stored.{copy_at, SameCopies}
 use Rattle.space_core.specs.Tables.{mapping_in}
+use Rattle.store_core.specs.MemoryState.{one_more}
 use Rattle.space_core.proofs.SameView.{BesideAt, SameWhole, SameAt, settled_from, one_stands, raised_stands, rises_told, within_faults}
 use Rattle.space_core.proofs.ServedPages.{resident_from}
 use Rattle.space_core.proofs.TableLemmas.{frame-same, dirty-same}
@@ -18,7 +19,8 @@ use Rattle.space_core.proofs.Translations.{Still, same_translates, stays}
 -- The pending page may have any words after a read, and all else is seen the same.
 module _ (old new : Kept) (page : ℕ) (same : SameRegions old new) (clearing : new.clearing ≡ old.clearing) (paged : new.paged ≡ old.paged)
     (still : Still old new) (pending : old.pending ≡ Some page) (resident : frame_at old page ≢ None) (clean : dirty_at old page ≡ false)
-    (refills : Refills page old.table new.table) (copies : SameCopies old.store new.store) (faults : old.store.faults ≤ new.store.faults) where
+    (refills : Refills page old.table new.table) (copies : SameCopies old.store new.store) (faults : old.store.faults ≤ new.store.faults)
+    (once : new.reads ≡ one_more old.reads) where
   whole : SameWhole old new
   whole = record { regions = same.regions; rights = same.rights; tells = copies.tells; faults = faults }
 
@@ -86,6 +88,7 @@ module _ (old new : Kept) (page : ℕ) (same : SameRegions old new) (clearing : 
           same_clearing = clearing;
           same_paged = paged;
           same = record { same = same; frame = frame_filled };
+          read_once = once;
           stands = λ st s. one_stands old new st st page whole clearing (record { regions = refl; rights = λ p. refl; told = refl })
               (omega (arith, s.beside.highest, faults)) at_other (λ p n. record { dirty = refl; words = λ i. refl; copies = refl; tied = λ i. refl }) (λ p n. refl)
               s (here st s) (s.base page ∙ sym (frame_filled page)) (λ p. s.pages p ∙ sym (refills.mapping p)) (same_translates old new st still s.translates);
@@ -117,6 +120,7 @@ module _ (old new : Kept) (page : ℕ) (same : SameRegions old new) (clearing : 
           same_clearing = clearing;
           same_paged = paged;
           same = record { same = same; frame = frame_filled };
+          read_once = once;
           allowed = λ st s c.
               (resident_from st.base page _ (s.base page) resident, s.beside.dirty page (ap (λ r. is_in r page) alone) ∙ clean, rises_told _ _ _ s.beside.highest rose_to);
           stands = λ st s c.

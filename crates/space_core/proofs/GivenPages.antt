@@ -67,7 +67,7 @@ evicted c page st f =
     }
 
 module _ (old new : Kept) (page frame : ℕ) (same : SameRegions old new) (only : IsOnly old page) (resting : IsResting new)
-    (store : new.store ≡ old.store) (had : frame_at old page ≡ Some frame) (moves : Maps page None old.table new.table) (retouched : Retouches old new) (unbehind : is_behind old page ≡ false) where
+    (store : new.store ≡ old.store) (unread : new.reads ≡ old.reads) (had : frame_at old page ≡ Some frame) (moves : Maps page None old.table new.table) (retouched : Retouches old new) (unbehind : is_behind old page ≡ false) where
   whole : SameWhole old new
   whole = record { regions = same.regions; rights = same.rights; tells = ap (λ (s : Stored). s.tells) store; faults = omega (arith, ap (λ (s : Stored). s.faults) store) }
 
@@ -84,7 +84,7 @@ module _ (old new : Kept) (page frame : ℕ) (same : SameRegions old new) (only 
   clean_after = maps_dirty page None old.table new.table moves page ∙ cond-true _ _ _ this
 
   pub gave_up : GaveUp old new page frame
-  gave_up = record { had = had; same = same; gone = gone; same_others = frame_other }
+  gave_up = record { had = had; same = same; unread = unread; gone = gone; same_others = frame_other }
 
   at_other : (p : ℕ) → p ≢ page → SameAt old new p
   at_other p n =

@@ -137,6 +137,7 @@ begins_refused old c call r can resting refused alone asked =
       same_number = refl;
       same_frames = refl;
       same_processors = refl;
+      unread = refl;
       resting = resting;
       answers = record {
         allowed = λ st s number. record {

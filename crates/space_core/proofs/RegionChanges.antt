@@ -100,12 +100,12 @@ module _ (number : ℕ) (regions : List Region) (t : Table) (page len : ℕ) (ki
         | inr hasnt ↦ record { region = is.region; at = at_mapped p ∙ cond-false _ _ _ hasnt ∙ is.at; first = is.first; rights = is.rights }
       ]
 
-  module _ (said : AreMapped regions t) (store : Stored) (images : List (List Tile)) (promotions demotions broken c : ℕ) where
+  module _ (said : AreMapped regions t) (store : Stored) (reads : ℕ) (images : List (List Tile)) (promotions demotions broken c : ℕ) where
     abbrev before : Kept
-    before = kept number regions t None None None store images promotions demotions broken
+    before = kept number regions t None None None store reads images promotions demotions broken
 
     abbrev after : Kept
-    after = kept number mapped t None None None store images promotions demotions broken
+    after = kept number mapped t None None None store reads images promotions demotions broken
 
     pub maps : BeginsAnswered before after c (Map number page len kind rights) (record { reply = Done; hit = false; size = None })
     maps =
@@ -114,6 +114,7 @@ module _ (number : ℕ) (regions : List Region) (t : Table) (page len : ℕ) (ki
           same_number = refl;
           same_frames = refl;
           same_processors = refl;
+          unread = refl;
           resting = record { none_pending = refl; none_clearing = refl; none_paged = refl };
           answers = record {
             allowed = λ st s n. record { reply = (ap (λ rs. map_reply rs page len) s.beside.regions ∙ done, λ l. tt); parts = refl; hit = refl; size = refl };
@@ -232,12 +233,12 @@ module _ (number : ℕ) (regions : List Region) (t : Table) (page by : ℕ) (ord
         ]
       ]
 
-  module _ (said : AreMapped regions t) (store : Stored) (images : List (List Tile)) (promotions demotions broken c : ℕ) where
+  module _ (said : AreMapped regions t) (store : Stored) (reads : ℕ) (images : List (List Tile)) (promotions demotions broken c : ℕ) where
     abbrev shorter_kept : Kept
-    shorter_kept = kept number regions t None None None store images promotions demotions broken
+    shorter_kept = kept number regions t None None None store reads images promotions demotions broken
 
     abbrev longer_kept : Kept
-    longer_kept = kept number larger t None None None store images promotions demotions broken
+    longer_kept = kept number larger t None None None store reads images promotions demotions broken
 
     pub grows_region : BeginsAnswered shorter_kept longer_kept c (Grow number page by) (record { reply = Done; hit = false; size = None })
     grows_region =
@@ -246,6 +247,7 @@ module _ (number : ℕ) (regions : List Region) (t : Table) (page by : ℕ) (ord
           same_number = refl;
           same_frames = refl;
           same_processors = refl;
+          unread = refl;
           resting = record { none_pending = refl; none_clearing = refl; none_paged = refl };
           answers = record {
             allowed = λ st s n. record { reply = (ap (λ rs. grow_reply rs page by) s.beside.regions ∙ done, λ l. tt); parts = refl; hit = refl; size = refl };
@@ -323,12 +325,12 @@ module _ (regions : List Region) (t u : Table) (page len : ℕ) (given : Rights)
   rights_given true right p was own = ap (λ o. rights_by o (region_at regions p)) (sym own)
   rights_given false right p was own = was refl ∙ ap (λ o. rights_by o (region_at regions p)) (sym own)
 
-  module _ (said : AreMapped regions t) (number : ℕ) (store : Stored) (images new_images : List (List Tile)) (promotions new_promotions demotions new_demotions broken c : ℕ) where
+  module _ (said : AreMapped regions t) (number : ℕ) (store : Stored) (reads : ℕ) (images new_images : List (List Tile)) (promotions new_promotions demotions new_demotions broken c : ℕ) where
     abbrev plain : Kept
-    plain = kept number regions t None None None store images promotions demotions broken
+    plain = kept number regions t None None None store reads images promotions demotions broken
 
     abbrev protected : Kept
-    protected = kept number regions u None None None store new_images new_promotions new_demotions broken
+    protected = kept number regions u None None None store reads new_images new_promotions new_demotions broken
 
     settled_still : (p : ℕ) → is_settled protected p ≡ is_settled plain p
     settled_still p = ap (λ o. is_some o && true) (protects_frame page len given t u protects p)
@@ -350,6 +352,7 @@ module _ (regions : List Region) (t u : Table) (page len : ℕ) (given : Rights)
           same_number = refl;
           same_frames = protects.count;
           same_processors = retouched.processors;
+          unread = refl;
           resting = record { none_pending = refl; none_clearing = refl; none_paged = refl };
           answers = record {
             allowed = λ st s n. record { reply = (cond-true _ _ _ (in_one st.flat.regions s.beside.regions), λ l. tt); parts = refl; hit = refl; size = refl };

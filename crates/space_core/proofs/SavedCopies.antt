@@ -86,6 +86,9 @@ module _ (old new : Kept) (only : new ≡ with_store old new.store) where
         frame = λ p. ap (λ (k : Kept). frame_at k p) only;
       }
 
+  pub store_reads : new.reads ≡ old.reads
+  store_reads = ap (λ (k : Kept). k.reads) only
+
   pub store_still : Still old new
   store_still = record { images = ap (λ (k : Kept). k.images) only; promotions = ap (λ (k : Kept). k.promotions) only; demotions = ap (λ (k : Kept). k.demotions) only }
 
@@ -270,6 +273,7 @@ module _ (old : Kept) (resting : IsResting old) where
           dirty = dirty_after;
           resting = store_resting old new fails.same resting;
           same = store_frames old new fails.same;
+          unread = store_reads old new fails.same;
           allowed = λ st s c. (resident_from st.base page _ (s.base page) resident, s.beside.dirty page (none_in page) ∙ fails.dirty, rises_told _ _ _ s.beside.highest fails.rose);
           stands = λ st s c.
               one_stands old new st (space_after st (failed_entry c old.number page true count)) page
@@ -294,6 +298,7 @@ module _ (old : Kept) (resting : IsResting old) where
         dirty = ap (λ (k : Kept). dirty_at k page) lacks.same ∙ lacks.dirty;
         resting = store_resting old new lacks.same resting;
         same = store_frames old new lacks.same;
+        unread = store_reads old new lacks.same;
         stands = λ st s. same_stands old new st (store_whole old new lacks.same lacks.copies.tells lacks.never_falls)
             (ap (λ (k : Kept). k.clearing) lacks.same) (λ p. store_at old new lacks.same p (λ tells. lacks.copies.copies tells p))
             (store_mapping old new lacks.same) (store_still old new lacks.same) s;
@@ -352,6 +357,9 @@ module _ (old mid new : Kept) (page : ℕ) (written : Bool) (resting : IsResting
         frame = cleaned_frame;
       }
 
+  pub cleaned_reads : new.reads ≡ old.reads
+  cleaned_reads = ap (λ (k : Kept). k.reads) cleans.same ∙ store_reads old mid saves.same
+
   pub cleaned_out : (st : SpaceState) (c : ℕ) (next : Next) → StandsFor old st → StandsFor new (outed st c page next)
   cleaned_out st c next s =
       copied_out old resting new page cleaned_same.same cleaned_resting.none_clearing cleaned_resting.none_pending cleaned_frame cleaned_table.word
@@ -365,6 +373,7 @@ module _ (old mid new : Kept) (page : ℕ) (written : Bool) (resting : IsResting
         clean = cleans_dirty page old.table new.table cleaned_table page ∙ cond-true _ _ _ (eq-eqb page page refl);
         resting = cleaned_resting;
         same = cleaned_same;
+        unread = cleaned_reads;
         allowed = λ st s c. (resident_from st.base page _ (s.base page) resident, s.beside.dirty page (none_in old resting page) ∙ saves.was);
         stands = λ st s c. cleaned_out st c (Only c) s;
       }

@@ -30,8 +30,8 @@ use Rattle.space_core.proofs.TableLemmas.{dirty_in-is, dirty_in-absent, frame-ab
 use Rattle.space_core.proofs.Translations.{Still, stays_used, retouches_used, retouches, pages_from, said_flag}
 use Rattle.tiles.specs.Resident.{with_flag}
 
-abbrev pub kept : ℕ → List Region → Table → Option ℕ → Option PageRange → Option ℕ → Stored → List (List Tile) → ℕ → ℕ → ℕ → Kept
-kept number regions table pending clearing paged store images promotions demotions broken =
+abbrev pub kept : ℕ → List Region → Table → Option ℕ → Option PageRange → Option ℕ → Stored → ℕ → List (List Tile) → ℕ → ℕ → ℕ → Kept
+kept number regions table pending clearing paged store reads images promotions demotions broken =
     record {
       number = number;
       frames = length table.frames;
@@ -41,6 +41,7 @@ kept number regions table pending clearing paged store images promotions demotio
       clearing = clearing;
       paged = paged;
       store = store;
+      reads = reads;
       images = images;
       promotions = promotions;
       demotions = demotions;
@@ -84,13 +85,13 @@ mapped_but regions t u page given maps mapped new p m at =
     ]
 
 -- a page without a frame gets one
-module _ (number : ℕ) (regions : List Region) (t u : Table) (store : Stored) (images new_images : List (List Tile)) (promotions new_promotions demotions new_demotions broken : ℕ)
+module _ (number : ℕ) (regions : List Region) (t u : Table) (store : Stored) (reads : ℕ) (images new_images : List (List Tile)) (promotions new_promotions demotions new_demotions broken : ℕ)
     (page : ℕ) (m : Mapping) (absent : frame_in t page ≡ None) (clean : m.dirty ≡ false) (moves : Maps page (Some m) t u) where
   abbrev lacking : Kept
-  lacking = kept number regions t None None None store images promotions demotions broken
+  lacking = kept number regions t None None None store reads images promotions demotions broken
 
   abbrev placed : Kept
-  placed = kept number regions u (Some page) None None store new_images new_promotions new_demotions broken
+  placed = kept number regions u (Some page) None None store reads new_images new_promotions new_demotions broken
 
   frame_placed : frame_in u page ≡ Some m.frame
   frame_placed = maps_frame page (Some m) t u moves page ∙ grind (arith, nat_tests)
@@ -157,6 +158,7 @@ module _ (number : ℕ) (regions : List Region) (t u : Table) (store : Stored) (
         same_clearing = refl;
         same_paged = refl;
         same = same;
+        unread = refl;
         resident = frame_placed;
         same_others = frame_placed-other;
         stands = λ st c want s.
@@ -321,9 +323,9 @@ tied_said p q i j word w before h =
     same_from a b e = grind (arith, nat_tests)
 
 -- a resident page's word is read
-module _ (number : ℕ) (regions : List Region) (t : Table) (store : Stored) (images : List (List Tile)) (promotions demotions broken : ℕ) (address : ℕ) (resident : frame_in t (page_of address) ≢ None) where
+module _ (number : ℕ) (regions : List Region) (t : Table) (store : Stored) (reads : ℕ) (images : List (List Tile)) (promotions demotions broken : ℕ) (address : ℕ) (resident : frame_in t (page_of address) ≢ None) where
   abbrev loaded : Kept
-  loaded = kept number regions t None None None store images promotions demotions broken
+  loaded = kept number regions t None None None store reads images promotions demotions broken
 
   abbrev tile_here : Option Tile
   tile_here = tile_of (mapping_in t) (page_of address)
@@ -332,7 +334,7 @@ module _ (number : ℕ) (regions : List Region) (t : Table) (store : Stored) (im
   settled_here = ap (λ b. b && true) (some_from _ resident)
 
   module _ (c : ℕ) (within : c < length images) (word : ℕ) (may : is_allowed loaded (Load number address) ≡ true) (read : word ≡ word_in t (page_of address) (word_of address)) where
-    loads_into : (new_images : List (List Tile)) → Touches loaded (kept number regions t None None None store new_images promotions demotions broken) c tile_here → Finishes loaded (kept number regions t None None None store new_images promotions demotions broken) c (Load number address) (record { reply = Value word; hit = is_in_image (image_at loaded c) tile_here; size = option_map (λ (x : Tile). x.extent.size) tile_here })
+    loads_into : (new_images : List (List Tile)) → Touches loaded (kept number regions t None None None store reads new_images promotions demotions broken) c tile_here → Finishes loaded (kept number regions t None None None store reads new_images promotions demotions broken) c (Load number address) (record { reply = Value word; hit = is_in_image (image_at loaded c) tile_here; size = option_map (λ (x : Tile). x.extent.size) tile_here })
     loads_into new_images touches =
         let parts = and_parts _ _ may in
         let asked : (st : SpaceState) → StandsFor loaded st → reply_of st.flat (Load number address) ≡ Value (st.flat.words (page_of address) (word_of address)) = λ st s.
@@ -342,6 +344,7 @@ module _ (number : ℕ) (regions : List Region) (t : Table) (store : Stored) (im
           served = refl;
           resting = record { none_pending = refl; none_clearing = refl; none_paged = refl };
           same = record { same = record { number = refl; frames = refl; processors = touches.processors; regions = refl; rights = λ p. refl }; frame = λ p. refl };
+          unread = refl;
           answers = record {
             allowed = λ st s n. record {
               reply = (
@@ -377,7 +380,7 @@ module _ (number : ℕ) (regions : List Region) (t : Table) (store : Stored) (im
               };
               base = s.base;
               pages = s.pages;
-              translates = stays_used loaded loaded (kept number regions t None None None store new_images promotions demotions broken) st (space_after st (answer_entry c n (Load number address) (record { reply = Value word; hit = is_in_image (image_at loaded c) tile_here; size = option_map (λ (x : Tile). x.extent.size) tile_here }))) c (page_of address)
+              translates = stays_used loaded loaded (kept number regions t None None None store reads new_images promotions demotions broken) st (space_after st (answer_entry c n (Load number address) (record { reply = Value word; hit = is_in_image (image_at loaded c) tile_here; size = option_map (λ (x : Tile). x.extent.size) tile_here }))) c (page_of address)
                   (record { sizes = refl; images = refl; promotions = refl; demotions = refl }) s.translates s.pages s.pages touches (record { images = refl; promotions = refl; demotions = refl }) (λ p. refl);
             };
           };
@@ -389,14 +392,14 @@ module _ (number : ℕ) (regions : List Region) (t : Table) (store : Stored) (im
         (sym touches.same) (loads_into new.images (subst (λ (k : Kept). Touches loaded k c tile_here) touches.same touches))
 
 -- a resident page's word is written
-module _ (number : ℕ) (regions : List Region) (t u : Table) (store : Stored) (images mid_images : List (List Tile)) (promotions mid_promotions demotions mid_demotions broken : ℕ)
+module _ (number : ℕ) (regions : List Region) (t u : Table) (store : Stored) (reads : ℕ) (images mid_images : List (List Tile)) (promotions mid_promotions demotions mid_demotions broken : ℕ)
     (address word : ℕ) (resident : frame_in t (page_of address) ≢ None) (writes : Writes (page_of address) (word_of address) word t u) where
   abbrev before : Kept
-  before = kept number regions t None None None store images promotions demotions broken
+  before = kept number regions t None None None store reads images promotions demotions broken
 
   -- before a tile is used
   abbrev mid : Kept
-  mid = kept number regions u None None None store mid_images mid_promotions mid_demotions broken
+  mid = kept number regions u None None None store reads mid_images mid_promotions mid_demotions broken
 
   frame_stored : (p : ℕ) → frame_in u p ≡ frame_in t p
   frame_stored = writes_frame (page_of address) (word_of address) word t u writes
@@ -459,9 +462,9 @@ module _ (number : ℕ) (regions : List Region) (t u : Table) (store : Stored) (
     same_processors : length mid_images ≡ length images
     same_processors = elim turned [ inl still ↦ ap length still.0.images | inr retouched ↦ retouched.processors ]
 
-    stores_into : (new_images : List (List Tile)) → Touches mid (kept number regions u None None None store new_images mid_promotions mid_demotions broken) c tile_stored → Finishes before (kept number regions u None None None store new_images mid_promotions mid_demotions broken) c (Store number address word) (record { reply = Done; hit = is_in_image (image_at before c) (tile_of (mapping_in t) (page_of address)); size = option_map (λ (x : Tile). x.extent.size) tile_stored })
+    stores_into : (new_images : List (List Tile)) → Touches mid (kept number regions u None None None store reads new_images mid_promotions mid_demotions broken) c tile_stored → Finishes before (kept number regions u None None None store reads new_images mid_promotions mid_demotions broken) c (Store number address word) (record { reply = Done; hit = is_in_image (image_at before c) (tile_of (mapping_in t) (page_of address)); size = option_map (λ (x : Tile). x.extent.size) tile_stored })
     stores_into new_images touches =
-        let same : SameRegions before (kept number regions u None None None store new_images mid_promotions mid_demotions broken) = record {
+        let same : SameRegions before (kept number regions u None None None store reads new_images mid_promotions mid_demotions broken) = record {
           number = refl;
           frames = writes.same.count;
           processors = touches.processors ∙ same_processors;
@@ -473,6 +476,7 @@ module _ (number : ℕ) (regions : List Region) (t u : Table) (store : Stored) (
           served = refl;
           resting = record { none_pending = refl; none_clearing = refl; none_paged = refl };
           same = record { same = same; frame = frame_stored };
+          unread = refl;
           answers = record {
             allowed = λ st s n. record {
               reply = (asked st s, λ lawful. resident_from st.base (page_of address) _ (s.base (page_of address)) resident);
@@ -515,8 +519,8 @@ module _ (number : ℕ) (regions : List Region) (t u : Table) (store : Stored) (
                   base = λ p. s.base p ∙ sym (frame_stored p);
                   pages = pages_stored st s n (record { reply = Done; hit = is_in_image (image_at before c) (tile_of (mapping_in t) (page_of address)); size = option_map (λ (x : Tile). x.extent.size) tile_stored }) refl;
                   translates = elim turned [
-                    | inl still ↦ stays_used before mid (kept number regions u None None None store new_images mid_promotions mid_demotions broken) st then_st c (page_of address) (record { sizes = refl; images = refl; promotions = refl; demotions = refl }) s.translates s.pages (pages_stored st s n (record { reply = Done; hit = is_in_image (image_at before c) (tile_of (mapping_in t) (page_of address)); size = option_map (λ (x : Tile). x.extent.size) tile_stored }) refl) touches still.0 still.1
-                    | inr retouched ↦ retouches_used before mid (kept number regions u None None None store new_images mid_promotions mid_demotions broken) st then_st c (page_of address) (record { sizes = refl; images = refl; promotions = refl; demotions = refl }) s.translates s.pages (pages_stored st s n (record { reply = Done; hit = is_in_image (image_at before c) (tile_of (mapping_in t) (page_of address)); size = option_map (λ (x : Tile). x.extent.size) tile_stored }) refl) touches retouched
+                    | inl still ↦ stays_used before mid (kept number regions u None None None store reads new_images mid_promotions mid_demotions broken) st then_st c (page_of address) (record { sizes = refl; images = refl; promotions = refl; demotions = refl }) s.translates s.pages (pages_stored st s n (record { reply = Done; hit = is_in_image (image_at before c) (tile_of (mapping_in t) (page_of address)); size = option_map (λ (x : Tile). x.extent.size) tile_stored }) refl) touches still.0 still.1
+                    | inr retouched ↦ retouches_used before mid (kept number regions u None None None store reads new_images mid_promotions mid_demotions broken) st then_st c (page_of address) (record { sizes = refl; images = refl; promotions = refl; demotions = refl }) s.translates s.pages (pages_stored st s n (record { reply = Done; hit = is_in_image (image_at before c) (tile_of (mapping_in t) (page_of address)); size = option_map (λ (x : Tile). x.extent.size) tile_stored }) refl) touches retouched
                   ];
                 };
           };
@@ -551,9 +555,9 @@ same_stored t u page index word writes dirty p =
     flagged (Some m) h = ap (λ d. Some (with_flag d m)) (sym h)
 
 -- a space begins with no region, no resident page and no right
-module _ (number frames processors : ℕ) (t : Table) (store : Stored) (fresh : IsFresh frames t) where
+module _ (number frames processors : ℕ) (t : Table) (store : Stored) (reads : ℕ) (fresh : IsFresh frames t) where
   abbrev begun : Kept
-  begun = kept number [] t None None None store (replicate processors []) 0 0 0
+  begun = kept number [] t None None None store reads (replicate processors []) 0 0 0
 
   frame_none : (p : ℕ) → frame_in t p ≡ None
   frame_none p = frame-absent t p (fresh.none_resident p)

@@ -1,4 +1,4 @@
--- What the calls of a space promise, for every state that the space stands for.
+-- What the calls of a space promise, for every state that the space stands for. None but a read of the pending page's copy reads the store.
 use Rattle.std.specs.Prelude.{ℕ, ◌≡◌, ◌≢◌, ◌+◌, ◌<◌, ◌≤◌, Bool, true, false, if◌then◌else◌, length, Some, None, IfSome}
 use Rattle.pager_model.specs.declared.call.Call.{Call}
 use Rattle.pager_model.specs.declared.call.Call.TheVariants.{Unmap, Evict}
@@ -20,6 +20,7 @@ use Rattle.space_core.specs.declared.space.Found.TheVariants.{Refused, Absent, R
 use Rattle.space_core.specs.Standing.{Kept, StandsFor, StandsBut, IsResting, MustWrite, range_of, frame_at, rights_at, dirty_at, is_allowed, is_unwired, copied_page}
 use Rattle.pager_model.specs.CallEntries.{answer_entry, evict_entry, take_entry, give_entry, clear_entry, out_entry, failed_entry}
 use Rattle.pager_model.specs.Stored.{keeps_at}
+use Rattle.store_core.specs.MemoryState.{one_more}
 use Rattle.pager_model.specs.Bounds.{space_pages}
 
 -- The space allows the answer to this processor's call, whatever its number, and then stands for one entry more.
@@ -51,6 +52,7 @@ pub record BeginsAnswered (old new : Kept) (c : ℕ) (call : Call) (a : Answered
   pub same_number : new.number ≡ old.number
   pub same_frames : new.frames ≡ old.frames
   pub same_processors : length new.images ≡ length old.images
+  pub unread : new.reads ≡ old.reads
   pub resting : IsResting new
   pub answers : Answers old new c call a
   pub memory : a.reply ≡ NoMemory → (page : ℕ) × (copied_page call ≡ Some page) × LacksMemory old page
@@ -113,6 +115,7 @@ pub record BeginsEvicting (old new : Kept) (call : Call) (page : ℕ) (written :
   pub was : dirty_at old page ≡ written
   pub evicting : IsEvicting new page
   pub same : SameFrames old new
+  pub unread : new.reads ≡ old.reads
   pub stands : (st : SpaceState) → StandsFor old st → StandsFor new st
 
 -- The write of a page's copy failed: the page stays dirty and resident, the store's count rose, and the space stands for the failure.
@@ -122,6 +125,7 @@ pub record FailsToWrite (old new : Kept) (page count : ℕ) : Type 0 where
   pub dirty : dirty_at new page ≡ true
   pub resting : IsResting new
   pub same : SameFrames old new
+  pub unread : new.reads ≡ old.reads
   pub allowed : (st : SpaceState) → StandsFor old st → (c : ℕ) → WhatAllowed st false c (Failed page true count)
   pub stands : (st : SpaceState) → StandsFor old st → (c : ℕ) → StandsFor new (space_after st (failed_entry c old.number page true count))
 
@@ -144,20 +148,22 @@ pub record Places (old new : Kept) (page frame : ℕ) : Type 0 where
   pub same_clearing : new.clearing ≡ old.clearing
   pub same_paged : new.paged ≡ old.paged
   pub same : SameRegions old new
+  pub unread : new.reads ≡ old.reads
   pub resident : frame_at new page ≡ Some frame
   pub same_others : (p : ℕ) → p ≢ page → frame_at new p ≡ frame_at old p
   pub stands : (st : SpaceState) (c : ℕ) (want : Want) → StandsFor old st → StandsFor new (space_after st (take_entry c old.number page frame want))
 
--- No page is pending, each page keeps its frame, and the space stands for the same list of entries.
+-- The store was read once, no page is pending, each page keeps its frame, and the space stands for the same list of entries.
 pub record ReadsIn (old new : Kept) : Type 0 where
   pub done : new.pending ≡ None
   pub same_clearing : new.clearing ≡ old.clearing
   pub same_paged : new.paged ≡ old.paged
   pub same : SameFrames old new
+  pub read_once : new.reads ≡ one_more old.reads
   pub stands : (st : SpaceState) → StandsFor old st → StandsFor new st
 
--- The read of the pending page's copy failed: the page stays pending and clean, the store's count rose, and the space stands for the
--- failure.
+-- The one read of the pending page's copy failed: the page stays pending and clean, the store's count of faults rose, and the space stands
+-- for the failure.
 pub record FailsToRead (old new : Kept) (page count : ℕ) : Type 0 where
   pub rose : Rises old.store.faults count
   pub count_is : count ≡ new.store.faults
@@ -166,6 +172,7 @@ pub record FailsToRead (old new : Kept) (page count : ℕ) : Type 0 where
   pub same_clearing : new.clearing ≡ old.clearing
   pub same_paged : new.paged ≡ old.paged
   pub same : SameFrames old new
+  pub read_once : new.reads ≡ one_more old.reads
   pub allowed : (st : SpaceState) → StandsFor old st → (c : ℕ) → WhatAllowed st false c (Failed page false count)
   pub stands : (st : SpaceState) → StandsFor old st → (c : ℕ) → StandsFor new (space_after st (failed_entry c old.number page false count))
 
@@ -174,6 +181,7 @@ pub record Finishes (old new : Kept) (c : ℕ) (call : Call) (a : Answered) : Ty
   pub served : is_served a.reply ≡ true
   pub resting : IsResting new
   pub same : SameFrames old new
+  pub unread : new.reads ≡ old.reads
   pub answers : Answers old new c call a
 
 -- The page is equal to its copy, which was written where the page was dirty, and is clean, and the space stands for one paging out more.
@@ -182,6 +190,7 @@ pub record WritesOut (old new : Kept) (page : ℕ) (written : Bool) : Type 0 whe
   pub clean : dirty_at new page ≡ false
   pub resting : IsResting new
   pub same : SameFrames old new
+  pub unread : new.reads ≡ old.reads
   pub allowed : (st : SpaceState) → StandsFor old st → (c : ℕ) → WhatAllowed st false c (Out page written)
   pub stands : (st : SpaceState) → StandsFor old st → (c : ℕ) → StandsFor new (space_after st (out_entry c old.number page written))
 
@@ -191,12 +200,14 @@ pub record LeavesUnwritten (old new : Kept) (page : ℕ) : Type 0 where
   pub dirty : dirty_at new page ≡ true
   pub resting : IsResting new
   pub same : SameFrames old new
+  pub unread : new.reads ≡ old.reads
   pub stands : (st : SpaceState) → StandsFor old st → StandsFor new st
 
 -- The page gave this frame up, and every other page keeps its own.
 pub record GaveUp (old new : Kept) (page frame : ℕ) : Type 0 where
   pub had : frame_at old page ≡ Some frame
   pub same : SameRegions old new
+  pub unread : new.reads ≡ old.reads
   pub gone : frame_at new page ≡ None
   pub same_others : (p : ℕ) → p ≢ page → frame_at new p ≡ frame_at old p
 
@@ -239,6 +250,7 @@ pub record ClearsNone (old new : Kept) (first len : ℕ) : Type 0 where
   pub same_pending : new.pending ≡ old.pending
   pub same_paged : new.paged ≡ old.paged
   pub same : SameFrames old new
+  pub unread : new.reads ≡ old.reads
   pub stands : (st : SpaceState) (c : ℕ) → StandsBut first len old st → StandsFor new (space_after st (clear_entry c old.number first len))
 
 -- The region whose range was cleared is gone, in each state in which its clearing was the last entry and this processor's.
@@ -247,6 +259,7 @@ pub record Unmapped (old new : Kept) (page : ℕ) (a : Answered) : Type 0 where
   pub same_number : new.number ≡ old.number
   pub same_frames : new.frames ≡ old.frames
   pub same_processors : length new.images ≡ length old.images
+  pub unread : new.reads ≡ old.reads
   pub resting : IsResting new
   pub allowed : (st : SpaceState) → StandsFor old st → (c number : ℕ) (r : Region) → region_at old.regions page ≡ Some r → st.next ≡ AfterClear c r.first r.length → WhatAllowed st false c (Answer number (Unmap old.number page) a)
   pub stands : (st : SpaceState) → StandsFor old st → (c number : ℕ) → StandsFor new (space_after st (answer_entry c number (Unmap old.number page) a))

@@ -35,6 +35,8 @@ pub record Kept : Type 0 where
   pub paged : Option ℕ
   -- the store of its pages' copies
   pub store : Stored
+  -- how often that store was read
+  pub reads : ℕ
   -- of each processor its image: the tiles that it used last
   pub images : List (List Tile)
   -- how many extents became tiles that lay in none, and how many tiles were broken; each stands still at its type's end

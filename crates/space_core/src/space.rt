@@ -104,6 +104,7 @@ impl<S: Store + Send + Drop> Model for Space<S> {
       clearing = s.clearing;
       paged = s.paged;
       store = S.seen s.store;
+      reads = S.reads s.store;
       images = s.images.items;
       promotions = s.promotions;
       demotions = s.demotions;
@@ -118,6 +119,7 @@ impl<S: Store + Send + Drop> Space<S> {
     pub fn over(number: u32, room: SpaceRoom, store: S) -> Space<S>
         requires few { number < 16 }
         ensures made { (result.number ≡ number) × (result.frames ≡ room.frames) × (length result.images ≡ room.processors) × (result.store ≡ S.seen store) × IsResting result }
+        ensures unread { result.reads ≡ S.reads store }
         ensures stands { (told : Bool) → (told ≡ true → TellsZero result.store) → StandsFor result (empty_state all_sizes told result.store.faults) }
     {
         let (table, images) = room.into_parts();

@@ -4,6 +4,7 @@ ghost use Rattle.std.specs.Prelude.{◌≡◌, ◌≢◌, ◌∷◌, [], ◌+◌
 ghost use Rattle.pager_model.specs.SpaceStates.{Rises};
 ghost use Rattle.pager_model.specs.Tiles.{tile_of, is_tile, tiles_of_size};
 ghost use Rattle.pager_model.specs.Stored.{copy_at, keeps_at, SameCopies, SetsCopy};
+ghost use Rattle.store_core.specs.MemoryState.{one_more};
 ghost use Rattle.tiles.specs.Changes.{AreChanges};
 ghost use Rattle.tiles.specs.Resident.{AreMoves, large_tiles_meeting};
 ghost use Rattle.space_core.specs.Tables.{mapping_in, frame_in, word_in, own_in, dirty_in};
@@ -164,13 +165,14 @@ impl PageTable {
         Some((frame, changes))
     }
 
-    /// Reads the copy of a resident page from the store.
+    /// Reads the copy of a resident page from the store, once.
     pub fn read_copy<S: Store>(&mut self, page: u32, store: &mut S) -> Result<(), StoreFailed>
         requires resident { frame_in self.old page ≢ None }
         ensures table { Refills page self.old self.new }
         ensures read { IfOk result (λ _. (words : List ℕ) → (S.seen store.old).tells ≡ true
             → copy_at (S.seen store.old) page ≡ Some words → HasWords self.new page words) }
         ensures same { SameCopies (S.seen store.old) (S.seen store.new) }
+        ensures counted { S.reads store.new ≡ one_more (S.reads store.old) }
         ensures rose { OnErr result (Rises (S.seen store.old).faults (S.seen store.new).faults) }
         ensures never_falls { (S.seen store.old).faults ≤ (S.seen store.new).faults }
     {
@@ -195,6 +197,7 @@ impl PageTable {
             → SetsCopy page None (S.seen store.old) (S.seen store.new) × Rises (S.seen store.old).faults (S.seen store.new).faults }
         ensures no_memory { result ≡ Err WriteRefused.NoMemory
             → (keeps_at (S.seen store.old) page ≡ false) × SameCopies (S.seen store.old) (S.seen store.new) }
+        ensures unread { S.reads store.new ≡ S.reads store.old }
         ensures never_falls { (S.seen store.old).faults ≤ (S.seen store.new).faults }
     {
         let Some(number) = self.number(page) else {

@@ -6,13 +6,24 @@ use store_core::{Store, StoreFailed, WriteRefused};
 
 /// Refuses each write, so its copies stay zero.
 #[derive(Drop)]
-pub(super) struct Full;
+pub(super) struct Full {
+    reads: u64,
+}
+
+impl Full {
+    pub(super) fn new() -> Full {
+        Full { reads: 0 }
+    }
+}
 
 impl Store for Full {
     ghost seen = { λ _. record { tells = true; told = true; copies = []; kept = Some []; faults = 0 } };
 
+    ghost reads = { λ s. s.reads };
+
     #[tactic(auto, unfolding(pager_model::specs::Stored::copy_at))]
     fn read(&mut self, _page: u32, words: &mut [u64]) -> Result<(), StoreFailed> {
+        self.reads = self.reads.saturating_add(1);
         words.fill(0);
         Ok(())
     }

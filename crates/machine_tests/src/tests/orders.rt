@@ -69,7 +69,7 @@ fn one_store(alloc: Global) -> Result<Vec<Silent>, NoMemory>
     ensures { IfOk result (λ stores. length stores.items ≡ 1) }
 {
     let mut stores = Vec::new(alloc);
-    stores.push(Silent)?;
+    stores.push(Silent::new())?;
     Ok(stores)
 }
 

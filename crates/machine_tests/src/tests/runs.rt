@@ -177,7 +177,7 @@ fn stores_of(
 /// A store for each space, none of which finds memory for a copy.
 fn full_stores(alloc: Global, spaces: u32) -> Result<Vec<Full>, AllocError> {
     let mut stores = Vec::new(alloc);
-    stores.resize_with(spaces as usize, || Full)?;
+    stores.resize_with(spaces as usize, || Full::new())?;
     Ok(stores)
 }
 

@@ -36,6 +36,7 @@ pub(super) struct Gated {
     // whether this store has shown a call, and whether the other has
     own: Arc<AtomicBool, Global>,
     other: Arc<AtomicBool, Global>,
+    reads: u64,
     faults: u64,
     ghost most: { faults ≤ 2 ^ 64 - 1 },
 }
@@ -62,6 +63,7 @@ fn new_store(gate: Gate, own: Arc<AtomicBool, Global>, other: Arc<AtomicBool, Gl
         gate,
         own,
         other,
+        reads: 0,
         faults: 0,
     }
 }
@@ -102,8 +104,11 @@ impl Gated {
 impl Store for Gated {
     ghost seen = { λ s. record { tells = false; told = false; copies = []; kept = None; faults = s.faults } };
 
+    ghost reads = { λ s. s.reads };
+
     #[tactic(auto, unfolding(pager_model::specs::Stored::keeps_at))]
     fn read(&mut self, _page: u32, _words: &mut [u64]) -> Result<(), StoreFailed> {
+        self.reads = self.reads.saturating_add(1);
         if !self.goes_on(Shown::Reads) {
             self.faults = self.faults.saturating_add(1);
             return Err(StoreFailed);

@@ -134,7 +134,7 @@ fn a_failed_write_keeps_its_page_with_an_unknown_copy(rt: HostRuntime) {
 
 #[test]
 fn a_store_may_find_no_memory(rt: HostRuntime) {
-    let mut store = Full;
+    let mut store = Full::new();
     assert!(rt; store.write(3, &image(1)) == Err(WriteRefused::NoMemory));
     assert!(rt; reads_alike(&mut store, 3, Ok(Some(0))) && told_without(&mut store, 0));
     assert!(rt; store.faults() == 0);

@@ -6,12 +6,23 @@ use store_core::{Store, StoreFailed, WriteRefused};
 
 /// Forgets what is written, and never fails.
 #[derive(Drop)]
-pub(super) struct Silent;
+pub(super) struct Silent {
+    reads: u64,
+}
+
+impl Silent {
+    pub(super) fn new() -> Silent {
+        Silent { reads: 0 }
+    }
+}
 
 impl Store for Silent {
     ghost seen = { λ _. record { tells = false; told = false; copies = []; kept = None; faults = 0 } };
 
+    ghost reads = { λ s. s.reads };
+
     fn read(&mut self, _page: u32, _words: &mut [u64]) -> Result<(), StoreFailed> {
+        self.reads = self.reads.saturating_add(1);
         Ok(())
     }
 

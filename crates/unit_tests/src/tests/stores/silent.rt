@@ -8,21 +8,29 @@ use store_core::{Store, StoreFailed, WriteRefused};
 #[derive(Drop)]
 pub(super) struct Silent {
     fails: bool,
+    reads: u64,
     faults: u64,
     ghost most: { faults ≤ 2 ^ 64 - 1 },
 }
 
 impl Silent {
     pub(super) fn of(fails: bool) -> Silent {
-        Silent { fails, faults: 0 }
+        Silent {
+            fails,
+            reads: 0,
+            faults: 0,
+        }
     }
 }
 
 impl Store for Silent {
     ghost seen = { λ s. record { tells = false; told = false; copies = []; kept = None; faults = s.faults } };
 
+    ghost reads = { λ s. s.reads };
+
     #[tactic(auto, unfolding(pager_model::specs::Stored::keeps_at))]
     fn read(&mut self, _page: u32, _words: &mut [u64]) -> Result<(), StoreFailed> {
+        self.reads = self.reads.saturating_add(1);
         if self.fails {
             self.faults = self.faults.saturating_add(1);
             return Err(StoreFailed);

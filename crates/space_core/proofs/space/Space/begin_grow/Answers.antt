@@ -27,7 +27,7 @@ returns g c =
       | in-Ok w ↦
           let at = grow_found c.self.inside.regions c.args.page c.args.by w.in-Ok.ensures.reply in
           rw (w.result-is, w.answered.ensures, w.in-Ok.ensures.after, ← c.self.view_is, rest.none_pending, rest.none_clearing, rest.none_paged)
-          (λ processor. grows_region c.self.inside.number c.self.inside.regions c.self.inside.table c.args.page c.args.by c.self.invariant.ordered w.in-Ok.ensures.reply c.self.invariant.own at.0 at.1 c.self.invariant.mapped _ _ _ _ _ processor)
+          (λ processor. grows_region c.self.inside.number c.self.inside.regions c.self.inside.table c.args.page c.args.by c.self.invariant.ordered w.in-Ok.ensures.reply c.self.invariant.own at.0 at.1 c.self.invariant.mapped _ _ _ _ _ _ processor)
       | in-Err w ↦
           let e = w.in-Err.ensures in
           let refused = rw e.reply at (grow_refused c.self.inside.regions c.args.page c.args.by (λ done. e.refusal (sym e.reply ∙ done))) in

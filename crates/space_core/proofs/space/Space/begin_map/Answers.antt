@@ -25,7 +25,7 @@ returns g c =
     elim c.match-map.branch [
       | in-Ok w ↦
           rw (w.result-is, w.answered.ensures, w.in-Ok.ensures.after, ← c.self.view_is, rest.none_pending, rest.none_clearing, rest.none_paged)
-          (λ processor. maps c.self.inside.number c.self.inside.regions c.self.inside.table _ _ _ _ w.in-Ok.ensures.reply c.self.invariant.own c.self.invariant.mapped _ _ _ _ _ processor)
+          (λ processor. maps c.self.inside.number c.self.inside.regions c.self.inside.table _ _ _ _ w.in-Ok.ensures.reply c.self.invariant.own c.self.invariant.mapped _ _ _ _ _ _ processor)
       | in-Err w ↦
           let e = w.in-Err.ensures in
           let refused = rw e.reply at (map_refused c.self.inside.regions c.args.page c.args.length (λ done. e.refusal (sym e.reply ∙ done))) in

@@ -16,4 +16,4 @@ returns g c =
     let found : region_at c.self.inside.regions c.args.page ≡ Some c.in-Some.region = sym c.in-Some.ensures.value in
     let kept = placed_kept _ _ _ _ c.args.page _ _ _ c.self.invariant c.put-changes.ensures.maps c.requires.page rest.none_clearing refl (record { region = c.in-Some.region; at = found; first = refl; rights = rw (← c.self.view_is) at c.rights-rights.ensures }) in
     rw (c.follow.ensures, ← c.self.view_is, rest.none_pending, rest.none_clearing, rest.none_paged)
-    (places _ _ _ _ _ _ _ _ _ _ _ _ c.args.page _ (rw (← c.self.view_is) at c.requires.absent) refl c.put-changes.ensures.maps kept.mapped (retouched_one _ _ c.put-changes.result c.put-changes.ensures.changes refl refl refl))
+    (places _ _ _ _ _ _ _ _ _ _ _ _ _ c.args.page _ (rw (← c.self.view_is) at c.requires.absent) refl c.put-changes.ensures.maps kept.mapped (retouched_one _ _ c.put-changes.result c.put-changes.ensures.changes refl refl refl))

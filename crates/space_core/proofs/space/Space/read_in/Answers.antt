@@ -23,7 +23,7 @@ returns-in-Ok-clause-read g c =
     let e = c.read_copy.ensures in
     rw (← c.self.view_is)
     (reads_in _ _ c.args.page (same_regions _ _ refl e.table.same.count refl refl e.table.same.own) refl refl (record { images = refl; promotions = refl; demotions = refl }) pending (rw (← c.self.view_is) at c.requires.resident)
-    (c.self.invariant.pending_clean c.args.page pending) e.table e.same e.never_falls refl c.in-Ok.ensures.read)
+    (c.self.invariant.pending_clean c.args.page pending) e.table e.same e.never_falls e.counted refl c.in-Ok.ensures.read)
 
 pub returns-in-Err-clause-failed : goal.returns-in-Err-clause-failed
 returns-in-Err-clause-failed g c =
@@ -31,4 +31,4 @@ returns-in-Err-clause-failed g c =
     let e = c.read_copy.ensures in
     rw (← c.self.view_is)
     (fails_to_read _ _ c.args.page (same_regions _ _ refl e.table.same.count refl refl e.table.same.own) refl refl (record { images = refl; promotions = refl; demotions = refl }) pending (rw (← c.self.view_is) at c.requires.resident)
-    (c.self.invariant.pending_clean c.args.page pending) e.table e.same e.never_falls (c.self.invariant.pending_alone c.args.page pending) c.faults.result refl c.in-Err.ensures.rose c.faults.ensures.faults)
+    (c.self.invariant.pending_clean c.args.page pending) e.table e.same e.never_falls e.counted (c.self.invariant.pending_alone c.args.page pending) c.faults.result refl c.in-Err.ensures.rose c.faults.ensures.faults)

@@ -20,6 +20,6 @@ returns g c =
       none_clearing = ap (λ (k : Kept). k.clearing) e.same ∙ none_clearing;
       none_paged = ap (λ (k : Kept). k.paged) e.same ∙ none_paged;
     })
-    (ap (λ (k : Kept). k.store) e.same) e.taken e.maps
+    (ap (λ (k : Kept). k.store) e.same) (ap (λ (k : Kept). k.reads) e.same) e.taken e.maps
     (record { processors = e.retouched.processors; images = e.retouched.images; promotions = e.retouched.promotions; demotions = e.retouched.demotions })
     (ap (λ d. d && not (is_that c.args.page c.self.inside.paged)) clean) clean none_paged)

@@ -37,7 +37,7 @@ returns-then-is_dirty g c =
     let u = c.write_word.new.self in
     let same = same_stored c.self.inside.table u _ _ _ writes dirty in
     rw (c.touch.ensures.answered, c.page_of-page.ensures.page, ← c.self.view_is, rest.none_pending, rest.none_clearing, rest.none_paged)
-    (stores_same c.self.inside.number c.self.inside.regions c.self.inside.table u _ c.self.inside.images.items c.self.inside.images.items
+    (stores_same c.self.inside.number c.self.inside.regions c.self.inside.table u _ _ c.self.inside.images.items c.self.inside.images.items
     c.self.inside.promotions c.self.inside.promotions c.self.inside.demotions c.self.inside.demotions c.self.inside.broken
     c.args.address c.args.word resident writes c.args.processor within may (inl (record { images = refl; promotions = refl; demotions = refl }, same)) same c.touch.new.self
     (rw (c.page_of-page.ensures.page, rest.none_pending, rest.none_clearing, rest.none_paged) at c.touch.ensures.touched))
@@ -51,7 +51,7 @@ returns g c =
     let writes = rw (c.page_of-page.ensures.page, c.word_of-2.ensures.word) at c.set_word-changes.ensures.writes in
     let u = c.set_word-changes.new.self in
     rw (c.touch-answered.ensures.answered, c.has_translation-hit.ensures, c.page_of-page.ensures.page, c.follow.ensures, ← c.self.view_is, rest.none_pending, rest.none_clearing, rest.none_paged)
-    (stores c.self.inside.number c.self.inside.regions c.self.inside.table u _ c.self.inside.images.items (map (without (gone_of c.set_word-changes.result)) c.self.inside.images.items)
+    (stores c.self.inside.number c.self.inside.regions c.self.inside.table u _ _ c.self.inside.images.items (map (without (gone_of c.set_word-changes.result)) c.self.inside.images.items)
     c.self.inside.promotions (counted_up c.self.inside.promotions c.set_word-changes.result.moves.promotions) c.self.inside.demotions (counted_up c.self.inside.demotions c.set_word-changes.result.moves.demotions) c.self.inside.broken
     c.args.address c.args.word resident writes c.args.processor within may (inr (retouched_one _ _ c.set_word-changes.result c.set_word-changes.ensures.changes refl refl refl)) c.touch-answered.new.self
     (rw (c.page_of-page.ensures.page, c.follow.ensures, rest.none_pending, rest.none_clearing, rest.none_paged) at c.touch-answered.ensures.touched))

@@ -30,4 +30,4 @@ returns g c =
     let none = rw region at cleared.3 in
     let clearing : c.self.inside.clearing ≡ Some (range_of c.in-Ok.region.first c.in-Ok.region.length) = cleared.2 ∙ ap (λ (r : Region). Some (range_of r.first r.length)) region in
     rw (c.in-Ok.ensures.after, c.answered.ensures, ← c.self.view_is, pending, clearing, paged)
-    (unmaps c.self.inside.number c.self.inside.regions c.self.inside.table _ c.args.page c.in-Ok.region c.self.invariant.ordered c.in-Ok.ensures.region c.self.invariant.own none c.forget_rights.ensures _ _ c.drop_pages.ensures.dropped _ _ _ _ c.self.invariant.mapped)
+    (unmaps c.self.inside.number c.self.inside.regions c.self.inside.table _ c.args.page c.in-Ok.region c.self.invariant.ordered c.in-Ok.ensures.region c.self.invariant.own none c.forget_rights.ensures _ _ c.drop_pages.ensures.dropped _ _ c.drop_pages.ensures.unread _ _ _ _ c.self.invariant.mapped)
