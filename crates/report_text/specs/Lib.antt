@@ -3,3 +3,4 @@ pub mod Writing
 pub mod Written
 pub mod Lines
 pub mod Parts
+pub mod PlanText
