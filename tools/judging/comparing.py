@@ -9,7 +9,7 @@ from typing import Iterator, List, NamedTuple, Optional, Tuple
 from common import TOP, Stopped
 
 from .legal import Illegal, after_history
-from .machine import Machine, MemoryStore
+from .machine import Machine, store_of
 from .printed import BadLine, history_in, text_of_run
 from .showing import wrong_with_answers, wrong_with_filing, wrong_with_turns
 from .trace_text import Refusal, trace_of
@@ -23,10 +23,11 @@ SECONDS = 600
 
 
 class Job(NamedTuple):
-    """One run: of the trace of a seed, by a form of the program."""
+    """One run: of the trace of a seed, by a form of the program, with the copies of each space in so many slots where a number is given."""
     program: str
     seed: int
     form: str
+    swap: Optional[int]
     laws: bool
 
 
@@ -58,13 +59,13 @@ def output_of(words: List[str], text: bytes) -> bytes:
     return done.stdout
 
 
-def checked_text(trace: Trace, form: str, seed: int) -> bytes:
+def checked_text(trace: Trace, job: Job) -> bytes:
     """The text, with its history, that the slow machine prints."""
-    machine = Machine(trace, [MemoryStore() for _ in range(trace.spaces)])
-    if form == 'order':
+    machine = Machine(trace, [store_of(job.swap) for _ in range(trace.spaces)])
+    if job.form == 'order':
         machine.run_in_order()
     else:
-        machine.run_in_turns(seed)
+        machine.run_in_turns(job.seed)
     return text_of_run(machine.pager, True).encode()
 
 
@@ -96,14 +97,15 @@ def wrong_with_text(trace: Trace, form: str, seed: int, text: bytes, laws: bool)
 def run(job: Job) -> Outcome:
     """One run, compared: by `order` and `turns` with the text of the slow machine, by `replay` its history is judged."""
     text = output_of([sys.executable, RANDOM_TRACE, *map(str, trace_words(job.seed))], b'')
-    words = [job.form, str(job.seed)] if job.form == 'turns' else [job.form]
+    words = [] if job.swap is None else ['--swap', str(job.swap)]
+    words += [job.form, str(job.seed)] if job.form == 'turns' else [job.form]
     try:
         printed = output_of([job.program, *words, '--history'], text)
         trace = trace_of(text)
         if job.form == 'replay' or job.laws:
             wrong = wrong_with_text(trace, job.form, job.seed, printed, job.laws)
         else:
-            wrong = first_difference(checked_text(trace, job.form, job.seed), printed)
+            wrong = first_difference(checked_text(trace, job), printed)
     except (Stopped, Refusal, Illegal) as fault:
         return Outcome(job, 0, str(fault))
     return Outcome(job, printed.count(b'\n'), wrong)

@@ -55,6 +55,32 @@ class MemoryStore:
         self.copies = {p: words for p, words in self.copies.items() if not first <= p < first + length}
 
 
+class SlotStore(MemoryStore):
+    """Copies in so many slots of a device, which may fail. A page whose copy is unknown has no slot, nor has one without a copy. (Slots.antt;
+    crates/swap_slots/specs/SlotState.antt)"""
+
+    def __init__(self, slots: int, failing: Failing = Failing()):
+        super().__init__(failing)
+        self.slots = slots
+
+    def read(self, page: int) -> Optional[Words]:
+        return super().read(page) if self.copies.get(page) is not None else {}
+
+    def write(self, page: int, words: Words) -> str:
+        """The page is written to its slot, or to a free one. Where there is neither, its copy is unknown, and the device isn't asked."""
+        placed = [p for p, copy in self.copies.items() if copy is not None]
+        if page not in placed and len(placed) == self.slots:
+            self.copies[page] = None
+            self.faults += 1
+            return 'failed'
+        return super().write(page, words)
+
+
+def store_of(slots: Optional[int], failing: Failing = Failing()) -> MemoryStore:
+    """A new store of a space, in so many slots where a number is given."""
+    return MemoryStore(failing) if slots is None else SlotStore(slots, failing)
+
+
 class Flight:
     """A call in progress, or a daemon's turn, with what it found so far."""
 

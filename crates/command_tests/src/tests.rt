@@ -6,6 +6,7 @@ mod frames;
 mod large;
 mod made;
 mod runs;
+mod slots;
 mod statuses;
 mod takings;
 mod texts;

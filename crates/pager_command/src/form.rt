@@ -167,7 +167,7 @@ fn number_of(word: &str) -> Option<u64>
 }
 
 /// The number of at most 32 bits whose decimal digits the word is, where it is one's.
-fn small_number_of(word: &str) -> Option<u32>
+pub fn small_number_of(word: &str) -> Option<u32>
     ensures some { IfSome result (λ number. word.now ≡ decimal number) }
     ensures none { IfNone result ((number : ℕ) → number < 2 ^ 32 → word.now ≢ decimal number) }
 {

@@ -4,7 +4,7 @@
 
 mod backing;
 
-use backing::{Backing, file_stores, memory_stores, stores_of};
+use backing::{Backing, file_stores, memory_stores, slot_stores, stores_of};
 use io_core::{RealSink, RealSource, Sink, Source};
 use pager_command::{DONE, MEMORY, message_of, run, unread_words};
 use std::fs::File;
@@ -45,6 +45,10 @@ fn run_words<R: AllocGlobal + Env + Files<File = File> + Threads + Wait + Sync, 
             Ok(run_over(rt, words, source, sink, stores))
         }
         Backing::Folder(folder) => match file_stores(rt, alloc, folder) {
+            Ok(stores) => Ok(run_over(rt, words, source, sink, stores)),
+            Err(_) => Ok((MEMORY, None)),
+        },
+        Backing::Slots(slots) => match slot_stores(alloc, slots) {
             Ok(stores) => Ok(run_over(rt, words, source, sink, stores)),
             Err(_) => Ok((MEMORY, None)),
         },

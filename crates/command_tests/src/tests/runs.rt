@@ -9,7 +9,7 @@ use pager_model::{Numbered, What};
 use std::process::Abort;
 use std::sync::Wait;
 use std::thread::Threads;
-use store_core::MemoryStore;
+use store_core::{MemoryStore, Store};
 use trace_reader::TraceFault;
 
 /// What a run is made over: how many bytes the sink takes, how many stores there are, and which read of the source, write of the sink, and
@@ -57,10 +57,10 @@ impl Ending {
 }
 
 /// What is said where there is no memory for a test.
-const NO_MEMORY: &str = "no memory";
+pub const NO_MEMORY: &str = "no memory";
 
 /// A list of this number alone.
-fn list_of<R: Abort + AllocGlobal>(rt: &R, number: u64) -> Vec<u64> {
+pub fn list_of<R: Abort + AllocGlobal>(rt: &R, number: u64) -> Vec<u64> {
     [number].to_vec(rt.alloc()).expect(rt, NO_MEMORY)
 }
 
@@ -122,7 +122,11 @@ fn last_taken(history: &[Numbered]) -> Option<(u32, u32)> {
 }
 
 /// How a run ended that left its source and its sink so.
-fn ending_of(outcome: Outcome<MemoryStore>, unread: Option<u8>, sink: MemorySink) -> Ending {
+fn ending_of<S: Store + Send + Drop>(
+    outcome: Outcome<S>,
+    unread: Option<u8>,
+    sink: MemorySink,
+) -> Ending {
     Ending {
         status: outcome.status,
         refusal: outcome.refusal,
@@ -135,6 +139,20 @@ fn ending_of(outcome: Outcome<MemoryStore>, unread: Option<u8>, sink: MemorySink
     }
 }
 
+/// Runs the program with these words over a text and these stores. What the setup says of stores isn't looked at.
+pub fn ran_over<R: Abort + AllocGlobal + Threads + Wait + Sync, S: Store + Send + Drop>(
+    rt: &R,
+    words: &[&str],
+    text: &[u8],
+    setup: Setup,
+    stores: Vec<S>,
+) -> Ending {
+    let mut source = source_of(rt, text, 1, setup.failing_read);
+    let mut sink = sink_of(rt, setup.limit, setup.failing_write);
+    let outcome = run(rt, rt.alloc(), words, &mut source, &mut sink, stores);
+    ending_of(outcome, next_byte(&mut source), sink)
+}
+
 /// Runs the program with these words over a text.
 pub fn ran<R: Abort + AllocGlobal + Threads + Wait + Sync>(
     rt: &R,
@@ -142,11 +160,8 @@ pub fn ran<R: Abort + AllocGlobal + Threads + Wait + Sync>(
     text: &[u8],
     setup: Setup,
 ) -> Ending {
-    let mut source = source_of(rt, text, 1, setup.failing_read);
-    let mut sink = sink_of(rt, setup.limit, setup.failing_write);
     let stores = stores_of(rt, setup.stores, setup.failing_fill, setup.failing_copy);
-    let outcome = run(rt, rt.alloc(), words, &mut source, &mut sink, stores);
-    ending_of(outcome, next_byte(&mut source), sink)
+    ran_over(rt, words, text, setup, stores)
 }
 
 pub fn push<R: Abort + AllocGlobal>(rt: &R, text: &mut Vec<u8>, bytes: &[u8]) {
