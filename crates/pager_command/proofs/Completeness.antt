@@ -4,7 +4,7 @@ use Rattle.std.proofs.lemmas.Option.{none-some}
 use Rattle.pager_model.specs.Plans.{Plan}
 use Rattle.pager_model.specs.TraceText.{IsTextOf}
 use Rattle.pager_command.specs.declared.status.TheConstants.{REFUSED, READ_FAULT, MEMORY}
-use Rattle.pager_command.specs.Runs.{IsRunnable, IsRefused, status_of}
+use Rattle.pager_command.specs.Runs.{CountsStores, IsRefused, IsRunnable, WasRead, WasText, status_of}
 use Rattle.trace_reader.specs.declared.fault.TraceFault.{TraceFault}
 use Rattle.trace_reader.specs.declared.fault.TraceFault.TheVariants.{ReadFault, TooLong, Line, NoEnd, TooManyCalls, TooFewStores, NoMemory}
 use Rattle.trace_reader.specs.Refusals.{refusal_of, IsCause}
@@ -65,3 +65,20 @@ status_told (Line number c) = inl refl
 status_told NoEnd = inl refl
 status_told TooManyCalls = inl refl
 status_told (TooFewStores stores spaces) = inl refl
+
+-- a text that was read is a trace's
+pub was_text : (left after : Option (List ℕ)) (plan : Plan) → WasRead plan left after → WasText left after
+was_text None after plan read = tt
+was_text (Some bytes) after plan read = ((plan, read.0), read.1)
+
+-- a refusal for want of stores, which are fewer than the spaces
+pub counts_stores : (refusal : Option TraceFault) (stores spaces : ℕ) → refusal ≡ Some (TooFewStores stores spaces) → stores < spaces → CountsStores stores refusal
+counts_stores refusal stores spaces is few = λ told wanted also.
+    let same : Some (TooFewStores stores spaces) ≡ Some (TooFewStores told wanted) = sym is ∙ also in
+    let count : told ≡ stores = cc in
+    let wants : wanted ≡ spaces = cc in
+    (count, omega (arith, few, count, wants))
+
+-- without a refusal none were wanted
+pub counts_none : (refusal : Option TraceFault) (stores : ℕ) → refusal ≡ None → CountsStores stores refusal
+counts_none refusal stores none = λ told wanted is. absurd (none-some _ (sym none ∙ is))

@@ -1,58 +1,114 @@
--- A run that was made and written, or of whose text a part was written.
-use Rattle.std.proofs.Common.{◌≡◌, ℕ, ◌≤◌, ◌⊎◌, inl, inr, List, Vec, length, map, Option, Some, None, ap, subst, rules, arith}
+-- A run by a form, where it was made, and where none was.
+use Rattle.std.proofs.Common.{◌≡◌, ◌≢◌, ℕ, ◌≤◌, ◌⊎◌, inl, inr, List, [], length, map, Option, Some, None, IsSome, refl, sym, subst, ◌∙◌, arith}
+use Rattle.std.proofs.lemmas.Bool.{false≢true}
+use Rattle.std.proofs.lemmas.Option.{none-some}
 use Rattle.std.specs.Borrow.{Bor}
-use Rattle.std.specs.declared.alloc.Global.{Global}
-use Rattle.io_core.specs.Faults.{Rose}
 use Rattle.pager_core.specs.declared.run_parts.Gathered.{Gathered}
-use Rattle.pager_model.specs.declared.entry.Numbered.{Numbered}
 use Rattle.pager_model.specs.Legal.{entries_in}
 use Rattle.pager_model.specs.Plans.{Plan}
-use Rattle.pager_model.specs.PrintedText.{out_text}
 use Rattle.pager_model.specs.Stored.{Stored}
-use Rattle.replay_core.specs.Replays.{IsReplay, AreItsCounts}
-use Rattle.report_text.specs.declared.report.Parts.{Parts}
-use Rattle.report_text.specs.Parts.{has_history}
-use Rattle.report_text.specs.Written.{WroteAll, WrotePart}
 use Rattle.pager_command.specs.declared.form.Form.{Form}
 use Rattle.pager_command.specs.declared.outcome.Outcome.{Outcome}
-use Rattle.pager_command.specs.declared.status.TheConstants.{DONE, WRITE_FAULT}
-use Rattle.pager_command.specs.Forms.{AreWords, ComesBy, parts_of}
-use Rattle.pager_command.specs.Runs.{RunsBy, WasRead, run_text}
+use Rattle.pager_command.specs.declared.status.TheConstants.{DONE, MEMORY, WRITE_FAULT}
+use Rattle.pager_command.specs.Forms.{AreWords, ComesBy}
+use Rattle.pager_command.specs.Runs.{EndsRun, IsEndOf, IsStopped, RunsBy, WasRead, WasRun}
+use Rattle.pager_command.proofs.Completeness.{counts_none, was_text}
 use Rattle.pager_command.proofs.OneForm.{one_form}
-use Rattle.pager_command.proofs.PrintedRuns.{run_text-gathered}
+use Rattle.trace_reader.specs.declared.fault.TraceFault.{TraceFault}
 
-module _ {T K P : Type 0} (left : T → Option (List ℕ)) (reads : T → ℕ) (taken : K → Option (List ℕ)) (writes : K → ℕ) (seen : P → Stored) (source source' : T) (sink sink' : K) (stores : List P) (plan : Plan) (form : Form) (gathered : Gathered P) (outcome : Outcome P) where
-  -- what the counts and the parts print is the form's text of the run
-  text_is : (parts : Parts) → parts ≡ parts_of form → outcome.history ≡ gathered.history → AreItsCounts plan (map seen stores) gathered.history.items gathered.summary → out_text (has_history parts) plan.processors gathered.history.items gathered.summary ≡ run_text form plan (map seen stores) outcome.history.items
-  text_is parts asked history counted =
-      run_text-gathered form plan (map seen stores) parts gathered.history.items outcome.history.items gathered.summary asked counted (ap (λ (v : Vec Numbered Global). v.items) history)
+-- the statuses of a run that was made
+made_statuses : (form : Form) (status : ℕ) → IsEndOf form status → (status ≡ DONE) ⊎ ((status ≡ WRITE_FAULT) ⊎ (status ≡ MEMORY))
+made_statuses form status ended =
+    elim ended [ inl done ↦ inl done | inr other ↦ elim other [ inl failed ↦ inr (inl failed) | inr more ↦ inr (inr more.0) ] ]
 
-  pub RunsBy-written : (parts : Parts) → parts ≡ parts_of form → WasRead plan (left source) (left source') → reads source' ≡ reads source → plan.spaces ≤ length stores
-      → IsReplay plan (map seen stores) gathered.history.items (map seen gathered.stores.items) → ComesBy form plan (entries_in gathered.history.items) → AreItsCounts plan (map seen stores) gathered.history.items gathered.summary
-      → (outcome.status ≡ DONE) ⊎ (outcome.status ≡ WRITE_FAULT) → outcome.refusal ≡ None → outcome.trace ≡ Some plan → outcome.history ≡ gathered.history → outcome.stores ≡ gathered.stores
-      → (outcome.status ≡ DONE → WroteAll (out_text (has_history parts) plan.processors gathered.history.items gathered.summary) (taken sink) (taken sink'))
-      → (outcome.status ≡ WRITE_FAULT → WrotePart (out_text (has_history parts) plan.processors gathered.history.items gathered.summary) (taken sink) (taken sink'))
-      → (outcome.status ≡ WRITE_FAULT → Rose (writes sink) (writes sink'))
+-- with any other status there is no trace
+pub unmade : (trace : Option Plan) (form : Form) (status : ℕ) → (IsSome trace → IsEndOf form status) → status ≢ DONE → status ≢ WRITE_FAULT → status ≢ MEMORY → trace ≡ None
+unmade None form status ended not_done not_failed not_memory = refl
+unmade (Some plan) form status ended not_done not_failed not_memory =
+    elim (made_statuses form status (ended refl)) [ inl done ↦ absurd (not_done done) | inr other ↦ elim other [ inl failed ↦ absurd (not_failed failed) | inr memory ↦ absurd (not_memory memory) ] ]
+
+-- there was no memory for a run of a text that was read
+pub stopped_for_memory : (left left' : Option (List ℕ)) (faults faults' stores : ℕ) (plan : Plan) → WasRead plan left left' → faults' ≡ faults → IsStopped left left' faults faults' stores MEMORY None
+stopped_for_memory left left' faults faults' stores plan read same =
+    record {
+      statuses = inr (inr refl);
+      told = record {
+        own_status = tt;
+        refused = λ is. absurd (omega (arith, is));
+        read_fault = λ is. absurd (omega (arith, is));
+      };
+      few_stores = counts_none None stores refl;
+      refused = λ is. absurd (omega (arith, is));
+      read_fault = λ is. absurd (omega (arith, is));
+      no_fault = λ _. same;
+      memory = λ _ _. was_text left left' plan read;
+      complete = λ _ _. refl;
+    }
+
+module _ {T K P : Type 0} (left : T → Option (List ℕ)) (reads : T → ℕ) (taken : K → Option (List ℕ)) (writes : K → ℕ) (seen : P → Stored) (form : Form) (source source' : T) (sink sink' : K) (stores : List P) (outcome : Outcome P) where
+  pub RunsBy-ended : (plan : Plan) (gathered : Gathered P) → WasRead plan (left source) (left source') → reads source' ≡ reads source → plan.spaces ≤ length stores
+      → ComesBy form plan (entries_in gathered.history.items) → WasRun seen plan (map seen stores) gathered → EndsRun taken writes form plan (map seen stores) gathered sink sink' outcome
       → RunsBy left reads taken writes seen form source source' sink sink' stores outcome
-  RunsBy-written parts asked read no_fault enough run ordered counted made refusal trace history kept wrote part rose =
+  RunsBy-ended plan gathered read no_fault enough ordered ran ends =
+      let which = made_statuses form outcome.status ends.ended in
       record {
-        statuses = elim made [ inl done ↦ inl done | inr failed ↦ inr (inr (inr (inr (inr failed)))) ];
-        no_usage = λ usage. omega (arith, made, usage);
-        told = search rules;
-        unwritten = λ not_done not_failed. elim made [ inl done ↦ absurd (not_done done) | inr failed ↦ absurd (not_failed failed) ];
-        no_trace = λ not_done not_failed. elim made [ inl done ↦ absurd (not_done done) | inr failed ↦ absurd (not_failed failed) ];
-        same_stores = λ not_done not_failed. elim made [ inl done ↦ absurd (not_done done) | inr failed ↦ absurd (not_failed failed) ];
-        refused = λ is. absurd (omega (arith, is, made));
-        read_fault = λ is. absurd (omega (arith, is, made));
+        statuses = elim which [ inl done ↦ inl done | inr other ↦ elim other [ inl failed ↦ inr (inr (inr (inr (inr failed)))) | inr memory ↦ inr (inr (inr (inr (inl memory)))) ] ];
+        no_usage = λ usage. omega (arith, which, usage);
+        told = record {
+          own_status = rw ends.refusal tt;
+          refused = λ is. absurd (omega (arith, is, which));
+          read_fault = λ is. absurd (omega (arith, is, which));
+        };
+        few_stores = counts_none outcome.refusal (length stores) ends.refusal;
+        refused = λ is. absurd (omega (arith, is, which));
+        read_fault = λ is. absurd (omega (arith, is, which));
         no_read_fault = λ _. no_fault;
-        write_fault = rose;
-        memory = λ is _. absurd (omega (arith, is, made));
-        complete = λ _ _ no_write. elim made [ inl done ↦ inl done | inr failed ↦ absurd (no_write (rose failed)) ];
-        trace = λ _. rw trace (read, enough, rw (history, kept) run);
-        ordered = λ _. rw trace (rw history ordered);
-        wrote = λ done. rw trace (subst (λ text. WroteAll text (taken sink) (taken sink')) (text_is parts asked history counted) (wrote done));
-        part = λ failed. rw trace (subst (λ text. WrotePart text (taken sink) (taken sink')) (text_is parts asked history counted) (part failed));
+        write_fault = ends.write_fault;
+        memory = λ _ _. was_text (left source) (left source') plan read;
+        complete = λ _ _ no_write. elim which [ inl done ↦ inl done | inr other ↦ elim other [ inl failed ↦ absurd (no_write (ends.write_fault failed)) | inr memory ↦ inr memory ] ];
+        unwritten = λ not_done not_failed. elim which [ inl done ↦ absurd (not_done done) | inr other ↦ elim other [ inl failed ↦ absurd (not_failed failed) | inr memory ↦ ends.unwritten memory ] ];
+        no_trace = λ none. absurd (none-some _ (sym none ∙ ends.trace));
+        same_stores = λ none. absurd (none-some _ (sym none ∙ ends.trace));
+        made = λ _. rw ends.trace refl;
+        ended = λ _. ends.ended;
+        trace = rw ends.trace (read, enough, rw (ends.history, ends.kept) ran.run);
+        ordered = rw ends.trace (rw ends.history ordered);
+        wrote = λ done. rw ends.trace (rw ends.history (ends.wrote done));
+        part = λ failed. rw ends.trace (rw ends.history (ends.part failed));
       }
+
+  stopped : IsStopped (left source) (left source') (reads source) (reads source') (length stores) outcome.status outcome.refusal
+      → outcome.trace ≡ None → outcome.history.items ≡ [] → map seen outcome.stores.items ≡ map seen stores → sink' ≡ sink
+      → RunsBy left reads taken writes seen form source source' sink sink' stores outcome
+  stopped stop none no_history same unwritten =
+      let which = stop.statuses in
+      record {
+        statuses = elim which [ inl refused ↦ inr (inr (inl refused)) | inr other ↦ elim other [ inl fault ↦ inr (inr (inr (inl fault))) | inr memory ↦ inr (inr (inr (inr (inl memory)))) ] ];
+        no_usage = λ usage. omega (arith, which, usage);
+        told = stop.told;
+        few_stores = stop.few_stores;
+        refused = stop.refused;
+        read_fault = stop.read_fault;
+        no_read_fault = stop.no_fault;
+        write_fault = λ is. absurd (omega (arith, is, which));
+        memory = stop.memory;
+        complete = λ text no_read _. inr (stop.complete text no_read);
+        unwritten = λ _ _. unwritten;
+        no_trace = λ _. no_history;
+        same_stores = λ _. same;
+        made = λ made. absurd (omega (arith, made, which));
+        ended = λ some. absurd (false≢true (rw none at some));
+        trace = rw none tt;
+        ordered = rw none tt;
+        wrote = λ is. absurd (omega (arith, is, which));
+        part = λ is. absurd (omega (arith, is, which));
+      }
+
+  pub RunsBy-stopped : (n status : ℕ) (refusal : Option TraceFault) → IsStopped (left source) (left source') (reads source) (reads source') n status refusal
+      → n ≡ length stores → outcome.status ≡ status → outcome.refusal ≡ refusal
+      → outcome.trace ≡ None → outcome.history.items ≡ [] → map seen outcome.stores.items ≡ map seen stores → sink' ≡ sink
+      → RunsBy left reads taken writes seen form source source' sink sink' stores outcome
+  RunsBy-stopped n status refusal stop count status_is refusal_is = stopped (rw (status_is, refusal_is, ← count) stop)
 
 -- what is promised by a form is promised by the form of its words
 pub RunsBy-words : {T K P : Type 0} {left : T → Option (List ℕ)} {reads : T → ℕ} {taken : K → Option (List ℕ)} {writes : K → ℕ} {seen : P → Stored} {form : Form} {source source' : T} {sink sink' : K} {stores : List P} {outcome : Outcome P} (words : List (Bor (List ℕ))) (other : Form)

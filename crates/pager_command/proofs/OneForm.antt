@@ -7,7 +7,7 @@ use Rattle.report_text.specs.declared.report.Parts.TheVariants.{Answers, Answers
 use Rattle.pager_command.specs.declared.form.Form.{Form}
 use Rattle.pager_command.specs.declared.form.Form.TheVariants.{Order, Turns, Replay}
 use Rattle.pager_command.specs.declared.form.Making.{Making}
-use Rattle.pager_command.specs.Forms.{AreLargeWords, AreMakingWords, AreWords, HasSeed, IsForm, large_words, making_words, parts_words, words_of}
+use Rattle.pager_command.specs.Forms.{AreInRange, AreLargeWords, AreMakingWords, AreWords, IsForm, large_words, making_words, parts_words, words_of}
 use Rattle.trace_make.specs.Made.{CanMake}
 
 one_parts : (p q : Parts) → parts_words p ≡ parts_words q → p ≡ q
@@ -31,7 +31,7 @@ begins (Replay parts) = refl
 one_letter : (a b : Form) → words_of a ≡ words_of b → letter a ≡ letter b
 one_letter a b same = sym (begins a) ∙ ap (λ (ws : List (List ℕ)). get_or (get_or ws 0 []) 0 0) same ∙ begins b
 
-same_form : (a b : Form) → HasSeed a → HasSeed b → words_of a ≡ words_of b → letter a ≡ letter b → a ≡ b
+same_form : (a b : Form) → AreInRange a → AreInRange b → words_of a ≡ words_of b → letter a ≡ letter b → a ≡ b
 same_form (Order p) (Order q) seed other same letters = ap Order (one_parts p q cc)
 same_form (Turns m p) (Turns n q) seed other same letters =
     let e : words_of (Turns m p) ≡ words_of (Turns n q) = same in
@@ -46,7 +46,7 @@ same_form (Replay p) (Order q) seed other same letters = absurd (omega (arith, l
 same_form (Replay p) (Turns n q) seed other same letters = absurd (omega (arith, letters))
 
 pub one_form : (words : List (Bor (List ℕ))) (a b : Form) → AreWords words a → AreWords words b → a ≡ b
-one_form words a b is also = (let same = sym is.are ∙ also.are in same_form a b is.seed also.seed same (one_letter a b same))
+one_form words a b is also = (let same = sym is.are ∙ also.are in same_form a b is.numbers also.numbers same (one_letter a b same))
 
 -- The words of the other commands begin with letters of their own.
 abbrev first_letter : List (List ℕ) → ℕ

@@ -25,17 +25,11 @@ words_of (Order parts) = codes "order" ∷ parts_words parts
 words_of (Turns seed parts) = codes "turns" ∷ decimal seed ∷ parts_words parts
 words_of (Replay parts) = codes "replay" ∷ parts_words parts
 
--- the parts that a form prints
-abbrev pub parts_of : Form → Parts
-parts_of (Order parts) = parts
-parts_of (Turns seed parts) = parts
-parts_of (Replay parts) = parts
-
--- a seed is a number of 64 bits
-abbrev pub HasSeed : Form → Type 0
-HasSeed (Order parts) = Unit {0}
-HasSeed (Turns seed parts) = seed < 2 ^ 64
-HasSeed (Replay parts) = Unit {0}
+-- a form's numbers are in their ranges: a seed has 64 bits
+abbrev pub AreInRange : Form → Type 0
+AreInRange (Order parts) = Unit {0}
+AreInRange (Turns seed parts) = seed < 2 ^ 64
+AreInRange (Replay parts) = Unit {0}
 
 -- the entries are made in turns, by one thread
 abbrev pub IsInTurns : Form → Type 0
@@ -50,7 +44,7 @@ are_of words = map (λ (w : Bor (List ℕ)). w.now) words
 -- the words are of this form
 pub record AreWords (words : List (Bor (List ℕ))) (form : Form) : Type 0 where
   pub are : are_of words ≡ words_of form
-  pub seed : HasSeed form
+  pub numbers : AreInRange form
 
 -- the words are of some form
 abbrev pub IsForm : List (Bor (List ℕ)) → Type 0

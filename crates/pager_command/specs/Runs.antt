@@ -9,13 +9,16 @@ use Rattle.pager_model.specs.Plans.{Plan}
 use Rattle.pager_model.specs.PrintedText.{out_text}
 use Rattle.pager_model.specs.TraceText.{IsTextOf}
 use Rattle.pager_model.specs.Stored.{Stored}
-use Rattle.replay_core.specs.Replays.{IsReplay}
+use Rattle.pager_core.specs.declared.run_parts.Gathered.{Gathered}
+use Rattle.replay_core.specs.Replays.{IsReplay, AreItsCounts}
+use Rattle.report_text.specs.declared.report.Parts.{Parts}
 use Rattle.report_text.specs.Parts.{has_history}
 use Rattle.report_text.specs.Written.{WroteAll, WrotePart}
 use Rattle.pager_command.specs.declared.form.Form.{Form}
+use Rattle.pager_command.specs.declared.form.Form.TheVariants.{Order, Turns, Replay}
 use Rattle.pager_command.specs.declared.outcome.Outcome.{Outcome}
 use Rattle.pager_command.specs.declared.status.TheConstants.{DONE, USAGE, REFUSED, READ_FAULT, MEMORY, WRITE_FAULT}
-use Rattle.pager_command.specs.Forms.{parts_of, ComesBy}
+use Rattle.pager_command.specs.Forms.{ComesBy}
 use Rattle.trace_reader.specs.declared.fault.TraceFault.{TraceFault}
 use Rattle.trace_reader.specs.declared.fault.TraceFault.TheVariants.{ReadFault, TooFewStores, NoMemory}
 use Rattle.trace_reader.specs.Refusals.{refusal_of}
@@ -59,21 +62,71 @@ pub record IsTold (status : ℕ) (refusal : Option TraceFault) : Type 0 where
 abbrev pub WasRead : Plan → Option (List ℕ) → Option (List ℕ) → Type 0
 WasRead plan before after = IfSome before (λ bytes. IsTextOf bytes plan × (after ≡ Some []))
 
--- what a run of a form prints of a trace over stores: each processor's answers, the history where the form asks for it, and the counts
-abbrev pub run_text : Form → Plan → List Stored → List Numbered → List ℕ
-run_text form plan stores history =
-    out_text (has_history (parts_of form)) plan.processors history (counts (setting_over plan stores) (entries_in history))
+-- the report of a run of a trace over stores: each processor's answers, the history where it is asked for, and the counts
+abbrev pub report_of : Parts → Plan → List Stored → List Numbered → List ℕ
+report_of parts plan stores history =
+    out_text (has_history parts) plan.processors history (counts (setting_over plan stores) (entries_in history))
+
+-- what a run of a form prints of a trace over stores: the report of its history
+abbrev pub Prints : Form → Plan → List Stored → List Numbered → List ℕ → Type 0
+Prints (Order parts) plan stores history text = text ≡ report_of parts plan stores history
+Prints (Turns seed parts) plan stores history text = text ≡ report_of parts plan stores history
+Prints (Replay parts) plan stores history text = text ≡ report_of parts plan stores history
+
+-- where the sink tells its bytes, it has gained what the run prints
+abbrev pub PrintedAll : Form → Plan → List Stored → List Numbered → Option (List ℕ) → Option (List ℕ) → Type 0
+PrintedAll form plan stores history before after =
+    (text : List ℕ) × Prints form plan stores history text × WroteAll text before after
+
+-- or a beginning of it
+abbrev pub PrintedPart : Form → Plan → List Stored → List Numbered → Option (List ℕ) → Option (List ℕ) → Type 0
+PrintedPart form plan stores history before after =
+    (text : List ℕ) × Prints form plan stores history text × WrotePart text before after
+
+-- the form takes memory after its run: none does
+abbrev pub TakesMore : Form → Type 0
+TakesMore (Order parts) = ⊥
+TakesMore (Turns seed parts) = ⊥
+TakesMore (Replay parts) = ⊥
+
+-- the status where a run of the form was made: its text was written, or a part of it, or there was no memory for what the form takes after the
+-- run
+abbrev pub IsEndOf : Form → ℕ → Type 0
+IsEndOf form status = (status ≡ DONE) ⊎ ((status ≡ WRITE_FAULT) ⊎ ((status ≡ MEMORY) × TakesMore form))
+
+-- where stores were wanted, the refusal says how many there were, and how many more spaces there are
+abbrev pub CountsStores : ℕ → Option TraceFault → Type 0
+CountsStores stores refusal =
+    (told spaces : ℕ) → refusal ≡ Some (TooFewStores told spaces) → (told ≡ stores) × (told < spaces)
 
 -- Why no run is made over so many stores: the bytes are refused as they should be, a read failed, or there was no memory. The bytes and the
 -- faults are the source's, before and after.
 pub record IsStopped (left left' : Option (List ℕ)) (faults faults' stores status : ℕ) (refusal : Option TraceFault) : Type 0 where
   pub statuses : (status ≡ REFUSED) ⊎ ((status ≡ READ_FAULT) ⊎ (status ≡ MEMORY))
   pub told : IsTold status refusal
+  pub few_stores : CountsStores stores refusal
   pub refused : status ≡ REFUSED → IfSome left (λ bytes. IsSomeAnd refusal (IsRefused stores bytes))
   pub read_fault : status ≡ READ_FAULT → Rose faults faults'
   pub no_fault : status ≢ READ_FAULT → faults' ≡ faults
   pub memory : status ≡ MEMORY → refusal ≡ None → WasText left left'
   pub complete : IsSomeAnd left (IsRunnable stores) → (Rose faults faults' → ⊥) → status ≡ MEMORY
+
+-- A run of the trace over these stores was made, and this was gathered of it. A store tells itself by `seen`.
+pub record WasRun {P : Type 0} (seen : P → Stored) (plan : Plan) (stores : List Stored) (gathered : Gathered P) : Type 0 where
+  pub run : IsReplay plan stores gathered.history.items (map seen gathered.stores.items)
+  pub counts : AreItsCounts plan stores gathered.history.items gathered.summary
+
+-- How a run by a form ends, once it is made: what it prints was written, or a part of it, or there was no memory for it.
+pub record EndsRun {K P : Type 0} (taken : K → Option (List ℕ)) (writes : K → ℕ) (form : Form) (plan : Plan) (stores : List Stored) (gathered : Gathered P) (sink sink' : K) (outcome : Outcome P) : Type 0 where
+  pub ended : IsEndOf form outcome.status
+  pub refusal : outcome.refusal ≡ None
+  pub trace : outcome.trace ≡ Some plan
+  pub history : outcome.history ≡ gathered.history
+  pub kept : outcome.stores ≡ gathered.stores
+  pub unwritten : outcome.status ≡ MEMORY → sink' ≡ sink
+  pub wrote : outcome.status ≡ DONE → PrintedAll form plan stores gathered.history.items (taken sink) (taken sink')
+  pub part : outcome.status ≡ WRITE_FAULT → PrintedPart form plan stores gathered.history.items (taken sink) (taken sink')
+  pub write_fault : outcome.status ≡ WRITE_FAULT → Rose (writes sink) (writes sink')
 
 -- What a run by a form promises, whichever threads make its entries. A source tells its bytes by `left` and its faults by `reads`, a sink its
 -- bytes by `taken` and its faults by `writes`, and a store itself by `seen`.
@@ -81,18 +134,23 @@ pub record RunsBy {T K P : Type 0} (left : T → Option (List ℕ)) (reads : T �
   pub statuses : IsStatus outcome.status
   pub no_usage : outcome.status ≢ USAGE
   pub told : IsTold outcome.status outcome.refusal
-  -- no run was made
-  pub unwritten : outcome.status ≢ DONE → outcome.status ≢ WRITE_FAULT → sink' ≡ sink
-  pub no_trace : outcome.status ≢ DONE → outcome.status ≢ WRITE_FAULT → (outcome.trace ≡ None) × (outcome.history.items ≡ [])
-  pub same_stores : outcome.status ≢ DONE → outcome.status ≢ WRITE_FAULT → map seen outcome.stores.items ≡ map seen stores
+  pub few_stores : CountsStores (length stores) outcome.refusal
   pub refused : outcome.status ≡ REFUSED → IfSome (left source) (λ bytes. IsSomeAnd outcome.refusal (IsRefused (length stores) bytes))
   pub read_fault : outcome.status ≡ READ_FAULT → Rose (reads source) (reads source')
   pub no_read_fault : outcome.status ≢ READ_FAULT → reads source' ≡ reads source
   pub write_fault : outcome.status ≡ WRITE_FAULT → Rose (writes sink) (writes sink')
   pub memory : outcome.status ≡ MEMORY → outcome.refusal ≡ None → WasText (left source) (left source')
   pub complete : IsSomeAnd (left source) (IsRunnable (length stores)) → (Rose (reads source) (reads source') → ⊥) → (Rose (writes sink) (writes sink') → ⊥) → (outcome.status ≡ DONE) ⊎ (outcome.status ≡ MEMORY)
-  -- one was made, over a store for each space, and its text was written, or a part of it
-  pub trace : (outcome.status ≡ DONE) ⊎ (outcome.status ≡ WRITE_FAULT) → IsSomeAnd outcome.trace (λ plan. WasRead plan (left source) (left source') × (plan.spaces ≤ length stores) × IsReplay plan (map seen stores) outcome.history.items (map seen outcome.stores.items))
-  pub ordered : (outcome.status ≡ DONE) ⊎ (outcome.status ≡ WRITE_FAULT) → IfSome outcome.trace (λ plan. ComesBy form plan (entries_in outcome.history.items))
-  pub wrote : outcome.status ≡ DONE → IfSome outcome.trace (λ plan. WroteAll (run_text form plan (map seen stores) outcome.history.items) (taken sink) (taken sink'))
-  pub part : outcome.status ≡ WRITE_FAULT → IfSome outcome.trace (λ plan. WrotePart (run_text form plan (map seen stores) outcome.history.items) (taken sink) (taken sink'))
+  -- nothing was written
+  pub unwritten : outcome.status ≢ DONE → outcome.status ≢ WRITE_FAULT → sink' ≡ sink
+  -- a run was made exactly where there is a trace
+  pub no_trace : outcome.trace ≡ None → outcome.history.items ≡ []
+  pub same_stores : outcome.trace ≡ None → map seen outcome.stores.items ≡ map seen stores
+  pub made : (outcome.status ≡ DONE) ⊎ (outcome.status ≡ WRITE_FAULT) → IsSome outcome.trace
+  pub ended : IsSome outcome.trace → IsEndOf form outcome.status
+  -- it was made over a store for each space
+  pub trace : IfSome outcome.trace (λ plan. WasRead plan (left source) (left source') × (plan.spaces ≤ length stores) × IsReplay plan (map seen stores) outcome.history.items (map seen outcome.stores.items))
+  pub ordered : IfSome outcome.trace (λ plan. ComesBy form plan (entries_in outcome.history.items))
+  -- what it prints was written, or a part of it
+  pub wrote : outcome.status ≡ DONE → IfSome outcome.trace (λ plan. PrintedAll form plan (map seen stores) outcome.history.items (taken sink) (taken sink'))
+  pub part : outcome.status ≡ WRITE_FAULT → IfSome outcome.trace (λ plan. PrintedPart form plan (map seen stores) outcome.history.items (taken sink) (taken sink'))

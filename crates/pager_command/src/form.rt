@@ -2,7 +2,7 @@
 
 ghost use Rattle.std.specs.Prelude.{◌≡◌, ◌≢◌, ℕ, ◌^◌, ◌<◌, ◌↔◌, IsTrue, IfSome, IfNone, decimal};
 ghost use Rattle.report_text.specs.declared.report.Parts.{Parts as Printed};
-ghost use Rattle.pager_command.specs.Forms.{AreLargeWords, AreMakingWords, AreOfCommand, AreWords, IsCommand, IsForm, IsLarge, IsMaking, are_of, parts_of, parts_words};
+ghost use Rattle.pager_command.specs.Forms.{AreLargeWords, AreMakingWords, AreOfCommand, AreWords, IsCommand, IsForm, IsLarge, IsMaking, are_of, parts_words};
 ghost use Rattle.trace_make.specs.Made.{CanMake};
 
 use itoa::Buffer;
@@ -34,17 +34,6 @@ pub enum Form {
     Turns { seed: u64, parts: Parts },
     /// To run it with a thread for each processor, in the order in which they come to the locks.
     Replay { parts: Parts },
-}
-
-impl Form {
-    /// The parts that it prints.
-    pub fn parts(&self) -> Parts
-        ensures { result ≡ parts_of self.now }
-    {
-        match *self {
-            Form::Order { parts } | Form::Turns { parts, .. } | Form::Replay { parts } => parts,
-        }
-    }
 }
 
 /// The number that a trace is made from, and how many calls, processors, spaces and frames it has.

@@ -1,9 +1,10 @@
 //! A run of the program, from the bytes read to the bytes written.
 
-ghost use Rattle.std.specs.Prelude.{ℕ, ◌≡◌, ◌≢◌, ◌<◌, ◌≤◌, ◌⊎◌, [], None, Some, IfOk, IfErr, IfSome, IsSomeAnd, length, map};
+ghost use Rattle.std.specs.Prelude.{ℕ, ◌≡◌, ◌≢◌, ◌<◌, ◌≤◌, ◌⊎◌, List, [], None, Some, IfOk, IfErr, IfSome, IsSome, IsSomeAnd, length, map};
 ghost use Rattle.io_core.specs.Faults.{Rose};
 ghost use Rattle.pager_model.specs.Legal.{entries_in};
 ghost use Rattle.pager_model.specs.PrintedText.{out_text};
+ghost use Rattle.pager_model.specs.Stored.{Stored};
 ghost use Rattle.replay_core.specs.Replays.{IsReplay, AreItsCounts};
 ghost use Rattle.report_text.specs.Parts.{has_history};
 ghost use Rattle.report_text.specs.Written.{WroteAll, WrotePart};
@@ -11,7 +12,7 @@ ghost use Rattle.pager_command.specs.declared.form.Form.{Form as Asked};
 ghost use Rattle.pager_command.specs.declared.form.Making.{Making as ToMake};
 ghost use Rattle.pager_command.specs.Forms.{AreLargeWords, AreMakingWords, AreWords, IsCommand, IsForm, IsInTurns, ComesBy};
 ghost use Rattle.pager_command.specs.MadeRuns.{MakesText, RunsLarge};
-ghost use Rattle.pager_command.specs.Runs.{IsRunnable, IsRefused, IsStatus, IsStopped, IsTold, RunsBy, WasText, WasRead, run_text, status_of};
+ghost use Rattle.pager_command.specs.Runs.{CountsStores, EndsRun, IsEndOf, IsRefused, IsRunnable, IsStatus, IsStopped, IsTold, PrintedAll, PrintedPart, RunsBy, WasRead, WasRun, WasText, status_of};
 
 use crate::form::{Command, Form, command_of};
 use crate::making::{run_large, write_made};
@@ -49,17 +50,22 @@ pub fn run<T: Source, K: Sink, S: Store + Send + Drop, R: Threads + Wait + Sync>
     ensures usage { (IsCommand words.now → ⊥) → result.status ≡ USAGE }
     ensures unread { result.status ≡ USAGE → source.new ≡ source.old }
 
-    // Where no run was made nothing was written, and the stores are as they were.
+    // Nothing was written, but where the run is done or a write failed.
     ensures unwritten { result.status ≢ DONE → result.status ≢ WRITE_FAULT → sink.new ≡ sink.old }
-    ensures no_trace { result.status ≢ DONE → result.status ≢ WRITE_FAULT → (result.trace ≡ None) × (result.history.items ≡ []) }
-    ensures same_stores { result.status ≢ DONE → result.status ≢ WRITE_FAULT → map S.seen result.stores.items ≡ map S.seen stores.items }
 
-    // The bytes are refused as they should be; a read failed, and else none did; a write failed; the reader had memory.
+    // Without a trace no run was made, and the stores are as they were.
+    ensures no_trace { result.trace ≡ None → result.history.items ≡ [] }
+    ensures same_stores { result.trace ≡ None → map S.seen result.stores.items ≡ map S.seen stores.items }
+    ensures unmade { result.status ≢ DONE → result.status ≢ WRITE_FAULT → result.status ≢ MEMORY → result.trace ≡ None }
+
+    // The bytes are refused as they should be; a read failed, and else none did; a write failed; the reader had memory. Where stores were
+    // wanted, the refusal says how many there were, which are fewer than the spaces.
     ensures refused { IsForm words.now → result.status ≡ REFUSED → IfSome (T.left source.old) (λ bytes. IsSomeAnd result.refusal (IsRefused (length stores.items) bytes)) }
     ensures read_fault { result.status ≡ READ_FAULT → Rose (T.faults source.old) (T.faults source.new) }
     ensures no_read_fault { result.status ≢ READ_FAULT → T.faults source.new ≡ T.faults source.old }
     ensures write_fault { result.status ≡ WRITE_FAULT → Rose (K.faults sink.old) (K.faults sink.new) }
     ensures memory { IsForm words.now → result.status ≡ MEMORY → result.refusal ≡ None → WasText (T.left source.old) (T.left source.new) }
+    ensures few_stores { CountsStores (length stores.items) result.refusal }
 
     // Words of a form, the text of a trace and stores enough give a run, unless there is no memory or a read or a write fails.
     ensures complete { IsForm words.now → IsSomeAnd (T.left source.old) (IsRunnable (length stores.items))
@@ -67,16 +73,21 @@ pub fn run<T: Source, K: Sink, S: Store + Send + Drop, R: Threads + Wait + Sync>
         → (Rose (K.faults sink.old) (K.faults sink.new) → ⊥)
         → (result.status ≡ DONE) ⊎ (result.status ≡ MEMORY) }
 
-    // A run of a form that is done, and one whose text was written in part.
-    ensures trace { IsForm words.now → (result.status ≡ DONE) ⊎ (result.status ≡ WRITE_FAULT)
-        → IsSomeAnd result.trace (λ trace. WasRead trace (T.left source.old) (T.left source.new) × (trace.spaces ≤ length stores.items)
+    // By words of a form a run was made exactly where there is a trace: it is done, or a write failed, or there was no memory for what the form
+    // takes after it.
+    ensures made { IsForm words.now → (result.status ≡ DONE) ⊎ (result.status ≡ WRITE_FAULT) → IsSome result.trace }
+    ensures ended { (form : Asked) → AreWords words.now form → IsSome result.trace → IsEndOf form result.status }
+    ensures trace { IsForm words.now
+        → IfSome result.trace (λ trace. WasRead trace (T.left source.old) (T.left source.new) × (trace.spaces ≤ length stores.items)
         × IsReplay trace (map S.seen stores.items) result.history.items (map S.seen result.stores.items)) }
-    ensures ordered { (form : Asked) → AreWords words.now form → (result.status ≡ DONE) ⊎ (result.status ≡ WRITE_FAULT)
+    ensures ordered { (form : Asked) → AreWords words.now form
         → IfSome result.trace (λ trace. ComesBy form trace (entries_in result.history.items)) }
+
+    // What it prints was written, or a part of it.
     ensures wrote { (form : Asked) → AreWords words.now form → result.status ≡ DONE → IfSome result.trace (λ trace.
-        WroteAll (run_text form trace (map S.seen stores.items) result.history.items) (K.taken sink.old) (K.taken sink.new)) }
+        PrintedAll form trace (map S.seen stores.items) result.history.items (K.taken sink.old) (K.taken sink.new)) }
     ensures part { (form : Asked) → AreWords words.now form → result.status ≡ WRITE_FAULT → IfSome result.trace (λ trace.
-        WrotePart (run_text form trace (map S.seen stores.items) result.history.items) (K.taken sink.old) (K.taken sink.new)) }
+        PrintedPart form trace (map S.seen stores.items) result.history.items (K.taken sink.old) (K.taken sink.new)) }
 
     // A trace that is made from a number, and not read.
     ensures makes { (m : ToMake) → AreMakingWords words.now m
@@ -113,7 +124,7 @@ fn run_in_turns<T: Source, K: Sink, S: Store + Send + Drop>(
         Err(stop) => return stopped(alloc, stop.status, stop.refusal, stores),
     };
     match replay_in_turns(alloc, form, &trace, stores) {
-        Ok(gathered) => write_run(sink, trace, gathered, form.parts()),
+        Ok(gathered) => write_run(sink, form, trace, gathered),
         Err(stores) => stopped(alloc, MEMORY, None, stores),
     }
 }
@@ -134,7 +145,7 @@ fn run_in_threads<T: Source, K: Sink, S: Store + Send + Drop, R: Threads + Wait 
         Err(stop) => return stopped(alloc, stop.status, stop.refusal, stores),
     };
     match replay(rt, alloc, &trace, stores) {
-        Ok(gathered) => write_run(sink, trace, gathered, parts),
+        Ok(gathered) => write_run(sink, Form::Replay { parts }, trace, gathered),
         Err(stores) => stopped(alloc, MEMORY, None, stores),
     }
 }
@@ -201,8 +212,25 @@ fn replay_in_turns<S: Store + Send + Drop>(
     }
 }
 
-/// Writes the report of a run.
+/// Writes what the form prints of a run.
 fn write_run<K: Sink, S: Store + Send + Drop>(
+    sink: &mut K,
+    form: Form,
+    trace: Trace,
+    gathered: Gathered<S>,
+) -> Outcome<S>
+    ensures { (stores : List Stored) → WasRun S.seen trace stores gathered
+        → EndsRun K.taken K.faults form trace stores gathered sink.old sink.new result }
+{
+    match form {
+        Form::Order { parts } => report_run(sink, trace, gathered, parts),
+        Form::Turns { parts, .. } => report_run(sink, trace, gathered, parts),
+        Form::Replay { parts } => report_run(sink, trace, gathered, parts),
+    }
+}
+
+/// Writes the report of a run.
+fn report_run<K: Sink, S: Store + Send + Drop>(
     sink: &mut K,
     trace: Trace,
     gathered: Gathered<S>,

@@ -7,19 +7,19 @@ pub returns-in_ok-parts_asked-in-len1-up-clause-some : goal.returns-in_ok-parts_
 returns-in_ok-parts_asked-in-len1-up-clause-some c =
     record {
       are = first_word c.args.words.now (record { ref_ptr = (0, 0); now = [] }) (codes "order") c.eq.result (parts_words c.in_ok-parts_asked-in-len1-up.field-0) c.in-len1-up.len_at_least c.eq.ensures c.if-eq.true c.in_ok-parts_asked-in-len1-up.ensures.some;
-      seed = tt;
+      numbers = tt;
     }
 
 pub returns-in_ok-parts_asked-in-len2-up-clause-some : goal.returns-in_ok-parts_asked-in-len2-up-clause-some
 returns-in_ok-parts_asked-in-len2-up-clause-some c =
     record {
       are = two_words c.args.words.now (record { ref_ptr = (0, 0); now = [] }) (record { ref_ptr = (0, 0); now = [] }) (codes "turns") (decimal c.in_ok-number_of-in-len2-up.field-0) c.eq-2.result (parts_words c.in_ok-parts_asked-in-len2-up.field-0) c.in-len2-up.len_at_least c.eq-2.ensures c.if-eq-2.true c.in_ok-number_of-in-len2-up.ensures.some c.in_ok-parts_asked-in-len2-up.ensures.some;
-      seed = search rules;
+      numbers = search rules;
     }
 
 pub returns-in_ok-parts_asked-in-len1-up-2-clause-some : goal.returns-in_ok-parts_asked-in-len1-up-2-clause-some
 returns-in_ok-parts_asked-in-len1-up-2-clause-some c =
     record {
       are = first_word c.args.words.now (record { ref_ptr = (0, 0); now = [] }) (codes "replay") c.eq-3.result (parts_words c.in_ok-parts_asked-in-len1-up-2.field-0) c.in-len1-up.len_at_least c.eq-3.ensures c.if-eq-3.true c.in_ok-parts_asked-in-len1-up-2.ensures.some;
-      seed = tt;
+      numbers = tt;
     }

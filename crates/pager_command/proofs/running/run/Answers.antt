@@ -1,7 +1,7 @@
 use Rattle.std.proofs.Common.{refl, subst}
 use Rattle.pager_command.specs.declared.form.Command.TheVariants.{Run, Make, Large}
 use Rattle.pager_command.specs.Forms.{AreLargeWords, AreMakingWords, AreOfCommand, AreWords}
-use Rattle.pager_command.proofs.FormRuns.{RunsBy-words}
+use Rattle.pager_command.proofs.FormRuns.{RunsBy-words, unmade}
 use Rattle.pager_command.proofs.LargeRuns.{MakesText-words, RunsLarge-words}
 use Rattle.pager_command.proofs.OneForm.{large_is_no_form, making_is_no_form}
 use Rattle.pager_command.proofs.running.run.Goals as goal
@@ -30,12 +30,16 @@ returns-in-Run g c =
       unwritten = ran.unwritten;
       no_trace = ran.no_trace;
       same_stores = ran.same_stores;
+      unmade = unmade c.run_in_turns.result.trace form c.run_in_turns.result.status ran.ended;
       refused = λ _. ran.refused;
       read_fault = ran.read_fault;
       no_read_fault = ran.no_read_fault;
       write_fault = ran.write_fault;
       memory = λ _. ran.memory;
+      few_stores = ran.few_stores;
       complete = λ _. ran.complete;
+      made = λ _. ran.made;
+      ended = λ other is. (RunsBy-words words other are is ran).ended;
       trace = λ _. ran.trace;
       ordered = λ other is. (RunsBy-words words other are is ran).ordered;
       wrote = λ other is. (RunsBy-words words other are is ran).wrote;

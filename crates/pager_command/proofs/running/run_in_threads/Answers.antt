@@ -1,10 +1,23 @@
-use Rattle.std.proofs.Common.{refl, rules}
+use Rattle.std.proofs.Common.{None, length, map, refl, rules}
+use Rattle.pager_command.specs.declared.status.TheConstants.{MEMORY}
 use Rattle.pager_command.specs.declared.form.Form.TheVariants.{Replay}
-use Rattle.pager_command.proofs.FormRuns.{RunsBy-written}
+use Rattle.pager_command.specs.Runs.{WasRun}
+use Rattle.pager_command.proofs.FormRuns.{RunsBy-ended, RunsBy-stopped, stopped_for_memory}
 use Rattle.pager_command.proofs.running.run_in_threads.Goals as goal
+
+pub returns-in-Err : goal.returns-in-Err
+returns-in-Err g c =
+    let stop = c.stopped.ensures in
+    RunsBy-stopped g.T.Source.left g.T.Source.faults g.K.Sink.taken g.K.Sink.faults g.S.Store.seen (Replay c.args.parts) c.args.source.now _ c.args.sink.now _ c.args.stores.items c.stopped.result c.len.result c.in-Err.stop.status c.in-Err.stop.refusal c.in-Err.ensures.stopped (search rules) stop.status stop.refusal stop.trace stop.history (search rules) refl
+
+pub returns-in-Err-replay : goal.returns-in-Err-replay
+returns-in-Err-replay g c =
+    let stop = c.stopped-in-Err-replay.ensures in
+    let back = c.in-Err-replay.ensures in
+    RunsBy-stopped g.T.Source.left g.T.Source.faults g.K.Sink.taken g.K.Sink.faults g.S.Store.seen (Replay c.args.parts) c.args.source.now _ c.args.sink.now _ c.args.stores.items c.stopped-in-Err-replay.result (length c.args.stores.items) MEMORY None (stopped_for_memory _ _ _ _ _ c.in-Ok.trace c.in-Ok.ensures.read c.in-Ok.ensures.no_fault) refl stop.status stop.refusal stop.trace stop.history (search rules) refl
 
 pub returns-in-Ok-replay : goal.returns-in-Ok-replay
 returns-in-Ok-replay g c =
-    let wrote = c.write_run.ensures in
     let ran = c.in-Ok-replay.ensures in
-    RunsBy-written g.T.Source.left g.T.Source.faults g.K.Sink.taken g.K.Sink.faults g.S.Store.seen c.args.source.now _ c.args.sink.now _ c.args.stores.items c.in-Ok.trace (Replay c.args.parts) c.in-Ok-replay.gathered c.write_run.result c.args.parts refl c.in-Ok.ensures.read c.in-Ok.ensures.no_fault (search rules) ran.run tt ran.counts wrote.statuses wrote.refusal wrote.trace wrote.history wrote.stores wrote.wrote wrote.part wrote.rose
+    let was : WasRun g.S.Store.seen c.in-Ok.trace (map g.S.Store.seen c.args.stores.items) c.in-Ok-replay.gathered = record { run = ran.run; counts = ran.counts } in
+    RunsBy-ended g.T.Source.left g.T.Source.faults g.K.Sink.taken g.K.Sink.faults g.S.Store.seen (Replay c.args.parts) c.args.source.now _ c.args.sink.now _ c.args.stores.items c.write_run.result c.in-Ok.trace c.in-Ok-replay.gathered c.in-Ok.ensures.read c.in-Ok.ensures.no_fault (search rules) tt was (c.write_run.ensures (map g.S.Store.seen c.args.stores.items) was)

@@ -1,13 +1,17 @@
-use Rattle.std.proofs.Common.{sym}
-use Rattle.pager_command.proofs.Results.{of_ok, of_err}
+use Rattle.pager_command.proofs.PrintedRuns.{EndsRun-reported}
 use Rattle.pager_command.proofs.running.write_run.Goals as goal
 
-pub returns-clause-wrote : goal.returns-clause-wrote
-returns-clause-wrote g c = λ is.
-    rw (sym c.processors.ensures.processors)
-    (rw (sym c.as_slice.ensures.value) (of_ok c.write_report-wrote.result (c.status_of_write.ensures.done is) c.write_report-wrote.ensures.whole))
+pub returns-in-Order : goal.returns-in-Order
+returns-in-Order g c = λ stores ran.
+    let wrote = c.report_run.ensures in
+    EndsRun-reported g.K.Sink.taken g.K.Sink.faults g.S.Store.seen c.args.form c.in-Order.parts c.args.trace stores c.args.gathered c.args.sink.now _ c.report_run.result (λ text is. rw c.in-Order.is is) ran wrote.statuses wrote.refusal wrote.trace wrote.history wrote.stores wrote.wrote wrote.part wrote.rose
 
-pub returns-clause-part : goal.returns-clause-part
-returns-clause-part g c = λ is.
-    rw (sym c.processors.ensures.processors)
-    (rw (sym c.as_slice.ensures.value) (of_err c.write_report-wrote.result (c.status_of_write.ensures.failed is) c.write_report-wrote.ensures.part))
+pub returns-in-Turns : goal.returns-in-Turns
+returns-in-Turns g c = λ stores ran.
+    let wrote = c.report_run-in-Turns.ensures in
+    EndsRun-reported g.K.Sink.taken g.K.Sink.faults g.S.Store.seen c.args.form c.in-Turns.parts c.args.trace stores c.args.gathered c.args.sink.now _ c.report_run-in-Turns.result (λ text is. rw c.in-Turns.is is) ran wrote.statuses wrote.refusal wrote.trace wrote.history wrote.stores wrote.wrote wrote.part wrote.rose
+
+pub returns-in-Replay : goal.returns-in-Replay
+returns-in-Replay g c = λ stores ran.
+    let wrote = c.report_run-in-Replay.ensures in
+    EndsRun-reported g.K.Sink.taken g.K.Sink.faults g.S.Store.seen c.args.form c.in-Replay.parts c.args.trace stores c.args.gathered c.args.sink.now _ c.report_run-in-Replay.result (λ text is. rw c.in-Replay.is is) ran wrote.statuses wrote.refusal wrote.trace wrote.history wrote.stores wrote.wrote wrote.part wrote.rose
