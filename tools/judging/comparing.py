@@ -10,6 +10,7 @@ from common import TOP, Stopped
 
 from .legal import Illegal, after_history
 from .machine import Machine, store_of
+from .plans import plan_text, planned
 from .printed import BadLine, history_in, text_of_run
 from .showing import wrong_with_answers, wrong_with_filing, wrong_with_turns
 from .trace_text import Refusal, trace_of
@@ -17,6 +18,8 @@ from .values import Trace, setting_of
 
 RANDOM_TRACE = os.path.join(TOP, 'examples', 'random_trace.py')
 FORMS = ('order', 'turns', 'replay')
+# The form `plan`, by its size.
+PLANS = {'plan1': 1, 'plan2': 2, 'plan3': 3}
 # The first seeds draw traces over frames enough, and those above them traces in which few frames are left.
 LAST_WITH_FRAMES = 250
 SECONDS = 600
@@ -60,12 +63,14 @@ def output_of(words: List[str], text: bytes) -> bytes:
 
 
 def checked_text(trace: Trace, job: Job) -> bytes:
-    """The text, with its history, that the slow machine prints."""
+    """The text that the slow machine prints: of a run with its history, or what is planned after it."""
     machine = Machine(trace, [store_of(job.swap) for _ in range(trace.spaces)])
-    if job.form == 'order':
-        machine.run_in_order()
-    else:
+    if job.form == 'turns':
         machine.run_in_turns(job.seed)
+    else:
+        machine.run_in_order()
+    if job.form in PLANS:
+        return plan_text(planned(machine.pager.frames, PLANS[job.form])).encode()
     return text_of_run(machine.pager, True).encode()
 
 
@@ -94,15 +99,21 @@ def wrong_with_text(trace: Trace, form: str, seed: int, text: bytes, laws: bool)
     return wrong or first_difference(text_of_run(pager, True).encode(), text)
 
 
-def run(job: Job) -> Outcome:
-    """One run, compared: by `order` and `turns` with the text of the slow machine, by `replay` its history is judged."""
-    text = output_of([sys.executable, RANDOM_TRACE, *map(str, trace_words(job.seed))], b'')
+def words_of(job: Job) -> List[str]:
+    """The words by which the program makes a run, with its history where it prints one."""
     words = [] if job.swap is None else ['--swap', str(job.swap)]
-    words += [job.form, str(job.seed)] if job.form == 'turns' else [job.form]
+    if job.form in PLANS:
+        return [*words, 'plan', str(PLANS[job.form])]
+    return [*words, job.form, *([str(job.seed)] if job.form == 'turns' else []), '--history']
+
+
+def run(job: Job) -> Outcome:
+    """One run, compared: by `replay` its history is judged, and by the other forms its text is that of the slow machine."""
+    text = output_of([sys.executable, RANDOM_TRACE, *map(str, trace_words(job.seed))], b'')
     try:
-        printed = output_of([job.program, *words, '--history'], text)
+        printed = output_of([job.program, *words_of(job)], text)
         trace = trace_of(text)
-        if job.form == 'replay' or job.laws:
+        if job.form == 'replay' or (job.laws and job.form not in PLANS):
             wrong = wrong_with_text(trace, job.form, job.seed, printed, job.laws)
         else:
             wrong = first_difference(checked_text(trace, job), printed)

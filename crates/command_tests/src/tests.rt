@@ -5,6 +5,7 @@ mod folders;
 mod frames;
 mod large;
 mod made;
+mod plans;
 mod runs;
 mod slots;
 mod statuses;

@@ -5,7 +5,7 @@ use Rattle.std.specs.Borrow.{Bor}
 use Rattle.report_text.specs.declared.report.Parts.{Parts}
 use Rattle.report_text.specs.declared.report.Parts.TheVariants.{Answers, AnswersAndHistory}
 use Rattle.pager_command.specs.declared.form.Form.{Form}
-use Rattle.pager_command.specs.declared.form.Form.TheVariants.{Order, Turns, Replay}
+use Rattle.pager_command.specs.declared.form.Form.TheVariants.{Order, Turns, Replay, Plan as Planned}
 use Rattle.pager_command.specs.declared.form.Making.{Making}
 use Rattle.pager_command.specs.Forms.{AreInRange, AreLargeWords, AreMakingWords, AreWords, IsForm, large_words, making_words, parts_words, words_of}
 use Rattle.trace_make.specs.Made.{CanMake}
@@ -21,11 +21,13 @@ abbrev letter : Form → ℕ
 letter (Order parts) = 111
 letter (Turns seed parts) = 116
 letter (Replay parts) = 114
+letter (Planned size) = 112
 
 begins : (form : Form) → get_or (get_or (words_of form) 0 []) 0 0 ≡ letter form
 begins (Order parts) = refl
 begins (Turns seed parts) = refl
 begins (Replay parts) = refl
+begins (Planned size) = refl
 
 -- no words are of two forms: their first letters differ
 one_letter : (a b : Form) → words_of a ≡ words_of b → letter a ≡ letter b
@@ -38,12 +40,22 @@ same_form (Turns m p) (Turns n q) seed other same letters =
     let digits : decimal m ≡ decimal n = cc in
     ap (λ k. Turns k p) (decimal_injective m n seed other digits) ∙ ap (λ p. Turns n p) (one_parts p q cc)
 same_form (Replay p) (Replay q) seed other same letters = ap Replay (one_parts p q cc)
+same_form (Planned m) (Planned n) seed other same letters =
+    let e : words_of (Planned m) ≡ words_of (Planned n) = same in
+    let digits : decimal m ≡ decimal n = cc in
+    ap Planned (decimal_injective m n (omega (arith, seed.1)) (omega (arith, other.1)) digits)
 same_form (Order p) (Turns n q) seed other same letters = absurd (omega (arith, letters))
 same_form (Order p) (Replay q) seed other same letters = absurd (omega (arith, letters))
 same_form (Turns m p) (Order q) seed other same letters = absurd (omega (arith, letters))
 same_form (Turns m p) (Replay q) seed other same letters = absurd (omega (arith, letters))
 same_form (Replay p) (Order q) seed other same letters = absurd (omega (arith, letters))
 same_form (Replay p) (Turns n q) seed other same letters = absurd (omega (arith, letters))
+same_form (Planned m) (Order q) seed other same letters = absurd (omega (arith, letters))
+same_form (Planned m) (Turns n q) seed other same letters = absurd (omega (arith, letters))
+same_form (Planned m) (Replay q) seed other same letters = absurd (omega (arith, letters))
+same_form (Order p) (Planned n) seed other same letters = absurd (omega (arith, letters))
+same_form (Turns m p) (Planned n) seed other same letters = absurd (omega (arith, letters))
+same_form (Replay p) (Planned n) seed other same letters = absurd (omega (arith, letters))
 
 pub one_form : (words : List (Bor (List ℕ))) (a b : Form) → AreWords words a → AreWords words b → a ≡ b
 one_form words a b is also = (let same = sym is.are ∙ also.are in same_form a b is.numbers also.numbers same (one_letter a b same))
@@ -56,6 +68,7 @@ later : (form : Form) → 109 < letter form
 later (Order parts) = omega arith
 later (Turns seed parts) = omega arith
 later (Replay parts) = omega arith
+later (Planned size) = omega arith
 
 pub making_is_no_form : (words : List (Bor (List ℕ))) (m : Making) → AreMakingWords words m → IsForm words → ⊥
 making_is_no_form words m is form =

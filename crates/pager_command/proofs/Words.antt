@@ -1,5 +1,6 @@
 -- Words one by one.
-use Rattle.std.proofs.Common.{◌≡◌, ℕ, ◌-◌, ◌<◌, ◌≤◌, Bool, IsTrue, List, [], ◌∷◌, decimal, length, take, drop, get_or, ap, sym, ◌∙◌, arith}
+use Rattle.std.proofs.Common.{◌≡◌, ◌≢◌, ℕ, ◌-◌, ◌^◌, ◌<◌, ◌≤◌, Bool, IsTrue, List, [], ◌∷◌, decimal, length, take, drop, get_or, Option, Some, None, IfSome, IfNone, refl, ap, sym, ◌∙◌, arith}
+use Rattle.std.proofs.lemmas.Fmt.{decimal_injective}
 use Rattle.std.specs.Borrow.{Bor}
 use Rattle.std.specs.Str.{bytes_eq}
 use Rattle.std.specs.Cmp.Lexicographic.{bytes_decides}
@@ -31,6 +32,26 @@ two_words (w ∷ x ∷ ws) d e first second b rest some is holds same then =
     ap (λ (l : List ℕ). l ∷ x.now ∷ are_of ws) ((bytes_decides w.now first).0 (sym is ∙ holds))
     ∙ ap (λ (l : List ℕ). first ∷ l ∷ are_of ws) same
     ∙ ap (λ (ls : List (List ℕ)). first ∷ second ∷ ls) (ap are_of (sym all) ∙ then)
+
+-- one word alone
+pub just_one_word : (words : List (Bor (List ℕ))) (d : Bor (List ℕ)) → 1 ≤ length words → length words < 2 → are_of words ≡ (get_or words 0 d).now ∷ []
+just_one_word [] d some few = absurd (omega arith)
+just_one_word (w ∷ []) d some few = refl
+just_one_word (w ∷ x ∷ words) d some few = absurd (omega arith)
+
+-- the size that it names, or that it names none
+pub size_alone : (o : Option ℕ) (words : List (Bor (List ℕ))) (word : List ℕ) → are_of words ≡ word ∷ [] → IfSome o (λ size. (word ≡ decimal size) × (1 ≤ size) × (size ≤ 3)) → IfSome o (λ size. (are_of words ≡ decimal size ∷ []) × (1 ≤ size) × (size ≤ 3))
+size_alone None words word one found = tt
+size_alone (Some size) words word one found = (one ∙ ap (λ (l : List ℕ). l ∷ []) found.0, found.1, found.2)
+
+pub no_size_alone : (o : Option ℕ) (words : List (Bor (List ℕ))) (word : List ℕ) → are_of words ≡ word ∷ [] → IfNone o ((size : ℕ) → 1 ≤ size → size ≤ 3 → word ≢ decimal size) → IfNone o ((size : ℕ) → 1 ≤ size → size ≤ 3 → are_of words ≢ decimal size ∷ [])
+no_size_alone None words word one none = λ size some few same. none size some few (let e : word ∷ [] ≡ decimal size ∷ [] = sym one ∙ same in cc)
+no_size_alone (Some size) words word one none = tt
+
+-- a word that is a number's is no other one's
+pub another_number : (word : List ℕ) (found number : ℕ) → found < 2 ^ 32 → number < 2 ^ 32 → word ≡ decimal found → found ≢ number → word ≢ decimal number
+another_number word found number below other is differ = λ same.
+    differ (decimal_injective found number (omega (arith, below)) (omega (arith, other)) (sym is ∙ same))
 
 -- three words: the bytes of the first are equal to these, and the others are these
 pub three_words : (words : List (Bor (List ℕ))) (d : Bor (List ℕ)) (first second third : List ℕ) (b : Bool) → 3 ≤ length words → length words < 4 → b ≡ bytes_eq (get_or words 0 d).now first → IsTrue b → (get_or words 1 d).now ≡ second → (get_or words 2 d).now ≡ third → are_of words ≡ first ∷ second ∷ third ∷ []

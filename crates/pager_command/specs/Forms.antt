@@ -1,5 +1,5 @@
--- The forms of the program's words: three that read a trace, and two that make one.
-use Rattle.std.specs.Prelude.{ℕ, ◌≡◌, ◌^◌, ◌<◌, List, [], ◌∷◌, map, codes, decimal}
+-- The forms of the program's words: four that read a trace, and two that make one.
+use Rattle.std.specs.Prelude.{ℕ, ◌≡◌, ◌^◌, ◌<◌, ◌≤◌, List, [], ◌∷◌, map, codes, decimal}
 use Rattle.std.specs.Borrow.{Bor}
 use Rattle.pager_model.specs.declared.entry.Entry.{Entry}
 use Rattle.pager_model.specs.Plans.{Plan}
@@ -8,7 +8,7 @@ use Rattle.pager_model.specs.TurnOrders.{IsSeeded}
 use Rattle.report_text.specs.declared.report.Parts.{Parts}
 use Rattle.report_text.specs.declared.report.Parts.TheVariants.{Answers, AnswersAndHistory}
 use Rattle.pager_command.specs.declared.form.Form.{Form}
-use Rattle.pager_command.specs.declared.form.Form.TheVariants.{Order, Turns, Replay}
+use Rattle.pager_command.specs.declared.form.Form.TheVariants.{Order, Turns, Replay, Plan as Planned}
 use Rattle.pager_command.specs.declared.form.Making.{Making}
 use Rattle.pager_command.specs.declared.form.Command.{Command}
 use Rattle.pager_command.specs.declared.form.Command.TheVariants.{Run, Make, Large}
@@ -24,18 +24,21 @@ abbrev pub words_of : Form → List (List ℕ)
 words_of (Order parts) = codes "order" ∷ parts_words parts
 words_of (Turns seed parts) = codes "turns" ∷ decimal seed ∷ parts_words parts
 words_of (Replay parts) = codes "replay" ∷ parts_words parts
+words_of (Planned size) = codes "plan" ∷ decimal size ∷ []
 
--- a form's numbers are in their ranges: a seed has 64 bits
+-- a form's numbers are in their ranges: a seed has 64 bits, and a size is one of more than a page
 abbrev pub AreInRange : Form → Type 0
 AreInRange (Order parts) = Unit {0}
 AreInRange (Turns seed parts) = seed < 2 ^ 64
 AreInRange (Replay parts) = Unit {0}
+AreInRange (Planned size) = (1 ≤ size) × (size ≤ 3)
 
 -- the entries are made in turns, by one thread
 abbrev pub IsInTurns : Form → Type 0
 IsInTurns (Order parts) = Unit {0}
 IsInTurns (Turns seed parts) = Unit {0}
 IsInTurns (Replay parts) = ⊥
+IsInTurns (Planned size) = Unit {0}
 
 -- what the words are
 abbrev pub are_of : List (Bor (List ℕ)) → List (List ℕ)
@@ -56,6 +59,7 @@ abbrev pub ComesBy : Form → Plan → List Entry → Type 0
 ComesBy (Order parts) plan history = IsFiled plan history
 ComesBy (Turns seed parts) plan history = IsSeeded plan seed history
 ComesBy (Replay parts) plan history = Unit {0}
+ComesBy (Planned size) plan history = IsFiled plan history
 
 -- the words that ask for a trace to be made: the number that it is made from, and how many calls, processors, spaces and frames it has
 abbrev pub making_words : Making → List (List ℕ)

@@ -1,10 +1,12 @@
 -- What a run of the program promises, by its status.
 use Rattle.std.specs.Prelude.{ℕ, ◌≡◌, ◌≢◌, ◌<◌, ◌≤◌, ◌⊎◌, List, [], length, map, Option, Some, None, IsSome, IfSome, IsSomeAnd}
 use Rattle.pager_model.specs.Stores.{setting_over}
+use Rattle.contiguity_plan.specs.declared.plan.Plan.{Plan as Emptying}
+use Rattle.contiguity_plan.specs.Emptying.{IsPlanned}
 use Rattle.io_core.specs.Faults.{Rose}
 use Rattle.pager_model.specs.declared.entry.Numbered.{Numbered}
 use Rattle.pager_model.specs.Counts.{counts}
-use Rattle.pager_model.specs.Legal.{entries_in}
+use Rattle.pager_model.specs.Legal.{entries_in, frames_at}
 use Rattle.pager_model.specs.Plans.{Plan}
 use Rattle.pager_model.specs.PrintedText.{out_text}
 use Rattle.pager_model.specs.TraceText.{IsTextOf}
@@ -13,9 +15,10 @@ use Rattle.pager_core.specs.declared.run_parts.Gathered.{Gathered}
 use Rattle.replay_core.specs.Replays.{IsReplay, AreItsCounts}
 use Rattle.report_text.specs.declared.report.Parts.{Parts}
 use Rattle.report_text.specs.Parts.{has_history}
+use Rattle.report_text.specs.PlanText.{plan_text}
 use Rattle.report_text.specs.Written.{WroteAll, WrotePart}
 use Rattle.pager_command.specs.declared.form.Form.{Form}
-use Rattle.pager_command.specs.declared.form.Form.TheVariants.{Order, Turns, Replay}
+use Rattle.pager_command.specs.declared.form.Form.TheVariants.{Order, Turns, Replay, Plan as Planned}
 use Rattle.pager_command.specs.declared.outcome.Outcome.{Outcome}
 use Rattle.pager_command.specs.declared.status.TheConstants.{DONE, USAGE, REFUSED, READ_FAULT, MEMORY, WRITE_FAULT}
 use Rattle.pager_command.specs.Forms.{ComesBy}
@@ -67,11 +70,14 @@ abbrev pub report_of : Parts → Plan → List Stored → List Numbered → List
 report_of parts plan stores history =
     out_text (has_history parts) plan.processors history (counts (setting_over plan stores) (entries_in history))
 
--- what a run of a form prints of a trace over stores: the report of its history
+-- what a run of a form prints of a trace over stores: for three forms the report of its history, and for `plan` what is planned for the frames as
+-- they are at its end
 abbrev pub Prints : Form → Plan → List Stored → List Numbered → List ℕ → Type 0
 Prints (Order parts) plan stores history text = text ≡ report_of parts plan stores history
 Prints (Turns seed parts) plan stores history text = text ≡ report_of parts plan stores history
 Prints (Replay parts) plan stores history text = text ≡ report_of parts plan stores history
+Prints (Planned size) plan stores history text =
+    (planned : Option Emptying) × IsPlanned (frames_at (setting_over plan stores) (entries_in history)) plan.frames size planned × (text ≡ plan_text planned)
 
 -- where the sink tells its bytes, it has gained what the run prints
 abbrev pub PrintedAll : Form → Plan → List Stored → List Numbered → Option (List ℕ) → Option (List ℕ) → Type 0
@@ -83,11 +89,12 @@ abbrev pub PrintedPart : Form → Plan → List Stored → List Numbered → Opt
 PrintedPart form plan stores history before after =
     (text : List ℕ) × Prints form plan stores history text × WrotePart text before after
 
--- the form takes memory after its run: none does
+-- the form takes memory after its run
 abbrev pub TakesMore : Form → Type 0
 TakesMore (Order parts) = ⊥
 TakesMore (Turns seed parts) = ⊥
 TakesMore (Replay parts) = ⊥
+TakesMore (Planned size) = Unit {0}
 
 -- the status where a run of the form was made: its text was written, or a part of it, or there was no memory for what the form takes after the
 -- run

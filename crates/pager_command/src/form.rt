@@ -1,11 +1,12 @@
 //! The forms of the program's words.
 
-ghost use Rattle.std.specs.Prelude.{◌≡◌, ◌≢◌, ℕ, ◌^◌, ◌<◌, ◌↔◌, IsTrue, IfSome, IfNone, decimal};
+ghost use Rattle.std.specs.Prelude.{◌≡◌, ◌≢◌, ℕ, ◌^◌, ◌<◌, ◌≤◌, [], ◌∷◌, ◌↔◌, IsTrue, IfSome, IfNone, decimal};
 ghost use Rattle.report_text.specs.declared.report.Parts.{Parts as Printed};
 ghost use Rattle.pager_command.specs.Forms.{AreLargeWords, AreMakingWords, AreOfCommand, AreWords, IsCommand, IsForm, IsLarge, IsMaking, are_of, parts_words};
 ghost use Rattle.trace_make.specs.Made.{CanMake};
 
 use itoa::Buffer;
+use pager_model::Size;
 use report_text::Parts;
 
 /// The most frames of a trace.
@@ -25,7 +26,7 @@ pub enum Command {
     Large { number: u64, seed: u64 },
 }
 
-/// In which order the trace that is read is run, and which parts of the run are printed before the counts.
+/// In which order the trace that is read is run, and what is printed: which parts of the run before the counts, or a plan.
 #[derive(Clone, Copy, Debug, PartialEq, Eq)]
 pub enum Form {
     /// To run a trace in the order of its lines.
@@ -34,6 +35,8 @@ pub enum Form {
     Turns { seed: u64, parts: Parts },
     /// To run it with a thread for each processor, in the order in which they come to the locks.
     Replay { parts: Parts },
+    /// To run it in the order of its lines, and to plan which extent of this size to empty then.
+    Plan { size: Size },
 }
 
 /// The number that a trace is made from, and how many calls, processors, spaces and frames it has.
@@ -124,8 +127,34 @@ fn form_of(words: &[&str]) -> Option<Form>
         [word, rest @ ..] if *word == "replay" => Some(Form::Replay {
             parts: parts_asked(rest)?,
         }),
+        [word, rest @ ..] if *word == "plan" => Some(Form::Plan {
+            size: size_asked(rest)?,
+        }),
         _ => None,
     }
+}
+
+/// The size that the words after `plan` name, where they are one word that names one.
+fn size_asked(words: &[&str]) -> Option<Size>
+    ensures some { IfSome result (λ size. (are_of words.now ≡ decimal size ∷ []) × (1 ≤ size) × (size ≤ 3)) }
+    ensures none { IfNone result ((size : ℕ) → 1 ≤ size → size ≤ 3 → are_of words.now ≢ decimal size ∷ []) }
+{
+    match words {
+        [word] => size_of(word),
+        _ => None,
+    }
+}
+
+/// The size that a word names by its level, where it is one of more than a page.
+fn size_of(word: &str) -> Option<Size>
+    ensures some { IfSome result (λ size. (word.now ≡ decimal size) × (1 ≤ size) × (size ≤ 3)) }
+    ensures none { IfNone result ((size : ℕ) → 1 ≤ size → size ≤ 3 → word.now ≢ decimal size) }
+{
+    let level = small_number_of(word)?;
+    if level == 0 || level > 3 {
+        return None;
+    }
+    Some(Size::at_level(level as u8))
 }
 
 /// The parts that the words after a form's own ask for, where they ask for some.

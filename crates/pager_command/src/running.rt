@@ -1,12 +1,16 @@
 //! A run of the program, from the bytes read to the bytes written.
 
-ghost use Rattle.std.specs.Prelude.{ℕ, ◌≡◌, ◌≢◌, ◌<◌, ◌≤◌, ◌⊎◌, List, [], None, Some, IfOk, IfErr, IfSome, IsSome, IsSomeAnd, length, map};
+ghost use Rattle.std.specs.Prelude.{ℕ, ◌≡◌, ◌≢◌, ◌<◌, ◌≤◌, ◌⊎◌, List, [], Option, None, Some, IfOk, IfErr, IfSome, IsSome, IsSomeAnd, length, map};
+ghost use Rattle.contiguity_plan.specs.declared.plan.Plan.{Plan as Emptying};
+ghost use Rattle.contiguity_plan.specs.Emptying.{IsOver, IsPlanned};
 ghost use Rattle.io_core.specs.Faults.{Rose};
-ghost use Rattle.pager_model.specs.Legal.{entries_in};
+ghost use Rattle.pager_model.specs.Legal.{entries_in, frames_at};
 ghost use Rattle.pager_model.specs.PrintedText.{out_text};
+ghost use Rattle.pager_model.specs.Settings.{Given};
 ghost use Rattle.pager_model.specs.Stored.{Stored};
 ghost use Rattle.replay_core.specs.Replays.{IsReplay, AreItsCounts};
 ghost use Rattle.report_text.specs.Parts.{has_history};
+ghost use Rattle.report_text.specs.PlanText.{plan_text};
 ghost use Rattle.report_text.specs.Written.{WroteAll, WrotePart};
 ghost use Rattle.pager_command.specs.declared.form.Form.{Form as Asked};
 ghost use Rattle.pager_command.specs.declared.form.Making.{Making as ToMake};
@@ -18,10 +22,11 @@ use crate::form::{Command, Form, command_of};
 use crate::making::{run_large, write_made};
 use crate::outcome::{Outcome, status_of_write, stopped};
 use crate::status::{DONE, MEMORY, READ_FAULT, REFUSED, USAGE, WRITE_FAULT};
+use contiguity_plan::plan_emptying;
 use io_core::{Sink, Source};
-use pager_model::Trace;
+use pager_model::{NoMemory, Numbered, Size, Trace};
 use replay_core::{Gathered, replay, replay_file_order, replay_turns};
-use report_text::{Parts, write_report};
+use report_text::{Parts, write_plan, write_report};
 use std::alloc::Global;
 use std::sync::Wait;
 use std::thread::Threads;
@@ -30,7 +35,7 @@ use trace_reader::{TraceFault, read_trace};
 
 /// Runs the program with these words over these backing stores, of which each space uses the one of its number: it reads a trace to the end
 /// of the source, runs it in the order that the words' form says, and writes the answers, where the form asks for it the history, and the counts to
-/// the sink. Or, by words that read nothing, it makes a trace from a number and writes its text, or runs the large one and writes the counts.
+/// the sink, or what is planned after the run. Or, by words that read nothing, it makes a trace from a number and writes its text, or runs the large one and writes the counts.
 ///
 /// The handle is for the form `replay` alone, which starts threads and waits for locks: nothing is proved of when such a run returns. A run
 /// of any other form is made by a function that takes no handle, and so is proved to return.
@@ -123,8 +128,8 @@ fn run_in_turns<T: Source, K: Sink, S: Store + Send + Drop>(
         Ok(trace) => trace,
         Err(stop) => return stopped(alloc, stop.status, stop.refusal, stores),
     };
-    match replay_in_turns(alloc, form, &trace, stores) {
-        Ok(gathered) => write_run(sink, form, trace, gathered),
+    match replay_in_turns(alloc, &form, &trace, stores) {
+        Ok(gathered) => write_run(alloc, sink, form, trace, gathered),
         Err(stores) => stopped(alloc, MEMORY, None, stores),
     }
 }
@@ -145,7 +150,7 @@ fn run_in_threads<T: Source, K: Sink, S: Store + Send + Drop, R: Threads + Wait 
         Err(stop) => return stopped(alloc, stop.status, stop.refusal, stores),
     };
     match replay(rt, alloc, &trace, stores) {
-        Ok(gathered) => write_run(sink, Form::Replay { parts }, trace, gathered),
+        Ok(gathered) => write_run(alloc, sink, Form::Replay { parts }, trace, gathered),
         Err(stores) => stopped(alloc, MEMORY, None, stores),
     }
 }
@@ -194,31 +199,34 @@ fn refused(fault: TraceFault) -> Stop
 /// Replays the trace in the form's order of turns.
 fn replay_in_turns<S: Store + Send + Drop>(
     alloc: Global,
-    form: Form,
+    form: &Form,
     trace: &Trace,
     stores: Vec<S>,
 ) -> Result<Gathered<S>, Vec<S>>
-    requires in_turns { IsInTurns form }
+    requires in_turns { IsInTurns form.now }
     requires enough { trace.now.spaces ≤ length stores.items }
     ensures run { IfOk result (λ g. IsReplay trace.now (map S.seen stores.items) g.history.items (map S.seen g.stores.items)) }
-    ensures ordered { IfOk result (λ g. ComesBy form trace.now (entries_in g.history.items)) }
+    ensures ordered { IfOk result (λ g. ComesBy form.now trace.now (entries_in g.history.items)) }
     ensures counts { IfOk result (λ g. AreItsCounts trace.now (map S.seen stores.items) g.history.items g.summary) }
     ensures back { IfErr result (λ back. map S.seen back.items ≡ map S.seen stores.items) }
 {
-    match form {
+    match *form {
         Form::Order { .. } => replay_file_order(alloc, trace, stores),
         Form::Turns { seed, .. } => replay_turns(alloc, trace, stores, seed),
+        Form::Plan { .. } => replay_file_order(alloc, trace, stores),
         Form::Replay { .. } => unreachable!(),
     }
 }
 
 /// Writes what the form prints of a run.
 fn write_run<K: Sink, S: Store + Send + Drop>(
+    alloc: Global,
     sink: &mut K,
     form: Form,
     trace: Trace,
     gathered: Gathered<S>,
 ) -> Outcome<S>
+    requires run { (stores : List Stored) × WasRun S.seen trace stores gathered }
     ensures { (stores : List Stored) → WasRun S.seen trace stores gathered
         → EndsRun K.taken K.faults form trace stores gathered sink.old sink.new result }
 {
@@ -226,6 +234,60 @@ fn write_run<K: Sink, S: Store + Send + Drop>(
         Form::Order { parts } => report_run(sink, trace, gathered, parts),
         Form::Turns { parts, .. } => report_run(sink, trace, gathered, parts),
         Form::Replay { parts } => report_run(sink, trace, gathered, parts),
+        Form::Plan { size } => plan_run(alloc, sink, trace, gathered, size),
+    }
+}
+
+/// Plans which extent of a size to empty after a run, and writes that.
+fn plan_run<K: Sink, S: Store + Send + Drop>(
+    alloc: Global,
+    sink: &mut K,
+    trace: Trace,
+    gathered: Gathered<S>,
+    size: Size,
+) -> Outcome<S>
+    requires run { (stores : List Stored) × WasRun S.seen trace stores gathered }
+    ensures { (stores : List Stored) → WasRun S.seen trace stores gathered
+        → EndsRun K.taken K.faults (Asked.Plan size) trace stores gathered sink.old sink.new result }
+{
+    let Gathered {
+        history,
+        stores,
+        ..
+    } = gathered;
+    let status = write_planned(alloc, sink, trace.frames(), history.as_slice(), size);
+    Outcome {
+        status,
+        refusal: None,
+        trace: Some(trace),
+        history,
+        stores,
+    }
+}
+
+/// Plans which extent of a size to empty after a history over so many frames, writes that, and answers the status.
+fn write_planned<K: Sink>(
+    alloc: Global,
+    sink: &mut K,
+    frames: u32,
+    history: &[Numbered],
+    size: Size,
+) -> u8
+    requires frames { frames ≤ 32768 }
+    requires legal { (g : Given) × IsOver frames g (entries_in history.now) }
+    ensures statuses { (result ≡ DONE) ⊎ ((result ≡ WRITE_FAULT) ⊎ (result ≡ MEMORY)) }
+    ensures unwritten { result ≡ MEMORY → sink.new ≡ sink.old }
+    ensures wrote { result ≡ DONE → (g : Given) → IsOver frames g (entries_in history.now)
+        → (planned : Option Emptying) × IsPlanned (frames_at g (entries_in history.now)) frames size planned
+        × WroteAll (plan_text planned) (K.taken sink.old) (K.taken sink.new) }
+    ensures part { result ≡ WRITE_FAULT → (g : Given) → IsOver frames g (entries_in history.now)
+        → (planned : Option Emptying) × IsPlanned (frames_at g (entries_in history.now)) frames size planned
+        × WrotePart (plan_text planned) (K.taken sink.old) (K.taken sink.new) }
+    ensures rose { result ≡ WRITE_FAULT → Rose (K.faults sink.old) (K.faults sink.new) }
+{
+    match plan_emptying(alloc, frames, history, size) {
+        Ok(planned) => status_of_write(write_plan(sink, &planned)),
+        Err(NoMemory) => MEMORY,
     }
 }
 

@@ -42,7 +42,7 @@ fn the_history_is_printed_where_the_words_ask_for_it(rt: HostRuntime) {
 }
 
 /// Words of no form.
-static OTHER_WORDS: [&[&str]; 17] = [
+static OTHER_WORDS: [&[&str]; 22] = [
     &[],
     &[""],
     &["--history"],
@@ -56,6 +56,11 @@ static OTHER_WORDS: [&[&str]; 17] = [
     &["replay", "x"],
     &["replay", "5"],
     &["replay", "--history", "--history"],
+    &["plan"],
+    &["plan", "0"],
+    &["plan", "4"],
+    &["plan", "01"],
+    &["plan", "1", "--history"],
     &["Order"],
     &["order "],
     &["order", "x"],

@@ -1,4 +1,4 @@
-use Rattle.std.proofs.Common.{rules, codes, decimal, []}
+use Rattle.std.proofs.Common.{rules, codes, decimal, [], ◌∷◌}
 use Rattle.pager_command.specs.Forms.{parts_words}
 use Rattle.pager_command.proofs.Words.{first_word, two_words}
 use Rattle.pager_command.proofs.form.form_of.Goals as goal
@@ -22,4 +22,13 @@ returns-in_ok-parts_asked-in-len1-up-2-clause-some c =
     record {
       are = first_word c.args.words.now (record { ref_ptr = (0, 0); now = [] }) (codes "replay") c.eq-3.result (parts_words c.in_ok-parts_asked-in-len1-up-2.field-0) c.in-len1-up.len_at_least c.eq-3.ensures c.if-eq-3.true c.in_ok-parts_asked-in-len1-up-2.ensures.some;
       numbers = tt;
+    }
+
+pub returns-in_ok-size_asked-in-len1-up-3-clause-some : goal.returns-in_ok-size_asked-in-len1-up-3-clause-some
+returns-in_ok-size_asked-in-len1-up-3-clause-some c =
+    let size = c.in_ok-size_asked-in-len1-up-3.field-0 in
+    let found = c.in_ok-size_asked-in-len1-up-3.ensures.some in
+    record {
+      are = first_word c.args.words.now (record { ref_ptr = (0, 0); now = [] }) (codes "plan") c.eq-4.result (decimal size ∷ []) c.in-len1-up.len_at_least c.eq-4.ensures c.if-eq-4.true found.0;
+      numbers = (found.1, found.2);
     }

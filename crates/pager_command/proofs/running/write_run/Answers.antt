@@ -15,3 +15,7 @@ pub returns-in-Replay : goal.returns-in-Replay
 returns-in-Replay g c = λ stores ran.
     let wrote = c.report_run-in-Replay.ensures in
     EndsRun-reported g.K.Sink.taken g.K.Sink.faults g.S.Store.seen c.args.form c.in-Replay.parts c.args.trace stores c.args.gathered c.args.sink.now _ c.report_run-in-Replay.result (λ text is. rw c.in-Replay.is is) ran wrote.statuses wrote.refusal wrote.trace wrote.history wrote.stores wrote.wrote wrote.part wrote.rose
+
+pub returns-in-Plan : goal.returns-in-Plan
+returns-in-Plan g c = λ stores ran.
+    rw c.in-Plan.is (c.plan_run.ensures stores ran)
