@@ -1,4 +1,5 @@
-//! The whole text of a run: its answers, the history where it is asked for, and the counts; the counts alone; and the text of a plan.
+//! The whole text of a run: its answers, the history where it is asked for, and the counts; the counts alone; and the texts of a plan and of miss
+//! curves.
 #![tactic(auto)]
 
 mod curve_lines;

@@ -35,8 +35,7 @@ fn put_plan<K: Sink>(room: &mut Room, sink: &mut K, plan: &Option<Plan>) -> Resu
     ensures empty { OnOk result (room.new.bytes.items ≡ []) }
 {
     put_planned(room, sink, plan)?;
-    room.put_line(sink, &line_of_end())?;
-    room.send(sink)
+    room.finish(sink)
 }
 
 /// Puts what is planned, or that there is nothing.
@@ -107,15 +106,6 @@ fn line_of_page(page: &PageOf) -> Line
 {
     let mut line = Line::numbered(u64::from(page.space));
     line.add_counts(&[page.page]);
-    line.end();
-    line
-}
-
-/// The last line.
-fn line_of_end() -> Line
-    ensures { line_text result ≡ line_of_words (codes "end" ∷ []) }
-{
-    let mut line = Line::named("end");
     line.end();
     line
 }

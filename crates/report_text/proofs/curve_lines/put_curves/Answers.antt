@@ -1,4 +1,4 @@
-use Rattle.std.proofs.Common.{ℕ, List, [], ◌∷◌, codes, flat_map, length}
+use Rattle.std.proofs.Common.{[], ◌∷◌, codes, flat_map, length}
 use Rattle.std.specs.List.{range_with_len}
 use Rattle.pager_model.specs.TraceText.{line_of_words}
 use Rattle.report_text.specs.CurveText.{curve_line}
