@@ -71,6 +71,7 @@ module _ {T K P : Type 0} (left : T → Option (List ℕ)) (reads : T → ℕ) (
         same_stores = λ none. absurd (none-some _ (sym none ∙ ends.trace));
         made = λ _. rw ends.trace refl;
         ended = λ _. ends.ended;
+        unrefused = λ _. ends.refusal;
         trace = rw ends.trace (read, enough, rw (ends.history, ends.kept) ran.run);
         ordered = rw ends.trace (rw ends.history ordered);
         wrote = λ done. rw ends.trace (rw ends.history (ends.wrote done));
@@ -98,6 +99,7 @@ module _ {T K P : Type 0} (left : T → Option (List ℕ)) (reads : T → ℕ) (
         same_stores = λ _. same;
         made = λ made. absurd (omega (arith, made, which));
         ended = λ some. absurd (false≢true (rw none at some));
+        unrefused = λ some. absurd (false≢true (rw none at some));
         trace = rw none tt;
         ordered = rw none tt;
         wrote = λ is. absurd (omega (arith, is, which));

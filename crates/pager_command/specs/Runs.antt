@@ -155,6 +155,7 @@ pub record RunsBy {T K P : Type 0} (left : T → Option (List ℕ)) (reads : T �
   pub same_stores : outcome.trace ≡ None → map seen outcome.stores.items ≡ map seen stores
   pub made : (outcome.status ≡ DONE) ⊎ (outcome.status ≡ WRITE_FAULT) → IsSome outcome.trace
   pub ended : IsSome outcome.trace → IsEndOf form outcome.status
+  pub unrefused : IsSome outcome.trace → outcome.refusal ≡ None
   -- it was made over a store for each space
   pub trace : IfSome outcome.trace (λ plan. WasRead plan (left source) (left source') × (plan.spaces ≤ length stores) × IsReplay plan (map seen stores) outcome.history.items (map seen outcome.stores.items))
   pub ordered : IfSome outcome.trace (λ plan. ComesBy form plan (entries_in outcome.history.items))

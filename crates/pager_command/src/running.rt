@@ -58,9 +58,10 @@ pub fn run<T: Source, K: Sink, S: Store + Send + Drop, R: Threads + Wait + Sync>
     // Nothing was written, but where the run is done or a write failed.
     ensures unwritten { result.status ≢ DONE → result.status ≢ WRITE_FAULT → sink.new ≡ sink.old }
 
-    // Without a trace no run was made, and the stores are as they were.
+    // Without a trace no run was made, and the stores are as they were. With one nothing was refused.
     ensures no_trace { result.trace ≡ None → result.history.items ≡ [] }
     ensures same_stores { result.trace ≡ None → map S.seen result.stores.items ≡ map S.seen stores.items }
+    ensures unrefused { IsSome result.trace → result.refusal ≡ None }
     ensures unmade { result.status ≢ DONE → result.status ≢ WRITE_FAULT → result.status ≢ MEMORY → result.trace ≡ None }
 
     // The bytes are refused as they should be; a read failed, and else none did; a write failed; the reader had memory. Where stores were

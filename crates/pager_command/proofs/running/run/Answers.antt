@@ -29,6 +29,7 @@ returns-in-Run g c =
       unread = λ is. absurd (ran.no_usage is);
       unwritten = ran.unwritten;
       no_trace = ran.no_trace;
+      unrefused = ran.unrefused;
       same_stores = ran.same_stores;
       unmade = unmade c.run_in_turns.result.trace form c.run_in_turns.result.status ran.ended;
       refused = λ _. ran.refused;
