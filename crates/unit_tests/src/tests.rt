@@ -3,6 +3,7 @@ ghost use Rattle.std.specs.Prelude.{◌≡◌, min};
 
 mod blocks;
 mod curves;
+mod followed;
 mod history;
 mod images;
 mod mapped;

@@ -6,7 +6,7 @@ use io_core::{Sink, WriteFailed};
 use pager_model::{
     Answered, Call, Entry, Kind, Need, Numbered, Reply, Rights, Size, Summary, Want, What,
 };
-use report_text::{Parts, write_report};
+use report_text::{Parts, write_curves, write_report};
 use std::alloc::Global;
 use std::process::Abort;
 
@@ -194,6 +194,19 @@ fn a_long_text_goes_out_in_pieces(rt: HostRuntime) {
         let wrote = write_many(&rt, rt.alloc(), failing);
         assert!(rt; wrote == (failing == 3, gone), "at write {failing}");
     }
+}
+
+/// Whether the text of curves of two capacities is this.
+fn have_text(rt: &impl Abort, alloc: Global, text: &[u8]) -> bool {
+    let mut sink = sink_of(rt, alloc, 100, 0);
+    let wrote = write_curves(&mut sink, &[3, 2], &[5, u64::MAX]);
+    wrote.is_ok() && sink.bytes() == text
+}
+
+#[test]
+fn curves_have_a_line_for_each_capacity(rt: HostRuntime) {
+    let text = b"1 3 5\n2 2 18446744073709551615\nend\n";
+    assert!(rt; have_text(&rt, rt.alloc(), text));
 }
 
 /// Whether the answers and the history of some entries, and the counts, are these lines and the counts.
