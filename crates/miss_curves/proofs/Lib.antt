@@ -1,4 +1,6 @@
 pub mod AllStacks
+pub mod FollowedEntries
 pub mod StackLemmas
 pub mod Standing
+pub mod ToldEntries
 pub mod Usual

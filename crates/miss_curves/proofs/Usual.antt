@@ -150,7 +150,7 @@ sizes-kept : (st : SpaceState) (entries : List Entry) → (fold space_after st e
 sizes-kept st [] = refl
 sizes-kept st (e ∷ es) = sizes-kept (space_after st e) es
 
-sizes-of : (g : Given) (history : List Entry) (s : ℕ) → (space_at g history s).sizes ≡ g.sizes
+pub sizes-of : (g : Given) (history : List Entry) (s : ℕ) → (space_at g history s).sizes ≡ g.sizes
 sizes-of g history s = sizes-kept (empty_state g.sizes (is_told g s) (faults_at_entry g s)) (space_part s history)
 
 abbrev pub usual_at : Given → List Entry → ℕ → Follower

@@ -1,5 +1,5 @@
 -- Rows of base pages, and one use of each.
-use Rattle.std.specs.Prelude.{ℕ, false, List, [], ◌∷◌, Option, Some, None}
+use Rattle.std.specs.Prelude.{ℕ, false, List, Option, Some}
 use Rattle.pager_model.specs.declared.region.Rights.TheVariants.{Write}
 use Rattle.pager_model.specs.declared.tile.Tile.{Tile}
 use Rattle.miss_curves.specs.Stacks.{moved_down}

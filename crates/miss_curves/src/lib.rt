@@ -3,6 +3,7 @@
 
 mod curves;
 pub mod examples;
+pub mod history;
 mod stack;
 
 pub use curves::{Curves, Stacks};

@@ -1,0 +1,12 @@
+use Rattle.std.proofs.Common.{◌≤◌, [], take}
+use Rattle.pager_model.specs.Legal.{entries_in}
+use Rattle.pager_model.specs.Settings.{Given}
+use Rattle.miss_curves.specs.Histories.{EachComes, KeepsUp}
+use Rattle.miss_curves.proofs.history.follow_history.Given as goal
+
+abbrev pub invariant-loop-numbered : goal.invariant-loop-numbered
+invariant-loop-numbered l = record {
+  entries : l.stacks.entries ≤ l.numbered-index;
+  keeps : (g : Given) → KeepsUp g l.fn.stacks l.fn.spaces [] → EachComes g (entries_in l.history)
+      → KeepsUp g l.stacks l.spaces (entries_in (take l.numbered-index l.history));
+}

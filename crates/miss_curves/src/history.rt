@@ -1,0 +1,296 @@
+//! The misses of a whole history at each capacity.
+
+ghost use Rattle.std.specs.Prelude.{◌≡◌, ℕ, ◌+◌, ◌-◌, ◌<◌, ◌≤◌, ◌^◌, [], ◌∷◌, ◌++◌, ◌==◌, ◌||◌, not, List, Some, false, length, slice_index, IfOk, IfSome};
+ghost use Rattle.std.specs.List.{All, list_any};
+ghost use Rattle.pager_model.specs.declared.entry.Entry.{Entry as Item};
+ghost use Rattle.pager_model.specs.Bounds.{most_frames};
+ghost use Rattle.pager_model.specs.Counts.{counts};
+ghost use Rattle.pager_model.specs.Legal.{entries_in, space_at};
+ghost use Rattle.pager_model.specs.Settings.{Given};
+ghost use Rattle.pager_model.specs.SizeSets.{all_sizes};
+ghost use Rattle.pager_model.specs.SpaceStates.{SpaceState, space_after, tile_at};
+ghost use Rattle.pager_model.specs.Tiles.{eligible_at, is_that_tile, is_tile, same_tile};
+ghost use Rattle.pager_model.specs.TraceText.{HasText};
+ghost use Rattle.followed_space.specs.Changed.{IsChange};
+ghost use Rattle.followed_space.specs.Follows.{AnswersLine, Follows, IsNext};
+ghost use Rattle.miss_curves.specs.Curves.{base_alone, misses, page_misses, page_used};
+ghost use Rattle.miss_curves.specs.Histories.{Comes, EachComes, IsNew, IsRunOf, KeepsUp, Told, use_of};
+ghost use Rattle.miss_curves.specs.Rows.{StandAfter};
+ghost use Rattle.tiles.specs.Beside.{OthersSame};
+ghost use Rattle.tiles.specs.Changes.{AreChanges};
+ghost use Rattle.tiles.specs.Resident.{Resident, frames_in, mapping_at};
+ghost use Rattle.tiles.specs.Touched.{KeepsOutside, is_touched};
+
+use crate::curves::{Curves, Stacks};
+use crate::stack::Use;
+use followed_space::{Changed, FollowedSpace};
+use pager_model::{Call, Entry, NoMemory, Numbered, PageRange, Reply, Tile, Trace, What};
+use std::alloc::Global;
+use tiles::{Changes, TileList};
+
+/// The bytes of a base page.
+const PAGE_BYTES: u64 = 8192;
+
+/// The page that an entry used, if it is an answer of processor 0 with a size.
+fn used_page(entry: &Entry) -> Option<u32>
+    requires { AnswersLine entry.now.what }
+    ensures { result ≡ page_used entry.now.processor entry.now.what }
+{
+    let What::Answer { call, answered, .. } = entry.what else {
+        return None;
+    };
+    if entry.processor != 0 || answered.size.is_none() {
+        return None;
+    }
+    match (call, answered.reply) {
+        (Call::Load { address, .. }, Reply::Value(_))
+        | (Call::Store { address, .. }, Reply::Done) => Some((address / PAGE_BYTES) as u32),
+        _ => None,
+    }
+}
+
+/// Whether a tile begins in a range.
+fn begins_in(tile: &Tile, range: PageRange) -> bool
+    ensures { result ≡ is_touched range tile.now.extent.first }
+{
+    let first = tile.extent.first;
+    range.first <= first && first - range.first < range.length
+}
+
+/// Whether a tile is none of those that went.
+fn stays(gone: &TileList, tile: &Tile) -> bool
+    ensures { result ≡ not (list_any (same_tile tile.now) gone.now) }
+{
+    !gone.has(tile)
+}
+
+/// Whether a base page is one still where this page alone changed.
+fn base_stays_at(space: &FollowedSpace, page: u32, tile: &Tile) -> bool
+    ensures { result ≡ (not (tile.now.extent.first == page)
+        || is_that_tile tile.now (eligible_at (mapping_at space.now.pages) 0 tile.now.extent.first)) }
+{
+    tile.extent.first != page || space.is_base_tile(tile)
+}
+
+/// Whether a tile is one still where pages of a range alone changed.
+fn stays_in(space: &FollowedSpace, range: PageRange, tile: &Tile) -> bool
+    ensures { result ≡ (not (is_touched range tile.now.extent.first) || is_tile (mapping_at space.now.pages) tile.now) }
+{
+    !begins_in(tile, range) || space.is_tile(tile)
+}
+
+/// Whether a base page is one still where pages of a range alone changed.
+fn base_stays_in(space: &FollowedSpace, range: PageRange, tile: &Tile) -> bool
+    ensures { result ≡ (not (is_touched range tile.now.extent.first)
+        || is_that_tile tile.now (eligible_at (mapping_at space.now.pages) 0 tile.now.extent.first)) }
+{
+    !begins_in(tile, range) || space.is_base_tile(tile)
+}
+
+/// Tells of an entry that changed one page. Only a tile that went is none, and only that page's base page is asked about.
+fn tell_page(
+    stacks: &mut Stacks,
+    space: &FollowedSpace,
+    entry: &Entry,
+    page: u32,
+    changes: &Changes,
+    used: Option<Use>,
+    used_base: Option<Use>,
+)
+    requires known { IfSome entry.now.space (λ s. s < length stacks.old.tiles) }
+    requires room { stacks.old.entries < 2 ^ 64 - 1 }
+    ensures spaces { length stacks.new.tiles ≡ length stacks.old.tiles }
+    ensures entries { stacks.new.entries ≤ stacks.old.entries + 1 }
+    ensures stands { (g : Given) (history : List Item) (old : Resident) → OthersSame page (mapping_at old) (mapping_at space.now.pages)
+        → AreChanges old space.now.pages changes.now → Told g history entry.now old space.now.pages used used_base
+        → StandAfter g stacks.old history → StandAfter g stacks.new (history ++ entry.now ∷ []) }
+{
+    let gone = changes.gone();
+    stacks.follow(
+        entry,
+        &|tile: &Tile| stays(&gone, tile),
+        used,
+        &|tile: &Tile| base_stays_at(space, page, tile),
+        used_base,
+    );
+}
+
+/// Tells of an entry that changed pages of a range alone. Only tiles that begin there are asked about.
+fn tell_range(
+    stacks: &mut Stacks,
+    space: &FollowedSpace,
+    entry: &Entry,
+    range: PageRange,
+    used: Option<Use>,
+    used_base: Option<Use>,
+)
+    requires known { IfSome entry.now.space (λ s. s < length stacks.old.tiles) }
+    requires room { stacks.old.entries < 2 ^ 64 - 1 }
+    ensures spaces { length stacks.new.tiles ≡ length stacks.old.tiles }
+    ensures entries { stacks.new.entries ≤ stacks.old.entries + 1 }
+    ensures stands { (g : Given) (history : List Item) (old : Resident)
+        → ((p : ℕ) → is_touched range p ≡ false → mapping_at space.now.pages p ≡ mapping_at old p)
+        → KeepsOutside range (mapping_at old) (mapping_at space.now.pages) → Told g history entry.now old space.now.pages used used_base
+        → StandAfter g stacks.old history → StandAfter g stacks.new (history ++ entry.now ∷ []) }
+{
+    stacks.follow(
+        entry,
+        &|tile: &Tile| stays_in(space, range, tile),
+        used,
+        &|tile: &Tile| base_stays_in(space, range, tile),
+        used_base,
+    );
+}
+
+/// Tells of an entry what it changed of its space's pages.
+fn tell(
+    stacks: &mut Stacks,
+    space: &FollowedSpace,
+    entry: &Entry,
+    changed: &Changed,
+    used: Option<Use>,
+    used_base: Option<Use>,
+)
+    requires known { IfSome entry.now.space (λ s. s < length stacks.old.tiles) }
+    requires room { stacks.old.entries < 2 ^ 64 - 1 }
+    ensures spaces { length stacks.new.tiles ≡ length stacks.old.tiles }
+    ensures entries { stacks.new.entries ≤ stacks.old.entries + 1 }
+    ensures stands { (g : Given) (history : List Item) (old : Resident) → IsChange old space.now.pages changed.now
+        → Told g history entry.now old space.now.pages used used_base
+        → StandAfter g stacks.old history → StandAfter g stacks.new (history ++ entry.now ∷ []) }
+{
+    match changed {
+        Changed::Nothing => stacks.follow_same(entry, used, used_base),
+        Changed::Page { page, changes } => {
+            tell_page(stacks, space, entry, *page, changes, used, used_base)
+        }
+        Changed::Range(range) => tell_range(stacks, space, entry, *range, used, used_base),
+    }
+}
+
+/// What a use was, where a page was used: its tile before it and after it.
+fn use_of(before: Option<Tile>, after: Option<Tile>) -> Option<Use>
+    ensures { result ≡ use_of before after }
+{
+    match after {
+        Some(after) => Some(Use { before, after }),
+        None => None,
+    }
+}
+
+/// The tile of a page, if one was used.
+fn tile_at(space: &FollowedSpace, page: Option<u32>) -> Option<Tile>
+    ensures { result ≡ tile_at all_sizes (mapping_at space.now.pages) page }
+{
+    match page {
+        Some(page) => space.tile_of(page),
+        None => None,
+    }
+}
+
+/// The tile of a page by base pages alone, if one was used.
+fn base_tile_at(space: &FollowedSpace, page: Option<u32>) -> Option<Tile>
+    ensures { result ≡ tile_at base_alone (mapping_at space.now.pages) page }
+{
+    match page {
+        Some(page) => space.base_tile_of(page),
+        None => None,
+    }
+}
+
+/// Follows an entry of a space, and tells the stacks of it.
+fn follow_entry(stacks: &mut Stacks, space: &mut FollowedSpace, entry: &Entry)
+    requires next { (st : SpaceState) × IsNext space.old st entry.now }
+    requires known { IfSome entry.now.space (λ s. s < length stacks.old.tiles) }
+    requires room { stacks.old.entries < 2 ^ 64 - 1 }
+    ensures spaces { length stacks.new.tiles ≡ length stacks.old.tiles }
+    ensures entries { stacks.new.entries ≤ stacks.old.entries + 1 }
+    ensures frames { frames_in space.new.pages ≡ frames_in space.old.pages }
+    ensures follows { (st : SpaceState) → IsNext space.old st entry.now → Follows space.new (space_after st entry.now) }
+    ensures stands { (g : Given) (history : List Item) → g.sizes ≡ all_sizes
+        → ((s : ℕ) → entry.now.space ≡ Some s → IsNext space.old (space_at g history s) entry.now)
+        → StandAfter g stacks.old history → StandAfter g stacks.new (history ++ entry.now ∷ []) }
+{
+    let page = used_page(entry);
+    let before = tile_at(space, page);
+    let base_before = base_tile_at(space, page);
+    let changed = space.follow(entry);
+    let after = tile_at(space, page);
+    let base_after = base_tile_at(space, page);
+    let used = use_of(before, after);
+    let used_base = use_of(base_before, base_after);
+    tell(stacks, space, entry, &changed, used, used_base);
+}
+
+/// Follows an entry in its space, if it has one.
+fn follow_next(stacks: &mut Stacks, spaces: &mut [FollowedSpace], entry: &Entry)
+    requires next { (g : Given) × (history : List Item) × KeepsUp g stacks.old spaces.old history × Comes g history entry.now }
+    requires room { stacks.old.entries < 2 ^ 64 - 1 }
+    ensures entries { stacks.new.entries ≤ stacks.old.entries + 1 }
+    ensures keeps { (g : Given) (history : List Item) → KeepsUp g stacks.old spaces.old history → Comes g history entry.now
+        → KeepsUp g stacks.new spaces.new (history ++ entry.now ∷ []) }
+{
+    match entry.space {
+        Some(space) => {
+            let space = space as usize;
+            follow_entry(stacks, &mut spaces[space], entry)
+        }
+        None => stacks.follow_same(entry, None, None),
+    }
+}
+
+/// Follows a history from its beginning on.
+fn follow_history(stacks: &mut Stacks, spaces: &mut [FollowedSpace], history: &[Numbered])
+    requires start { (g : Given) × KeepsUp g stacks.old spaces.old [] × EachComes g (entries_in history.now) }
+    requires unused { stacks.old.entries ≡ 0 }
+    ensures keeps { (g : Given) → KeepsUp g stacks.old spaces.old [] → EachComes g (entries_in history.now)
+        → KeepsUp g stacks.new spaces.new (entries_in history.now) }
+{
+    for numbered in history {
+        follow_next(stacks, spaces, &numbered.entry);
+    }
+}
+
+/// So many spaces before their first entry, each with room for its pages in so many frames.
+fn new_spaces(alloc: Global, spaces: u32, frames: u32) -> Result<Vec<FollowedSpace>, NoMemory>
+    requires { frames ≤ most_frames }
+    ensures spaces { IfOk result (λ all. length all.items ≡ spaces) }
+    ensures new { IfOk result (λ all. All (IsNew frames) all.items) }
+{
+    let mut all = Vec::with_capacity(alloc, spaces as usize)?;
+    for _ in 0..spaces {
+        let space = FollowedSpace::create(alloc, frames)?;
+        all.push(space)?;
+    }
+    Ok(all)
+}
+
+/// The stacks after a run of a trace.
+fn stacks_after(alloc: Global, trace: &Trace, history: &[Numbered]) -> Result<Stacks, NoMemory>
+    requires run { (g : Given) × IsRunOf trace.now g (entries_in history.now) }
+    ensures text { HasText trace.now }
+    ensures stands { IfOk result (λ s. (g : Given) → IsRunOf trace.now g (entries_in history.now) → StandAfter g s (entries_in history.now)) }
+{
+    let frames = trace.frames();
+    let spaces = trace.spaces();
+    let mut followed = new_spaces(alloc, spaces, frames)?;
+    let mut stacks = Stacks::create(alloc, spaces as usize)?;
+    follow_history(&mut stacks, &mut followed, history);
+    Ok(stacks)
+}
+
+/// The misses at each capacity of a run of a trace of one processor, with the tiles of the run and with base pages alone.
+pub fn curves(alloc: Global, trace: &Trace, history: &[Numbered]) -> Result<Curves, NoMemory>
+    requires one { trace.now.processors ≡ 1 }
+    requires run { (g : Given) × IsRunOf trace.now g (entries_in history.now) }
+    ensures capacities { IfOk result (λ c. (length c.tiles.items ≡ 1024) × (length c.pages.items ≡ 1024)) }
+    ensures tiles { IfOk result (λ c. (g : Given) → IsRunOf trace.now g (entries_in history.now)
+        → (k : ℕ) → k < 1024 → slice_index c.tiles.items k ≡ misses g (entries_in history.now) (k + 1)) }
+    ensures pages { IfOk result (λ c. (g : Given) → IsRunOf trace.now g (entries_in history.now)
+        → (k : ℕ) → k < 1024 → slice_index c.pages.items k ≡ page_misses g (entries_in history.now) (k + 1)) }
+    ensures usual { IfOk result (λ c. (g : Given) → IsRunOf trace.now g (entries_in history.now)
+        → slice_index c.tiles.items 127 ≡ (counts g (entries_in history.now)).misses) }
+{
+    let stacks = stacks_after(alloc, trace, history)?;
+    stacks.curves(alloc)
+}
