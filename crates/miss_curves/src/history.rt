@@ -21,7 +21,7 @@ ghost use Rattle.tiles.specs.Changes.{AreChanges};
 ghost use Rattle.tiles.specs.Resident.{Resident, frames_in, mapping_at};
 ghost use Rattle.tiles.specs.Touched.{KeepsOutside, is_touched};
 
-use crate::curves::{Curves, Stacks};
+use crate::stacks::{Curves, Stacks};
 use crate::stack::Use;
 use followed_space::{Changed, FollowedSpace};
 use pager_model::{Call, Entry, NoMemory, Numbered, PageRange, Reply, Tile, Trace, What};

@@ -1,10 +1,11 @@
 //! How many accesses of a history would miss with images of each capacity, from one row of places for each space and kind of tiles.
 #![tactic(auto)]
 
-mod curves;
 pub mod examples;
-pub mod history;
+mod history;
 mod stack;
+mod stacks;
 
-pub use curves::{Curves, Stacks};
+pub use history::curves;
 pub use stack::{Stack, Use};
+pub use stacks::{Curves, Stacks};

@@ -2,7 +2,7 @@ use Rattle.std.proofs.Common.{◌-◌, ◌^◌, ◌∙◌, sym, subst, arith}
 use Rattle.miss_curves.specs.Rows.{StandAfter}
 use Rattle.miss_curves.proofs.AllStacks.{AreStacks-more}
 use Rattle.miss_curves.proofs.Usual.{misses-usual}
-use Rattle.miss_curves.proofs.curves.Stacks.curves.Goals as goal
+use Rattle.miss_curves.proofs.stacks.Stacks.curves.Goals as goal
 
 pub curve_of-requires : goal.curve_of-requires
 curve_of-requires c = record {

@@ -1,7 +1,7 @@
 use Rattle.std.proofs.Common.{◌≡◌, ◌<◌, ℕ, take, length, get_or}
 use Rattle.std.specs.List.{sum_by}
 use Rattle.miss_curves.specs.Stacks.{missed_at}
-use Rattle.miss_curves.proofs.curves.curve_of.Given as goal
+use Rattle.miss_curves.proofs.stacks.curve_of.Given as goal
 
 abbrev pub invariant-loop-stack : goal.invariant-loop-stack
 invariant-loop-stack l =

@@ -1,7 +1,7 @@
 use Rattle.std.proofs.Common.{◌≡◌, length}
 use Rattle.std.specs.List.{All}
 use Rattle.miss_curves.specs.Stacks.{IsBlank}
-use Rattle.miss_curves.proofs.curves.blank_stacks.Given as goal
+use Rattle.miss_curves.proofs.stacks.blank_stacks.Given as goal
 
 abbrev pub invariant-loop : goal.invariant-loop
 invariant-loop l = (length l.stacks.items ≡ l.counter) × All (IsBlank 1024) l.stacks.items

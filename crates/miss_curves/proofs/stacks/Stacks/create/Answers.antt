@@ -1,7 +1,7 @@
 use Rattle.std.proofs.Common.{rules, sym, ◌∙◌, arith}
 use Rattle.miss_curves.proofs.AllStacks.{AreStacks-blank, StandEach-blank}
 use Rattle.miss_curves.specs.Curves.{base_alone}
-use Rattle.miss_curves.proofs.curves.Stacks.create.Goals as goal
+use Rattle.miss_curves.proofs.stacks.Stacks.create.Goals as goal
 
 pub invariant_of-result : goal.invariant_of-result
 invariant_of-result c =

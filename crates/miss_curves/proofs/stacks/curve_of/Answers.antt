@@ -3,7 +3,7 @@ use Rattle.std.specs.List.{sum_by}
 use Rattle.std.proofs.lemmas.List.Sums.{sum_by_more_le_part}
 use Rattle.miss_curves.specs.Stacks.{Kept, missed_at}
 use Rattle.miss_curves.proofs.AllStacks.{missed-all, missed-le}
-use Rattle.miss_curves.proofs.curves.curve_of.Goals as goal
+use Rattle.miss_curves.proofs.stacks.curve_of.Goals as goal
 
 pub add_to-requires-clause-fits : goal.add_to-requires-clause-fits
 add_to-requires-clause-fits c = λ k below.

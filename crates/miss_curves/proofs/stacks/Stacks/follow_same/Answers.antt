@@ -4,7 +4,7 @@ use Rattle.pager_model.specs.Entries.{space_part}
 use Rattle.miss_curves.specs.Curves.{base_alone, followed}
 use Rattle.miss_curves.specs.Rows.{StandAfter}
 use Rattle.miss_curves.proofs.AllStacks.{StandEach-followed, StandEach-none, in_some}
-use Rattle.miss_curves.proofs.curves.Stacks.follow_same.Goals as goal
+use Rattle.miss_curves.proofs.stacks.Stacks.follow_same.Goals as goal
 
 pub returns-in-Some-clause-stands : goal.returns-in-Some-clause-stands
 returns-in-Some-clause-stands c = λ g' history told stands.
