@@ -1,34 +1,43 @@
--- The text of a trace for whose spaces there are stores enough is run: it isn't refused.
-use Rattle.std.proofs.Common.{◌≡◌, ℕ, ◌<◌, ◌⊎◌, inl, inr, List, [], Option, Some, None, IfSome, IsSomeAnd, refl, sym, ap, subst, ◌∙◌, arith}
-use Rattle.std.proofs.lemmas.Option.{none-some}
+-- The text of a trace that a form is for, and for whose spaces there are stores enough, is run: it isn't refused.
+use Rattle.std.proofs.Common.{◌≡◌, ℕ, ◌<◌, ◌≤◌, ◌⊎◌, inl, inr, List, [], Option, Some, None, IfSome, IsSomeAnd, refl, sym, ap, subst, ◌∙◌, arith}
+use Rattle.std.proofs.lemmas.Option.{none-some, same_Some}
 use Rattle.pager_model.specs.Plans.{Plan}
 use Rattle.pager_model.specs.TraceText.{IsTextOf}
+use Rattle.pager_command.specs.declared.form.Form.{Form}
 use Rattle.pager_command.specs.declared.status.TheConstants.{REFUSED, READ_FAULT, MEMORY}
-use Rattle.pager_command.specs.Runs.{CountsStores, IsRefused, IsRunnable, WasRead, WasText, status_of}
+use Rattle.pager_command.specs.Forms.{IsOfOne, TakesTrace}
+use Rattle.pager_command.specs.Runs.{CountsProcessors, CountsStores, IsRefused, IsRunnable, WasRead, WasText, status_of}
 use Rattle.trace_reader.specs.declared.fault.TraceFault.{TraceFault}
-use Rattle.trace_reader.specs.declared.fault.TraceFault.TheVariants.{ReadFault, TooLong, Line, NoEnd, TooManyCalls, TooFewStores, NoMemory}
+use Rattle.trace_reader.specs.declared.fault.TraceFault.TheVariants.{ReadFault, TooLong, Line, NoEnd, TooManyCalls, TooFewStores, OneProcessor, NoMemory}
 use Rattle.trace_reader.specs.Refusals.{refusal_of, IsCause}
 use Rattle.trace_reader.proofs.CutTexts.{not_refused}
 use Rattle.trace_reader.proofs.UniqueTexts.{one_plan}
 
 -- a trace that was read and has more spaces than there are stores is refused so
-pub refused_stores : (left after : Option (List ℕ)) (trace : Plan) (stores : ℕ) (refusal : Option TraceFault) → IfSome left (λ bytes. IsTextOf bytes trace × (after ≡ Some [])) → (stores < trace.spaces) × (refusal ≡ Some (TooFewStores stores trace.spaces)) → IfSome left (λ bytes. IsSomeAnd refusal (IsRefused stores bytes))
-refused_stores None after trace stores refusal read few = tt
-refused_stores (Some bytes) after trace stores refusal read few =
-    subst (λ refusal. IsSomeAnd refusal (IsRefused stores bytes)) (sym few.1) (inr (trace, read.0, few.0, refl))
+pub refused_stores : (form : Form) (left after : Option (List ℕ)) (trace : Plan) (stores : ℕ) (refusal : Option TraceFault) → WasRead trace left after → TakesTrace form trace
+    → (stores < trace.spaces) × (refusal ≡ Some (TooFewStores stores trace.spaces)) → IfSome left (λ bytes. IsSomeAnd refusal (IsRefused form stores bytes))
+refused_stores form None after trace stores refusal read takes few = tt
+refused_stores form (Some bytes) after trace stores refusal read takes few =
+    subst (λ refusal. IsSomeAnd refusal (IsRefused form stores bytes)) (sym few.1) (inr (inr (trace, read.0, takes, few.0, refl)))
 
--- a trace whose text runs has stores enough
-pub enough_stores : (left after : Option (List ℕ)) (trace : Plan) (stores : ℕ) → IsSomeAnd left (IsRunnable stores) → IfSome left (λ bytes. IsTextOf bytes trace × (after ≡ Some [])) → stores < trace.spaces → ⊥
-enough_stores None after trace stores runs read few = runs
-enough_stores (Some bytes) after trace stores runs read few =
+-- and one that has more processors than one, by a form that is for one alone
+pub refused_processors : (form : Form) (left after : Option (List ℕ)) (trace : Plan) (stores : ℕ) (refusal : Option TraceFault) → WasRead trace left after → IsOfOne form
+    → (1 < trace.processors) × (refusal ≡ Some (OneProcessor trace.processors)) → IfSome left (λ bytes. IsSomeAnd refusal (IsRefused form stores bytes))
+refused_processors form None after trace stores refusal read one more = tt
+refused_processors form (Some bytes) after trace stores refusal read one more =
+    subst (λ refusal. IsSomeAnd refusal (IsRefused form stores bytes)) (sym more.1) (inr (inl (trace, read.0, one, more.0, refl)))
+
+-- a trace whose text runs has stores enough, and the form is for it
+pub runs_read : (form : Form) (left after : Option (List ℕ)) (trace : Plan) (stores : ℕ) → IsSomeAnd left (IsRunnable form stores) → WasRead trace left after → TakesTrace form trace × (trace.spaces ≤ stores)
+runs_read form None after trace stores runs read = absurd runs
+runs_read form (Some bytes) after trace stores runs read =
     let same : runs.0 ≡ trace = one_plan runs.0 trace runs.1.0 read.0.0 (sym runs.1.1 ∙ read.0.1) in
-    let spaces : (runs.0).spaces ≡ trace.spaces = ap (λ (plan : Plan). plan.spaces) same in
-    omega (arith, few, spaces, runs.2)
+    subst (λ plan. TakesTrace form plan × (plan.spaces ≤ stores)) same (runs.2, runs.3)
 
 -- a trace's text is refused for a failed read or for want of memory alone
-pub not_refused_text : (left : Option (List ℕ)) (fault : TraceFault) (stores status : ℕ) → IsSomeAnd left (IsRunnable stores) → IfSome left (λ bytes. IsCause (refusal_of bytes) fault) → status ≡ status_of fault → (fault ≡ ReadFault → ⊥) → status ≡ MEMORY
-not_refused_text None fault stores status runs cause is read = absurd runs
-not_refused_text (Some bytes) fault stores status runs cause is read =
+pub not_refused_text : (form : Form) (left : Option (List ℕ)) (fault : TraceFault) (stores status : ℕ) → IsSomeAnd left (IsRunnable form stores) → IfSome left (λ bytes. IsCause (refusal_of bytes) fault) → status ≡ status_of fault → (fault ≡ ReadFault → ⊥) → status ≡ MEMORY
+not_refused_text form None fault stores status runs cause is read = absurd runs
+not_refused_text form (Some bytes) fault stores status runs cause is read =
     let none : refusal_of bytes ≡ None = ap refusal_of runs.1.1 ∙ not_refused runs.0 runs.1.0 in
     by_fault fault none cause is read
   where
@@ -40,12 +49,13 @@ not_refused_text (Some bytes) fault stores status runs cause is read =
     by_fault NoEnd none cause is read = absurd (none-some _ (sym none ∙ cause))
     by_fault TooManyCalls none cause is read = absurd (none-some _ (sym none ∙ cause))
     by_fault (TooFewStores stores spaces) none cause is read = absurd cause
+    by_fault (OneProcessor processors) none cause is read = absurd cause
 
 -- and what is refused of a text is what the text is refused for
-pub refused_text : (left : Option (List ℕ)) (fault : TraceFault) (stores status : ℕ) (refusal : Option TraceFault) → IfSome left (λ bytes. IsCause (refusal_of bytes) fault) → status ≡ status_of fault → refusal ≡ Some fault → status ≡ REFUSED → IfSome left (λ bytes. IsSomeAnd refusal (IsRefused stores bytes))
-refused_text None fault stores status refusal cause is told refused = tt
-refused_text (Some bytes) fault stores status refusal cause is told refused =
-    subst (λ refusal. IsSomeAnd refusal (IsRefused stores bytes)) (sym told) (inl (by_fault fault cause (sym is ∙ refused)))
+pub refused_text : (form : Form) (left : Option (List ℕ)) (fault : TraceFault) (stores status : ℕ) (refusal : Option TraceFault) → IfSome left (λ bytes. IsCause (refusal_of bytes) fault) → status ≡ status_of fault → refusal ≡ Some fault → status ≡ REFUSED → IfSome left (λ bytes. IsSomeAnd refusal (IsRefused form stores bytes))
+refused_text form None fault stores status refusal cause is told refused = tt
+refused_text form (Some bytes) fault stores status refusal cause is told refused =
+    subst (λ refusal. IsSomeAnd refusal (IsRefused form stores bytes)) (sym told) (inl (by_fault fault cause (sym is ∙ refused)))
   where
     by_fault : (fault : TraceFault) → IsCause (refusal_of bytes) fault → status_of fault ≡ REFUSED → refusal_of bytes ≡ Some fault
     by_fault ReadFault cause refused = absurd (omega (arith, refused))
@@ -55,6 +65,7 @@ refused_text (Some bytes) fault stores status refusal cause is told refused =
     by_fault NoEnd cause refused = cause
     by_fault TooManyCalls cause refused = cause
     by_fault (TooFewStores stores spaces) cause refused = absurd cause
+    by_fault (OneProcessor processors) cause refused = absurd cause
 
 -- the status of a refusal is one of three
 pub status_told : (fault : TraceFault) → (status_of fault ≡ REFUSED) ⊎ ((status_of fault ≡ READ_FAULT) ⊎ (status_of fault ≡ MEMORY))
@@ -65,6 +76,7 @@ status_told (Line number c) = inl refl
 status_told NoEnd = inl refl
 status_told TooManyCalls = inl refl
 status_told (TooFewStores stores spaces) = inl refl
+status_told (OneProcessor processors) = inl refl
 
 -- a text that was read is a trace's
 pub was_text : (left after : Option (List ℕ)) (plan : Plan) → WasRead plan left after → WasText left after
@@ -82,3 +94,18 @@ counts_stores refusal stores spaces is few = λ told wanted also.
 -- without a refusal none were wanted
 pub counts_none : (refusal : Option TraceFault) (stores : ℕ) → refusal ≡ None → CountsStores stores refusal
 counts_none refusal stores none = λ told wanted is. absurd (none-some _ (sym none ∙ is))
+
+-- a refusal for more processors than one
+pub counts_processors : (form : Form) (refusal : Option TraceFault) (processors : ℕ) → refusal ≡ Some (OneProcessor processors) → IsOfOne form → 1 < processors → CountsProcessors form refusal
+counts_processors form refusal processors is one more = λ told also.
+    let same : Some (OneProcessor processors) ≡ Some (OneProcessor told) = sym is ∙ also in
+    let count : told ≡ processors = cc in
+    (one, omega (arith, more, count))
+
+-- another refusal is none for processors
+pub another_fault : (form : Form) (refusal : Option TraceFault) (fault : TraceFault) → refusal ≡ Some fault → ((processors : ℕ) → fault ≡ OneProcessor processors → ⊥) → CountsProcessors form refusal
+another_fault form refusal fault is other = λ processors also. absurd (other processors (same_Some fault (OneProcessor processors) (sym is ∙ also)))
+
+-- and without one none was wanted
+pub counts_no_processors : (form : Form) (refusal : Option TraceFault) → refusal ≡ None → CountsProcessors form refusal
+counts_no_processors form refusal none = λ processors is. absurd (none-some _ (sym none ∙ is))

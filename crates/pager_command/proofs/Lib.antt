@@ -3,6 +3,7 @@ pub mod Completeness
 mod OneForm
 mod PrintedRuns
 mod PlannedRuns
+mod CurveRuns
 mod FormRuns
 mod LargeRuns
 mod Results

@@ -5,7 +5,7 @@ use Rattle.std.specs.Borrow.{Bor}
 use Rattle.report_text.specs.declared.report.Parts.{Parts}
 use Rattle.report_text.specs.declared.report.Parts.TheVariants.{Answers, AnswersAndHistory}
 use Rattle.pager_command.specs.declared.form.Form.{Form}
-use Rattle.pager_command.specs.declared.form.Form.TheVariants.{Order, Turns, Replay, Plan as Planned}
+use Rattle.pager_command.specs.declared.form.Form.TheVariants.{Order, Turns, Replay, Plan as Planned, Curve}
 use Rattle.pager_command.specs.declared.form.Making.{Making}
 use Rattle.pager_command.specs.Forms.{AreInRange, AreLargeWords, AreMakingWords, AreWords, IsForm, large_words, making_words, parts_words, words_of}
 use Rattle.trace_make.specs.Made.{CanMake}
@@ -22,12 +22,14 @@ letter (Order parts) = 111
 letter (Turns seed parts) = 116
 letter (Replay parts) = 114
 letter (Planned size) = 112
+letter Curve = 99
 
 begins : (form : Form) → get_or (get_or (words_of form) 0 []) 0 0 ≡ letter form
 begins (Order parts) = refl
 begins (Turns seed parts) = refl
 begins (Replay parts) = refl
 begins (Planned size) = refl
+begins Curve = refl
 
 -- no words are of two forms: their first letters differ
 one_letter : (a b : Form) → words_of a ≡ words_of b → letter a ≡ letter b
@@ -56,6 +58,15 @@ same_form (Planned m) (Replay q) seed other same letters = absurd (omega (arith,
 same_form (Order p) (Planned n) seed other same letters = absurd (omega (arith, letters))
 same_form (Turns m p) (Planned n) seed other same letters = absurd (omega (arith, letters))
 same_form (Replay p) (Planned n) seed other same letters = absurd (omega (arith, letters))
+same_form Curve Curve seed other same letters = refl
+same_form Curve (Order q) seed other same letters = absurd (omega (arith, letters))
+same_form Curve (Turns n q) seed other same letters = absurd (omega (arith, letters))
+same_form Curve (Replay q) seed other same letters = absurd (omega (arith, letters))
+same_form Curve (Planned n) seed other same letters = absurd (omega (arith, letters))
+same_form (Order p) Curve seed other same letters = absurd (omega (arith, letters))
+same_form (Turns m p) Curve seed other same letters = absurd (omega (arith, letters))
+same_form (Replay p) Curve seed other same letters = absurd (omega (arith, letters))
+same_form (Planned m) Curve seed other same letters = absurd (omega (arith, letters))
 
 pub one_form : (words : List (Bor (List ℕ))) (a b : Form) → AreWords words a → AreWords words b → a ≡ b
 one_form words a b is also = (let same = sym is.are ∙ also.are in same_form a b is.numbers also.numbers same (one_letter a b same))
@@ -64,21 +75,25 @@ one_form words a b is also = (let same = sym is.are ∙ also.are in same_form a 
 abbrev first_letter : List (List ℕ) → ℕ
 first_letter ws = get_or (get_or ws 0 []) 0 0
 
-later : (form : Form) → 109 < letter form
-later (Order parts) = omega arith
-later (Turns seed parts) = omega arith
-later (Replay parts) = omega arith
-later (Planned size) = omega arith
+abbrev IsOther : ℕ → Type 0
+IsOther n = (108 ≡ n → ⊥) × (109 ≡ n → ⊥)
+
+others : (form : Form) → IsOther (letter form)
+others (Order parts) = (λ same. omega (arith, same), λ same. omega (arith, same))
+others (Turns seed parts) = (λ same. omega (arith, same), λ same. omega (arith, same))
+others (Replay parts) = (λ same. omega (arith, same), λ same. omega (arith, same))
+others (Planned size) = (λ same. omega (arith, same), λ same. omega (arith, same))
+others Curve = (λ same. omega (arith, same), λ same. omega (arith, same))
 
 pub making_is_no_form : (words : List (Bor (List ℕ))) (m : Making) → AreMakingWords words m → IsForm words → ⊥
 making_is_no_form words m is form =
     let same : 109 ≡ letter form.0 = ap first_letter (sym is.are ∙ form.1.are) ∙ begins form.0 in
-    omega (arith, same, later form.0)
+    (others form.0).1 same
 
 pub large_is_no_form : (words : List (Bor (List ℕ))) (number seed : ℕ) → AreLargeWords words number seed → IsForm words → ⊥
 large_is_no_form words number seed is form =
     let same : 108 ≡ letter form.0 = ap first_letter (sym is.are ∙ form.1.are) ∙ begins form.0 in
-    omega (arith, same, later form.0)
+    (others form.0).0 same
 
 pub making_is_not_large : (words : List (Bor (List ℕ))) (m : Making) (number seed : ℕ) → AreMakingWords words m → AreLargeWords words number seed → ⊥
 making_is_not_large words m number seed is large =

@@ -1,4 +1,4 @@
--- The forms of the program's words: four that read a trace, and two that make one.
+-- The forms of the program's words: five that read a trace, and two that make one.
 use Rattle.std.specs.Prelude.{ℕ, ◌≡◌, ◌^◌, ◌<◌, ◌≤◌, List, [], ◌∷◌, map, codes, decimal}
 use Rattle.std.specs.Borrow.{Bor}
 use Rattle.pager_model.specs.declared.entry.Entry.{Entry}
@@ -8,7 +8,7 @@ use Rattle.pager_model.specs.TurnOrders.{IsSeeded}
 use Rattle.report_text.specs.declared.report.Parts.{Parts}
 use Rattle.report_text.specs.declared.report.Parts.TheVariants.{Answers, AnswersAndHistory}
 use Rattle.pager_command.specs.declared.form.Form.{Form}
-use Rattle.pager_command.specs.declared.form.Form.TheVariants.{Order, Turns, Replay, Plan as Planned}
+use Rattle.pager_command.specs.declared.form.Form.TheVariants.{Order, Turns, Replay, Plan as Planned, Curve}
 use Rattle.pager_command.specs.declared.form.Making.{Making}
 use Rattle.pager_command.specs.declared.form.Command.{Command}
 use Rattle.pager_command.specs.declared.form.Command.TheVariants.{Run, Make, Large}
@@ -25,6 +25,7 @@ words_of (Order parts) = codes "order" ∷ parts_words parts
 words_of (Turns seed parts) = codes "turns" ∷ decimal seed ∷ parts_words parts
 words_of (Replay parts) = codes "replay" ∷ parts_words parts
 words_of (Planned size) = codes "plan" ∷ decimal size ∷ []
+words_of Curve = codes "curve" ∷ []
 
 -- a form's numbers are in their ranges: a seed has 64 bits, and a size is one of more than a page
 abbrev pub AreInRange : Form → Type 0
@@ -32,6 +33,7 @@ AreInRange (Order parts) = Unit {0}
 AreInRange (Turns seed parts) = seed < 2 ^ 64
 AreInRange (Replay parts) = Unit {0}
 AreInRange (Planned size) = (1 ≤ size) × (size ≤ 3)
+AreInRange Curve = Unit {0}
 
 -- the entries are made in turns, by one thread
 abbrev pub IsInTurns : Form → Type 0
@@ -39,6 +41,19 @@ IsInTurns (Order parts) = Unit {0}
 IsInTurns (Turns seed parts) = Unit {0}
 IsInTurns (Replay parts) = ⊥
 IsInTurns (Planned size) = Unit {0}
+IsInTurns Curve = Unit {0}
+
+-- the form is for traces of one processor alone
+abbrev pub IsOfOne : Form → Type 0
+IsOfOne (Order parts) = ⊥
+IsOfOne (Turns seed parts) = ⊥
+IsOfOne (Replay parts) = ⊥
+IsOfOne (Planned size) = ⊥
+IsOfOne Curve = Unit {0}
+
+-- the trace is one that the form is for
+abbrev pub TakesTrace : Form → Plan → Type 0
+TakesTrace form plan = IsOfOne form → plan.processors ≡ 1
 
 -- what the words are
 abbrev pub are_of : List (Bor (List ℕ)) → List (List ℕ)
@@ -60,6 +75,7 @@ ComesBy (Order parts) plan history = IsFiled plan history
 ComesBy (Turns seed parts) plan history = IsSeeded plan seed history
 ComesBy (Replay parts) plan history = Unit {0}
 ComesBy (Planned size) plan history = IsFiled plan history
+ComesBy Curve plan history = IsFiled plan history
 
 -- the words that ask for a trace to be made: the number that it is made from, and how many calls, processors, spaces and frames it has
 abbrev pub making_words : Making → List (List ℕ)

@@ -2,7 +2,7 @@
 
 ghost use Rattle.std.specs.Prelude.{◌≡◌, ◌≢◌, ℕ, ◌^◌, ◌<◌, ◌≤◌, [], ◌∷◌, ◌↔◌, IsTrue, IfSome, IfNone, decimal};
 ghost use Rattle.report_text.specs.declared.report.Parts.{Parts as Printed};
-ghost use Rattle.pager_command.specs.Forms.{AreLargeWords, AreMakingWords, AreOfCommand, AreWords, IsCommand, IsForm, IsLarge, IsMaking, are_of, parts_words};
+ghost use Rattle.pager_command.specs.Forms.{AreLargeWords, AreMakingWords, AreOfCommand, AreWords, IsCommand, IsForm, IsLarge, IsMaking, IsOfOne, are_of, parts_words};
 ghost use Rattle.trace_make.specs.Made.{CanMake};
 
 use itoa::Buffer;
@@ -26,7 +26,7 @@ pub enum Command {
     Large { number: u64, seed: u64 },
 }
 
-/// In which order the trace that is read is run, and what is printed: which parts of the run before the counts, or a plan.
+/// In which order the trace that is read is run, and what is printed: which parts of the run before the counts, a plan, or miss curves.
 #[derive(Clone, Copy, Debug, PartialEq, Eq)]
 pub enum Form {
     /// To run a trace in the order of its lines.
@@ -37,6 +37,17 @@ pub enum Form {
     Replay { parts: Parts },
     /// To run it in the order of its lines, and to plan which extent of this size to empty then.
     Plan { size: Size },
+    /// To run it, where it is of one processor, in the order of its lines, and to count the misses that images of any capacity would have had.
+    Curve,
+}
+
+impl Form {
+    /// Whether it is for traces of one processor alone.
+    pub fn is_of_one(&self) -> bool
+        ensures { IsTrue result ↔ IsOfOne self.now }
+    {
+        matches!(self, Form::Curve)
+    }
 }
 
 /// The number that a trace is made from, and how many calls, processors, spaces and frames it has.
@@ -130,6 +141,7 @@ fn form_of(words: &[&str]) -> Option<Form>
         [word, rest @ ..] if *word == "plan" => Some(Form::Plan {
             size: size_asked(rest)?,
         }),
+        [word] if *word == "curve" => Some(Form::Curve),
         _ => None,
     }
 }

@@ -4,19 +4,22 @@ ghost use Rattle.std.specs.Prelude.{ℕ, ◌≡◌, ◌≢◌, ◌<◌, ◌≤�
 ghost use Rattle.contiguity_plan.specs.declared.plan.Plan.{Plan as Emptying};
 ghost use Rattle.contiguity_plan.specs.Emptying.{IsOver, IsPlanned};
 ghost use Rattle.io_core.specs.Faults.{Rose};
+ghost use Rattle.miss_curves.specs.Curves.{misses, page_misses};
+ghost use Rattle.miss_curves.specs.Histories.{IsRunOf};
 ghost use Rattle.pager_model.specs.Legal.{entries_in, frames_at};
 ghost use Rattle.pager_model.specs.PrintedText.{out_text};
 ghost use Rattle.pager_model.specs.Settings.{Given};
 ghost use Rattle.pager_model.specs.Stored.{Stored};
 ghost use Rattle.replay_core.specs.Replays.{IsReplay, AreItsCounts};
+ghost use Rattle.report_text.specs.CurveText.{curves_text};
 ghost use Rattle.report_text.specs.Parts.{has_history};
 ghost use Rattle.report_text.specs.PlanText.{plan_text};
 ghost use Rattle.report_text.specs.Written.{WroteAll, WrotePart};
 ghost use Rattle.pager_command.specs.declared.form.Form.{Form as Asked};
 ghost use Rattle.pager_command.specs.declared.form.Making.{Making as ToMake};
-ghost use Rattle.pager_command.specs.Forms.{AreLargeWords, AreMakingWords, AreWords, IsCommand, IsForm, IsInTurns, ComesBy};
+ghost use Rattle.pager_command.specs.Forms.{AreLargeWords, AreMakingWords, AreWords, IsCommand, IsForm, IsInTurns, IsOfOne, ComesBy, TakesTrace};
 ghost use Rattle.pager_command.specs.MadeRuns.{MakesText, RunsLarge};
-ghost use Rattle.pager_command.specs.Runs.{CountsStores, EndsRun, IsEndOf, IsRefused, IsRunnable, IsStatus, IsStopped, IsTold, PrintedAll, PrintedPart, RunsBy, WasRead, WasRun, WasText, status_of};
+ghost use Rattle.pager_command.specs.Runs.{AreCurves, CountsProcessors, CountsStores, EndsRun, IsEndOf, IsRefused, IsRunnable, IsStatus, IsStopped, IsTold, PrintedAll, PrintedPart, RunsBy, WasRead, WasRun, WasText, status_of};
 
 use crate::form::{Command, Form, command_of};
 use crate::making::{run_large, write_made};
@@ -24,9 +27,10 @@ use crate::outcome::{Outcome, status_of_write, stopped};
 use crate::status::{DONE, MEMORY, READ_FAULT, REFUSED, USAGE, WRITE_FAULT};
 use contiguity_plan::plan_emptying;
 use io_core::{Sink, Source};
+use miss_curves::curves;
 use pager_model::{NoMemory, Numbered, Size, Trace};
 use replay_core::{Gathered, replay, replay_file_order, replay_turns};
-use report_text::{Parts, write_plan, write_report};
+use report_text::{Parts, write_curves, write_plan, write_report};
 use std::alloc::Global;
 use std::sync::Wait;
 use std::thread::Threads;
@@ -35,7 +39,7 @@ use trace_reader::{TraceFault, read_trace};
 
 /// Runs the program with these words over these backing stores, of which each space uses the one of its number: it reads a trace to the end
 /// of the source, runs it in the order that the words' form says, and writes the answers, where the form asks for it the history, and the counts to
-/// the sink, or what is planned after the run. Or, by words that read nothing, it makes a trace from a number and writes its text, or runs the large one and writes the counts.
+/// the sink, or what is planned after the run, or its miss curves. Or, by words that read nothing, it makes a trace from a number and writes its text, or runs the large one and writes the counts.
 ///
 /// The handle is for the form `replay` alone, which starts threads and waits for locks: nothing is proved of when such a run returns. A run
 /// of any other form is made by a function that takes no handle, and so is proved to return.
@@ -65,16 +69,19 @@ pub fn run<T: Source, K: Sink, S: Store + Send + Drop, R: Threads + Wait + Sync>
     ensures unmade { result.status ≢ DONE → result.status ≢ WRITE_FAULT → result.status ≢ MEMORY → result.trace ≡ None }
 
     // The bytes are refused as they should be; a read failed, and else none did; a write failed; the reader had memory. Where stores were
-    // wanted, the refusal says how many there were, which are fewer than the spaces.
-    ensures refused { IsForm words.now → result.status ≡ REFUSED → IfSome (T.left source.old) (λ bytes. IsSomeAnd result.refusal (IsRefused (length stores.items) bytes)) }
+    // wanted, the refusal says how many there were, which are fewer than the spaces. Where one processor was wanted, by a form that is for one
+    // alone, it says how many more there are.
+    ensures refused { (form : Asked) → AreWords words.now form → result.status ≡ REFUSED
+        → IfSome (T.left source.old) (λ bytes. IsSomeAnd result.refusal (IsRefused form (length stores.items) bytes)) }
     ensures read_fault { result.status ≡ READ_FAULT → Rose (T.faults source.old) (T.faults source.new) }
     ensures no_read_fault { result.status ≢ READ_FAULT → T.faults source.new ≡ T.faults source.old }
     ensures write_fault { result.status ≡ WRITE_FAULT → Rose (K.faults sink.old) (K.faults sink.new) }
     ensures memory { IsForm words.now → result.status ≡ MEMORY → result.refusal ≡ None → WasText (T.left source.old) (T.left source.new) }
     ensures few_stores { CountsStores (length stores.items) result.refusal }
+    ensures one_processor { (form : Asked) → AreWords words.now form → CountsProcessors form result.refusal }
 
-    // Words of a form, the text of a trace and stores enough give a run, unless there is no memory or a read or a write fails.
-    ensures complete { IsForm words.now → IsSomeAnd (T.left source.old) (IsRunnable (length stores.items))
+    // Words of a form, the text of a trace that the form is for, and stores enough give a run, unless there is no memory or a read or a write fails.
+    ensures complete { (form : Asked) → AreWords words.now form → IsSomeAnd (T.left source.old) (IsRunnable form (length stores.items))
         → (Rose (T.faults source.old) (T.faults source.new) → ⊥)
         → (Rose (K.faults sink.old) (K.faults sink.new) → ⊥)
         → (result.status ≡ DONE) ⊎ (result.status ≡ MEMORY) }
@@ -86,6 +93,7 @@ pub fn run<T: Source, K: Sink, S: Store + Send + Drop, R: Threads + Wait + Sync>
     ensures trace { IsForm words.now
         → IfSome result.trace (λ trace. WasRead trace (T.left source.old) (T.left source.new) × (trace.spaces ≤ length stores.items)
         × IsReplay trace (map S.seen stores.items) result.history.items (map S.seen result.stores.items)) }
+    ensures taken_by { (form : Asked) → AreWords words.now form → IfSome result.trace (λ trace. TakesTrace form trace) }
     ensures ordered { (form : Asked) → AreWords words.now form
         → IfSome result.trace (λ trace. ComesBy form trace (entries_in result.history.items)) }
 
@@ -125,7 +133,7 @@ fn run_in_turns<T: Source, K: Sink, S: Store + Send + Drop>(
     requires in_turns { IsInTurns form }
     ensures { RunsBy T.left T.faults K.taken K.faults S.seen form source.old source.new sink.old sink.new stores.items result }
 {
-    let trace = match trace_to_run(alloc, source, stores.len()) {
+    let trace = match trace_to_run(alloc, &form, source, stores.len()) {
         Ok(trace) => trace,
         Err(stop) => return stopped(alloc, stop.status, stop.refusal, stores),
     };
@@ -146,12 +154,13 @@ fn run_in_threads<T: Source, K: Sink, S: Store + Send + Drop, R: Threads + Wait 
 ) -> Outcome<S>
     ensures { RunsBy T.left T.faults K.taken K.faults S.seen (Asked.Replay parts) source.old source.new sink.old sink.new stores.items result }
 {
-    let trace = match trace_to_run(alloc, source, stores.len()) {
+    let form = Form::Replay { parts };
+    let trace = match trace_to_run(alloc, &form, source, stores.len()) {
         Ok(trace) => trace,
         Err(stop) => return stopped(alloc, stop.status, stop.refusal, stores),
     };
     match replay(rt, alloc, &trace, stores) {
-        Ok(gathered) => write_run(alloc, sink, Form::Replay { parts }, trace, gathered),
+        Ok(gathered) => write_run(alloc, sink, form, trace, gathered),
         Err(stores) => stopped(alloc, MEMORY, None, stores),
     }
 }
@@ -163,17 +172,28 @@ struct Stop {
     refusal: Option<TraceFault>,
 }
 
-/// Reads a trace, to be run over so many stores; where there are fewer than spaces it is refused.
-fn trace_to_run<T: Source>(alloc: Global, source: &mut T, stores: usize) -> Result<Trace, Stop>
+/// Reads a trace, to be run by a form over so many stores; where it has more processors than the form is for, or there are fewer stores than
+/// spaces, it is refused.
+fn trace_to_run<T: Source>(
+    alloc: Global,
+    form: &Form,
+    source: &mut T,
+    stores: usize,
+) -> Result<Trace, Stop>
     ensures read { IfOk result (λ trace. WasRead trace (T.left source.old) (T.left source.new)) }
+    ensures taken { IfOk result (λ trace. TakesTrace form.now trace) }
     ensures enough { IfOk result (λ trace. trace.spaces ≤ stores) }
     ensures no_fault { IfOk result (λ _. T.faults source.new ≡ T.faults source.old) }
-    ensures stopped { IfErr result (λ stop. IsStopped (T.left source.old) (T.left source.new) (T.faults source.old) (T.faults source.new) stores stop.status stop.refusal) }
+    ensures stopped { IfErr result (λ stop. IsStopped form.now (T.left source.old) (T.left source.new) (T.faults source.old) (T.faults source.new) stores stop.status stop.refusal) }
 {
     let trace = match read_trace(alloc, source) {
         Ok(trace) => trace,
         Err(fault) => return Err(refused(fault)),
     };
+    let processors = trace.processors();
+    if form.is_of_one() && processors != 1 {
+        return Err(refused(TraceFault::OneProcessor { processors }));
+    }
     let (stores, spaces) = (stores as u64, trace.spaces());
     if stores < u64::from(spaces) {
         return Err(refused(TraceFault::TooFewStores { stores, spaces }));
@@ -181,7 +201,7 @@ fn trace_to_run<T: Source>(alloc: Global, source: &mut T, stores: usize) -> Resu
     Ok(trace)
 }
 
-/// The refusal of a text that was not read, or whose trace wants more stores.
+/// The refusal of a text that was not read, or whose trace has too many processors or wants more stores.
 fn refused(fault: TraceFault) -> Stop
     ensures status { result.status ≡ status_of fault }
     ensures refusal { result.refusal ≡ Some fault }
@@ -215,6 +235,7 @@ fn replay_in_turns<S: Store + Send + Drop>(
         Form::Order { .. } => replay_file_order(alloc, trace, stores),
         Form::Turns { seed, .. } => replay_turns(alloc, trace, stores, seed),
         Form::Plan { .. } => replay_file_order(alloc, trace, stores),
+        Form::Curve => replay_file_order(alloc, trace, stores),
         Form::Replay { .. } => unreachable!(),
     }
 }
@@ -227,6 +248,7 @@ fn write_run<K: Sink, S: Store + Send + Drop>(
     trace: Trace,
     gathered: Gathered<S>,
 ) -> Outcome<S>
+    requires takes { TakesTrace form trace }
     requires run { (stores : List Stored) × WasRun S.seen trace stores gathered }
     ensures { (stores : List Stored) → WasRun S.seen trace stores gathered
         → EndsRun K.taken K.faults form trace stores gathered sink.old sink.new result }
@@ -236,6 +258,57 @@ fn write_run<K: Sink, S: Store + Send + Drop>(
         Form::Turns { parts, .. } => report_run(sink, trace, gathered, parts),
         Form::Replay { parts } => report_run(sink, trace, gathered, parts),
         Form::Plan { size } => plan_run(alloc, sink, trace, gathered, size),
+        Form::Curve => curve_run(alloc, sink, trace, gathered),
+    }
+}
+
+/// Counts the misses of a run at each capacity, and writes these curves.
+fn curve_run<K: Sink, S: Store + Send + Drop>(
+    alloc: Global,
+    sink: &mut K,
+    trace: Trace,
+    gathered: Gathered<S>,
+) -> Outcome<S>
+    requires one { trace.processors ≡ 1 }
+    requires run { (stores : List Stored) × WasRun S.seen trace stores gathered }
+    ensures { (stores : List Stored) → WasRun S.seen trace stores gathered
+        → EndsRun K.taken K.faults Asked.Curve trace stores gathered sink.old sink.new result }
+{
+    let Gathered {
+        history,
+        stores,
+        ..
+    } = gathered;
+    let status = write_counted(alloc, sink, &trace, history.as_slice());
+    Outcome {
+        status,
+        refusal: None,
+        trace: Some(trace),
+        history,
+        stores,
+    }
+}
+
+/// Counts the misses of a history at each capacity, writes these curves, and answers the status.
+fn write_counted<K: Sink>(alloc: Global, sink: &mut K, trace: &Trace, history: &[Numbered]) -> u8
+    requires one { trace.now.processors ≡ 1 }
+    requires run { (g : Given) × IsRunOf trace.now g (entries_in history.now) }
+    ensures statuses { (result ≡ DONE) ⊎ ((result ≡ WRITE_FAULT) ⊎ (result ≡ MEMORY)) }
+    ensures unwritten { result ≡ MEMORY → sink.new ≡ sink.old }
+    ensures wrote { result ≡ DONE → (g : Given) → IsRunOf trace.now g (entries_in history.now)
+        → (tiles : List ℕ) × (pages : List ℕ) × AreCurves g (entries_in history.now) tiles pages
+        × WroteAll (curves_text tiles pages) (K.taken sink.old) (K.taken sink.new) }
+    ensures part { result ≡ WRITE_FAULT → (g : Given) → IsRunOf trace.now g (entries_in history.now)
+        → (tiles : List ℕ) × (pages : List ℕ) × AreCurves g (entries_in history.now) tiles pages
+        × WrotePart (curves_text tiles pages) (K.taken sink.old) (K.taken sink.new) }
+    ensures rose { result ≡ WRITE_FAULT → Rose (K.faults sink.old) (K.faults sink.new) }
+{
+    match curves(alloc, trace, history) {
+        Ok(counted) => {
+            let wrote = write_curves(sink, counted.tiles.as_slice(), counted.pages.as_slice());
+            status_of_write(wrote)
+        }
+        Err(NoMemory) => MEMORY,
     }
 }
 

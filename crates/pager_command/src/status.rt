@@ -10,7 +10,7 @@ use std::io::{self, ErrorKind};
 pub const DONE: u8 = 0;
 /// The words are of no command.
 pub const USAGE: u8 = 2;
-/// The input is no trace's text, or there are fewer stores than the trace has spaces.
+/// The input is no trace's text, the trace has more processors than the form is for, or there are fewer stores than it has spaces.
 pub const REFUSED: u8 = 3;
 /// A read of the source failed.
 pub const READ_FAULT: u8 = 4;

@@ -7,7 +7,7 @@ use Rattle.std.specs.Str.Parse.{digits_value}
 use Rattle.trace_reader.specs.declared.fault.LineCause.{LineCause}
 use Rattle.trace_reader.specs.declared.fault.LineCause.TheVariants as causes
 use Rattle.trace_reader.specs.declared.fault.TraceFault.{TraceFault}
-use Rattle.trace_reader.specs.declared.fault.TraceFault.TheVariants.{ReadFault, TooLong, Line, NoEnd, TooManyCalls, TooFewStores, NoMemory}
+use Rattle.trace_reader.specs.declared.fault.TraceFault.TheVariants.{ReadFault, TooLong, Line, NoEnd, TooManyCalls, TooFewStores, OneProcessor, NoMemory}
 use Rattle.trace_reader.specs.Forms.{Place, first_form, daemon_form, call_forms, fits, leftmost, line_fault}
 use Rattle.pager_model.specs.Bounds.{most_calls}
 
@@ -58,9 +58,10 @@ unfoldable pub refusal_of : List ℕ → Option TraceFault
 refusal_of text = if nat_lt 16777216 (length text) then Some TooLong else refusal_of_lines (lines_of text)
 
 -- what a reader's fault says of the text, which has this refusal or none: a refusal is the text's own. A failed read and want of memory
--- say nothing of it, and stores are no matter of a reader.
+-- say nothing of it, and neither stores nor processors are a matter of a reader.
 abbrev pub IsCause : Option TraceFault → TraceFault → Type 0
 IsCause refusal ReadFault = Unit {0}
 IsCause refusal NoMemory = Unit {0}
 IsCause refusal (TooFewStores stores spaces) = ⊥
+IsCause refusal (OneProcessor processors) = ⊥
 IsCause refusal fault = refusal ≡ Some fault

@@ -41,6 +41,8 @@ pub enum TraceFault {
     TooManyCalls,
     /// A run was given fewer stores than the trace has spaces.
     TooFewStores { stores: u64, spaces: u32 },
+    /// Miss curves were asked for, which are of one processor, and the trace has so many.
+    OneProcessor { processors: u32 },
     /// There isn't enough memory.
     NoMemory,
 }
@@ -55,6 +57,9 @@ impl fmt::Display for TraceFault {
             TraceFault::TooManyCalls => f.write_str("too many calls"),
             TraceFault::TooFewStores { stores, spaces } => {
                 write!(f, "{stores} stores for {spaces} spaces")
+            }
+            TraceFault::OneProcessor { processors } => {
+                write!(f, "curve of {processors} processors")
             }
             TraceFault::NoMemory => f.write_str("memory"),
         }

@@ -27,6 +27,8 @@ fn read_text<T: Source>(alloc: Global, source: &mut T) -> Result<Vec<u8>, TraceF
         → T.faults source.new ≡ T.faults source.old }
     ensures asks_no_stores { (stores spaces : ℕ)
         → IsErrOf result (TraceFault.TooFewStores stores spaces) → ⊥ }
+    ensures asks_no_processors { (processors : ℕ)
+        → IsErrOf result (TraceFault.OneProcessor processors) → ⊥ }
     ensures never_falls { T.faults source.old ≤ T.faults source.new }
     ensures few_reads { T.reads source.new ≤ T.reads source.old + 16777217 }
 {
@@ -65,6 +67,8 @@ pub fn read_trace<T: Source>(alloc: Global, source: &mut T) -> Result<Trace, Tra
         → T.faults source.new ≡ T.faults source.old }
     ensures asks_no_stores { (stores spaces : ℕ)
         → IsErrOf result (TraceFault.TooFewStores stores spaces) → ⊥ }
+    ensures asks_no_processors { (processors : ℕ)
+        → IsErrOf result (TraceFault.OneProcessor processors) → ⊥ }
     ensures never_falls { T.faults source.old ≤ T.faults source.new }
     ensures few_reads { T.reads source.new ≤ T.reads source.old + 16777217 }
 {

@@ -368,7 +368,7 @@ static TEXTS: [(&[u8], u64, LineCause); 19] = [
     (b"trace 1 512 1 1\nend\n\x00\xff", 3, After),
 ];
 
-static MESSAGES: [(TraceFault, &str); 10] = [
+static MESSAGES: [(TraceFault, &str); 11] = [
     (TraceFault::ReadFault, "read fault"),
     (TraceFault::TooLong, "trace too long"),
     (
@@ -407,6 +407,10 @@ static MESSAGES: [(TraceFault, &str); 10] = [
             spaces: 2,
         },
         "1 stores for 2 spaces",
+    ),
+    (
+        TraceFault::OneProcessor { processors: 2 },
+        "curve of 2 processors",
     ),
     (TraceFault::NoMemory, "memory"),
 ];

@@ -1,6 +1,6 @@
 use Rattle.std.proofs.Common.{rules, codes, decimal, [], ◌∷◌}
 use Rattle.pager_command.specs.Forms.{parts_words}
-use Rattle.pager_command.proofs.Words.{first_word, two_words}
+use Rattle.pager_command.proofs.Words.{first_word, one_word, two_words}
 use Rattle.pager_command.proofs.form.form_of.Goals as goal
 
 pub returns-in_ok-parts_asked-in-len1-up-clause-some : goal.returns-in_ok-parts_asked-in-len1-up-clause-some
@@ -31,4 +31,11 @@ returns-in_ok-size_asked-in-len1-up-3-clause-some c =
     record {
       are = first_word c.args.words.now (record { ref_ptr = (0, 0); now = [] }) (codes "plan") c.eq-4.result (decimal size ∷ []) c.in-len1-up.len_at_least c.eq-4.ensures c.if-eq-4.true found.0;
       numbers = (found.1, found.2);
+    }
+
+pub returns-in-len1-clause-some : goal.returns-in-len1-clause-some
+returns-in-len1-clause-some c =
+    record {
+      are = (one_word c.args.words.now (record { ref_ptr = (0, 0); now = [] }) (codes "curve") c.eq-then-words-lt2-2.result c.in-len1.len_at_least c.in-len1.len_below c.eq-then-words-lt2-2.ensures).0 c.if-eq-5.true;
+      numbers = tt;
     }

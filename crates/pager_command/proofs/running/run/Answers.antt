@@ -7,7 +7,7 @@ use Rattle.pager_command.proofs.OneForm.{large_is_no_form, making_is_no_form}
 use Rattle.pager_command.proofs.running.run.Goals as goal
 
 pub returns-in_default-clause-complete : goal.returns-in_default-clause-complete
-returns-in_default-clause-complete g c = λ form. absurd (c.in_default.ensures.none (Run form.0, form.1))
+returns-in_default-clause-complete g c = λ form is. absurd (c.in_default.ensures.none (Run form, is))
 
 pub returns-in_default-clause-makes : goal.returns-in_default-clause-makes
 returns-in_default-clause-makes g c = λ m is. absurd (c.in_default.ensures.none (Make m, is))
@@ -32,16 +32,18 @@ returns-in-Run g c =
       unrefused = ran.unrefused;
       same_stores = ran.same_stores;
       unmade = unmade c.run_in_turns.result.trace form c.run_in_turns.result.status ran.ended;
-      refused = λ _. ran.refused;
+      refused = λ other is. (RunsBy-words words other are is ran).refused;
       read_fault = ran.read_fault;
       no_read_fault = ran.no_read_fault;
       write_fault = ran.write_fault;
       memory = λ _. ran.memory;
       few_stores = ran.few_stores;
-      complete = λ _. ran.complete;
+      one_processor = λ other is. (RunsBy-words words other are is ran).one_processor;
+      complete = λ other is. (RunsBy-words words other are is ran).complete;
       made = λ _. ran.made;
       ended = λ other is. (RunsBy-words words other are is ran).ended;
       trace = λ _. ran.trace;
+      taken_by = λ other is. (RunsBy-words words other are is ran).taken_by;
       ordered = λ other is. (RunsBy-words words other are is ran).ordered;
       wrote = λ other is. (RunsBy-words words other are is ran).wrote;
       part = λ other is. (RunsBy-words words other are is ran).part;

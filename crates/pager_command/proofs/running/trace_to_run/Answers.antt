@@ -2,10 +2,11 @@ use Rattle.std.proofs.Common.{◌≡◌, ◌<◌, ◌⊎◌, Err, Some, inl, ap,
 use Rattle.std.specs.Result.{is_err, result_err}
 use Rattle.std.proofs.lemmas.Bool.{false≢true}
 use Rattle.std.proofs.lemmas.Option.{same_Some}
-use Rattle.trace_reader.specs.declared.fault.TraceFault.TheVariants.{TooFewStores}
+use Rattle.trace_reader.specs.declared.fault.TraceFault.TheVariants.{OneProcessor, TooFewStores}
+use Rattle.pager_command.specs.Forms.{IsOfOne}
 use Rattle.pager_command.specs.declared.status.TheConstants.{REFUSED, READ_FAULT, MEMORY}
 use Rattle.pager_command.specs.Runs.{status_of}
-use Rattle.pager_command.proofs.Completeness.{counts_stores, refused_stores, enough_stores, not_refused_text, refused_text, status_told}
+use Rattle.pager_command.proofs.Completeness.{another_fault, counts_processors, counts_stores, refused_processors, refused_stores, runs_read, not_refused_text, refused_text, status_told}
 use Rattle.pager_command.proofs.running.trace_to_run.Goals as goal
 
 pub returns-in-Err-clause-stopped : goal.returns-in-Err-clause-stopped
@@ -17,26 +18,54 @@ returns-in-Err-clause-stopped g c =
       statuses = subst (λ n. (n ≡ REFUSED) ⊎ ((n ≡ READ_FAULT) ⊎ (n ≡ MEMORY))) (sym told.status) (status_told c.in-Err.fault);
       told = search rules;
       few_stores = λ count wanted is. absurd (c.in-Err.ensures.asks_no_stores count wanted (ap Err (same_Some _ _ (sym told.refusal ∙ is))));
-      refused = λ is. refused_text left c.in-Err.fault c.args.stores status c.refused.result.refusal c.in-Err.ensures.refused told.status told.refusal is;
+      one_processor = another_fault c.args.form.now c.refused.result.refusal c.in-Err.fault told.refusal (λ processors is. c.in-Err.ensures.asks_no_processors processors (ap Err is));
+      refused = λ is. refused_text c.args.form.now left c.in-Err.fault c.args.stores status c.refused.result.refusal c.in-Err.ensures.refused told.status told.refusal is;
       read_fault = search rules;
       no_fault = λ other. c.in-Err.ensures.no_other_fault (λ is. other (told.status ∙ ap status_of (same_Some _ _ (ap result_err is))));
       memory = search rules;
-      complete = λ text no_read. not_refused_text left c.in-Err.fault c.args.stores status text c.in-Err.ensures.refused told.status (λ is. no_read (c.in-Err.ensures.fault (ap Err is)));
+      complete = λ text no_read. not_refused_text c.args.form.now left c.in-Err.fault c.args.stores status text c.in-Err.ensures.refused told.status (λ is. no_read (c.in-Err.ensures.fault (ap Err is)));
+    }
+
+pub returns-then-processors-ne1-clause-stopped : goal.returns-then-processors-ne1-clause-stopped
+returns-then-processors-ne1-clause-stopped g c =
+    let left = g.T.Source.left c.args.source.now in
+    let told = c.refused-then-processors-ne1.ensures in
+    let trace = c.in-Ok.trace in
+    let read = c.in-Ok.ensures.ok in
+    let form = c.args.form.now in
+    let refusal = c.refused-then-processors-ne1.result.refusal in
+    let count : c.processors-processors.result ≡ trace.processors = c.processors-processors.ensures.processors in
+    let one : IsOfOne form = c.is_of_one.ensures.0 c.if-is_of_one.true in
+    let more : 1 < trace.processors = omega (arith, count, c.if-processors-ne1.true, c.processors-processors.ensures.text.processors_in.0) in
+    let wanted : refusal ≡ Some (OneProcessor trace.processors) = told.refusal ∙ ap (λ n. Some (OneProcessor n)) count in
+    record {
+      statuses = inl told.status;
+      told = search rules;
+      few_stores = λ stores spaces is. absurd (let other : Some (OneProcessor trace.processors) ≡ Some (TooFewStores stores spaces) = sym wanted ∙ is in cc);
+      one_processor = counts_processors form refusal trace.processors wanted one more;
+      refused = λ is. refused_processors form left _ trace c.args.stores refusal read one (more, wanted);
+      read_fault = search rules;
+      no_fault = λ _. c.in-Ok.ensures.no_other_fault (λ is. false≢true (ap is_err is));
+      memory = search rules;
+      complete = λ text no_read. absurd (omega (arith, more, (runs_read form left _ trace c.args.stores text read).0 one));
     }
 
 pub returns-then-stores-from-clause-stopped : goal.returns-then-stores-from-clause-stopped
 returns-then-stores-from-clause-stopped g c =
     let left = g.T.Source.left c.args.source.now in
     let told = c.refused-then-stores-from.ensures in
-    let few : c.args.stores < c.in-Ok.trace.spaces = omega (arith, c.from.ensures, c.spaces-spaces.ensures.spaces) in
-    let wanted : c.refused-then-stores-from.result.refusal ≡ Some (TooFewStores c.args.stores c.in-Ok.trace.spaces) = told.refusal ∙ ap (λ k. Some (TooFewStores c.args.stores k)) c.spaces-spaces.ensures.spaces in
+    let trace = c.in-Ok.trace in
+    let read = c.in-Ok.ensures.ok in
+    let few : c.args.stores < trace.spaces = omega (arith, c.from.ensures, c.spaces-spaces.ensures.spaces) in
+    let wanted : c.refused-then-stores-from.result.refusal ≡ Some (TooFewStores c.args.stores trace.spaces) = told.refusal ∙ ap (λ k. Some (TooFewStores c.args.stores k)) c.spaces-spaces.ensures.spaces in
     record {
       statuses = inl told.status;
       told = search rules;
-      few_stores = counts_stores c.refused-then-stores-from.result.refusal c.args.stores c.in-Ok.trace.spaces wanted few;
-      refused = λ is. refused_stores left _ c.in-Ok.trace c.args.stores c.refused-then-stores-from.result.refusal c.in-Ok.ensures.ok (few, wanted);
+      few_stores = counts_stores c.refused-then-stores-from.result.refusal c.args.stores trace.spaces wanted few;
+      one_processor = another_fault c.args.form.now c.refused-then-stores-from.result.refusal (TooFewStores c.args.stores trace.spaces) wanted (λ processors is. cc);
+      refused = λ is. refused_stores c.args.form.now left _ trace c.args.stores c.refused-then-stores-from.result.refusal read (search rules) (few, wanted);
       read_fault = search rules;
       no_fault = λ _. c.in-Ok.ensures.no_other_fault (λ is. false≢true (ap is_err is));
       memory = search rules;
-      complete = λ text no_read. absurd (enough_stores left _ c.in-Ok.trace c.args.stores text c.in-Ok.ensures.ok few);
+      complete = λ text no_read. absurd (omega (arith, few, (runs_read c.args.form.now left _ trace c.args.stores text read).1));
     }

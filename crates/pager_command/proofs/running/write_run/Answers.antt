@@ -19,3 +19,7 @@ returns-in-Replay g c = λ stores ran.
 pub returns-in-Plan : goal.returns-in-Plan
 returns-in-Plan g c = λ stores ran.
     rw c.in-Plan.is (c.plan_run.ensures stores ran)
+
+pub returns-in-Curve : goal.returns-in-Curve
+returns-in-Curve g c = λ stores ran.
+    rw c.in-Curve.is (c.curve_run.ensures stores ran)
