@@ -1,2 +1,1 @@
 pub mod MarkedMembers
-pub mod SampleAnswers

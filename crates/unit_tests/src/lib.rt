@@ -1,4 +1,4 @@
-//! Tests of the crates that stand on few others, by their public calls.
+//! Tests of the types, of the parts of the pool of frames and of the table of regions, by their public calls.
 #![tactic(auto)]
 
 #[cfg(test)]

@@ -2,24 +2,12 @@
 ghost use Rattle.std.specs.Prelude.{◌≡◌, min};
 
 mod blocks;
-mod curves;
-mod followed;
-mod history;
-mod images;
-mod mapped;
 mod members;
 mod numbers;
 mod populations;
 mod preferences;
-mod reader;
 mod regions;
 mod reserved;
-mod rights;
-mod rows;
-mod stores;
-mod streams;
-mod texts;
-mod tiling;
 mod types;
 mod victims;
 

@@ -1,0 +1,10 @@
+//! Each crate's tests in a module: worked rows, and calls beside a slow plain copy.
+
+mod history;
+mod reader;
+mod stores;
+mod streams;
+mod texts;
+
+/// What is said where there is no memory for a test.
+const NO_MEMORY: &str = "no memory";
