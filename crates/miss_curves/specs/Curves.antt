@@ -1,11 +1,12 @@
 -- The misses of images of any capacity, with tiles by any sizes.
-use Rattle.std.specs.Prelude.{ℕ, ◌≡◌, ◌+◌, Bool, true, false, ◌&&◌, ◌==◌, not, if◌then◌else◌, List, [], ◌∷◌, filter, fold, take, Option, Some, None, is_some, sum_by, length}
+use Rattle.std.specs.Prelude.{ℕ, ◌≡◌, ◌+◌, ◌<◌, Bool, true, false, ◌&&◌, ◌==◌, not, if◌then◌else◌, List, [], ◌∷◌, filter, fold, slice_index, take, Option, Some, None, is_some, sum_by, length}
 use Rattle.std.specs.List.{All, range_with_len}
 use Rattle.pager_model.specs.declared.entry.Entry.{Entry}
 use Rattle.pager_model.specs.declared.entry.What.{What}
 use Rattle.pager_model.specs.declared.entry.What.TheVariants.{Answer}
 use Rattle.pager_model.specs.declared.tile.Mapping.{Mapping}
 use Rattle.pager_model.specs.declared.tile.Tile.{Tile}
+use Rattle.pager_model.specs.Counts.{counts}
 use Rattle.pager_model.specs.Entries.{space_part}
 use Rattle.pager_model.specs.Images.{is_in_image, still_tiles}
 use Rattle.pager_model.specs.Settings.{Given, is_told, faults_at_entry}
@@ -26,7 +27,7 @@ abbrev pub used_in : ℕ → Option Tile → List Tile → List Tile
 used_in capacity None image = image
 used_in capacity (Some t) image = take capacity (t ∷ without t image)
 
--- the page of processor 0's answer with a size
+-- the page that an entry of processor c used: that of processor 0's answer with a size
 abbrev pub page_used : ℕ → What → Option ℕ
 page_used c (Answer number call answered) = if (c == 0) && is_some answered.size then served_page call answered.reply else None
 page_used c what = None
@@ -83,3 +84,11 @@ is_answer what = false
 -- processor 0 alone answers, as in a history of one processor's calls
 abbrev pub AnswersAlone : List Entry → Type 0
 AnswersAlone history = All (λ (e : Entry). is_answer e.what ≡ true → e.processor ≡ 0) history
+
+-- These are the miss curves of a history, whose places stand for the capacities from 1 to 1,024: with the tiles of the run, and with base pages
+-- alone. At capacity 128 the first is the history's own misses.
+pub record AreCurves (g : Given) (history : List Entry) (tiles pages : List ℕ) : Type 0 where
+  pub capacities : (length tiles ≡ 1024) × (length pages ≡ 1024)
+  pub by_tiles : (place : ℕ) → place < 1024 → slice_index tiles place ≡ misses g history (place + 1)
+  pub by_pages : (place : ℕ) → place < 1024 → slice_index pages place ≡ page_misses g history (place + 1)
+  pub usual : slice_index tiles 127 ≡ (counts g history).misses

@@ -57,7 +57,7 @@ pub record Comes (g : Given) (history : List Entry) (e : Entry) : Type 0 where
 abbrev pub EachComes : Given → List Entry → Type 0
 EachComes g history = (before after : List Entry) (e : Entry) → history ≡ before ++ e ∷ after → Comes g before e
 
--- a history of a run of a trace with all four page sizes
+-- a history of a run of a trace with all four page sizes, whatever its stores tell and however often they had failed
 pub record IsRunOf (plan : Plan) (g : Given) (history : List Entry) : Type 0 where
   pub frames : g.frames ≡ plan.frames
   pub sizes : g.sizes ≡ all_sizes

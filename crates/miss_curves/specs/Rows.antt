@@ -9,7 +9,7 @@ use Rattle.pager_model.specs.SizeSets.{SizeSet}
 use Rattle.miss_curves.specs.Curves.{base_alone, followed}
 use Rattle.miss_curves.specs.Stacks.{Kept, Stands}
 
--- of each space the stack of its tiles, and that of its base pages; and how many entries were followed
+-- of each space the stack of its tiles, and that of its base pages; and how many entries that name a space were followed
 pub record Rows : Type 0 where
   pub tiles : List Kept
   pub pages : List Kept

@@ -13,7 +13,7 @@ ghost use Rattle.pager_model.specs.Tiles.{eligible_at, is_that_tile, is_tile, sa
 ghost use Rattle.pager_model.specs.TraceText.{HasText};
 ghost use Rattle.followed_space.specs.Changed.{IsChange};
 ghost use Rattle.followed_space.specs.Follows.{AnswersLine, Follows, IsNext};
-ghost use Rattle.miss_curves.specs.Curves.{base_alone, misses, page_misses, page_used};
+ghost use Rattle.miss_curves.specs.Curves.{AreCurves, base_alone, page_used};
 ghost use Rattle.miss_curves.specs.Histories.{Comes, EachComes, IsNew, IsRunOf, KeepsUp, Told, use_of};
 ghost use Rattle.miss_curves.specs.Rows.{StandAfter};
 ghost use Rattle.tiles.specs.Beside.{OthersSame};
@@ -21,8 +21,8 @@ ghost use Rattle.tiles.specs.Changes.{AreChanges};
 ghost use Rattle.tiles.specs.Resident.{Resident, frames_in, mapping_at};
 ghost use Rattle.tiles.specs.Touched.{KeepsOutside, is_touched};
 
-use crate::stacks::{Curves, Stacks};
 use crate::stack::Use;
+use crate::stacks::{Curves, Stacks};
 use followed_space::{Changed, FollowedSpace};
 use pager_model::{Call, Entry, NoMemory, Numbered, PageRange, Reply, Tile, Trace, What};
 use std::alloc::Global;
@@ -279,17 +279,12 @@ fn stacks_after(alloc: Global, trace: &Trace, history: &[Numbered]) -> Result<St
     Ok(stacks)
 }
 
-/// The misses at each capacity of a run of a trace of one processor, with the tiles of the run and with base pages alone.
+/// The misses at each capacity from 1 to 1,024 of a run of a trace of one processor, with the tiles of the run and with base pages alone.
 pub fn curves(alloc: Global, trace: &Trace, history: &[Numbered]) -> Result<Curves, NoMemory>
     requires one { trace.now.processors ≡ 1 }
     requires run { (g : Given) × IsRunOf trace.now g (entries_in history.now) }
-    ensures capacities { IfOk result (λ c. (length c.tiles.items ≡ 1024) × (length c.pages.items ≡ 1024)) }
-    ensures tiles { IfOk result (λ c. (g : Given) → IsRunOf trace.now g (entries_in history.now)
-        → (k : ℕ) → k < 1024 → slice_index c.tiles.items k ≡ misses g (entries_in history.now) (k + 1)) }
-    ensures pages { IfOk result (λ c. (g : Given) → IsRunOf trace.now g (entries_in history.now)
-        → (k : ℕ) → k < 1024 → slice_index c.pages.items k ≡ page_misses g (entries_in history.now) (k + 1)) }
-    ensures usual { IfOk result (λ c. (g : Given) → IsRunOf trace.now g (entries_in history.now)
-        → slice_index c.tiles.items 127 ≡ (counts g (entries_in history.now)).misses) }
+    ensures curves { IfOk result (λ c. (g : Given) → IsRunOf trace.now g (entries_in history.now)
+        → AreCurves g (entries_in history.now) c.tiles.items c.pages.items) }
 {
     let stacks = stacks_after(alloc, trace, history)?;
     stacks.curves(alloc)

@@ -1,12 +1,11 @@
 -- The text of a trace that a form is for, and for whose spaces there are stores enough, is run: it isn't refused.
-use Rattle.std.proofs.Common.{◌≡◌, ℕ, ◌<◌, ◌≤◌, ◌⊎◌, inl, inr, List, [], Option, Some, None, IfSome, IsSomeAnd, refl, sym, ap, subst, ◌∙◌, arith}
+use Rattle.std.proofs.Common.{◌≡◌, ℕ, ◌<◌, ◌≤◌, ◌⊎◌, inl, inr, List, Option, Some, None, IfSome, IsSomeAnd, refl, sym, ap, subst, ◌∙◌, arith}
 use Rattle.std.proofs.lemmas.Option.{none-some, same_Some}
 use Rattle.pager_model.specs.Plans.{Plan}
-use Rattle.pager_model.specs.TraceText.{IsTextOf}
 use Rattle.pager_command.specs.declared.form.Form.{Form}
 use Rattle.pager_command.specs.declared.status.TheConstants.{REFUSED, READ_FAULT, MEMORY}
-use Rattle.pager_command.specs.Forms.{IsOfOne, TakesTrace}
-use Rattle.pager_command.specs.Runs.{CountsProcessors, CountsStores, IsRefused, IsRunnable, WasRead, WasText, status_of}
+use Rattle.pager_command.specs.Forms.{IsForOneProcessor, Admits}
+use Rattle.pager_command.specs.Runs.{CountsProcessors, CountsStores, IsRefused, IsRunnable, WasRead, WasRunnable, status_of}
 use Rattle.trace_reader.specs.declared.fault.TraceFault.{TraceFault}
 use Rattle.trace_reader.specs.declared.fault.TraceFault.TheVariants.{ReadFault, TooLong, Line, NoEnd, TooManyCalls, TooFewStores, OneProcessor, NoMemory}
 use Rattle.trace_reader.specs.Refusals.{refusal_of, IsCause}
@@ -14,25 +13,25 @@ use Rattle.trace_reader.proofs.CutTexts.{not_refused}
 use Rattle.trace_reader.proofs.UniqueTexts.{one_plan}
 
 -- a trace that was read and has more spaces than there are stores is refused so
-pub refused_stores : (form : Form) (left after : Option (List ℕ)) (trace : Plan) (stores : ℕ) (refusal : Option TraceFault) → WasRead trace left after → TakesTrace form trace
+pub refused_stores : (form : Form) (left after : Option (List ℕ)) (trace : Plan) (stores : ℕ) (refusal : Option TraceFault) → WasRead trace left after → Admits form trace
     → (stores < trace.spaces) × (refusal ≡ Some (TooFewStores stores trace.spaces)) → IfSome left (λ bytes. IsSomeAnd refusal (IsRefused form stores bytes))
 refused_stores form None after trace stores refusal read takes few = tt
 refused_stores form (Some bytes) after trace stores refusal read takes few =
     subst (λ refusal. IsSomeAnd refusal (IsRefused form stores bytes)) (sym few.1) (inr (inr (trace, read.0, takes, few.0, refl)))
 
 -- and one that has more processors than one, by a form that is for one alone
-pub refused_processors : (form : Form) (left after : Option (List ℕ)) (trace : Plan) (stores : ℕ) (refusal : Option TraceFault) → WasRead trace left after → IsOfOne form
+pub refused_processors : (form : Form) (left after : Option (List ℕ)) (trace : Plan) (stores : ℕ) (refusal : Option TraceFault) → WasRead trace left after → IsForOneProcessor form
     → (1 < trace.processors) × (refusal ≡ Some (OneProcessor trace.processors)) → IfSome left (λ bytes. IsSomeAnd refusal (IsRefused form stores bytes))
 refused_processors form None after trace stores refusal read one more = tt
 refused_processors form (Some bytes) after trace stores refusal read one more =
     subst (λ refusal. IsSomeAnd refusal (IsRefused form stores bytes)) (sym more.1) (inr (inl (trace, read.0, one, more.0, refl)))
 
 -- a trace whose text runs has stores enough, and the form is for it
-pub runs_read : (form : Form) (left after : Option (List ℕ)) (trace : Plan) (stores : ℕ) → IsSomeAnd left (IsRunnable form stores) → WasRead trace left after → TakesTrace form trace × (trace.spaces ≤ stores)
+pub runs_read : (form : Form) (left after : Option (List ℕ)) (trace : Plan) (stores : ℕ) → IsSomeAnd left (IsRunnable form stores) → WasRead trace left after → Admits form trace × (trace.spaces ≤ stores)
 runs_read form None after trace stores runs read = absurd runs
 runs_read form (Some bytes) after trace stores runs read =
     let same : runs.0 ≡ trace = one_plan runs.0 trace runs.1.0 read.0.0 (sym runs.1.1 ∙ read.0.1) in
-    subst (λ plan. TakesTrace form plan × (plan.spaces ≤ stores)) same (runs.2, runs.3)
+    subst (λ plan. Admits form plan × (plan.spaces ≤ stores)) same (runs.2, runs.3)
 
 -- a trace's text is refused for a failed read or for want of memory alone
 pub not_refused_text : (form : Form) (left : Option (List ℕ)) (fault : TraceFault) (stores status : ℕ) → IsSomeAnd left (IsRunnable form stores) → IfSome left (λ bytes. IsCause (refusal_of bytes) fault) → status ≡ status_of fault → (fault ≡ ReadFault → ⊥) → status ≡ MEMORY
@@ -78,10 +77,10 @@ status_told TooManyCalls = inl refl
 status_told (TooFewStores stores spaces) = inl refl
 status_told (OneProcessor processors) = inl refl
 
--- a text that was read is a trace's
-pub was_text : (left after : Option (List ℕ)) (plan : Plan) → WasRead plan left after → WasText left after
-was_text None after plan read = tt
-was_text (Some bytes) after plan read = ((plan, read.0), read.1)
+-- a text that was read is one that can be run, where its trace is
+pub was_runnable : (form : Form) (stores : ℕ) (left after : Option (List ℕ)) (plan : Plan) → WasRead plan left after → Admits form plan → plan.spaces ≤ stores → WasRunnable form stores left after
+was_runnable form stores None after plan read admitted enough = tt
+was_runnable form stores (Some bytes) after plan read admitted enough = ((plan, read.0, admitted, enough), read.1)
 
 -- a refusal for want of stores, which are fewer than the spaces
 pub counts_stores : (refusal : Option TraceFault) (stores spaces : ℕ) → refusal ≡ Some (TooFewStores stores spaces) → stores < spaces → CountsStores stores refusal
@@ -96,7 +95,7 @@ pub counts_none : (refusal : Option TraceFault) (stores : ℕ) → refusal ≡ N
 counts_none refusal stores none = λ told wanted is. absurd (none-some _ (sym none ∙ is))
 
 -- a refusal for more processors than one
-pub counts_processors : (form : Form) (refusal : Option TraceFault) (processors : ℕ) → refusal ≡ Some (OneProcessor processors) → IsOfOne form → 1 < processors → CountsProcessors form refusal
+pub counts_processors : (form : Form) (refusal : Option TraceFault) (processors : ℕ) → refusal ≡ Some (OneProcessor processors) → IsForOneProcessor form → 1 < processors → CountsProcessors form refusal
 counts_processors form refusal processors is one more = λ told also.
     let same : Some (OneProcessor processors) ≡ Some (OneProcessor told) = sym is ∙ also in
     let count : told ≡ processors = cc in
@@ -107,5 +106,5 @@ pub another_fault : (form : Form) (refusal : Option TraceFault) (fault : TraceFa
 another_fault form refusal fault is other = λ processors also. absurd (other processors (same_Some fault (OneProcessor processors) (sym is ∙ also)))
 
 -- and without one none was wanted
-pub counts_no_processors : (form : Form) (refusal : Option TraceFault) → refusal ≡ None → CountsProcessors form refusal
-counts_no_processors form refusal none = λ processors is. absurd (none-some _ (sym none ∙ is))
+pub counts_none_for_processors : (form : Form) (refusal : Option TraceFault) → refusal ≡ None → CountsProcessors form refusal
+counts_none_for_processors form refusal none = λ processors is. absurd (none-some _ (sym none ∙ is))

@@ -10,9 +10,9 @@ use Rattle.pager_model.specs.Stored.{Stored}
 use Rattle.pager_command.specs.declared.form.Form.{Form}
 use Rattle.pager_command.specs.declared.outcome.Outcome.{Outcome}
 use Rattle.pager_command.specs.declared.status.TheConstants.{DONE, MEMORY, WRITE_FAULT}
-use Rattle.pager_command.specs.Forms.{AreWords, ComesBy, TakesTrace}
+use Rattle.pager_command.specs.Forms.{AreWords, ComesBy, Admits}
 use Rattle.pager_command.specs.Runs.{EndsRun, IsEndOf, IsStopped, RunsBy, WasRead, WasRun}
-use Rattle.pager_command.proofs.Completeness.{counts_no_processors, counts_none, was_text}
+use Rattle.pager_command.proofs.Completeness.{counts_none_for_processors, counts_none, was_runnable}
 use Rattle.pager_command.proofs.OneForm.{one_form}
 use Rattle.trace_reader.specs.declared.fault.TraceFault.{TraceFault}
 
@@ -28,8 +28,8 @@ unmade (Some plan) form status ended not_done not_failed not_memory =
     elim (made_statuses form status (ended refl)) [ inl done ↦ absurd (not_done done) | inr other ↦ elim other [ inl failed ↦ absurd (not_failed failed) | inr memory ↦ absurd (not_memory memory) ] ]
 
 -- there was no memory for a run of a text that was read
-pub stopped_for_memory : (form : Form) (left left' : Option (List ℕ)) (faults faults' stores : ℕ) (plan : Plan) → WasRead plan left left' → faults' ≡ faults → IsStopped form left left' faults faults' stores MEMORY None
-stopped_for_memory form left left' faults faults' stores plan read same =
+pub stopped_for_memory : (form : Form) (left left' : Option (List ℕ)) (faults faults' stores : ℕ) (plan : Plan) → WasRead plan left left' → faults' ≡ faults → Admits form plan → plan.spaces ≤ stores → IsStopped form left left' faults faults' stores MEMORY None
+stopped_for_memory form left left' faults faults' stores plan read same admitted enough =
     record {
       statuses = inr (inr refl);
       told = record {
@@ -38,19 +38,19 @@ stopped_for_memory form left left' faults faults' stores plan read same =
         read_fault = λ is. absurd (omega (arith, is));
       };
       few_stores = counts_none None stores refl;
-      one_processor = counts_no_processors form None refl;
+      one_processor = counts_none_for_processors form None refl;
       refused = λ is. absurd (omega (arith, is));
       read_fault = λ is. absurd (omega (arith, is));
       no_fault = λ _. same;
-      memory = λ _ _. was_text left left' plan read;
+      memory = λ _ _. was_runnable form stores left left' plan read admitted enough;
       complete = λ _ _. refl;
     }
 
 module _ {T K P : Type 0} (left : T → Option (List ℕ)) (reads : T → ℕ) (taken : K → Option (List ℕ)) (writes : K → ℕ) (seen : P → Stored) (form : Form) (source source' : T) (sink sink' : K) (stores : List P) (outcome : Outcome P) where
-  pub RunsBy-ended : (plan : Plan) (gathered : Gathered P) → WasRead plan (left source) (left source') → reads source' ≡ reads source → plan.spaces ≤ length stores → TakesTrace form plan
+  pub RunsBy-ended : (plan : Plan) (gathered : Gathered P) → WasRead plan (left source) (left source') → reads source' ≡ reads source → plan.spaces ≤ length stores → Admits form plan
       → ComesBy form plan (entries_in gathered.history.items) → WasRun seen plan (map seen stores) gathered → EndsRun taken writes form plan (map seen stores) gathered sink sink' outcome
       → RunsBy left reads taken writes seen form source source' sink sink' stores outcome
-  RunsBy-ended plan gathered read no_fault enough takes ordered ran ends =
+  RunsBy-ended plan gathered read no_fault enough admitted ordered ran ends =
       let which = made_statuses form outcome.status ends.ended in
       record {
         statuses = elim which [ inl done ↦ inl done | inr other ↦ elim other [ inl failed ↦ inr (inr (inr (inr (inr failed)))) | inr memory ↦ inr (inr (inr (inr (inl memory)))) ] ];
@@ -61,12 +61,12 @@ module _ {T K P : Type 0} (left : T → Option (List ℕ)) (reads : T → ℕ) (
           read_fault = λ is. absurd (omega (arith, is, which));
         };
         few_stores = counts_none outcome.refusal (length stores) ends.refusal;
-        one_processor = counts_no_processors form outcome.refusal ends.refusal;
+        one_processor = counts_none_for_processors form outcome.refusal ends.refusal;
         refused = λ is. absurd (omega (arith, is, which));
         read_fault = λ is. absurd (omega (arith, is, which));
         no_read_fault = λ _. no_fault;
         write_fault = ends.write_fault;
-        memory = λ _ _. was_text (left source) (left source') plan read;
+        memory = λ _ _. was_runnable form (length stores) (left source) (left source') plan read admitted enough;
         complete = λ _ _ no_write. elim which [ inl done ↦ inl done | inr other ↦ elim other [ inl failed ↦ absurd (no_write (ends.write_fault failed)) | inr memory ↦ inr memory ] ];
         unwritten = λ not_done not_failed. elim which [ inl done ↦ absurd (not_done done) | inr other ↦ elim other [ inl failed ↦ absurd (not_failed failed) | inr memory ↦ ends.unwritten memory ] ];
         no_trace = λ none. absurd (none-some _ (sym none ∙ ends.trace));
@@ -75,7 +75,7 @@ module _ {T K P : Type 0} (left : T → Option (List ℕ)) (reads : T → ℕ) (
         ended = λ _. ends.ended;
         unrefused = λ _. ends.refusal;
         trace = rw ends.trace (read, enough, rw (ends.history, ends.kept) ran.run);
-        taken_by = rw ends.trace takes;
+        admitted = rw ends.trace admitted;
         ordered = rw ends.trace (rw ends.history ordered);
         wrote = λ done. rw ends.trace (rw ends.history (ends.wrote done));
         part = λ failed. rw ends.trace (rw ends.history (ends.part failed));
@@ -105,7 +105,7 @@ module _ {T K P : Type 0} (left : T → Option (List ℕ)) (reads : T → ℕ) (
         ended = λ some. absurd (false≢true (rw none at some));
         unrefused = λ some. absurd (false≢true (rw none at some));
         trace = rw none tt;
-        taken_by = rw none tt;
+        admitted = rw none tt;
         ordered = rw none tt;
         wrote = λ is. absurd (omega (arith, is, which));
         part = λ is. absurd (omega (arith, is, which));

@@ -44,16 +44,16 @@ IsInTurns (Planned size) = Unit {0}
 IsInTurns Curve = Unit {0}
 
 -- the form is for traces of one processor alone
-abbrev pub IsOfOne : Form → Type 0
-IsOfOne (Order parts) = ⊥
-IsOfOne (Turns seed parts) = ⊥
-IsOfOne (Replay parts) = ⊥
-IsOfOne (Planned size) = ⊥
-IsOfOne Curve = Unit {0}
+abbrev pub IsForOneProcessor : Form → Type 0
+IsForOneProcessor (Order parts) = ⊥
+IsForOneProcessor (Turns seed parts) = ⊥
+IsForOneProcessor (Replay parts) = ⊥
+IsForOneProcessor (Planned size) = ⊥
+IsForOneProcessor Curve = Unit {0}
 
 -- the trace is one that the form is for
-abbrev pub TakesTrace : Form → Plan → Type 0
-TakesTrace form plan = IsOfOne form → plan.processors ≡ 1
+abbrev pub Admits : Form → Plan → Type 0
+Admits form plan = IsForOneProcessor form → plan.processors ≡ 1
 
 -- what the words are
 abbrev pub are_of : List (Bor (List ℕ)) → List (List ℕ)

@@ -1,16 +1,14 @@
 -- What a run of the program promises, by its status.
-use Rattle.std.specs.Prelude.{ℕ, ◌≡◌, ◌≢◌, ◌+◌, ◌<◌, ◌≤◌, ◌⊎◌, List, [], length, map, slice_index, Option, Some, None, IsSome, IfSome, IsSomeAnd}
+use Rattle.std.specs.Prelude.{ℕ, ◌≡◌, ◌≢◌, ◌<◌, ◌≤◌, ◌⊎◌, List, [], length, map, Option, Some, None, IsSome, IfSome, IsSomeAnd}
 use Rattle.pager_model.specs.Stores.{setting_over}
 use Rattle.contiguity_plan.specs.declared.plan.Plan.{Plan as Emptying}
 use Rattle.contiguity_plan.specs.Emptying.{IsPlanned}
 use Rattle.io_core.specs.Faults.{Rose}
-use Rattle.miss_curves.specs.Curves.{misses, page_misses}
-use Rattle.pager_model.specs.declared.entry.Entry.{Entry}
+use Rattle.miss_curves.specs.Curves.{AreCurves}
 use Rattle.pager_model.specs.declared.entry.Numbered.{Numbered}
 use Rattle.pager_model.specs.Counts.{counts}
 use Rattle.pager_model.specs.Legal.{entries_in, frames_at}
 use Rattle.pager_model.specs.Plans.{Plan}
-use Rattle.pager_model.specs.Settings.{Given}
 use Rattle.pager_model.specs.PrintedText.{out_text}
 use Rattle.pager_model.specs.TraceText.{IsTextOf}
 use Rattle.pager_model.specs.Stored.{Stored}
@@ -25,33 +23,33 @@ use Rattle.pager_command.specs.declared.form.Form.{Form}
 use Rattle.pager_command.specs.declared.form.Form.TheVariants.{Order, Turns, Replay, Plan as Planned, Curve}
 use Rattle.pager_command.specs.declared.outcome.Outcome.{Outcome}
 use Rattle.pager_command.specs.declared.status.TheConstants.{DONE, USAGE, REFUSED, READ_FAULT, MEMORY, WRITE_FAULT}
-use Rattle.pager_command.specs.Forms.{ComesBy, IsOfOne, TakesTrace}
+use Rattle.pager_command.specs.Forms.{ComesBy, IsForOneProcessor, Admits}
 use Rattle.trace_reader.specs.declared.fault.TraceFault.{TraceFault}
 use Rattle.trace_reader.specs.declared.fault.TraceFault.TheVariants.{ReadFault, TooFewStores, OneProcessor, NoMemory}
 use Rattle.trace_reader.specs.Refusals.{refusal_of}
 
 -- the bytes are the text of a trace that the form is for, and for whose spaces there are stores enough
 abbrev pub IsRunnable : Form → ℕ → List ℕ → Type 0
-IsRunnable form stores bytes = (plan : Plan) × IsTextOf bytes plan × TakesTrace form plan × (plan.spaces ≤ stores)
+IsRunnable form stores bytes = (plan : Plan) × IsTextOf bytes plan × Admits form plan × (plan.spaces ≤ stores)
 
 -- the bytes are the text of a trace of more processors than one, the form is for one alone, and the fault says how many
-abbrev pub HasMoreProcessors : Form → List ℕ → TraceFault → Type 0
-HasMoreProcessors form bytes fault =
-    (plan : Plan) × IsTextOf bytes plan × IsOfOne form × (1 < plan.processors) × (fault ≡ OneProcessor plan.processors)
+abbrev pub HasTooManyProcessors : Form → List ℕ → TraceFault → Type 0
+HasTooManyProcessors form bytes fault =
+    (plan : Plan) × IsTextOf bytes plan × IsForOneProcessor form × (1 < plan.processors) × (fault ≡ OneProcessor plan.processors)
 
 -- the bytes are the text of a trace that the form is for and that has more spaces than there are stores, and the fault says how many
 abbrev pub HasTooFewStores : Form → ℕ → List ℕ → TraceFault → Type 0
 HasTooFewStores form stores bytes fault =
-    (plan : Plan) × IsTextOf bytes plan × TakesTrace form plan × (stores < plan.spaces) × (fault ≡ TooFewStores stores plan.spaces)
+    (plan : Plan) × IsTextOf bytes plan × Admits form plan × (stores < plan.spaces) × (fault ≡ TooFewStores stores plan.spaces)
 
 -- the bytes are refused so: as no trace's text, for more processors than the form is for, or for want of stores
 abbrev pub IsRefused : Form → ℕ → List ℕ → TraceFault → Type 0
 IsRefused form stores bytes fault =
-    (refusal_of bytes ≡ Some fault) ⊎ (HasMoreProcessors form bytes fault ⊎ HasTooFewStores form stores bytes fault)
+    (refusal_of bytes ≡ Some fault) ⊎ (HasTooManyProcessors form bytes fault ⊎ HasTooFewStores form stores bytes fault)
 
--- the bytes are a trace's text, and they were read to their end
-abbrev pub WasText : Option (List ℕ) → Option (List ℕ) → Type 0
-WasText before after = IfSome before (λ bytes. ((plan : Plan) × IsTextOf bytes plan) × (after ≡ Some []))
+-- the bytes are the text of a trace that can be run so, and they were read to their end
+abbrev pub WasRunnable : Form → ℕ → Option (List ℕ) → Option (List ℕ) → Type 0
+WasRunnable form stores before after = IfSome before (λ bytes. IsRunnable form stores bytes × (after ≡ Some []))
 
 -- the statuses that a run may end with
 abbrev pub IsStatus : ℕ → Type 0
@@ -80,12 +78,6 @@ abbrev pub report_of : Parts → Plan → List Stored → List Numbered → List
 report_of parts plan stores history =
     out_text (has_history parts) plan.processors history (counts (setting_over plan stores) (entries_in history))
 
--- these are the miss curves of a history, each from capacity 1 to 1,024: with the tiles of the run, and with base pages alone
-pub record AreCurves (g : Given) (history : List Entry) (tiles pages : List ℕ) : Type 0 where
-  pub capacities : (length tiles ≡ 1024) × (length pages ≡ 1024)
-  pub by_tiles : (k : ℕ) → k < 1024 → slice_index tiles k ≡ misses g history (k + 1)
-  pub by_pages : (k : ℕ) → k < 1024 → slice_index pages k ≡ page_misses g history (k + 1)
-
 -- what a run of a form prints of a trace over stores: for three forms the report of its history, for `plan` what is planned for the frames as
 -- they are at its end, and for `curve` its miss curves
 abbrev pub Prints : Form → Plan → List Stored → List Numbered → List ℕ → Type 0
@@ -108,26 +100,26 @@ PrintedPart form plan stores history before after =
     (text : List ℕ) × Prints form plan stores history text × WrotePart text before after
 
 -- the form takes memory after its run
-abbrev pub TakesMore : Form → Type 0
-TakesMore (Order parts) = ⊥
-TakesMore (Turns seed parts) = ⊥
-TakesMore (Replay parts) = ⊥
-TakesMore (Planned size) = Unit {0}
-TakesMore Curve = Unit {0}
+abbrev pub TakesMoreMemory : Form → Type 0
+TakesMoreMemory (Order parts) = ⊥
+TakesMoreMemory (Turns seed parts) = ⊥
+TakesMoreMemory (Replay parts) = ⊥
+TakesMoreMemory (Planned size) = Unit {0}
+TakesMoreMemory Curve = Unit {0}
 
 -- the status where a run of the form was made: its text was written, or a part of it, or there was no memory for what the form takes after the
 -- run
 abbrev pub IsEndOf : Form → ℕ → Type 0
-IsEndOf form status = (status ≡ DONE) ⊎ ((status ≡ WRITE_FAULT) ⊎ ((status ≡ MEMORY) × TakesMore form))
+IsEndOf form status = (status ≡ DONE) ⊎ ((status ≡ WRITE_FAULT) ⊎ ((status ≡ MEMORY) × TakesMoreMemory form))
 
 -- where stores were wanted, the refusal says how many there were, and how many more spaces there are
 abbrev pub CountsStores : ℕ → Option TraceFault → Type 0
 CountsStores stores refusal =
     (told spaces : ℕ) → refusal ≡ Some (TooFewStores told spaces) → (told ≡ stores) × (told < spaces)
 
--- where one processor was wanted, the form is for one alone, and the refusal says how many more there are
+-- where the refusal is for processors, the form is for one alone, and it says how many the trace has, which are more than one
 abbrev pub CountsProcessors : Form → Option TraceFault → Type 0
-CountsProcessors form refusal = (processors : ℕ) → refusal ≡ Some (OneProcessor processors) → IsOfOne form × (1 < processors)
+CountsProcessors form refusal = (processors : ℕ) → refusal ≡ Some (OneProcessor processors) → IsForOneProcessor form × (1 < processors)
 
 -- Why no run by a form is made over so many stores: the bytes are refused as they should be, a read failed, or there was no memory. The bytes and the
 -- faults are the source's, before and after.
@@ -139,7 +131,7 @@ pub record IsStopped (form : Form) (left left' : Option (List ℕ)) (faults faul
   pub refused : status ≡ REFUSED → IfSome left (λ bytes. IsSomeAnd refusal (IsRefused form stores bytes))
   pub read_fault : status ≡ READ_FAULT → Rose faults faults'
   pub no_fault : status ≢ READ_FAULT → faults' ≡ faults
-  pub memory : status ≡ MEMORY → refusal ≡ None → WasText left left'
+  pub memory : status ≡ MEMORY → refusal ≡ None → WasRunnable form stores left left'
   pub complete : IsSomeAnd left (IsRunnable form stores) → (Rose faults faults' → ⊥) → status ≡ MEMORY
 
 -- A run of the trace over these stores, one for each space at least, was made, and this was gathered of it. A store tells itself by `seen`.
@@ -172,7 +164,7 @@ pub record RunsBy {T K P : Type 0} (left : T → Option (List ℕ)) (reads : T �
   pub read_fault : outcome.status ≡ READ_FAULT → Rose (reads source) (reads source')
   pub no_read_fault : outcome.status ≢ READ_FAULT → reads source' ≡ reads source
   pub write_fault : outcome.status ≡ WRITE_FAULT → Rose (writes sink) (writes sink')
-  pub memory : outcome.status ≡ MEMORY → outcome.refusal ≡ None → WasText (left source) (left source')
+  pub memory : outcome.status ≡ MEMORY → outcome.refusal ≡ None → WasRunnable form (length stores) (left source) (left source')
   pub complete : IsSomeAnd (left source) (IsRunnable form (length stores)) → (Rose (reads source) (reads source') → ⊥) → (Rose (writes sink) (writes sink') → ⊥) → (outcome.status ≡ DONE) ⊎ (outcome.status ≡ MEMORY)
   -- nothing was written
   pub unwritten : outcome.status ≢ DONE → outcome.status ≢ WRITE_FAULT → sink' ≡ sink
@@ -184,7 +176,7 @@ pub record RunsBy {T K P : Type 0} (left : T → Option (List ℕ)) (reads : T �
   pub unrefused : IsSome outcome.trace → outcome.refusal ≡ None
   -- it was made of a trace that the form is for, over a store for each space
   pub trace : IfSome outcome.trace (λ plan. WasRead plan (left source) (left source') × (plan.spaces ≤ length stores) × IsReplay plan (map seen stores) outcome.history.items (map seen outcome.stores.items))
-  pub taken_by : IfSome outcome.trace (λ plan. TakesTrace form plan)
+  pub admitted : IfSome outcome.trace (λ plan. Admits form plan)
   pub ordered : IfSome outcome.trace (λ plan. ComesBy form plan (entries_in outcome.history.items))
   -- what it prints was written, or a part of it
   pub wrote : outcome.status ≡ DONE → IfSome outcome.trace (λ plan. PrintedAll form plan (map seen stores) outcome.history.items (taken sink) (taken sink'))

@@ -2,7 +2,7 @@
 
 ghost use Rattle.std.specs.Prelude.{◌≡◌, ◌≢◌, ℕ, ◌^◌, ◌<◌, ◌≤◌, [], ◌∷◌, ◌↔◌, IsTrue, IfSome, IfNone, decimal};
 ghost use Rattle.report_text.specs.declared.report.Parts.{Parts as Printed};
-ghost use Rattle.pager_command.specs.Forms.{AreLargeWords, AreMakingWords, AreOfCommand, AreWords, IsCommand, IsForm, IsLarge, IsMaking, IsOfOne, are_of, parts_words};
+ghost use Rattle.pager_command.specs.Forms.{AreLargeWords, AreMakingWords, AreOfCommand, AreWords, IsCommand, IsForm, IsLarge, IsMaking, IsForOneProcessor, are_of, parts_words};
 ghost use Rattle.trace_make.specs.Made.{CanMake};
 
 use itoa::Buffer;
@@ -37,14 +37,15 @@ pub enum Form {
     Replay { parts: Parts },
     /// To run it in the order of its lines, and to plan which extent of this size to empty then.
     Plan { size: Size },
-    /// To run it, where it is of one processor, in the order of its lines, and to count the misses that images of any capacity would have had.
+    /// To run a trace of one processor in the order of its lines, and to count the misses of images of each capacity from 1 to 1,024, with the
+    /// run's tiles and with base pages alone.
     Curve,
 }
 
 impl Form {
     /// Whether it is for traces of one processor alone.
-    pub fn is_of_one(&self) -> bool
-        ensures { IsTrue result ↔ IsOfOne self.now }
+    pub fn is_for_one_processor(&self) -> bool
+        ensures { IsTrue result ↔ IsForOneProcessor self.now }
     {
         matches!(self, Form::Curve)
     }

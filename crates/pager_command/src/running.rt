@@ -4,7 +4,7 @@ ghost use Rattle.std.specs.Prelude.{ℕ, ◌≡◌, ◌≢◌, ◌<◌, ◌≤�
 ghost use Rattle.contiguity_plan.specs.declared.plan.Plan.{Plan as Emptying};
 ghost use Rattle.contiguity_plan.specs.Emptying.{IsOver, IsPlanned};
 ghost use Rattle.io_core.specs.Faults.{Rose};
-ghost use Rattle.miss_curves.specs.Curves.{misses, page_misses};
+ghost use Rattle.miss_curves.specs.Curves.{AreCurves};
 ghost use Rattle.miss_curves.specs.Histories.{IsRunOf};
 ghost use Rattle.pager_model.specs.Legal.{entries_in, frames_at};
 ghost use Rattle.pager_model.specs.PrintedText.{out_text};
@@ -17,9 +17,9 @@ ghost use Rattle.report_text.specs.PlanText.{plan_text};
 ghost use Rattle.report_text.specs.Written.{WroteAll, WrotePart};
 ghost use Rattle.pager_command.specs.declared.form.Form.{Form as Asked};
 ghost use Rattle.pager_command.specs.declared.form.Making.{Making as ToMake};
-ghost use Rattle.pager_command.specs.Forms.{AreLargeWords, AreMakingWords, AreWords, IsCommand, IsForm, IsInTurns, IsOfOne, ComesBy, TakesTrace};
+ghost use Rattle.pager_command.specs.Forms.{AreLargeWords, AreMakingWords, AreWords, IsCommand, IsForm, IsInTurns, ComesBy, Admits};
 ghost use Rattle.pager_command.specs.MadeRuns.{MakesText, RunsLarge};
-ghost use Rattle.pager_command.specs.Runs.{AreCurves, CountsProcessors, CountsStores, EndsRun, IsEndOf, IsRefused, IsRunnable, IsStatus, IsStopped, IsTold, PrintedAll, PrintedPart, RunsBy, WasRead, WasRun, WasText, status_of};
+ghost use Rattle.pager_command.specs.Runs.{CountsProcessors, CountsStores, EndsRun, IsEndOf, IsRefused, IsRunnable, IsStatus, IsStopped, IsTold, PrintedAll, PrintedPart, RunsBy, WasRead, WasRun, WasRunnable, status_of};
 
 use crate::form::{Command, Form, command_of};
 use crate::making::{run_large, write_made};
@@ -68,15 +68,16 @@ pub fn run<T: Source, K: Sink, S: Store + Send + Drop, R: Threads + Wait + Sync>
     ensures unrefused { IsSome result.trace → result.refusal ≡ None }
     ensures unmade { result.status ≢ DONE → result.status ≢ WRITE_FAULT → result.status ≢ MEMORY → result.trace ≡ None }
 
-    // The bytes are refused as they should be; a read failed, and else none did; a write failed; the reader had memory. Where stores were
-    // wanted, the refusal says how many there were, which are fewer than the spaces. Where one processor was wanted, by a form that is for one
-    // alone, it says how many more there are.
+    // The bytes are refused as they should be; a read failed, and else none did; a write failed; the reader had memory, and the trace could be
+    // run. Where the refusal is for stores, it says how many there were, which are fewer than the spaces. Where it is for processors, the form is
+    // for one alone, and it says how many the trace has, which are more.
     ensures refused { (form : Asked) → AreWords words.now form → result.status ≡ REFUSED
         → IfSome (T.left source.old) (λ bytes. IsSomeAnd result.refusal (IsRefused form (length stores.items) bytes)) }
     ensures read_fault { result.status ≡ READ_FAULT → Rose (T.faults source.old) (T.faults source.new) }
     ensures no_read_fault { result.status ≢ READ_FAULT → T.faults source.new ≡ T.faults source.old }
     ensures write_fault { result.status ≡ WRITE_FAULT → Rose (K.faults sink.old) (K.faults sink.new) }
-    ensures memory { IsForm words.now → result.status ≡ MEMORY → result.refusal ≡ None → WasText (T.left source.old) (T.left source.new) }
+    ensures memory { (form : Asked) → AreWords words.now form → result.status ≡ MEMORY → result.refusal ≡ None
+        → WasRunnable form (length stores.items) (T.left source.old) (T.left source.new) }
     ensures few_stores { CountsStores (length stores.items) result.refusal }
     ensures one_processor { (form : Asked) → AreWords words.now form → CountsProcessors form result.refusal }
 
@@ -93,7 +94,7 @@ pub fn run<T: Source, K: Sink, S: Store + Send + Drop, R: Threads + Wait + Sync>
     ensures trace { IsForm words.now
         → IfSome result.trace (λ trace. WasRead trace (T.left source.old) (T.left source.new) × (trace.spaces ≤ length stores.items)
         × IsReplay trace (map S.seen stores.items) result.history.items (map S.seen result.stores.items)) }
-    ensures taken_by { (form : Asked) → AreWords words.now form → IfSome result.trace (λ trace. TakesTrace form trace) }
+    ensures admitted { (form : Asked) → AreWords words.now form → IfSome result.trace (λ trace. Admits form trace) }
     ensures ordered { (form : Asked) → AreWords words.now form
         → IfSome result.trace (λ trace. ComesBy form trace (entries_in result.history.items)) }
 
@@ -172,8 +173,8 @@ struct Stop {
     refusal: Option<TraceFault>,
 }
 
-/// Reads a trace, to be run by a form over so many stores; where it has more processors than the form is for, or there are fewer stores than
-/// spaces, it is refused.
+/// Reads a trace, to be run by a form over so many stores. Where the form is for one processor alone and the trace has more, it is refused for
+/// that; else where there are fewer stores than spaces.
 fn trace_to_run<T: Source>(
     alloc: Global,
     form: &Form,
@@ -181,7 +182,7 @@ fn trace_to_run<T: Source>(
     stores: usize,
 ) -> Result<Trace, Stop>
     ensures read { IfOk result (λ trace. WasRead trace (T.left source.old) (T.left source.new)) }
-    ensures taken { IfOk result (λ trace. TakesTrace form.now trace) }
+    ensures admitted { IfOk result (λ trace. Admits form.now trace) }
     ensures enough { IfOk result (λ trace. trace.spaces ≤ stores) }
     ensures no_fault { IfOk result (λ _. T.faults source.new ≡ T.faults source.old) }
     ensures stopped { IfErr result (λ stop. IsStopped form.now (T.left source.old) (T.left source.new) (T.faults source.old) (T.faults source.new) stores stop.status stop.refusal) }
@@ -191,7 +192,7 @@ fn trace_to_run<T: Source>(
         Err(fault) => return Err(refused(fault)),
     };
     let processors = trace.processors();
-    if form.is_of_one() && processors != 1 {
+    if form.is_for_one_processor() && processors != 1 {
         return Err(refused(TraceFault::OneProcessor { processors }));
     }
     let (stores, spaces) = (stores as u64, trace.spaces());
@@ -248,7 +249,7 @@ fn write_run<K: Sink, S: Store + Send + Drop>(
     trace: Trace,
     gathered: Gathered<S>,
 ) -> Outcome<S>
-    requires takes { TakesTrace form trace }
+    requires admitted { Admits form trace }
     requires run { (stores : List Stored) × WasRun S.seen trace stores gathered }
     ensures { (stores : List Stored) → WasRun S.seen trace stores gathered
         → EndsRun K.taken K.faults form trace stores gathered sink.old sink.new result }
@@ -262,7 +263,7 @@ fn write_run<K: Sink, S: Store + Send + Drop>(
     }
 }
 
-/// Counts the misses of a run at each capacity, and writes these curves.
+/// Counts the misses of a run at each capacity, and writes the curves of them.
 fn curve_run<K: Sink, S: Store + Send + Drop>(
     alloc: Global,
     sink: &mut K,
@@ -279,7 +280,7 @@ fn curve_run<K: Sink, S: Store + Send + Drop>(
         stores,
         ..
     } = gathered;
-    let status = write_counted(alloc, sink, &trace, history.as_slice());
+    let status = write_curves_of(alloc, sink, &trace, history.as_slice());
     Outcome {
         status,
         refusal: None,
@@ -289,8 +290,8 @@ fn curve_run<K: Sink, S: Store + Send + Drop>(
     }
 }
 
-/// Counts the misses of a history at each capacity, writes these curves, and answers the status.
-fn write_counted<K: Sink>(alloc: Global, sink: &mut K, trace: &Trace, history: &[Numbered]) -> u8
+/// Counts the misses of a history at each capacity, writes the curves of them, and answers the status.
+fn write_curves_of<K: Sink>(alloc: Global, sink: &mut K, trace: &Trace, history: &[Numbered]) -> u8
     requires one { trace.now.processors ≡ 1 }
     requires run { (g : Given) × IsRunOf trace.now g (entries_in history.now) }
     ensures statuses { (result ≡ DONE) ⊎ ((result ≡ WRITE_FAULT) ⊎ (result ≡ MEMORY)) }

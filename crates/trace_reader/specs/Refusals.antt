@@ -58,7 +58,7 @@ unfoldable pub refusal_of : List ℕ → Option TraceFault
 refusal_of text = if nat_lt 16777216 (length text) then Some TooLong else refusal_of_lines (lines_of text)
 
 -- what a reader's fault says of the text, which has this refusal or none: a refusal is the text's own. A failed read and want of memory
--- say nothing of it, and neither stores nor processors are a matter of a reader.
+-- say nothing of it; how many stores there are, and how many processors a run is for, is no matter of a reader.
 abbrev pub IsCause : Option TraceFault → TraceFault → Type 0
 IsCause refusal ReadFault = Unit {0}
 IsCause refusal NoMemory = Unit {0}

@@ -41,7 +41,7 @@ pub enum TraceFault {
     TooManyCalls,
     /// A run was given fewer stores than the trace has spaces.
     TooFewStores { stores: u64, spaces: u32 },
-    /// Miss curves were asked for, which are of one processor, and the trace has so many.
+    /// A run that is for one processor alone was asked for, of a trace of so many.
     OneProcessor { processors: u32 },
     /// There isn't enough memory.
     NoMemory,

@@ -1,17 +1,17 @@
 use Rattle.std.proofs.Common.{refl}
 use Rattle.pager_model.specs.Stores.{setting_over}
-use Rattle.pager_command.proofs.CurveRuns.{EndsRun-counted, is_run}
+use Rattle.pager_command.proofs.CurveRuns.{EndsRun-curves, is_run}
 use Rattle.pager_command.proofs.running.curve_run.Goals as goal
 
-pub write_counted-status-requires-clause-run : goal.write_counted-status-requires-clause-run
-write_counted-status-requires-clause-run g c =
+pub write_curves_of-status-requires-clause-run : goal.write_curves_of-status-requires-clause-run
+write_curves_of-status-requires-clause-run g c =
     let run = c.requires.run in
     (setting_over c.args.trace run.0, rw c.as_slice.ensures.value (is_run g.S.Store.seen c.args.trace run.0 c.args.gathered run.1))
 
 pub returns : goal.returns
 returns g c = λ stores ran.
-    let wrote = c.write_counted-status.ensures in
-    EndsRun-counted g.K.Sink.taken g.K.Sink.faults g.S.Store.seen c.args.trace stores c.args.gathered c.args.sink.now _ _ ran wrote.statuses refl refl refl refl wrote.unwritten
+    let wrote = c.write_curves_of-status.ensures in
+    EndsRun-curves g.K.Sink.taken g.K.Sink.faults g.S.Store.seen c.args.trace stores c.args.gathered c.args.sink.now _ _ ran wrote.statuses refl refl refl refl wrote.unwritten
     (rw (← c.as_slice.ensures.value) wrote.wrote)
     (rw (← c.as_slice.ensures.value) wrote.part)
     wrote.rose

@@ -14,11 +14,11 @@ pub returns-in-Err-replay_in_turns : goal.returns-in-Err-replay_in_turns
 returns-in-Err-replay_in_turns g c =
     let stop = c.stopped-in-Err-replay_in_turns.ensures in
     let back = c.in-Err-replay_in_turns.ensures in
-    RunsBy-stopped g.T.Source.left g.T.Source.faults g.K.Sink.taken g.K.Sink.faults g.S.Store.seen c.args.form c.args.source.now _ c.args.sink.now _ c.args.stores.items c.stopped-in-Err-replay_in_turns.result (length c.args.stores.items) MEMORY None (stopped_for_memory c.args.form _ _ _ _ _ c.in-Ok.trace c.in-Ok.ensures.read c.in-Ok.ensures.no_fault) refl stop.status stop.refusal stop.trace stop.history (search rules) refl
+    RunsBy-stopped g.T.Source.left g.T.Source.faults g.K.Sink.taken g.K.Sink.faults g.S.Store.seen c.args.form c.args.source.now _ c.args.sink.now _ c.args.stores.items c.stopped-in-Err-replay_in_turns.result (length c.args.stores.items) MEMORY None (stopped_for_memory c.args.form _ _ _ _ _ c.in-Ok.trace c.in-Ok.ensures.read c.in-Ok.ensures.no_fault c.in-Ok.ensures.admitted (search rules)) refl stop.status stop.refusal stop.trace stop.history (search rules) refl
 
 pub returns-in-Ok-replay_in_turns : goal.returns-in-Ok-replay_in_turns
 returns-in-Ok-replay_in_turns g c =
     let ran = c.in-Ok-replay_in_turns.ensures in
     let enough : c.in-Ok.trace.spaces ≤ length c.args.stores.items = search rules in
     let was : WasRun g.S.Store.seen c.in-Ok.trace (map g.S.Store.seen c.args.stores.items) c.in-Ok-replay_in_turns.gathered = record { enough = omega (arith, enough, length-map c.args.stores.items g.S.Store.seen); run = ran.run; counts = ran.counts } in
-    RunsBy-ended g.T.Source.left g.T.Source.faults g.K.Sink.taken g.K.Sink.faults g.S.Store.seen c.args.form c.args.source.now _ c.args.sink.now _ c.args.stores.items c.write_run.result c.in-Ok.trace c.in-Ok-replay_in_turns.gathered c.in-Ok.ensures.read c.in-Ok.ensures.no_fault enough c.in-Ok.ensures.taken ran.ordered was (c.write_run.ensures (map g.S.Store.seen c.args.stores.items) was)
+    RunsBy-ended g.T.Source.left g.T.Source.faults g.K.Sink.taken g.K.Sink.faults g.S.Store.seen c.args.form c.args.source.now _ c.args.sink.now _ c.args.stores.items c.write_run.result c.in-Ok.trace c.in-Ok-replay_in_turns.gathered c.in-Ok.ensures.read c.in-Ok.ensures.no_fault enough c.in-Ok.ensures.admitted ran.ordered was (c.write_run.ensures (map g.S.Store.seen c.args.stores.items) was)

@@ -3,7 +3,7 @@ use Rattle.std.specs.Result.{is_err, result_err}
 use Rattle.std.proofs.lemmas.Bool.{false≢true}
 use Rattle.std.proofs.lemmas.Option.{same_Some}
 use Rattle.trace_reader.specs.declared.fault.TraceFault.TheVariants.{OneProcessor, TooFewStores}
-use Rattle.pager_command.specs.Forms.{IsOfOne}
+use Rattle.pager_command.specs.Forms.{IsForOneProcessor}
 use Rattle.pager_command.specs.declared.status.TheConstants.{REFUSED, READ_FAULT, MEMORY}
 use Rattle.pager_command.specs.Runs.{status_of}
 use Rattle.pager_command.proofs.Completeness.{another_fault, counts_processors, counts_stores, refused_processors, refused_stores, runs_read, not_refused_text, refused_text, status_told}
@@ -35,7 +35,7 @@ returns-then-processors-ne1-clause-stopped g c =
     let form = c.args.form.now in
     let refusal = c.refused-then-processors-ne1.result.refusal in
     let count : c.processors-processors.result ≡ trace.processors = c.processors-processors.ensures.processors in
-    let one : IsOfOne form = c.is_of_one.ensures.0 c.if-is_of_one.true in
+    let one : IsForOneProcessor form = c.is_for_one_processor.ensures.0 c.if-is_for_one_processor.true in
     let more : 1 < trace.processors = omega (arith, count, c.if-processors-ne1.true, c.processors-processors.ensures.text.processors_in.0) in
     let wanted : refusal ≡ Some (OneProcessor trace.processors) = told.refusal ∙ ap (λ n. Some (OneProcessor n)) count in
     record {
