@@ -1,5 +1,6 @@
 //! Whole runs: what is printed, and the status where nothing is, over stores that fail where a test says so; and stores in files. The
 //! examples of the folder `examples/` are run by the script there.
+mod curves;
 mod failing;
 mod folders;
 mod frames;
