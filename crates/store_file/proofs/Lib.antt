@@ -1,1 +1,2 @@
+pub mod PageBits
 pub mod UntoldCopies

@@ -1,6 +1,11 @@
 -- What a store over a file is to a caller.
-use Rattle.std.specs.Prelude.{ℕ, Bool, false, [], None}
+use Rattle.std.specs.Prelude.{ℕ, ◌≡◌, ◌+◌, ◌*◌, ◌≤◌, ◌&&◌, min, Bool, false, List, [], replicate, slice_index_or, None}
+use Rattle.pager_model.specs.SpaceStates.{last_count}
 use Rattle.pager_model.specs.Stored.{Stored}
+
+-- no page of a space
+unfoldable pub no_pages : List Bool
+no_pages = replicate 1048576 false
 
 pub record FileState : Type 0 where
   -- whether it has its file
