@@ -1,2 +1,3 @@
 pub mod PageBits
+pub mod PageMoves
 pub mod UntoldCopies

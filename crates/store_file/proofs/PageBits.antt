@@ -65,7 +65,7 @@ cleared_word start words at first end word there written before p =
     here same =
         let now : get_or (set words at word) (p / 64) 0 ≡ word = ap (λ i. get_or (set words at word) i 0) same ∙ get_or-set_same words at word 0 there in
         let bit : bit_at word (p % 64) ≡ cond In 0 (bit_of words) =
-            written (p % 64) (omega arith) ∙ (ap (λ b. cond b 0 (bit_at (get_or words at 0) (p % 64))) (in_word p at first end same) ∙ ap (λ i. cond In 0 (bit_at (get_or words i 0) (p % 64))) (sym same)) in
+        written (p % 64) (omega arith) ∙ (ap (λ b. cond b 0 (bit_at (get_or words at 0) (p % 64))) (in_word p at first end same) ∙ ap (λ i. cond In 0 (bit_at (get_or words i 0) (p % 64))) (sym same)) in
         let past : nat_lt p (64 * at) ≡ false = grind (arith, nat_tests) in
         let next : nat_lt p (64 * (at + 1)) ≡ true = grind (arith, nat_tests) in
         let was : nat_eq (bit_of words) 1 ≡ nat_eq (bit_of start) 1 = before p ∙ ap (λ b. cond (b && In) false (nat_eq (bit_of start) 1)) past in

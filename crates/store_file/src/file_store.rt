@@ -1,11 +1,14 @@
 //! A store over a file.
 
-ghost use Rattle.std.specs.Prelude.{◌≡◌, ◌≢◌, ◌-◌, ◌^◌, ◌≤◌, true, false, length, None, Some, is_some, Err, IfOk};
+ghost use Rattle.std.specs.Prelude.{◌≡◌, ◌≢◌, ℕ, ◌-◌, ◌^◌, ◌≤◌, true, false, length, None, Some, is_some, is_ok, if◌then◌else◌, slice_set, Ok, Err, IfOk, IfSome, OnOk, OnErr};
+ghost use Rattle.pager_model.specs.Regions.{in_range};
 ghost use Rattle.pager_model.specs.SpaceStates.{Rises};
-ghost use Rattle.pager_model.specs.Stored.{SetsCopy, keeps_at};
-ghost use Rattle.store_file.specs.Untold.{untold};
+ghost use Rattle.pager_model.specs.Stored.{copy_at, zero_words, DropsCopies, SameCopies, SetsCopy, keeps_at};
+ghost use Rattle.store_core.specs.MemoryState.{one_more};
+ghost use Rattle.store_file.specs.Untold.{fresh, is_copied, is_in_file, no_pages, MovesPage, untold};
 
-use crate::page_bytes::{PAGE_BYTES, put_words, read_page, take_words, write_page};
+use crate::page_bytes::{PAGE_BYTES, clear_words, put_words, read_page, take_words, write_page};
+use crate::page_file::PageFile;
 use crate::page_set::PageSet;
 use pager_model::{NoMemory, PAGES};
 use std::alloc::Global;
@@ -24,20 +27,19 @@ use store_core::{Store, StoreFailed, WriteRefused};
 /// read, and a write takes no memory. It keeps every page of a space.
 #[derive(Drop)]
 pub struct FileStore<F> {
-    // Nothing where it could not be opened.
-    file: Option<F>,
+    file: PageFile<F>,
     copied: PageSet,
     reads: u64,
     faults: u64,
 }
 
 impl<F> Model for FileStore<F> {
-    ghost use Rattle.std.specs.Prelude.{◌-◌, ◌^◌, ◌≤◌, is_some};
+    ghost use Rattle.std.specs.Prelude.{◌-◌, ◌^◌, ◌≤◌};
     ghost use Rattle.store_file.specs.Untold.{FileState};
 
     ghost Value = { FileState };
 
-    ghost view = { λ s. record { opened = is_some s.file; reads = s.reads; faults = s.faults } };
+    ghost view = { λ s. record { file = s.file; copied = s.copied; reads = s.reads; faults = s.faults } };
 
     ghost invariant = { λ s. s.faults ≤ 2 ^ 64 - 1 };
 }
@@ -45,22 +47,30 @@ impl<F> Model for FileStore<F> {
 impl<F: FileExt + Drop> FileStore<F> {
     /// A store over this file, with no copy and no fault so far. Without a file each write fails.
     pub fn over(alloc: Global, file: Option<F>) -> Result<FileStore<F>, NoMemory>
-        ensures new { IfOk result (λ store. store ≡ record { opened = is_some file; reads = 0; faults = 0 }) }
+        ensures fresh { IfOk result (λ store. store ≡ fresh (is_some file)) }
     {
         let copied = PageSet::create(alloc)?;
         Ok(FileStore::of(file, copied))
     }
 
-    /// A store over this file whose pages that have a copy are these.
+    /// A store over this file whose pages that have a copy are these: none so far.
     fn of(file: Option<F>, copied: PageSet) -> FileStore<F>
-        ensures new { result ≡ record { opened = is_some file; reads = 0; faults = 0 } }
+        requires { copied ≡ no_pages }
+        ensures { result ≡ fresh (is_some file) }
     {
         FileStore {
-            file,
+            file: PageFile::of(file),
             copied,
             reads: 0,
             faults: 0,
         }
+    }
+
+    /// Whether a read of the page is one of the file.
+    fn is_in_file(&self, page: u32) -> bool
+        ensures { result ≡ is_in_file self.now page }
+    {
+        self.file.is_open() && self.copied.has(page)
     }
 }
 
@@ -73,7 +83,7 @@ impl FileStore<File> {
         folder: &str,
         number: u32,
     ) -> Result<FileStore<File>, NoMemory>
-        ensures no_fault { IfOk result (λ store. store.faults ≡ 0) }
+        ensures fresh { IfOk result (λ store. store ≡ fresh store.file.opened) }
     {
         // All memory is taken before the file is emptied, so that a store that can't be made leaves what the folder has.
         let copied = PageSet::create(alloc)?;
@@ -103,19 +113,43 @@ impl<F: FileExt + Drop> Store for FileStore<F> {
 
     ghost reads = { λ s. s.reads };
 
-    fn read(&mut self, page: u32, words: &mut [u64]) -> Result<(), StoreFailed> {
+    fn read(&mut self, page: u32, words: &mut [u64]) -> Result<(), StoreFailed>
+        requires count { length words.old ≡ 1024 }
+
+        // As at any store.
+        ensures read { IfOk result
+            (λ _. (untold self.old.faults).tells ≡ true → IfSome (copy_at (untold self.old.faults) page) (λ copy. words.new ≡ copy)) }
+        ensures same { SameCopies (untold self.old.faults) (untold self.new.faults) }
+        ensures counted { self.new.reads ≡ one_more self.old.reads }
+        ensures rose { OnErr result (Rises self.old.faults self.new.faults) }
+        ensures never_falls { self.old.faults ≤ self.new.faults }
+        ensures capped { self.new.faults ≤ 2 ^ 64 - 1 }
+
+        // It fails only at a copy in the file. Any other page is zero.
+        ensures fails { OnErr result (is_in_file self.old page ≡ true) }
+        ensures zero { is_in_file self.old page ≡ false → words.new ≡ zero_words }
+
+        // Where it doesn't fail, the file gave the whole copy.
+        ensures gave { OnOk result (is_in_file self.old page ≡ true → MovesPage page self.old.file.gave self.new.file.gave) }
+
+        ensures faults { self.new.faults ≡ (if is_ok result then self.old.faults else one_more self.old.faults) }
+
+        // It writes nothing, and no page gets or loses its copy.
+        ensures took { self.new.file.took ≡ self.old.file.took }
+        ensures copied { self.new.copied ≡ self.old.copied }
+        ensures same_file { self.new.file.opened ≡ self.old.file.opened }
+    {
         self.reads = self.reads.saturating_add(1);
-        match &self.file {
-            Some(file) if self.copied.has(page) => {
-                let mut bytes = [0; PAGE_BYTES];
-                if !read_page(file, page, &mut bytes) {
-                    self.faults = self.faults.saturating_add(1);
-                    return Err(StoreFailed);
-                }
-                take_words(&bytes, words);
-            }
-            _ => words.fill(0),
+        if !self.is_in_file(page) {
+            clear_words(words);
+            return Ok(());
         }
+        let mut bytes = [0; PAGE_BYTES];
+        if !read_page(&mut self.file, page, &mut bytes) {
+            self.faults = self.faults.saturating_add(1);
+            return Err(StoreFailed);
+        }
+        take_words(&bytes, words);
         Ok(())
     }
 
@@ -132,18 +166,27 @@ impl<F: FileExt + Drop> Store for FileStore<F> {
         ensures never_falls { self.old.faults ≤ self.new.faults }
         ensures capped { self.new.faults ≤ 2 ^ 64 - 1 }
 
-        // A store without its file refuses each write, and no store for want of memory.
-        ensures closed { self.old.opened ≡ false → result ≡ Err WriteRefused.Failed }
+        // Where it doesn't fail, the file took the whole copy, and the page has it from then on.
+        ensures took { OnOk result (MovesPage page self.old.file.took self.new.file.took) }
+        ensures copied { OnOk result (self.new.copied ≡ slice_set self.old.copied page true) }
+
+        // Where it fails, no page gets or loses its copy.
+        ensures same_copied { result ≡ Err WriteRefused.Failed → self.new.copied ≡ self.old.copied }
+
+        // A store without its file refuses each write, and any store one past the pages of a space, but none for want of memory.
+        ensures closed { self.old.file.opened ≡ false → result ≡ Err WriteRefused.Failed }
+        ensures past { 1048576 ≤ page → result ≡ Err WriteRefused.Failed }
         ensures no_memory { result ≢ Err WriteRefused.NoMemory }
-        ensures same_file { self.new.opened ≡ self.old.opened }
+
+        ensures faults { self.new.faults ≡ (if is_ok result then self.old.faults else one_more self.old.faults) }
+
+        // It reads nothing.
+        ensures gave { self.new.file.gave ≡ self.old.file.gave }
+        ensures same_file { self.new.file.opened ≡ self.old.file.opened }
     {
         let mut bytes = [0; PAGE_BYTES];
         put_words(words, &mut bytes);
-        let wrote = match &self.file {
-            Some(file) => page < PAGES && write_page(file, page, &bytes),
-            None => false,
-        };
-        if !wrote {
+        if page >= PAGES || !write_page(&mut self.file, page, &bytes) {
             self.faults = self.faults.saturating_add(1);
             return Err(WriteRefused::Failed);
         }
@@ -151,7 +194,15 @@ impl<F: FileExt + Drop> Store for FileStore<F> {
         Ok(())
     }
 
-    fn drop_pages(&mut self, first: u32, length: u32) {
+    fn drop_pages(&mut self, first: u32, length: u32)
+        // As at any store.
+        ensures dropped { DropsCopies first length (untold self.old.faults) (untold self.new.faults) }
+        ensures unread { self.new.reads ≡ self.old.reads }
+
+        // No page of the range has a copy of its own then, any other page has what it had, and the file is asked for nothing.
+        ensures copied { (p : ℕ) → is_copied self.new p ≡ (if in_range first length p then false else is_copied self.old p) }
+        ensures state { self.new ≡ record self.old { copied = self.new.copied } }
+    {
         self.copied.remove_range(first, length);
     }
 

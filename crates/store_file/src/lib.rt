@@ -5,6 +5,7 @@
 
 mod file_store;
 mod page_bytes;
+mod page_file;
 mod page_set;
 
 pub use file_store::FileStore;

@@ -1,7 +1,10 @@
 //! The bytes of a page, and where they stand in a file.
 
-ghost use Rattle.std.specs.Prelude.{◌≡◌, ◌*◌, ◌^◌, ◌≤◌, length};
+ghost use Rattle.std.specs.Prelude.{◌≡◌, ◌+◌, ◌*◌, ◌^◌, ◌<◌, ◌≤◌, true, length};
+ghost use Rattle.pager_model.specs.Stored.{zero_words};
+ghost use Rattle.store_file.specs.Untold.{MovesPage};
 
+use crate::page_file::PageFile;
 use std::os::unix::fs::FileExt;
 
 /// How many bytes a page has.
@@ -23,33 +26,61 @@ pub(crate) fn take_words(bytes: &[u8; PAGE_BYTES], words: &mut [u64]) {
     }
 }
 
+/// Makes the words of a page zero.
+pub(crate) fn clear_words(words: &mut [u64])
+    requires { length words.old ≡ 1024 }
+    ensures { words.new ≡ zero_words }
+{
+    words.fill(0);
+}
+
 /// Where a byte of a page stands in the file.
 fn place(page: u32, byte: usize) -> u64
     requires { byte ≤ 8192 }
+    ensures { result ≡ 8192 * page + byte }
 {
     u64::from(page) * PAGE_BYTES as u64 + byte as u64
 }
 
 /// Reads the bytes of a page, as many at a time as the file gives, and answers whether it gave all.
-pub(crate) fn read_page<F: FileExt>(file: &F, page: u32, bytes: &mut [u8; PAGE_BYTES]) -> bool {
+pub(crate) fn read_page<F: FileExt + Drop>(
+    file: &mut PageFile<F>,
+    page: u32,
+    bytes: &mut [u8; PAGE_BYTES],
+) -> bool
+    ensures all { result ≡ true → MovesPage page file.old.gave file.new.gave }
+    ensures took { file.new.took ≡ file.old.took }
+    ensures opened { file.new.opened ≡ file.old.opened }
+{
     let mut at = 0;
     while at < PAGE_BYTES {
-        match file.read_at(&mut bytes[at..], place(page, at)) {
-            Ok(n) if n > 0 => at += n,
-            _ => return false,
+        let count = file.read_at(&mut bytes[at..], place(page, at));
+        if count == 0 {
+            return false;
         }
+        at += count;
     }
     true
 }
 
 /// Writes the bytes of a page, as many at a time as the file takes, and answers whether it took all.
-pub(crate) fn write_page<F: FileExt>(file: &F, page: u32, bytes: &[u8; PAGE_BYTES]) -> bool {
+pub(crate) fn write_page<F: FileExt + Drop>(
+    file: &mut PageFile<F>,
+    page: u32,
+    bytes: &[u8; PAGE_BYTES],
+) -> bool
+    ensures all { result ≡ true → MovesPage page file.old.took file.new.took }
+    ensures there { result ≡ true → file.old.opened ≡ true }
+    ensures gave { file.new.gave ≡ file.old.gave }
+    ensures opened { file.new.opened ≡ file.old.opened }
+{
     let mut at = 0;
     while at < PAGE_BYTES {
-        match file.write_at(&bytes[at..], place(page, at)) {
-            Ok(n) if n > 0 => at += n,
-            _ => return false,
+        let count = file.write_at(&bytes[at..], place(page, at));
+        if count == 0 {
+            return false;
         }
+        at += count;
     }
     true
 }

@@ -1,4 +1,4 @@
-use Rattle.std.proofs.Common.{◌<◌, length, ◌∙◌, arith}
+use Rattle.std.proofs.Common.{◌∙◌, arith}
 use Rattle.std.proofs.lemmas.List.{get_or_default}
 use Rattle.store_file.proofs.PageBits.{inserted}
 use Rattle.store_file.proofs.page_set.PageSet.insert.Goals as goal

@@ -1,0 +1,116 @@
+//! A file that counts the bytes that it says it took and gave.
+
+ghost use Rattle.std.specs.Prelude.{◌≡◌, ℕ, ◌+◌, ◌^◌, ◌<◌, ◌≤◌, ◌==◌, true, length, is_some, if◌then◌else◌};
+ghost use Rattle.store_file.specs.Untold.{fresh_file, moved, none_yet};
+
+use std::marker::Model;
+use std::os::unix::fs::FileExt;
+
+/// Bytes that a file took, or gave.
+#[derive(Drop)]
+pub(crate) struct Transferred {
+    /// How many in all, at most 2^64 - 1.
+    bytes: u64,
+    /// Where the last of them ends in the file.
+    end: u64,
+    /// How many up to there followed one another, at most 2^64 - 1.
+    row: u64,
+}
+
+impl Transferred {
+    fn none() -> Transferred
+        ensures { result ≡ none_yet }
+    {
+        Transferred {
+            bytes: 0,
+            end: 0,
+            row: 0,
+        }
+    }
+
+    /// Counts more of them, from a place of the file on.
+    fn count(&mut self, place: u64, bytes: usize)
+        requires { place + bytes < 2 ^ 64 }
+        ensures { self.new ≡ moved self.old place bytes }
+    {
+        let bytes = bytes as u64;
+        if place != self.end {
+            self.row = 0;
+        }
+        self.row = self.row.saturating_add(bytes);
+        self.end = place + bytes;
+        self.bytes = self.bytes.saturating_add(bytes);
+    }
+}
+
+/// A file, or none where it could not be opened. Each byte that it says it took or gave is counted here, so nobody above can leave one out
+/// or add one.
+#[derive(Drop)]
+pub(crate) struct PageFile<F> {
+    file: Option<F>,
+    took: Transferred,
+    gave: Transferred,
+}
+
+impl<F> Model for PageFile<F> {
+    ghost use Rattle.std.specs.Prelude.{is_some};
+    ghost use Rattle.store_file.specs.Untold.{FileSeen};
+
+    ghost Value = { FileSeen };
+
+    ghost view = { λ f. record { opened = is_some f.file; took = f.took; gave = f.gave } };
+}
+
+impl<F: FileExt + Drop> PageFile<F> {
+    /// The file, of which nothing was asked so far.
+    pub(crate) fn of(file: Option<F>) -> PageFile<F>
+        ensures { result ≡ fresh_file (is_some file) }
+    {
+        PageFile {
+            file,
+            took: Transferred::none(),
+            gave: Transferred::none(),
+        }
+    }
+
+    /// Whether it could be opened.
+    pub(crate) fn is_open(&self) -> bool
+        ensures { result ≡ self.now.opened }
+    {
+        self.file.is_some()
+    }
+
+    /// Reads from a place on, and answers how many bytes the file says it gave: none where it fails.
+    pub(crate) fn read_at(&mut self, bytes: &mut [u8], place: u64) -> usize
+        requires { place + length bytes.old < 2 ^ 64 }
+        ensures most { result ≤ length bytes.old }
+        ensures counted { self.new ≡ (if result == 0 then self.old else record self.old { gave = moved self.old.gave place result }) }
+        ensures there { 0 < result → self.old.opened ≡ true }
+    {
+        let Some(file) = &self.file else { return 0 };
+        match file.read_at(bytes, place) {
+            Ok(count) if count > 0 => {
+                self.gave.count(place, count);
+                count
+            }
+            _ => 0,
+        }
+    }
+
+    /// Writes from a place on, and answers how many bytes the file says it took: none where it fails.
+    pub(crate) fn write_at(&mut self, bytes: &[u8], place: u64) -> usize
+        requires { place + length bytes.now < 2 ^ 64 }
+        ensures most { result ≤ length bytes.now }
+        ensures counted { self.new ≡ (if result == 0 then self.old else record self.old { took = moved self.old.took place result }) }
+        ensures there { 0 < result → self.old.opened ≡ true }
+    {
+        let Some(file) = &self.file else { return 0 };
+        match file.write_at(bytes, place) {
+            Ok(count) if count > 0 => {
+                self.took.count(place, count);
+                count
+            }
+            _ => 0,
+        }
+    }
+}
