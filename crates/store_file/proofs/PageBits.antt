@@ -9,7 +9,7 @@ use Rattle.std.proofs.lemmas.Nat.Bits.{bit_at_and, bit_at_or, bit_at_not, bit_at
 use Rattle.bit_set.specs.Bits.{has_bit, bits_of}
 use Rattle.bit_set.proofs.Sets.{bits_of-replicate, bits_of-set, get_or-bits_of, length-bits_of}
 use Rattle.pager_model.specs.Regions.{in_range}
-use Rattle.store_file.specs.Untold.{no_pages}
+use Rattle.store_file.specs.FileState.{no_pages}
 
 -- words of no bit have no page
 pub bits_of-none : (words : List ℕ) → words ≡ replicate 16384 0 → bits_of words ≡ no_pages

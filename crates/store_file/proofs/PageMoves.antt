@@ -4,7 +4,7 @@ use Rattle.std.proofs.lemmas.Bool.{cases_eq}
 use Rattle.std.proofs.lemmas.Bool.Decides.{nat_tests}
 use Rattle.pager_model.specs.SpaceStates.{last_count}
 use Rattle.store_file.specs.declared.page_file.Transferred.{Transferred}
-use Rattle.store_file.specs.Untold.{moved}
+use Rattle.store_file.specs.FileState.{moved}
 
 -- the first so many bytes of a page's place, if any, were transferred one after the other, and no other
 pub record MovesFirst (page count : ℕ) (old new : Transferred) : Type 0 where

@@ -2,7 +2,7 @@
 use Rattle.std.proofs.Common.{◌≡◌, ℕ, true, List, Option, refl}
 use Rattle.std.proofs.lemmas.Bool.{false≢true}
 use Rattle.pager_model.specs.Stored.{keeps_at, SameCopies, SetsCopy}
-use Rattle.store_file.specs.Untold.{untold}
+use Rattle.store_file.specs.FileState.{untold}
 
 -- whatever it does, its copies are the same, since it tells none
 pub same_copies : (faults more : ℕ) → SameCopies (untold faults) (untold more)

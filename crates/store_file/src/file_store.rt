@@ -5,7 +5,7 @@ ghost use Rattle.pager_model.specs.Regions.{in_range};
 ghost use Rattle.pager_model.specs.SpaceStates.{Rises};
 ghost use Rattle.pager_model.specs.Stored.{copy_at, zero_words, DropsCopies, SameCopies, SetsCopy, keeps_at};
 ghost use Rattle.store_core.specs.MemoryState.{one_more};
-ghost use Rattle.store_file.specs.Untold.{fresh, is_copied, is_in_file, no_pages, MovesPage, untold};
+ghost use Rattle.store_file.specs.FileState.{fresh, is_copied, is_in_file, no_pages, MovesPage, untold};
 
 use crate::page_bytes::{PAGE_BYTES, clear_words, put_words, read_page, take_words, write_page};
 use crate::page_file::PageFile;
@@ -35,7 +35,7 @@ pub struct FileStore<F> {
 
 impl<F> Model for FileStore<F> {
     ghost use Rattle.std.specs.Prelude.{◌-◌, ◌^◌, ◌≤◌};
-    ghost use Rattle.store_file.specs.Untold.{FileState};
+    ghost use Rattle.store_file.specs.FileState.{FileState};
 
     ghost Value = { FileState };
 
@@ -129,9 +129,8 @@ impl<F: FileExt + Drop> Store for FileStore<F> {
         ensures fails { OnErr result (is_in_file self.old page ≡ true) }
         ensures zero { is_in_file self.old page ≡ false → words.new ≡ zero_words }
 
-        // Where it doesn't fail, the file gave the whole copy.
+        // Where it doesn't fail, the file gave the whole copy. Else it counts one fault.
         ensures gave { OnOk result (is_in_file self.old page ≡ true → MovesPage page self.old.file.gave self.new.file.gave) }
-
         ensures faults { self.new.faults ≡ (if is_ok result then self.old.faults else one_more self.old.faults) }
 
         // It writes nothing, and no page gets or loses its copy.
@@ -170,15 +169,14 @@ impl<F: FileExt + Drop> Store for FileStore<F> {
         ensures took { OnOk result (MovesPage page self.old.file.took self.new.file.took) }
         ensures copied { OnOk result (self.new.copied ≡ slice_set self.old.copied page true) }
 
-        // Where it fails, no page gets or loses its copy.
+        // Where it fails, no page gets or loses its copy, and it counts one fault.
         ensures same_copied { result ≡ Err WriteRefused.Failed → self.new.copied ≡ self.old.copied }
+        ensures faults { self.new.faults ≡ (if is_ok result then self.old.faults else one_more self.old.faults) }
 
         // A store without its file refuses each write, and any store one past the pages of a space, but none for want of memory.
         ensures closed { self.old.file.opened ≡ false → result ≡ Err WriteRefused.Failed }
         ensures past { 1048576 ≤ page → result ≡ Err WriteRefused.Failed }
         ensures no_memory { result ≢ Err WriteRefused.NoMemory }
-
-        ensures faults { self.new.faults ≡ (if is_ok result then self.old.faults else one_more self.old.faults) }
 
         // It reads nothing.
         ensures gave { self.new.file.gave ≡ self.old.file.gave }

@@ -2,7 +2,7 @@
 
 ghost use Rattle.std.specs.Prelude.{◌≡◌, ◌+◌, ◌*◌, ◌^◌, ◌<◌, ◌≤◌, true, length};
 ghost use Rattle.pager_model.specs.Stored.{zero_words};
-ghost use Rattle.store_file.specs.Untold.{MovesPage};
+ghost use Rattle.store_file.specs.FileState.{MovesPage};
 
 use crate::page_file::PageFile;
 use std::os::unix::fs::FileExt;

@@ -1,7 +1,7 @@
 //! A file that counts the bytes that it says it took and gave.
 
 ghost use Rattle.std.specs.Prelude.{◌≡◌, ℕ, ◌+◌, ◌^◌, ◌<◌, ◌≤◌, ◌==◌, true, length, is_some, if◌then◌else◌};
-ghost use Rattle.store_file.specs.Untold.{fresh_file, moved, none_yet};
+ghost use Rattle.store_file.specs.FileState.{fresh_file, moved, none_yet};
 
 use std::marker::Model;
 use std::os::unix::fs::FileExt;
@@ -54,7 +54,7 @@ pub(crate) struct PageFile<F> {
 
 impl<F> Model for PageFile<F> {
     ghost use Rattle.std.specs.Prelude.{is_some};
-    ghost use Rattle.store_file.specs.Untold.{FileSeen};
+    ghost use Rattle.store_file.specs.FileState.{FileSeen};
 
     ghost Value = { FileSeen };
 

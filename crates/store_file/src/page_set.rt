@@ -4,7 +4,7 @@ ghost use Rattle.std.specs.Prelude.{◌≡◌, ℕ, ◌*◌, ◌/◌, ◌<◌, �
 ghost use Rattle.std.specs.Int.{bit_at};
 ghost use Rattle.bit_set.specs.Bits.{has_bit};
 ghost use Rattle.pager_model.specs.Regions.{in_range};
-ghost use Rattle.store_file.specs.Untold.{no_pages};
+ghost use Rattle.store_file.specs.FileState.{no_pages};
 
 use pager_model::PAGES;
 use std::alloc::{AllocError, Global};

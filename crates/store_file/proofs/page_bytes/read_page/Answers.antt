@@ -1,6 +1,6 @@
 use Rattle.std.proofs.Common.{◌≡◌, ◌+◌, ◌*◌, ◌<◌, ◌≤◌, nat_eq, false, refl, sym, ap, subst, ◌∙◌, arith}
 use Rattle.std.proofs.lemmas.Bool.Decides.{nat_tests}
-use Rattle.store_file.specs.Untold.{FileSeen, moved}
+use Rattle.store_file.specs.FileState.{FileSeen, moved}
 use Rattle.store_file.proofs.PageMoves.{MovesFirst, moves_none, moves_more}
 use Rattle.store_file.proofs.page_bytes.read_page.Goals as goal
 
