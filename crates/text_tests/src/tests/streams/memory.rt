@@ -43,7 +43,7 @@ fn gives_pieces_and_fails_where_told(rt: HostRuntime) {
 }
 
 /// The limit of a sink that has a dash, the write that fails, how many bytes three writes of two take, none where one fails, and the bytes.
-static WRITES: [(usize, u64, [Option<usize>; 3], &[u8]); 4] = [
+static WRITES: [(u32, u64, [Option<usize>; 3], &[u8]); 4] = [
     (6, 9, [Some(2), Some(2), Some(2)], b"-ababab"),
     (3, 9, [Some(2), Some(1), None], b"-aba"),
     (6, 2, [Some(2), None, Some(2)], b"-abab"),
@@ -51,7 +51,8 @@ static WRITES: [(usize, u64, [Option<usize>; 3], &[u8]); 4] = [
 ];
 
 /// A sink of at most `limit` bytes behind a dash.
-fn behind_dash(rt: &impl Abort, alloc: Global, limit: usize, failing: u64) -> MemorySink {
+fn behind_dash(rt: &impl Abort, alloc: Global, limit: u32, failing: u64) -> MemorySink {
+    let limit = limit as usize;
     let mut room = Vec::with_capacity(alloc, limit + 1).expect(rt, NO_MEMORY);
     room.push_reserved(b'-');
     let failing = [failing].to_vec(alloc).expect(rt, NO_MEMORY);
