@@ -8,6 +8,7 @@ from typing import Iterator, List, NamedTuple, Optional, Tuple
 
 from common import TOP, Stopped
 
+from .curves import curves_text
 from .legal import Illegal, after_history
 from .machine import Machine, store_of
 from .plans import plan_text, planned
@@ -20,6 +21,9 @@ RANDOM_TRACE = os.path.join(TOP, 'examples', 'random_trace.py')
 FORMS = ('order', 'turns', 'replay')
 # The form `plan`, by its size.
 PLANS = {'plan1': 1, 'plan2': 2, 'plan3': 3}
+CURVE = 'curve'
+# The forms that print no history.
+WITHOUT_HISTORY = (*PLANS, CURVE)
 # The first seeds draw traces over frames enough, and those above them traces in which few frames are left.
 LAST_WITH_FRAMES = 250
 SECONDS = 600
@@ -41,12 +45,14 @@ class Outcome(NamedTuple):
     wrong: Optional[str]
 
 
-def trace_words(seed: int) -> List[int]:
+def trace_words(seed: int, form: str) -> List[int]:
     """The words of examples/random_trace.py for a seed: the seed, how many calls, frames, processors and spaces, and how many loads come
-    first."""
-    spaces = 1 + seed // 4 % 3
+    first. A curve is of one processor, and of every second seed few frames are left."""
+    spaces, frames = 1 + seed // 4 % 3, 1024 if seed % 5 == 4 else 512
+    if form == CURVE:
+        return [seed, 200 + 37 * seed % 601, frames, 1, spaces, 560 * (seed % 2)]
     if seed <= LAST_WITH_FRAMES:
-        return [seed, 150 + 37 * seed % 350, 1024 if seed % 5 == 4 else 512, 1 + seed % 4, spaces, 0]
+        return [seed, 150 + 37 * seed % 350, frames, 1 + seed % 4, spaces, 0]
     return [seed, 100 + 37 * seed % 200, 512, 2 + seed % 3, spaces, 560]
 
 
@@ -63,7 +69,7 @@ def output_of(words: List[str], text: bytes) -> bytes:
 
 
 def checked_text(trace: Trace, job: Job) -> bytes:
-    """The text that the slow machine prints: of a run with its history, or what is planned after it."""
+    """The text that the slow machine prints: of a run with its history, or what is planned after it, or its curves."""
     machine = Machine(trace, [store_of(job.swap) for _ in range(trace.spaces)])
     if job.form == 'turns':
         machine.run_in_turns(job.seed)
@@ -71,6 +77,8 @@ def checked_text(trace: Trace, job: Job) -> bytes:
         machine.run_in_order()
     if job.form in PLANS:
         return plan_text(planned(machine.pager.frames, PLANS[job.form])).encode()
+    if job.form == CURVE:
+        return curves_text(trace, machine.pager.history, machine.pager.setting.sizes).encode()
     return text_of_run(machine.pager, True).encode()
 
 
@@ -104,16 +112,18 @@ def words_of(job: Job) -> List[str]:
     words = [] if job.swap is None else ['--swap', str(job.swap)]
     if job.form in PLANS:
         return [*words, 'plan', str(PLANS[job.form])]
+    if job.form == CURVE:
+        return [*words, CURVE]
     return [*words, job.form, *([str(job.seed)] if job.form == 'turns' else []), '--history']
 
 
 def run(job: Job) -> Outcome:
     """One run, compared: by `replay` its history is judged, and by the other forms its text is that of the slow machine."""
-    text = output_of([sys.executable, RANDOM_TRACE, *map(str, trace_words(job.seed))], b'')
+    text = output_of([sys.executable, RANDOM_TRACE, *map(str, trace_words(job.seed, job.form))], b'')
     try:
         printed = output_of([job.program, *words_of(job)], text)
         trace = trace_of(text)
-        if job.form == 'replay' or (job.laws and job.form not in PLANS):
+        if job.form == 'replay' or (job.laws and job.form not in WITHOUT_HISTORY):
             wrong = wrong_with_text(trace, job.form, job.seed, printed, job.laws)
         else:
             wrong = first_difference(checked_text(trace, job), printed)

@@ -51,7 +51,7 @@ def lies_in(tile: Tile, others: List[Tile]) -> bool:
 def promotions(before: List[Tile], after: List[Tile]) -> int:
     """How many extents of size 1 or more are tiles after a change and lay in no tile before it. With the two the other way round these are
     the demotions. (Tiles.antt)"""
-    return sum(tile.size > 0 and not lies_in(tile, before) for tile in after if tile not in before)
+    return sum(not lies_in(tile, before) for tile in after if tile.size > 0 and tile not in before)
 
 
 class Tiles:
@@ -94,9 +94,9 @@ class Tiles:
                 self.of_extent[first] = after
             self.promotions += promotions(before, after)
             self.demotions += promotions(after, before)
-            self.forget([t for t in before if t not in after])
+            self.forget(set(before) - set(after))
 
-    def forget(self, gone: List[Tile]) -> None:
+    def forget(self, gone: Set[Tile]) -> None:
         """What is no tile any more leaves all images. (Images.antt)"""
         for processor, image in self.images.items():
             self.images[processor] = [t for t in image if t not in gone]
