@@ -60,14 +60,20 @@ def with_frames(trace: bytes, frames: Optional[int]) -> bytes:
     return b' '.join(parts[:2] + [b'%d' % frames] + parts[3:]) + line_feed + rest
 
 
-def run(program: str, order: List[str], trace: bytes) -> Run:
-    """Runs the program on the trace in this order of its calls."""
-    done = subprocess.run([program] + order + ['--history'], input=trace, stdout=subprocess.PIPE, stderr=subprocess.PIPE)
+def printed(program: str, words: List[str], trace: bytes) -> str:
+    """What the program prints of the trace by these words."""
+    done = subprocess.run([program] + words, input=trace, stdout=subprocess.PIPE, stderr=subprocess.PIPE)
     if done.returncode != 0:
         said = done.stderr.decode(errors='replace').strip()
         raise Stopped('the program ends with status %d%s' % (done.returncode, ': ' + said if said else ''))
+    return done.stdout.decode(errors='replace')
+
+
+def run(program: str, order: List[str], trace: bytes) -> Run:
+    """Runs the program on the trace in this order of its calls."""
+    text = printed(program, order + ['--history'], trace)
     try:
-        return read(trace.decode(), done.stdout.decode())
+        return read(trace.decode(), text)
     except (ValueError, IndexError, StopIteration):
         raise Stopped('what the program prints is no text of a run with its history') from None
 

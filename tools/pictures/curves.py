@@ -1,0 +1,147 @@
+"""The miss curves of a run: as lines of text, as one SVG file, and as a page on which a capacity is chosen."""
+import json
+import re
+from html import escape
+from math import ceil, log2
+from typing import List, NamedTuple, Tuple
+
+from common import Stopped
+from pictures import layout
+from pictures.following import printed
+from pictures.page import part
+from pictures.still import LINE, MARGIN, rect, text
+
+# The largest capacity, and that of a processor's image.
+MOST = 1024
+USUAL = 128
+# The capacities that have a line of text, or of the page's table.
+CHOSEN = tuple(2 ** n for n in range(11))
+NAMES = ("with the run's translations", 'with base pages alone')
+COLOURS = ('#3f4f9a', '#d9822b')
+# Where the curves are drawn, in pixels.
+LEFT, TOP, HIGH = 62, 34, 300
+WIDE = layout.WIDTH - LEFT - 8
+# How many lines there are across at most, but for that of 0, and how long the longest bar of the text is.
+ACROSS = 5
+BAR = 50
+
+STYLE = ('text{font:12px sans-serif;fill:#1d2733}.t{font-size:11px;fill:#5a6572}.h{font-size:15px;font-weight:bold}.m{text-anchor:middle}.e{text-anchor:end}'
+         'path{fill:none}.g{stroke:%s}.u{stroke:%s;stroke-dasharray:4 3}.c0{stroke:%s;stroke-width:2}.c1{stroke:%s;stroke-width:4}'
+         % (layout.GRID, layout.OUTLINE, *COLOURS))
+
+
+class Curves(NamedTuple):
+    """By capacity from 1 on the misses, with the run's translations and with base pages alone."""
+    tiles: List[int]
+    pages: List[int]
+
+
+def run(program: str, trace: bytes) -> Curves:
+    """The curves that the program prints of a trace."""
+    rows = [line.split(' ') for line in printed(program, ['curve'], trace).splitlines()]
+    try:
+        found = Curves([int(row[1]) for row in rows[:-1]], [int(row[2]) for row in rows[:-1]])
+    except (ValueError, IndexError):
+        found = Curves([], [])
+    if len(found.tiles) != MOST or rows[-1] != ['end']:
+        raise Stopped('what the program prints are no curves')
+    return found
+
+
+def bar(one: int, other: int) -> str:
+    """A bar up to the smaller number, and on to the larger one."""
+    return '#' * min(one, other) + ('-' if one < other else '+') * abs(other - one)
+
+
+def lines(curves: Curves) -> str:
+    """The lines of text: the misses at some capacities, with bars."""
+    top = max(curves.pages + curves.tiles) or 1
+    out = ['Misses at some capacities, as the program counts them; the usual capacity is %d.' % USUAL,
+           'The bars: # as many as %s, - the further ones %s, + where these are fewer.' % NAMES, '', 'capacity    misses   with base pages']
+    for k in CHOSEN:
+        numbers = curves.tiles[k - 1], curves.pages[k - 1]
+        out.append('%8d  %8d  %16d  %s' % (k, *numbers, bar(*(round(BAR * number / top) for number in numbers))))
+    return '\n'.join(out + [''])
+
+
+def step_of(top: int) -> int:
+    """How far the lines across are apart: one, two or five times a power of ten."""
+    steps = (digit * 10 ** power for power in range(20) for digit in (1, 2, 5))
+    return next(step for step in steps if step * ACROSS >= top)
+
+
+def place_of(capacity: int) -> float:
+    """How far right a capacity is: as far again for each that is twice as large."""
+    return LEFT + WIDE * log2(capacity) / log2(MOST)
+
+
+def height_of(misses: int, top: int) -> float:
+    return TOP + HIGH * (1 - misses / top)
+
+
+def path(curve: List[int], top: int) -> str:
+    """The line of a curve, which changes at a capacity and stays up to the next."""
+    out = 'M%g %.1f' % (place_of(1), height_of(curve[0], top))
+    for at in range(1, MOST):
+        if curve[at] != curve[at - 1]:
+            out += 'H%.1fV%.1f' % (place_of(at + 1), height_of(curve[at], top))
+    return out + 'H%g' % place_of(MOST)
+
+
+def across(top: int, step: int) -> List[str]:
+    """The lines across, with their numbers."""
+    out = []
+    for misses in range(0, top + 1, step):
+        y = height_of(misses, top)
+        out += ['<path class="g" d="M%d %.1fh%d"/>' % (LEFT, y, WIDE), text(LEFT - 6, y + 4, str(misses), 't e')]
+    return out
+
+
+def upright() -> List[str]:
+    """The capacities below the curves, and a line at the usual one."""
+    out = [text(place_of(k), TOP + HIGH + LINE, str(k), 't m') for k in CHOSEN]
+    out += ['<path class="u" d="M%g %dV%d"/>' % (place_of(USUAL), TOP - 6, TOP + HIGH)]
+    return out + [text(place_of(USUAL), TOP - 10, '%d, the usual capacity' % USUAL, 't m')]
+
+
+def legend(curves: Curves) -> List[str]:
+    """The colours of the curves, with their misses at the usual capacity."""
+    out, y = [], TOP + HIGH + 3 * LINE + 6
+    for at, (name, curve) in enumerate(zip(NAMES, curves)):
+        x = LEFT + at * WIDE // 2
+        said = '%s: %d misses at %d' % (name, curve[USUAL - 1], USUAL)
+        out += ['<path class="c%d" d="M%d %dh24"/>' % (at, x, y - 4), text(x + 30, y, said)]
+    return out
+
+
+def scale_of(curves: Curves) -> Tuple[int, int]:
+    """The misses at the upper end of the drawing, and how far the lines across are apart."""
+    most = max(curves.pages + curves.tiles) or 1
+    step = step_of(most)
+    return step * ceil(most / step), step
+
+
+def drawing(curves: Curves, name: str, more: str = '') -> str:
+    """The SVG text of the curves. What is more is drawn over them."""
+    top, step = scale_of(curves)
+    wide, high = 2 * MARGIN + layout.WIDTH, TOP + HIGH + 3 * LINE + 18 + 2 * MARGIN
+    start = '<svg xmlns="http://www.w3.org/2000/svg" viewBox="0 0 %d %d" width="%d" height="%d">' % (wide, high, wide, high)
+    body = [text(0, 14, '%s: misses at each capacity' % name, 'h')] + across(top, step) + upright()
+    # That of base pages lies below, and is wider, so that it is seen where both are the same.
+    body += ['<path class="c%d" d="%s"/>' % (at, path(curves[at], top)) for at in (1, 0)] + legend(curves)
+    body += [text(LEFT + WIDE / 2, TOP + HIGH + 2 * LINE, 'capacity: how many translations an image holds', 't m'), more]
+    parts = [start, '<style>%s</style>' % STYLE, rect(0, 0, wide, high, '#fff'), '<g transform="translate(%d %d)">' % (MARGIN, MARGIN)]
+    return '\n'.join(parts + [it for it in body if it] + ['</g>', '</svg>', ''])
+
+
+def table(curves: Curves) -> str:
+    """The rows of the page's table."""
+    return '\n'.join('<tr><td>%d</td><td>%d</td><td>%d</td></tr>' % (k, curves.tiles[k - 1], curves.pages[k - 1]) for k in CHOSEN)
+
+
+def page(curves: Curves, name: str) -> str:
+    """The text of the page."""
+    data = {'curves': curves, 'left': LEFT + MARGIN, 'margin': MARGIN, 'wide': WIDE, 'top': TOP, 'high': HIGH, 'most': MOST, 'usual': USUAL}
+    svg = drawing(curves, name, '<path id="here" stroke="%s" stroke-width="1.6"/>' % layout.FOCUS)
+    parts = {'TITLE': escape(name), 'SVG': svg, 'ROWS': table(curves), 'DATA': json.dumps(data, separators=(',', ':'))}
+    return re.sub('TITLE|SVG|ROWS|DATA', lambda found: parts[found.group()], part('curves.html'))
