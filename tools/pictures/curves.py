@@ -25,7 +25,8 @@ WIDE = layout.WIDTH - LEFT - 8
 ACROSS = 5
 BAR = 50
 
-STYLE = ('text{font:12px sans-serif;fill:#1d2733}.t{font-size:11px;fill:#5a6572}.h{font-size:15px;font-weight:bold}.m{text-anchor:middle}.e{text-anchor:end}'
+STYLE = ('text{font:12px sans-serif;fill:#1d2733}.t{font-size:11px;fill:#5a6572}.h{font-size:15px;font-weight:bold}'
+         '.m{text-anchor:middle}.e{text-anchor:end}'
          'path{fill:none}.g{stroke:%s}.u{stroke:%s;stroke-dasharray:4 3}.c0{stroke:%s;stroke-width:2}.c1{stroke:%s;stroke-width:4}'
          % (layout.GRID, layout.OUTLINE, *COLOURS))
 
