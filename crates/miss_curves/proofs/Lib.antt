@@ -1,4 +1,5 @@
 pub mod AllStacks
+pub mod DistinctTiles
 pub mod FollowedEntries
 pub mod StackLemmas
 pub mod Standing

@@ -1,5 +1,5 @@
 -- A stack of places, each of which has a tile or is a hole: the images of all capacities at once.
-use Rattle.std.specs.Prelude.{ℕ, ◌≡◌, ◌+◌, ◌-◌, ◌≤◌, Bool, false, if◌then◌else◌, List, [], ◌∷◌, length, take, map, sum, slice_index, slice_set, Option, Some, None, true, IfSome}
+use Rattle.std.specs.Prelude.{ℕ, ◌≡◌, ◌+◌, ◌-◌, ◌≤◌, Bool, false, if◌then◌else◌, List, [], ◌∷◌, length, take, map, sum, count_by, slice_index, slice_set, Option, Some, None, true, IfSome}
 use Rattle.std.specs.List.{position, All}
 use Rattle.pager_model.specs.declared.entry.Entry.{Entry}
 use Rattle.pager_model.specs.declared.tile.Mapping.{Mapping}
@@ -30,6 +30,22 @@ abbrev pub moved_down : Tile → Option Tile → List (Option Tile) → List (Op
 moved_down t carried [] = []
 moved_down t None (place ∷ places) = left_by t place ∷ moved_down t None places
 moved_down t (Some c) (place ∷ places) = Some c ∷ moved_down t (left_by t place) places
+
+-- the same where the tile was taken out before: what is carried goes to the first place, what stood there to the next one, and so on until a hole
+-- takes it
+abbrev pub shifted : Option Tile → List (Option Tile) → List (Option Tile)
+shifted None places = places
+shifted (Some c) [] = []
+shifted (Some c) (place ∷ places) = Some c ∷ shifted place places
+
+-- the row with a hole at a place, if there is one
+abbrev pub hole_at : Option ℕ → List (Option Tile) → List (Option Tile)
+hole_at None places = places
+hole_at (Some place) places = slice_set places place None
+
+-- no tile stands at two places
+abbrev pub AreDistinct : List (Option Tile) → Type 0
+AreDistinct places = (t : Tile) → count_by (is_at t) places ≤ 1
 
 -- the tiles of a row, in order
 abbrev pub tiles_in : List (Option Tile) → List Tile
@@ -80,10 +96,11 @@ kept_after test (Some use') kept =
       uses = kept.uses + 1;
     }
 
--- as many counts as places, and no more uses that found their tile than uses
+-- as many counts as places, no more uses that found their tile than uses, and each tile at one place at most
 pub record IsKept (kept : Kept) : Type 0 where
   pub long : length kept.found ≡ length kept.places
   pub within : sum kept.found ≤ kept.uses
+  pub distinct : AreDistinct kept.places
 
 -- a place that is a hole, or whose tile passes the test
 abbrev pub Passes : (Tile → Bool) → Option Tile → Type 0

@@ -1,6 +1,6 @@
 //! One row of places: the images of every capacity at once.
 
-ghost use Rattle.std.specs.Prelude.{◌≡◌, ◌≢◌, ℕ, ◌+◌, ◌-◌, ◌<◌, ◌≤◌, ◌^◌, [], ◌∷◌, List, Bool, true, false, Some, None, Option, length, map, replicate, sum, take, slice_index, IfOk, IfSome, IsSome};
+ghost use Rattle.std.specs.Prelude.{◌≡◌, ◌≢◌, ℕ, ◌+◌, ◌-◌, ◌<◌, ◌≤◌, ◌^◌, [], ◌∷◌, List, Bool, true, false, Some, None, Option, length, map, count_by, replicate, sum, take, slice_index, IfOk, IfSome, IsSome};
 ghost use Rattle.std.specs.Fn.{FnReturnsAt};
 ghost use Rattle.std.specs.List.{position, All};
 ghost use Rattle.pager_model.specs.declared.tile.Tile.{Tile};
@@ -9,7 +9,7 @@ ghost use Rattle.pager_model.specs.SizeSets.{SizeSet};
 ghost use Rattle.pager_model.specs.Tiles.{is_tile_in};
 ghost use Rattle.pager_model.specs.SpaceStates.{SpaceState, empty_state, space_after, pages_of, pages_after};
 ghost use Rattle.miss_curves.specs.Curves.{Follower, begun, follow, page_used};
-ghost use Rattle.miss_curves.specs.Stacks.{is_at, kept_at, moved_down, found_at, place_of, kept_after, missed_at, IsBlank, Stands, Passes, AnswersFor, Tells, TellsSame};
+ghost use Rattle.miss_curves.specs.Stacks.{is_at, kept_at, left_by, moved_down, hole_at, shifted, found_at, place_of, kept_after, missed_at, AreDistinct, IsBlank, Stands, Passes, AnswersFor, Tells, TellsSame};
 
 use pager_model::{NoMemory, Tile};
 use std::alloc::Global;
@@ -32,35 +32,56 @@ fn is_at(tile: &Tile, place: &Option<Tile>) -> bool
     }
 }
 
-/// What a place does as the row moves down: it takes what is carried and hands on what it had, and where nothing is carried, it stays. The
-/// tile itself goes from its earlier place.
-fn pass(tile: &Tile, carried: &mut Option<Tile>, place: &mut Option<Tile>)
-    ensures { (rest : List (Option Tile)) → moved_down tile.now carried.old (place.old ∷ rest) ≡ place.new ∷ moved_down tile.now carried.new rest }
+/// The tile goes to the first place, what stood there to the next one, and so on until a hole takes it.
+fn push_front(places: &mut [Option<Tile>], tile: Tile)
+    ensures { places.new ≡ shifted (Some tile) places.old }
 {
-    let here = if is_at(tile, place) { None } else { *place };
-    match *carried {
-        Some(_) => {
-            *place = *carried;
-            *carried = here;
+    let mut carried = tile;
+    for place in places.iter_mut() {
+        match place.replace(carried) {
+            Some(next) => carried = next,
+            None => return,
         }
-        None => *place = here,
     }
 }
 
-/// Brings the tile to the first place, and moves those before its earlier place down by one, up to the first hole.
-fn bring_to_front(places: &mut [Option<Tile>], tile: Tile)
-    ensures { places.new ≡ moved_down tile (Some tile) places.old }
+/// Makes a hole of a place, if there is one.
+fn make_hole(places: &mut [Option<Tile>], place: Option<usize>)
+    requires { IfSome place (λ p. p < length places.old) }
+    ensures { places.new ≡ hole_at place places.old }
 {
-    let mut carried = Some(tile);
-    for place in places.iter_mut() {
-        pass(&tile, &mut carried, place);
+    if let Some(place) = place {
+        places[place] = None;
+    }
+}
+
+/// Makes a hole of the one place where the tile stands, if it does.
+fn take_out(places: &mut [Option<Tile>], tile: &Tile)
+    requires distinct { AreDistinct places.old }
+    ensures { places.new ≡ map (left_by tile.now) places.old }
+{
+    let place = place_of(places, tile);
+    make_hole(places, place);
+}
+
+/// Takes out the tile of a use. Where it was the same before the use, it stands at the place that was found, and isn't searched for again.
+fn take_out_used(places: &mut [Option<Tile>], used: &Use, place: Option<usize>)
+    requires distinct { AreDistinct places.old }
+    requires found { place ≡ place_of used.now.before places.old }
+    ensures { places.new ≡ map (left_by used.now.after) places.old }
+{
+    if is_at(&used.after, &used.before) {
+        make_hole(places, place);
+    } else {
+        take_out(places, &used.after);
     }
 }
 
 /// Makes a hole of a place whose tile fails the test.
 fn keep<F: Fn(&Tile) -> bool>(place: &mut Option<Tile>, is_tile: &F)
     requires callable { F.IsAlwaysCallable is_tile.now }
-    ensures { (was test : Tile → Bool) → AnswersFor (FnReturnsAt F.Fn is_tile.now) was test → Passes was place.old → place.new ≡ kept_at test place.old }
+    ensures kept { (was test : Tile → Bool) → AnswersFor (FnReturnsAt F.Fn is_tile.now) was test → Passes was place.old → place.new ≡ kept_at test place.old }
+    ensures own { IfSome place.new (λ t. place.old ≡ Some t) }
 {
     if let Some(tile) = *place {
         if !is_tile(&tile) {
@@ -72,8 +93,9 @@ fn keep<F: Fn(&Tile) -> bool>(place: &mut Option<Tile>, is_tile: &F)
 /// Makes a hole of each place whose tile fails the test.
 fn retain<F: Fn(&Tile) -> bool>(places: &mut [Option<Tile>], is_tile: &F)
     requires callable { F.IsAlwaysCallable is_tile.now }
-    ensures { (was test : Tile → Bool) → AnswersFor (FnReturnsAt F.Fn is_tile.now) was test → All (Passes was) places.old
+    ensures kept { (was test : Tile → Bool) → AnswersFor (FnReturnsAt F.Fn is_tile.now) was test → All (Passes was) places.old
         → places.new ≡ map (kept_at test) places.old }
+    ensures fewer { (t : Tile) → count_by (is_at t) places.new ≤ count_by (is_at t) places.old }
 {
     for place in places.iter_mut() {
         keep(place, is_tile);
@@ -97,11 +119,46 @@ fn place_of_any(places: &[Option<Tile>], tile: Option<Tile>) -> Option<usize>
     }
 }
 
+/// What an entry that used a page does to a row: what is no tile any more leaves a hole, and the tile that was used comes to the front. Tells
+/// where its tile stood.
+fn follow_use<F: Fn(&Tile) -> bool>(
+    places: &mut [Option<Tile>],
+    is_tile: &F,
+    used: &Use,
+) -> Option<usize>
+    requires callable { F.IsAlwaysCallable is_tile.now }
+    requires distinct { AreDistinct places.old }
+    ensures found { result ≡ place_of used.now.before places.old }
+    ensures after { (was test : Tile → Bool) → AnswersFor (FnReturnsAt F.Fn is_tile.now) was test → All (Passes was) places.old
+        → places.new ≡ moved_down used.now.after (Some used.now.after) (map (kept_at test) places.old) }
+    ensures distinct { AreDistinct places.new }
+{
+    let place = place_of_any(places, used.before);
+    take_out_used(places, used, place);
+    retain(places, is_tile);
+    push_front(places, used.after);
+    place
+}
+
+/// The same of an entry after which every tile is one still.
+fn follow_use_same(places: &mut [Option<Tile>], used: &Use) -> Option<usize>
+    requires distinct { AreDistinct places.old }
+    ensures found { result ≡ place_of used.now.before places.old }
+    ensures after { places.new ≡ moved_down used.now.after (Some used.now.after) places.old }
+    ensures distinct { AreDistinct places.new }
+{
+    let place = place_of_any(places, used.before);
+    take_out_used(places, used, place);
+    push_front(places, used.after);
+    place
+}
+
 /// Counts a use that found its tile at a place, where it did.
 fn count(found: &mut [u64], place: Option<usize>)
     requires within { IfSome place (λ p. p < length found.old) }
     requires room { sum found.old < 2 ^ 64 - 1 }
-    ensures { found.new ≡ found_at place found.old }
+    ensures counted { found.new ≡ found_at place found.old }
+    ensures more { sum found.new ≤ sum found.old + 1 }
 {
     if let Some(place) = place {
         found[place] += 1;
@@ -151,9 +208,7 @@ impl Stack {
     {
         match used {
             Some(used) => {
-                let place = place_of_any(&self.places, used.before);
-                retain(&mut self.places, is_tile);
-                bring_to_front(&mut self.places, used.after);
+                let place = follow_use(&mut self.places, is_tile, &used);
                 count(&mut self.found, place);
                 self.uses += 1;
             }
@@ -195,8 +250,7 @@ impl Stack {
         ensures uses { self.new.uses ≤ self.old.uses + 1 }
     {
         if let Some(used) = used {
-            let place = place_of_any(&self.places, used.before);
-            bring_to_front(&mut self.places, used.after);
+            let place = follow_use_same(&mut self.places, &used);
             count(&mut self.found, place);
             self.uses += 1;
         } else {

@@ -1,5 +1,6 @@
 use Rattle.std.proofs.Common.{◌<◌, length, get_or, rules, arith, sym, ◌∙◌, subst}
 use Rattle.miss_curves.specs.Stacks.{kept_at, Passes}
+use Rattle.miss_curves.proofs.DistinctTiles.{count-set}
 use Rattle.miss_curves.proofs.StackLemmas.{map_more, same_drop, same_next}
 use Rattle.miss_curves.proofs.stack.retain.Goals as goal
 
@@ -12,5 +13,6 @@ loop-place-preserved g c =
           let first = same_drop c.loop-place.places c.args.places.now i c.place-item.result within c.loop-place.invariant.0 in
           let here : Passes was (get_or c.loop-place.places i c.place-item.result) = subst (Passes was) (sym first.1) (all i c.place-item.result first.0) in
           c.loop-place.invariant.1 was test told all
-          ∙ map_more (kept_at test) c.loop-place.places i c.place-item.result c.keep.new.place within (c.keep.ensures was test told (search rules) ∙ search rules),
+          ∙ map_more (kept_at test) c.loop-place.places i c.place-item.result c.keep.new.place within (c.keep.ensures.kept was test told (search rules) ∙ search rules),
+      λ t. omega (arith, c.loop-place.invariant.2 t, count-set t c.loop-place.places i c.place-item.result c.keep.new.place within c.keep.ensures.own),
     )

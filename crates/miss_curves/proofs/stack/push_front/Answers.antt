@@ -1,0 +1,10 @@
+use Rattle.std.proofs.Common.{◌<◌, length, rules, sym, ◌∙◌, arith}
+use Rattle.miss_curves.proofs.DistinctTiles.{shifted-stop}
+use Rattle.miss_curves.proofs.stack.push_front.Goals as goal
+
+pub returns-in-None : goal.returns-in-None
+returns-in-None c =
+    let row = c.loop-place.places in
+    let i = c.loop-place.place-index in
+    let within : i < length row = omega arith in
+    shifted-stop row i c.place-item.result c.loop-place.carried c.replace.new.self within (search rules) (search rules) ∙ sym c.loop-place.invariant
