@@ -120,9 +120,9 @@ pub record Tells (answers : Tile → Bool → Type 0) (z : SizeSet) (st : SpaceS
   pub tiles : AnswersFor answers (is_tile_in z (pages_of st)) (is_tile_in z (pages_after st e.frames e.what))
   pub used_page : IsUse z (pages_of st) (pages_after st e.frames e.what) (page_used e.processor e.what) used
 
--- the same of an entry that changes no page
+-- the same of an entry after which each tile is one still
 pub record TellsSame (z : SizeSet) (st : SpaceState) (e : Entry) (used : Option Use) : Type 0 where
-  pub pages : pages_after st e.frames e.what ≡ pages_of st
+  pub tiles : (t : Tile) → is_tile_in z (pages_of st) t ≡ true → is_tile_in z (pages_after st e.frames e.what) t ≡ true
   pub used_page : IsUse z (pages_of st) (pages_after st e.frames e.what) (page_used e.processor e.what) used
 
 -- a stack of so many places, which stands for the images of every space at its beginning

@@ -87,7 +87,8 @@ fn base_stays_in(space: &FollowedSpace, range: PageRange, tile: &Tile) -> bool
     !begins_in(tile, range) || space.is_base_tile(tile)
 }
 
-/// Tells of an entry that changed one page. Only a tile that went is none, and only that page's base page is asked about.
+/// Tells of an entry that changed one page. Where no tile went, nothing is asked about; else only a tile that went is none, and only that page's
+/// base page is asked about.
 fn tell_page(
     stacks: &mut Stacks,
     space: &FollowedSpace,
@@ -105,6 +106,10 @@ fn tell_page(
         → AreChanges old space.now.pages changes.now → Told g history entry.now old space.now.pages used used_base
         → StandAfter g stacks.old history → StandAfter g stacks.new (history ++ entry.now ∷ []) }
 {
+    if !changes.takes_any() {
+        stacks.follow_same(entry, used, used_base);
+        return;
+    }
     let gone = changes.gone();
     stacks.follow(
         entry,

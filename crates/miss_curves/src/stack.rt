@@ -229,7 +229,7 @@ impl Stack {
         self.step(is_tile, used)
     }
 
-    /// An entry of the space that changed no page: no tile goes, and none is looked at but the one that was used.
+    /// An entry of the space after which each tile is one still: none goes, and none is looked at but the one that was used.
     pub fn follow_same(&mut self, used: Option<Use>)
         requires room { self.old.uses < 2 ^ 64 - 1 }
         ensures places { length self.new.places ≡ length self.old.places }
