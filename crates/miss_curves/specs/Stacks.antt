@@ -24,8 +24,8 @@ abbrev pub kept_at : (Tile → Bool) → Option Tile → Option Tile
 kept_at test None = None
 kept_at test (Some t) = if test t then Some t else None
 
--- What is carried down a row of places, past the earlier place of the tile that was used: each place takes what comes and hands on what it
--- had, until a hole took it. Then nothing is carried, and the places stay but for the tile's earlier one, which becomes a hole.
+-- What is carried down a row of places: each place takes what comes and hands on what it had, but the used tile's earlier place hands on nothing,
+-- as a hole does, and there the moving ends. The places behind stay, but where the tile's earlier place is among them it becomes a hole.
 abbrev pub moved_down : Tile → Option Tile → List (Option Tile) → List (Option Tile)
 moved_down t carried [] = []
 moved_down t None (place ∷ places) = left_by t place ∷ moved_down t None places
