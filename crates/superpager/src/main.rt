@@ -1,5 +1,5 @@
-//! Replays a trace of memory calls and prints each answer, and the counts of the run; or makes a trace from a number, and prints it or the
-//! counts of its run.
+//! Replays a trace of memory calls and prints each answer and the counts of the run, or what is planned after it, or its miss curves; or makes a
+//! trace from a number, and prints it or the counts of its run.
 #![tactic(auto)]
 
 mod backing;
