@@ -8,6 +8,7 @@ mod large;
 mod made;
 mod plans;
 mod runs;
+mod short;
 mod slots;
 mod statuses;
 mod takings;

@@ -81,7 +81,9 @@ pub fn run<T: Source, K: Sink, S: Store + Send + Drop, R: Threads + Wait + Sync>
     ensures few_stores { CountsStores (length stores.items) result.refusal }
     ensures one_processor { (form : Asked) → AreWords words.now form → CountsProcessors form result.refusal }
 
-    // Words of a form, the text of a trace that the form is for, and stores enough give a run, unless there is no memory or a read or a write fails.
+    // Words of a form, the text of a trace that the form is for, and stores enough give a run, unless there is no memory or a read or a write fails:
+    // one that answers every call, and by `trace` no access is refused for frames while one could be had, nor while wired pages and processors are
+    // no more than these (`refusals`, `never_short` of `IsReplay`).
     ensures complete { (form : Asked) → AreWords words.now form → IsSomeAnd (T.left source.old) (IsRunnable form (length stores.items))
         → (Rose (T.faults source.old) (T.faults source.new) → ⊥)
         → (Rose (K.faults sink.old) (K.faults sink.new) → ⊥)

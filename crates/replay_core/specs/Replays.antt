@@ -25,9 +25,10 @@ NoneFailed spaces before after =
 
 -- What holds of the whole run of a trace over stores: its history is numbered, legal and shows the trace, and keeps the laws at each
 -- place; each reservation that was preempted was its list's oldest, each access that was refused for want of a frame could have none, and
--- where no store of a space failed each other answer is the flat memory's, or says that there was no memory; after it each frame is in
--- one role, none is claimed or held, and spaces and frames agree; and each space's store tells the copies of the flat memory, where it
--- tells any, and every other store is as it was.
+-- there is none while wired places and processors are no more than the frames; each answer is the flat memory's, or says that there was no
+-- frame or no memory, or that a store failed, and this only where a store of a space did; after it each frame is in one role, none is claimed
+-- or held, and spaces and frames agree; and the store of each space that told zero copies at the start tells those of the flat memory, and
+-- every store that no space uses is as it was.
 pub record IsReplay (plan : Plan) (before : List Stored) (history : List Numbered) (after : List Stored) : Type 0 where
   pub numbered : IsNumbered history
   pub legal : IsLegal (setting_over plan before) (entries_in history)
