@@ -5,9 +5,9 @@
 //! nodes below. An extent has a node exactly where a smaller one in it has a row. Pages are counted from 0 over all roots.
 #![tactic(auto)]
 
-ghost use Rattle.std.specs.Prelude.{suc, slice_index_or, ◌/◌, ◌%◌, ◌≡◌, [], length, ℕ, ◌+◌, ◌-◌, ◌*◌, ◌<◌, ◌≤◌, ◌^◌, true, Some, None, IfOk, is_some};
+ghost use Rattle.std.specs.Prelude.{suc, slice_index_or, ◌/◌, ◌%◌, ◌≡◌, [], length, ℕ, ◌+◌, ◌-◌, ◌*◌, ◌<◌, ◌≤◌, ◌^◌, true, Some, None, IfNone, IfOk, IfSome, MatchOption, is_some};
 ghost use Rattle.extent_tree.specs.Counts.{splits_with};
-ghost use Rattle.extent_tree.specs.Rows.{ChangesEight, ChangesOnly, SplitsAreRowsBelow, blank, is_split, row, spot_of};
+ghost use Rattle.extent_tree.specs.Rows.{ChangesEight, ChangesOnly, IsNextPageRow, NoPageRows, NoSplitRoots, SplitsAreRowsBelow, blank, is_split, row, spot_of};
 
 mod spot;
 mod store;
@@ -106,6 +106,20 @@ impl<V: Copy> ExtentTree<V> {
             Some(node) => self.store.eight(node, steps),
             None => &[],
         }
+    }
+
+    /// The lowest page from `from` on and before `end` that has a row of its own, as an extent of size 0.
+    ///
+    /// The walk goes from extent to extent, down into those that are split alone, and looks at each once. So it makes at most four looks
+    /// for each page that it goes over, and one for each 512 where nothing is below the roots.
+    pub fn next<L: Ledger>(&self, from: u32, end: u32, steps: &mut Steps<L>) -> Option<u32>
+        requires { end ≤ 512 * self.now.roots }
+        ensures some { IfSome result (IsNextPageRow self.now from end) }
+        ensures none { IfNone result (NoPageRows self.now from end) }
+        ensures cost { MatchOption result (steps.new ≤ steps.old + 4 * (end - from)) (λ page. steps.new ≤ steps.old + 4 * (page + 1 - from)) }
+        ensures roots { from ≤ end → NoSplitRoots self.now from end → steps.new + from / 512 ≤ steps.old + (end + 511) / 512 }
+    {
+        walk::next(&self.store, from / 512, 0, from, end, steps)
     }
 
     /// Gives the extent of a size round a page this value, whether it has a row or not.

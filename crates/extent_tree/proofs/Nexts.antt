@@ -1,0 +1,124 @@
+-- Extents beside each other, and what a walk over them passes.
+use Rattle.std.proofs.Common.{◌≡◌, ℕ, zero, suc, ◌+◌, ◌-◌, ◌*◌, ◌/◌, ◌%◌, ◌^◌, ◌<◌, ◌≤◌, ◌⊎◌, false, Some, None, is_some, inl, inr, sym, ap, ◌∙◌, add-one, arith}
+use Rattle.std.proofs.Math.Nat.{mul-le-mul_left}
+use Rattle.std.proofs.lemmas.Bool.{cases_lt, false≢true}
+use Rattle.pager_model.proofs.Options.{cases_Option}
+use Rattle.extent_tree.specs.Rows.{Arena, spot_at, number_at, part_at, place_of, spot_of, row, is_split}
+use Rattle.extent_tree.specs.Kept.{AreInOrder, IsTree}
+use Rattle.extent_tree.proofs.Places.{number_step, place_alike, place_down, root_place, spot_some}
+use Rattle.extent_tree.proofs.Splits.{splits_are_rows}
+
+-- how many pages there are from a page on in the extent of a height round it
+abbrev pub rest_at : ℕ → ℕ → ℕ
+rest_at height page = 8 ^ (3 - height) - page % 8 ^ (3 - height)
+
+pub rest_some : (height page : ℕ) → height ≤ 3 → 0 < rest_at height page
+rest_some zero page h = omega arith
+rest_some (suc zero) page h = omega arith
+rest_some (suc (suc zero)) page h = omega arith
+rest_some (suc (suc (suc zero))) page h = omega arith
+rest_some (suc (suc (suc (suc height)))) page h = absurd (omega arith)
+
+-- these are in it
+pub number_within : (height page other : ℕ) → height ≤ 3 → page ≤ other → other < page + rest_at height page → number_at height other ≡ number_at height page
+number_within zero page other h on before = omega arith
+number_within (suc zero) page other h on before = omega arith
+number_within (suc (suc zero)) page other h on before = omega arith
+number_within (suc (suc (suc zero))) page other h on before = omega arith
+number_within (suc (suc (suc (suc height)))) page other h on before = absurd (omega arith)
+
+-- and those behind them in the next ones
+pub number_behind : (height page other : ℕ) → height ≤ 3 → page + rest_at height page ≤ other → number_at height page + 1 + (number_at height other - number_at height (page + rest_at height page)) ≡ number_at height other
+number_behind zero page other h behind = omega arith
+number_behind (suc zero) page other h behind = omega arith
+number_behind (suc (suc zero)) page other h behind = omega arith
+number_behind (suc (suc (suc zero))) page other h behind = omega arith
+number_behind (suc (suc (suc (suc height)))) page other h behind = absurd (omega arith)
+
+-- a page's rest is the page
+pub page_alone : (height page other : ℕ) → height ≡ 3 → page ≤ other → other < page + rest_at height page → other ≡ page
+page_alone height page other last on before = omega (arith, ap (λ h. rest_at h page) last)
+
+number_up : (height page other : ℕ) → height ≤ 3 → page ≤ other → number_at height page ≤ number_at height other
+number_up zero page other h on = omega arith
+number_up (suc zero) page other h on = omega arith
+number_up (suc (suc zero)) page other h on = omega arith
+number_up (suc (suc (suc zero))) page other h on = omega arith
+number_up (suc (suc (suc (suc height)))) page other h on = absurd (omega arith)
+
+-- ---- places in order
+
+pub roots_in_order : {V : Type 0} (t : Arena V) (from end : ℕ) → end ≤ 512 * t.roots → AreInOrder t 0 (from / 512) from end
+roots_in_order t from end known page on before = root_place t page (omega arith) ∙ ap Some (omega arith)
+
+-- the place of the extent round the first page
+pub first_place : {V : Type 0} (t : Arena V) (height place from end : ℕ) → AreInOrder t height place from end → from < end → place_of t height from ≡ Some place
+first_place t height place from end order some = order from (omega arith) some ∙ ap Some (omega arith)
+
+-- the parts of that extent
+pub parts_in_order : {V : Type 0} (t : Arena V) (height place page stop node first : ℕ) → height < 3 → stop ≤ page + rest_at height page → place_of t height page ≡ Some place → (spot_at t place).node ≡ Some node → first ≡ t.roots + 8 * node + part_at (height + 1) page
+    → AreInOrder t (height + 1) first page stop
+parts_in_order t height place page stop node first low within at leads is other on before =
+    let same = number_within height page other (omega arith) on (omega arith) in
+    let up = number_up (suc height) page other (omega arith) on in
+    ap (λ h. place_of t h other) (add-one height)
+    ∙ (place_down t height other place node (place_alike t height other page (omega arith) same ∙ at) leads
+    ∙ ap Some (omega (arith, same, up, number_step height other low, number_step height page low, is, ap (λ h. part_at h page) (add-one height), ap (λ h. number_at h page) (add-one height), ap (λ h. number_at h other) (add-one height))))
+
+-- the extents behind it
+pub rest_in_order : {V : Type 0} (t : Arena V) (height place page stop end : ℕ) → height ≤ 3 → page ≤ stop → (stop < end → stop ≡ page + rest_at height page) → AreInOrder t height place page end → AreInOrder t height (place + 1) stop end
+rest_in_order t height place page stop end low forward full order other on before =
+    let whole = full (omega arith) in
+    order other (omega arith) before ∙ ap Some (omega (arith, number_behind height page other low (omega arith), ap (number_at height) whole))
+
+-- ---- rows of pages
+
+-- no page has a row in an extent that isn't split
+pub no_row_within : {V : Type 0} (t : Arena V) → IsTree t → (height place page other : ℕ) → height < 3 → place_of t height page ≡ Some place → (spot_at t place).node ≡ None → number_at height other ≡ number_at height page → row t 0 other ≡ None
+unfolding is_split
+no_row_within t tree height place page other low at bare same = elim (cases_Option (row t 0 other)) [
+  | inl none ↦ none
+  | inr some ↦
+      let split = (splits_are_rows t tree).above (3 - height) 0 other (omega arith) (omega arith) (ap is_some some.1) in
+      let back : 3 - (3 - height) ≡ height = omega arith in
+      let spot = spot_some t height other place (place_alike t height other page (omega arith) same ∙ at) in
+      absurd (false≢true (sym (ap (λ h. is_some (spot_of t h other).node) back ∙ (ap (λ s. is_some s.node) spot ∙ ap is_some bare)) ∙ split))
+]
+
+-- a page's row is the value at its place
+pub row_at : {V : Type 0} (t : Arena V) (page place : ℕ) → place_of t 3 page ≡ Some place → row t 0 page ≡ (spot_at t place).value
+unfolding row
+row_at t page place at = ap (λ s. s.value) (spot_some t 3 page place at)
+
+-- ---- looks
+
+-- a look more, and those at the parts
+pub looks_more : (height from page stop old had new : ℕ) → height ≤ 3 → from ≤ page → page < stop → had ≤ old + (4 - height) * (page - from) → new ≤ had + 1 + (4 - (height + 1)) * (stop - page) → new ≤ old + (4 - height) * (stop - from)
+looks_more zero from page stop old had new h on some so_far more = omega arith
+looks_more (suc zero) from page stop old had new h on some so_far more = omega arith
+looks_more (suc (suc zero)) from page stop old had new h on some so_far more = omega arith
+looks_more (suc (suc (suc zero))) from page stop old had new h on some so_far more = omega arith
+looks_more (suc (suc (suc (suc height)))) from page stop old had new h on some so_far more = absurd (omega arith)
+
+-- a root that isn't split has no node
+pub no_root_node : {V : Type 0} (t : Arena V) (height page place node : ℕ) → height ≡ 0 → place_of t height page ≡ Some place → (spot_at t place).node ≡ Some node → is_split t 3 page ≡ false → ⊥
+unfolding is_split
+no_root_node t height page place node root at leads bare =
+    let spot = spot_some t 0 page place (ap (λ h. place_of t h page) (sym root) ∙ at) in
+    false≢true (sym bare ∙ (ap (λ s. is_some s.node) spot ∙ ap is_some leads))
+
+-- those of a walk that has come to the end, or hasn't begun
+pub looks_all : (height from end page old new : ℕ) → (page ≤ end) ⊎ (page ≡ from) → new ≤ old + (4 - height) * (page - from) → new ≤ old + (4 - height) * (end - from)
+looks_all height from end page old new (inl within) cost =
+    let less : page - from ≤ end - from = omega arith in
+    omega (arith, cost, mul-le-mul_left (4 - height) less)
+looks_all height from end page old new (inr none) cost =
+    let nothing : page - from ≡ 0 = omega arith in
+    omega (arith, cost, ap (λ n. (4 - height) * n) nothing)
+
+-- a page leads to no node
+pub above_pages : {V : Type 0} (t : Arena V) → IsTree t → (height page place node : ℕ) → height ≤ 3 → place_of t height page ≡ Some place → (spot_at t place).node ≡ Some node → height < 3
+above_pages t tree height page place node small at leads = elim (cases_lt height 3) [
+  | inl less ↦ less
+  | inr last ↦ absurd (let none = tree.nodes.pages_whole page place (ap (λ h. place_of t h page) {x = 3} {y = height} (omega arith) ∙ at) in cc)
+]
