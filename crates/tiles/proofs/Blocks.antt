@@ -14,7 +14,7 @@ use Rattle.pager_model.specs.Tiles.{tile_of, begins_at, size_at, size_in, is_pro
 use Rattle.pager_model.proofs.CountLemmas.{weight}
 use Rattle.tiles.specs.declared.moves.Moves.{Moves}
 use Rattle.tiles.specs.Blocks.{ProtectsInBlock, ProtectsTo, OutsideSame, AreMovesOf, is_grown_at, begun_in, begun_at}
-use Rattle.tiles.specs.Resident.{NoneResident, Resident, mapping_at, frames_in, with_rights, Protects, AreMoves, begins_large}
+use Rattle.tiles.specs.Resident.{NoneResident, Resident, mapping_at, frames_in, with_rights, Maps, Protects, AreMoves, begins_large}
 use Rattle.tiles.specs.Touched.{IsInSpace, is_touched}
 use Rattle.tiles.proofs.Counting.{count, count-zero, count-suc, count-more, count-apart, count-none, count-same, count_pages-is, count_pages_most}
 use Rattle.tiles.proofs.Extents.{StartsBelow, starts_below}
@@ -33,6 +33,61 @@ outside_same block first len rights r s protects p apart =
     no_right : (a b : Bool) → b ≡ false → (a && b) ≡ false
     no_right true b h = h
     no_right false b h = refl
+
+protects_none : (b : Bool) (rights : Rights) → protected b rights None ≡ None
+protects_none true rights = refl
+protects_none false rights = refl
+
+right_alike : (a : Bool) (b c : Bool) → b ≡ c → (a && b) ≡ (a && c)
+right_alike a b c e = ap (λ x. a && x) e
+
+-- where no page is resident none has rights
+pub protects_bare : (first from end : ℕ) (rights : Rights) (r s : Resident) → from ≤ end → NoneResident (mapping_at s) from end → ProtectsTo first from rights r s → ProtectsTo first end rights r s
+protects_bare first from end rights r s on none so_far = record {
+  frames = so_far.frames;
+  at = λ p. elim (cases_lt p from) [
+    | inl before ↦ so_far.at p ∙ ap (λ b. protected b rights (mapping_at r p)) (right_alike (nat_le first p) (nat_lt p from) (nat_lt p end) (lt_alike p before))
+    | inr after ↦ elim (cases_lt p end) [
+      | inl within ↦
+          let bare : mapping_at r p ≡ None = sym (so_far.at p ∙ ap (λ b. protected b rights (mapping_at r p)) (right_past (nat_le first p) p from after)) ∙ none p after within in
+          none p after within ∙ sym (ap (λ m. protected (nat_le first p && nat_lt p end) rights m) bare ∙ protects_none (nat_le first p && nat_lt p end) rights)
+      | inr past ↦ so_far.at p ∙ ap (λ b. protected b rights (mapping_at r p)) (right_past (nat_le first p) p from after ∙ sym (right_past (nat_le first p) p end past))
+    ]
+  ];
+}
+  where
+    lt_alike : (p : ℕ) → p < from → nat_lt p from ≡ nat_lt p end
+    lt_alike p h = grind (arith, nat_tests)
+
+    right_past : (a : Bool) (m n : ℕ) → n ≤ m → (a && nat_lt m n) ≡ false
+    right_past true m n h = grind (arith, nat_tests)
+    right_past false m n h = refl
+
+-- one page more
+pub protects_one : (first page : ℕ) (rights : Rights) (r s t : Resident) → first ≤ page → ProtectsTo first page rights r s → Maps page (option_map (with_rights rights) (mapping_at s page)) s t → ProtectsTo first (page + 1) rights r t
+protects_one first page rights r s t on so_far maps = record {
+  frames = maps.frames ∙ so_far.frames;
+  at = λ p. elim (cases_eq p page) [
+    | inl here ↦
+        let was : mapping_at s page ≡ mapping_at r page = so_far.at page ∙ ap (λ b. protected b rights (mapping_at r page)) (right_past (nat_le first page) page page (omega arith)) in
+        let within : (nat_le first p && nat_lt p (page + 1)) ≡ true = grind (arith, nat_tests) in
+        maps.at p
+        ∙ (ap (λ (b : Bool). if b then option_map (with_rights rights) (mapping_at s page) else mapping_at s p) (eq-eqb p page here)
+        ∙ (ap (option_map (with_rights rights)) (was ∙ ap (mapping_at r) (sym here))
+        ∙ sym (ap (λ b. protected b rights (mapping_at r p)) within)))
+    | inr apart ↦
+        maps.at p
+        ∙ (ap (λ (b : Bool). if b then option_map (with_rights rights) (mapping_at s page) else mapping_at s p) (ne_eqb p page apart)
+        ∙ (so_far.at p ∙ ap (λ b. protected b rights (mapping_at r p)) (right_alike (nat_le first p) (nat_lt p page) (nat_lt p (page + 1)) (lt_more p page apart))))
+  ];
+}
+  where
+    right_past : (a : Bool) (m n : ℕ) → n ≤ m → (a && nat_lt m n) ≡ false
+    right_past true m n h = grind (arith, nat_tests)
+    right_past false m n h = refl
+
+    lt_more : (m n : ℕ) → m ≢ n → nat_lt m n ≡ nat_lt m (n + 1)
+    lt_more m n h = grind (arith, nat_tests)
 
 pub outside_part : (block from end : ℕ) (rights : Rights) (r s : Resident) → block * 512 ≤ from → end ≤ block * 512 + 512 → ProtectsTo from end rights r s → OutsideSame block (mapping_at r) (mapping_at s)
 outside_part block from end rights r s low high protects p apart =
@@ -364,13 +419,13 @@ sizes_other pages to counts so_far none = record {
   few = λ size low. omega (arith, so_far.few size low);
 }
 
--- no page of a block is resident
-pub sizes_bare : (pages : ℕ → Option Mapping) (to : ℕ) (counts : List ℕ) → CountsSizes pages to counts → to % 512 ≡ 0 → ((p : ℕ) → p / 512 ≡ to / 512 → pages p ≡ None) → CountsSizes pages (to + 512) counts
-sizes_bare pages to counts so_far begins none = record {
+-- no page is resident from one on and before another
+pub sizes_bare : (pages : ℕ → Option Mapping) (to end : ℕ) (counts : List ℕ) → CountsSizes pages to counts → to ≤ end → NoneResident pages to end → CountsSizes pages end counts
+sizes_bare pages to end counts so_far on none = record {
   long = so_far.long;
   at = λ size low.
-      let nothing = count-none (begins_tile pages size) to 512 (λ n from before. begins_by pages size n None (sym (ap (begun_in n) (tile_absent pages n (none n (omega arith)))))) in
-      omega (arith, so_far.at size low, count-apart (begins_tile pages size) 0 to 512 to (omega arith), nothing);
+      let nothing = count-none (begins_tile pages size) to (end - to) (λ n from before. begins_by pages size n None (sym (ap (begun_in n) (tile_absent pages n (none n from (omega arith)))))) in
+      omega (arith, so_far.at size low, ap (count (begins_tile pages size) 0) {x = end} {y = to + (end - to)} (omega arith), count-apart (begins_tile pages size) 0 to (end - to) to (omega arith), nothing);
   few = λ size low. omega (arith, so_far.few size low);
 }
 

@@ -1,16 +1,15 @@
 -- What becomes of the kept pages when one changes.
-use Rattle.std.proofs.Common.{◌≡◌, ◌≢◌, ℕ, ◌*◌, ◌/◌, ◌<◌, ◌≤◌, ◌||◌, Bool, false, if◌then◌else◌, eqb, Option, Some, None, option_map, is_some, refl, sym, ap, inl, inr, ◌∙◌, arith}
-use Rattle.std.specs.Option.{IfSome}
+use Rattle.std.proofs.Common.{◌≡◌, ◌≢◌, ℕ, ◌*◌, ◌<◌, ◌≤◌, ◌||◌, Bool, if◌then◌else◌, eqb, Option, Some, None, option_map, is_some, refl, sym, ap, inl, inr, ◌∙◌, arith}
+use Rattle.std.specs.Option.{IfNone, IfSome}
 use Rattle.std.proofs.lemmas.Bool.{cases_eq, false≢true, eq-eqb, ne_eqb}
 use Rattle.std.proofs.lemmas.Option.{none-some, same_Some}
-use Rattle.extent_tree.specs.Rows.{Arena, row, is_split, SplitsAreRowsBelow}
-use Rattle.extent_tree.proofs.Rows.{row_known, split_alike}
+use Rattle.extent_tree.specs.Rows.{Arena, row, IsNextPageRow, NoPageRows, SplitsAreRowsBelow}
+use Rattle.extent_tree.proofs.Rows.{row_known}
 use Rattle.pager_model.proofs.CountLemmas.{count-agree, count-none}
-use Rattle.pager_model.proofs.Options.{cases_Option}
 use Rattle.pager_model.specs.declared.tile.Mapping.{Mapping}
 use Rattle.pager_model.specs.Tiles.{tile_of}
 use Rattle.tiles.specs.Kept.{ArePages, AreRight, HasRoom, KeepsFrame, MayHave, head_of, pages_of, resident_with}
-use Rattle.tiles.specs.Resident.{Resident, mapping_at, frames_in, frame_of_page, Maps}
+use Rattle.tiles.specs.Resident.{Resident, mapping_at, frames_in, frame_of_page, IsNextResident, Maps, NoneResident}
 use Rattle.tiles.proofs.Heads.{empty_head}
 use Rattle.tiles.proofs.Numbering.{few_with}
 
@@ -129,9 +128,19 @@ fresh_kept r frames empty splits roots room same few = record {
     no_frame : (p n : ℕ) → frame_of_page r p ≡ Some n → ⊥
     no_frame p n at = none-some n (sym (ap (option_map (λ (m : Mapping). m.frame)) (mapping_at-is r p ∙ empty 0 p)) ∙ at)
 
--- no page of an extent that is not split is resident
-pub none_round : (r : Resident) → ArePages r → (page other : ℕ) → is_split r.rows 3 page ≡ false → other / 512 ≡ page / 512 → mapping_at r other ≡ None
-none_round r kept page other bare same = elim (cases_Option (row r.rows 0 other)) [
-  | inl none ↦ mapping_at-is r other ∙ none
-  | inr some ↦ absurd (false≢true (sym bare ∙ sym (split_alike r.rows 3 other page (omega arith) same) ∙ kept.has_room.splits.above 3 0 other (omega arith) (omega arith) (ap is_some some.1)))
-]
+-- ---- the next resident page
+
+pub next_row : (r : Resident) (from end : ℕ) (o : Option ℕ) → IfSome o (IsNextPageRow r.rows from end) → IfSome o (IsNextResident (mapping_at r) from end)
+unfolding mapping_at
+next_row r from end None next = tt
+next_row r from end (Some page) next = record {
+  from_on = next.from_on;
+  before_end = next.before_end;
+  resident = λ none. false≢true (sym (ap is_some none) ∙ next.has);
+  lowest = next.lowest;
+}
+
+pub no_next_row : (r : Resident) (from end : ℕ) (o : Option ℕ) → IfNone o (NoPageRows r.rows from end) → IfNone o (NoneResident (mapping_at r) from end)
+unfolding mapping_at
+no_next_row r from end None none = none
+no_next_row r from end (Some page) none = tt

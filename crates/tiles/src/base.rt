@@ -52,24 +52,13 @@ impl Base {
         self.pages.mapping(page)
     }
 
-    /// The lowest resident page from `from` on and before `end`. Blocks without a resident page are passed over.
+    /// The lowest resident page from `from` on and before `end`. Extents without a resident page are passed over.
     pub fn next_resident(&self, from: u32, end: u32) -> Option<u32>
         requires { end ≤ space_pages }
         ensures some { IfSome result (IsNextResident (mapping_at self.now) from end) }
         ensures none { IfNone result (NoneResident (mapping_at self.now) from end) }
     {
-        let mut page = from;
-        while page < end {
-            if !self.pages.has_any_round(page) {
-                page = (page / BLOCK + 1) * BLOCK;
-                continue;
-            }
-            if self.pages.mapping(page).is_some() {
-                return Some(page);
-            }
-            page += 1;
-        }
-        None
+        self.pages.next(from, end)
     }
 
     /// The size of a page's tile, and a page's where it isn't resident.
@@ -184,11 +173,14 @@ impl Base {
 
     /// The resident pages of a range have these rights.
     fn after_rights_of_all(&mut self, first: u32, end: u32, rights: Rights)
-        requires { first ≤ end }
+        requires range { first ≤ end }
+        requires in_space { end ≤ space_pages }
         ensures { ProtectsTo first end rights self.old self.new }
     {
-        for page in first..end {
+        let mut from = first;
+        while let Some(page) = self.next_resident(from, end) {
             self.after_rights_of_one(page, rights);
+            from = page + 1;
         }
     }
 
@@ -322,16 +314,12 @@ impl Base {
         ensures { result ≡ tiles_of_size (mapping_at self.now) 0 ∷ tiles_of_size (mapping_at self.now) 1 ∷ tiles_of_size (mapping_at self.now) 2 ∷ tiles_of_size (mapping_at self.now) 3 ∷ [] }
     {
         let mut counts = [0; 4];
-        let mut page = 0;
-        while page < PAGES {
-            if page % BLOCK == 0 && !self.pages.has_any_round(page) {
-                page += BLOCK;
-                continue;
-            }
+        let mut from = 0;
+        while let Some(page) = self.next_resident(from, PAGES) {
             if let Some(level) = self.begun(page) {
                 counts[level as usize] += 1;
             }
-            page += 1;
+            from = page + 1;
         }
         counts
     }

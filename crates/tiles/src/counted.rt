@@ -1,7 +1,7 @@
 //! The calls of the rows, each with a counter of steps of its own that begins at 0.
 
-ghost use Rattle.std.specs.Prelude.{◌≡◌, ℕ, ◌*◌, ◌<◌, ◌≤◌, ◌==◌, if◌then◌else◌};
-ghost use Rattle.extent_tree.specs.Rows.{is_split};
+ghost use Rattle.std.specs.Prelude.{◌≡◌, ℕ, ◌*◌, ◌<◌, ◌≤◌, ◌==◌, IfNone, IfSome, if◌then◌else◌};
+ghost use Rattle.extent_tree.specs.Rows.{IsNextPageRow, NoPageRows};
 ghost use Rattle.pager_model.specs.Tiles.{tile_of};
 ghost use Rattle.tiles.specs.Kept.{AreRight, HasRoom, pages_of, resident_with};
 
@@ -26,16 +26,22 @@ pub(crate) fn find<L: Ledger>(
         .value()
 }
 
-/// Whether a smaller extent in the extent of 512 pages round a page has a row.
-pub(crate) fn has_any<L: Ledger>(tree: &ExtentTree<Mapping>, page: u32, blank: Blank) -> bool
+/// The lowest page from one on and before an end that is resident.
+pub(crate) fn next<L: Ledger>(
+    tree: &ExtentTree<Mapping>,
+    from: u32,
+    end: u32,
+    blank: Blank,
+) -> Option<u32>
     requires name { blank.name ≡ L.name }
     requires parts { blank.parts ≡ L.parts }
     requires share { 0 < blank.parts }
-    ensures { result ≡ is_split tree.now 3 page }
+    requires end { end ≤ 512 * tree.now.roots }
+    ensures some { IfSome result (IsNextPageRow tree.now from end) }
+    ensures none { IfNone result (NoPageRows tree.now from end) }
 {
     let (book, share) = blank.open::<L>();
-    tree.at(Size::at_level(3), page, &mut Steps::begin(book, share))
-        .is_split()
+    tree.next(from, end, &mut Steps::begin(book, share))
 }
 
 /// The tile of a page, where it is resident.

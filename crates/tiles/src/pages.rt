@@ -1,11 +1,11 @@
 //! The resident pages of a space, and which extents of them are eligible.
 
-ghost use Rattle.std.specs.Prelude.{◌≡◌, ◌≢◌, ◌/◌, ◌<◌, ◌≤◌, ℕ, false, None, Some, IfOk, IfSome};
+ghost use Rattle.std.specs.Prelude.{◌≡◌, ◌≢◌, ◌<◌, ◌≤◌, ℕ, None, Some, IfNone, IfOk, IfSome};
 ghost use Rattle.pager_model.specs.Bounds.{most_frames, space_pages};
 ghost use Rattle.pager_model.specs.Tiles.{tile_of};
 ghost use Rattle.tiles.specs.Changes.{IsTurn};
 ghost use Rattle.tiles.specs.Kept.{KeepsFrame, MayHave};
-ghost use Rattle.tiles.specs.Resident.{mapping_at, frame_of_page, frames_in, Maps};
+ghost use Rattle.tiles.specs.Resident.{mapping_at, frame_of_page, frames_in, IsNextResident, Maps, NoneResident};
 
 use crate::counted;
 use crate::rows::Turn;
@@ -59,11 +59,13 @@ impl Pages {
         counted::find::<Brand>(&self.rows, page, Blank::new(1))
     }
 
-    /// Whether a page of the extent of 512 round a page is resident.
-    pub(crate) fn has_any_round(&self, page: u32) -> bool
-        ensures { result ≡ false → (other : ℕ) → other / 512 ≡ page / 512 → mapping_at self.now other ≡ None }
+    /// The lowest resident page from `from` on and before `end`.
+    pub(crate) fn next(&self, from: u32, end: u32) -> Option<u32>
+        requires { end ≤ space_pages }
+        ensures some { IfSome result (IsNextResident (mapping_at self.now) from end) }
+        ensures none { IfNone result (NoneResident (mapping_at self.now) from end) }
     {
-        counted::has_any::<Brand>(&self.rows, page, Blank::new(1))
+        counted::next::<Brand>(&self.rows, from, end, Blank::new(1))
     }
 
     /// The tile of a page, where it is resident.

@@ -1,4 +1,4 @@
-use Rattle.std.proofs.Common.{ap, sym, ◌∙◌, arith}
+use Rattle.std.proofs.Common.{sym, ◌∙◌, arith}
 use Rattle.std.proofs.lemmas.Bool.{ltb-false}
 use Rattle.tiles.proofs.PageChanges.{none_goes}
 use Rattle.tiles.proofs.changes.Changes.takes_any.Goals as goal
