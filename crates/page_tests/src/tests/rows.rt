@@ -147,6 +147,18 @@ impl Beside {
         spot.value() == self.value(&extent) && spot.is_split() == self.is_split(&extent)
     }
 
+    /// The lowest page from one on and before an end that has a row of its own in the list.
+    fn next(&self, from: u32, end: u32) -> Option<u32> {
+        let rows = self.rows.iter().filter(|row| row.extent.size.level() == 0);
+        let pages = rows.map(|row| row.extent.first);
+        pages.filter(|page| from <= *page && *page < end).min()
+    }
+
+    /// Whether the next page that has a row is the same in the tree and the list.
+    fn goes_on_alike<L: Ledger>(&self, from: u32, end: u32, steps: &mut Steps<L>) -> bool {
+        end > PAGES || self.tree.next(from, end, steps) == self.next(from, end)
+    }
+
     /// The tree and the list say the same of the extents round a page.
     fn compares<L: Ledger>(&self, rt: &impl Abort, page: u32, steps: &mut Steps<L>) {
         for level in 0..4 {
@@ -205,6 +217,11 @@ fn goes_through<L: Ledger>(
         change(both, value, pages, &mut random, steps)?;
         both.compares(rt, pages.0, steps);
         both.compares(rt, pages.1, steps);
+        let (from, end) = (pages.0, near(&mut random));
+        assert!(rt;
+            both.goes_on_alike(from, end, steps),
+            "from {from} to {end}"
+        );
     }
     Ok(())
 }
