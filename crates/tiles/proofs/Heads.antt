@@ -5,22 +5,22 @@ use Rattle.std.specs.List.{range_with_len, count_by}
 use Rattle.std.proofs.lemmas.Bool.{cases_Bool, cases_eq, cases_lt, eq-eqb, ne_eqb, or_left, or_right, false≢true}
 use Rattle.std.proofs.lemmas.Option.{none-some, same_Some}
 use Rattle.extent_tree.specs.declared.spot.Spot.{Spot}
-use Rattle.extent_tree.specs.Rows.{Arena, row, ChangesOnly, SplitsAreRowsBelow}
+use Rattle.extent_tree.specs.Rows.{Arena, row, spot_of, ChangesOnly, SplitsAreRowsBelow}
 use Rattle.extent_tree.specs.Counts.{splits_with}
 use Rattle.extent_tree.proofs.Counting.{count_le}
 use Rattle.extent_tree.proofs.Rooms.{RowsIn, room_for}
 use Rattle.extent_tree.proofs.Rows.{row_alike}
-use Rattle.pager_model.proofs.Options.{cases_Option}
+use Rattle.pager_model.proofs.Options.{cases_Option, some_from_is_some}
 use Rattle.pager_model.proofs.CountLemmas.{count-agree}
 use Rattle.pager_model.specs.declared.tile.Mapping.{Mapping}
 use Rattle.pager_model.specs.Extents.{extent_start}
 use Rattle.std.specs.Option.{option_or}
 use Rattle.pager_model.specs.declared.tile.Tile.{Tile}
-use Rattle.pager_model.specs.Tiles.{moved_by, tile_of, tile_with, eligible_at}
+use Rattle.pager_model.specs.Tiles.{moved_by, size_at, size_in, tile_of, tile_with, eligible_at}
 use Rattle.pager_model.proofs.ExtentLemmas.{first_of_extent}
 use Rattle.tiles.specs.Beside.{whole}
 use Rattle.tiles.proofs.Eligible.{HasExtent, GoesOn, whole_has, has_whole, whole_alike, whole_local, eight_join, whole_parts, eligible_is, whole_none, page_in, page_whole}
-use Rattle.tiles.specs.Kept.{AreHeads, AreRight, IsRightBut, HasRoom, resident_with, Joins, value_of, head_of, pages_of}
+use Rattle.tiles.specs.Kept.{AreHeads, AreRight, IsRightBut, HasRoom, resident_with, Joins, size_below, value_of, head_of, pages_of}
 
 -- a head is there exactly where the extent is eligible
 pub head_some : (pages : ℕ → Option Mapping) (k page : ℕ) (m : Mapping) → head_of pages k page ≡ Some m → (whole pages k page ≡ true) × (pages (extent_start k page) ≡ Some m)
@@ -396,3 +396,37 @@ module _ (t : Arena Mapping) (page : ℕ) (right : AreRight t) where
       ∙ (ap (λ a. first_of a (e 2) (e 1) (e 0)) (row_not t 3 page right (omega arith) none)
       ∙ (ap (λ a. first_of None a (e 1) (e 0)) (row_not t 2 page right (omega arith) none2)
       ∙ (ap (λ a. first_of None None a (e 0)) (row_not t 1 page right (omega arith) none1) ∙ ap (λ a. first_of None None None a) (row_not t 0 page right (omega arith) none0)))))
+
+-- ---- the size of a page's tile, by the rows
+
+size_large : (t : Arena Mapping) (page : ℕ) → AreRight t → (m : Mapping) → row t 3 page ≡ Some m → size_at (pages_of t) page ≡ 3
+size_large t page right m is = sym (ap size_in (large_tile t page right m is))
+
+size_page : (t : Arena Mapping) (page : ℕ) → AreRight t → row t 3 page ≡ None → row t 2 page ≡ None → row t 1 page ≡ None → size_at (pages_of t) page ≡ 0
+size_page t page right none none2 none1 = elim (cases_Option (row t 0 page)) [
+  | inl none0 ↦ sym (ap size_in (no_tile t page right none none2 none1 none0))
+  | inr some ↦ sym (ap size_in (base_tile t page right some.0 none none2 none1 some.1))
+]
+
+size_by : (t : Arena Mapping) (page : ℕ) → AreRight t → (middle small : Option Mapping) → row t 3 page ≡ None → row t 2 page ≡ middle → row t 1 page ≡ small → size_below middle small ≡ size_at (pages_of t) page
+size_by t page right (Some m) small none is is1 = ap size_in (middle_tile t page right m none is)
+size_by t page right None (Some m) none is is1 = ap size_in (small_tile t page right m none is is1)
+size_by t page right None None none is is1 = sym (size_page t page right none is is1)
+
+-- in a tile of 512 pages
+pub size_in_large : (t : Arena Mapping) (page other : ℕ) → AreRight t → is_some (row t 3 page) ≡ true → other / 512 ≡ page / 512 → size_at (pages_of t) other ≡ 3
+size_in_large t page other right has same =
+    let head = some_from_is_some (row t 3 page) has in
+    size_large t other right head.0 (row_alike t 3 other page (omega arith) same ∙ head.1)
+
+-- in an extent of 64 that lies in none
+pub size_in_middle : (t : Arena Mapping) (page i : ℕ) (middle small : Option Mapping) → AreRight t → row t 3 page ≡ None → i < 8 → middle ≡ row t 2 page → small ≡ row t 1 (page / 64 * 64 + 8 * i)
+    → size_below middle small ≡ size_at (pages_of t) (page / 64 * 64 + 8 * i)
+size_in_middle t page i middle small right none low is is1 =
+    let other = page / 64 * 64 + 8 * i in
+    size_by t other right middle small (row_alike t 3 other page (omega arith) (omega arith) ∙ none) (row_alike t 2 other page (omega arith) (omega arith) ∙ sym is) (sym is1)
+
+-- what is seen at an extent of 64 is its row
+pub middle_row : (t : Arena Mapping) (page : ℕ) (spot : Spot Mapping) → spot ≡ spot_of t 1 page → spot.value ≡ row t 2 page
+unfolding row
+middle_row t page spot is = ap (λ s. s.value) is

@@ -71,3 +71,10 @@ pub record KeepsFrame (page : ℕ) (given : Option Mapping) (pages : Resident) :
   pub before : Mapping
   pub is : mapping_at pages page ≡ Some before
   pub same : (m : Mapping) → given ≡ Some m → m.frame ≡ before.frame
+
+-- the size of the tile at the first of eight pages, from the row of the extent of 64 that they lie in and the row of theirs, where no larger
+-- extent is eligible
+abbrev pub size_below : Option Mapping → Option Mapping → ℕ
+size_below (Some m) part = 2
+size_below None (Some m) = 1
+size_below None None = 0

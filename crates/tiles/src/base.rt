@@ -190,11 +190,7 @@ impl Base {
         ensures sizes { AreSizesOfBlock block result (mapping_at self.now) }
         ensures small { (i : ℕ) → i < 64 → slice_index result i ≤ 3 }
     {
-        let mut sizes = [0; 64];
-        for i in 0..64 {
-            sizes[i] = self.size(block * BLOCK + 8 * i as u32).level();
-        }
-        sizes
+        self.pages.sizes_of_block(block)
     }
 
     /// The moves of a change within a block, before which its first of each eight pages had tiles of these sizes.
@@ -204,10 +200,11 @@ impl Base {
         ensures { (old : ℕ → Option Mapping) → AreSizesOfBlock block before.now old → OutsideSame block old (mapping_at self.now)
             → AreMovesOf old (mapping_at self.now) result }
     {
+        let after = self.sizes_of_block(block);
         let mut moves = Moves::NONE;
         for i in 0..64 {
             let page = block * BLOCK + 8 * i as u32;
-            moves = moves.and(Moves::at(page, before[i], self.size(page).level()));
+            moves = moves.and(Moves::at(page, before[i], after[i]));
         }
         Moves {
             touched: PageRange {

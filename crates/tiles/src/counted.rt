@@ -3,6 +3,7 @@
 ghost use Rattle.std.specs.Prelude.{◌≡◌, ℕ, ◌*◌, ◌<◌, ◌≤◌, ◌==◌, IfNone, IfSome, if◌then◌else◌};
 ghost use Rattle.extent_tree.specs.Rows.{IsNextPageRow, NoPageRows};
 ghost use Rattle.pager_model.specs.Tiles.{tile_of};
+ghost use Rattle.tiles.specs.Blocks.{AreSizesOfBlock};
 ghost use Rattle.tiles.specs.Kept.{AreRight, HasRoom, pages_of, resident_with};
 
 use crate::rows::{self, Turn};
@@ -58,6 +59,23 @@ pub(crate) fn tile_of<L: Ledger>(
 {
     let (book, share) = blank.open::<L>();
     rows::tile_of(tree, page, &mut Steps::begin(book, share))
+}
+
+/// The sizes of the tiles at the first of each eight pages of a block of 512.
+pub(crate) fn sizes_of_block<L: Ledger>(
+    tree: &ExtentTree<Mapping>,
+    block: u32,
+    blank: Blank,
+) -> [u8; 64]
+    requires name { blank.name ≡ L.name }
+    requires parts { blank.parts ≡ L.parts }
+    requires share { 0 < blank.parts }
+    requires right { AreRight tree.now }
+    requires block { block < 2048 }
+    ensures { AreSizesOfBlock block result (pages_of tree.now) }
+{
+    let (book, share) = blank.open::<L>();
+    rows::sizes_of_block(tree, block, &mut Steps::begin(book, share))
 }
 
 /// The page has this mapping, or none, and each extent of size 1 to 3 that is eligible then has its row. The page's tile before and after.

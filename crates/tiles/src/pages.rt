@@ -3,6 +3,7 @@
 ghost use Rattle.std.specs.Prelude.{◌≡◌, ◌≢◌, ◌<◌, ◌≤◌, ℕ, None, Some, IfNone, IfOk, IfSome};
 ghost use Rattle.pager_model.specs.Bounds.{most_frames, space_pages};
 ghost use Rattle.pager_model.specs.Tiles.{tile_of};
+ghost use Rattle.tiles.specs.Blocks.{AreSizesOfBlock};
 ghost use Rattle.tiles.specs.Changes.{IsTurn};
 ghost use Rattle.tiles.specs.Kept.{KeepsFrame, MayHave};
 ghost use Rattle.tiles.specs.Resident.{mapping_at, frame_of_page, frames_in, IsNextResident, Maps, NoneResident};
@@ -73,6 +74,14 @@ impl Pages {
         ensures { result ≡ tile_of (mapping_at self.now) page }
     {
         counted::tile_of::<Brand>(&self.rows, page, Blank::new(1))
+    }
+
+    /// The sizes of the tiles at the first of each eight pages of a block of 512.
+    pub(crate) fn sizes_of_block(&self, block: u32) -> [u8; 64]
+        requires { block < 2048 }
+        ensures { AreSizesOfBlock block result (mapping_at self.now) }
+    {
+        counted::sizes_of_block::<Brand>(&self.rows, block, Blank::new(1))
     }
 
     /// A page that isn't resident is, with this mapping; no other page has its frame. Its tile before and after.

@@ -1,13 +1,14 @@
 //! Which extents are eligible, as rows of one tree: each resident page's mapping is its row, and an extent of size 1 to 3 has its first
 //! page's mapping as its row where it is eligible.
 
-ghost use Rattle.std.specs.Prelude.{◌≡◌, ℕ, ◌+◌, ◌-◌, ◌*◌, ◌/◌, ◌%◌, ◌^◌, ◌<◌, ◌≤◌, ◌↔◌, Some, None, IsTrue, MatchOption, suc, ◌==◌, if◌then◌else◌};
+ghost use Rattle.std.specs.Prelude.{◌≡◌, ℕ, ◌+◌, ◌-◌, ◌*◌, ◌/◌, ◌%◌, ◌^◌, ◌<◌, ◌≤◌, ◌↔◌, ◌⊎◌, Some, None, IsTrue, MatchOption, suc, ◌==◌, if◌then◌else◌, slice_index};
 ghost use Rattle.extent_tree.specs.declared.spot.Spot.{Spot};
-ghost use Rattle.extent_tree.specs.Rows.{row};
+ghost use Rattle.extent_tree.specs.Rows.{row, spot_of};
 ghost use Rattle.pager_model.specs.Extents.{extent_start};
-ghost use Rattle.pager_model.specs.Tiles.{moved_by, tile_of, tile_with};
+ghost use Rattle.pager_model.specs.Tiles.{moved_by, size_at, tile_of, tile_with};
 ghost use Rattle.pager_model.specs.declared.tile.Mapping.{Mapping};
-ghost use Rattle.tiles.specs.Kept.{AreHeads, IsRightBut, HasRoom, AreRight, resident_with, Joins, value_of, head_of, pages_of};
+ghost use Rattle.tiles.specs.Kept.{AreHeads, IsRightBut, HasRoom, AreRight, resident_with, Joins, size_below, value_of, head_of, pages_of};
+ghost use Rattle.tiles.specs.Blocks.{AreSizesOfBlock};
 
 use extent_tree::{ExtentTree, Spot};
 use pager_model::{Extent, Mapping, Size, Steps, Tile};
@@ -240,4 +241,69 @@ pub(crate) fn tile_of<L: Ledger>(
     let base = tree.part(small, Size::at_level(0), page, steps);
     let head = base.value()?;
     Some(tile_round(Size::at_level(0), page, head))
+}
+
+/// The size of the tile at the first of eight pages, from the row of the extent of 64 that they lie in and the row of theirs, where no larger
+/// extent is eligible.
+fn size_below(middle: Option<Mapping>, small: Option<Mapping>) -> u8
+    ensures { result ≡ size_below middle small }
+{
+    match (middle, small) {
+        (Some(_), _) => 2,
+        (None, Some(_)) => 1,
+        (None, None) => 0,
+    }
+}
+
+/// Writes the sizes of the tiles at the first of each eight pages of an extent of 64, from what is at it, into the eight places from one on.
+fn write_sizes<L: Ledger>(
+    tree: &ExtentTree<Mapping>,
+    middle: Spot<Mapping>,
+    sizes: &mut [u8; 64],
+    first: usize,
+    steps: &mut Steps<L>,
+)
+    requires right { AreRight tree.now }
+    requires middle { (page : ℕ) × (middle ≡ spot_of tree.now 1 page) }
+    requires places { first + 8 ≤ 64 }
+    ensures sizes { (page i : ℕ) → middle ≡ spot_of tree.now 1 page → row tree.now 3 page ≡ None → i < 8
+        → slice_index sizes.new (first + i) ≡ size_at (pages_of tree.now) (page / 64 * 64 + 8 * i) }
+    ensures others { (i : ℕ) → (i < first ⊎ first + 8 ≤ i) → slice_index sizes.new i ≡ slice_index sizes.old i }
+    ensures cost { steps.new ≤ steps.old + 1 }
+{
+    let parts = tree.eight(middle, steps);
+    for part in 0..8 {
+        sizes[first + part] = size_below(middle.value(), value_of(parts, part));
+    }
+}
+
+/// The sizes where all tiles have one.
+fn uniform(size: u8) -> [u8; 64]
+    ensures { (i : ℕ) → i < 64 → slice_index result i ≡ size }
+{
+    [size; 64]
+}
+
+/// The sizes of the tiles at the first of each eight pages of a block of 512. What lies in a tile or has no resident page isn't looked at.
+pub(crate) fn sizes_of_block<L: Ledger>(
+    tree: &ExtentTree<Mapping>,
+    block: u32,
+    steps: &mut Steps<L>,
+) -> [u8; 64]
+    requires right { AreRight tree.now }
+    requires block { block < 2048 }
+    ensures sizes { AreSizesOfBlock block result (pages_of tree.now) }
+    ensures cost { steps.new ≤ steps.old + 17 }
+{
+    let large = tree.at(Size::at_level(3), block * 512, steps);
+    if large.value().is_some() {
+        return uniform(3);
+    }
+    let mut sizes = [0; 64];
+    for part in 0..8 {
+        let page = block * 512 + 64 * part;
+        let middle = tree.part(large, Size::at_level(2), page, steps);
+        write_sizes(tree, middle, &mut sizes, 8 * part as usize, steps);
+    }
+    sizes
 }

@@ -1,4 +1,4 @@
-use Rattle.std.proofs.Common.{◌+◌, ◌*◌, ◌∙◌, ◌≡◌, ℕ, refl, subst, slice_index, arith}
+use Rattle.std.proofs.Common.{◌+◌, ◌*◌, ◌≡◌, ℕ, refl, subst, slice_index, arith}
 use Rattle.tiles.specs.Blocks.{is_grown_at}
 use Rattle.tiles.specs.Resident.{mapping_at}
 use Rattle.tiles.proofs.Blocks.{CountsTo, counts_none, counts_more, counts_all, one_most}
@@ -14,12 +14,12 @@ loop-i-init c = record {
 
 pub loop-i-preserved : goal.loop-i-preserved
 loop-i-preserved c = record {
-  few_promotions = omega (arith, c.loop-i.invariant.few_promotions, c.and-moves.ensures.promotions, c.at.ensures.promotions, one_most (is_grown_at (c.args.block * 512 + 8 * c.loop-i.i) (slice_index c.args.before.now c.loop-i.i) c.level.result));
-  few_demotions = omega (arith, c.loop-i.invariant.few_demotions, c.and-moves.ensures.demotions, c.at.ensures.demotions, one_most (is_grown_at (c.args.block * 512 + 8 * c.loop-i.i) c.level.result (slice_index c.args.before.now c.loop-i.i)));
+  few_promotions = omega (arith, c.loop-i.invariant.few_promotions, c.and-moves.ensures.promotions, c.at.ensures.promotions, one_most (is_grown_at (c.args.block * 512 + 8 * c.loop-i.i) (slice_index c.args.before.now c.loop-i.i) (slice_index c.sizes_of_block-after.result c.loop-i.i)));
+  few_demotions = omega (arith, c.loop-i.invariant.few_demotions, c.and-moves.ensures.demotions, c.at.ensures.demotions, one_most (is_grown_at (c.args.block * 512 + 8 * c.loop-i.i) (slice_index c.sizes_of_block-after.result c.loop-i.i) (slice_index c.args.before.now c.loop-i.i)));
   in_space = c.and-moves.ensures.in_space;
   counts = λ old sizes.
-      counts_more c.args.block c.loop-i.i (slice_index c.args.before.now c.loop-i.i) c.level.result old (mapping_at c.args.self.now) c.loop-i.moves c.at.result c.and-moves.result (c.loop-i.invariant.counts old sizes)
-      (sizes c.loop-i.i c.loop-i-test.true) (c.level.ensures.level ∙ c.size.ensures) c.at.ensures.promotions c.at.ensures.demotions c.and-moves.ensures.promotions c.and-moves.ensures.demotions;
+      counts_more c.args.block c.loop-i.i (slice_index c.args.before.now c.loop-i.i) (slice_index c.sizes_of_block-after.result c.loop-i.i) old (mapping_at c.args.self.now) c.loop-i.moves c.at.result c.and-moves.result (c.loop-i.invariant.counts old sizes)
+      (sizes c.loop-i.i c.loop-i-test.true) (c.sizes_of_block-after.ensures.sizes c.loop-i.i c.loop-i-test.true) c.at.ensures.promotions c.at.ensures.demotions c.and-moves.ensures.promotions c.and-moves.ensures.demotions;
 }
 
 pub returns : goal.returns

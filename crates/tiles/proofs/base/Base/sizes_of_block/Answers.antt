@@ -5,5 +5,4 @@ use Rattle.tiles.proofs.base.Base.sizes_of_block.Goals as goal
 
 pub returns-clause-small : goal.returns-clause-small
 returns-clause-small c i low =
-    let past = c.loop-i-test.false in
-    omega (arith, c.loop-i.invariant.sizes i (omega arith), size_small (mapping_at c.args.self.now) (c.args.block * 512 + 8 * i))
+    omega (arith, c.sizes_of_block.ensures i low, size_small (mapping_at c.self.inside.pages) (c.args.block * 512 + 8 * i))
