@@ -16,9 +16,10 @@ use Rattle.tiles.specs.declared.moves.Moves.{Moves}
 use Rattle.tiles.specs.Blocks.{ProtectsInBlock, ProtectsTo, OutsideSame, AreMovesOf, is_grown_at, begun_in, begun_at}
 use Rattle.tiles.specs.Resident.{NoneResident, Resident, mapping_at, frames_in, with_rights, Maps, Protects, AreMoves, begins_large}
 use Rattle.tiles.specs.Touched.{IsInSpace, is_touched}
+use Rattle.tiles.proofs.Behind.{NoneBegins}
 use Rattle.tiles.proofs.Counting.{count, count-zero, count-suc, count-more, count-apart, count-none, count-same, count_pages-is, count_pages_most}
 use Rattle.tiles.proofs.Extents.{StartsBelow, starts_below}
-use Rattle.tiles.proofs.Largest.{size_small, none_size, tile_absent, tile_begins}
+use Rattle.tiles.proofs.Largest.{size_small, none_size, tile_begins}
 use Rattle.tiles.proofs.MoveCounts.{size_local, promoted_test, promoted_none, promotions_add, demotions_add, outside_block}
 
 -- ---- the pages that get rights
@@ -362,15 +363,15 @@ count_in_range f first len known = at 1048576 refl
 pub count_on : (f : ℕ → Bool) (first page : ℕ) → first ≤ page → count f first (page + 1 - first) ≡ count f first (page - first) + weight (f page)
 count_on f first page from = ap (count f first) {x = page + 1 - first} {y = page - first + 1} (omega arith) ∙ count-more f first (page - first) page (omega arith)
 
--- where no page is resident no tile begins
-pub count_bare : (pages : ℕ → Option Mapping) (first from end : ℕ) → first ≤ from → from ≤ end → NoneResident pages from end → count (begins_large pages) first (end - first) ≡ count (begins_large pages) first (from - first)
-count_bare pages first from end low high none =
+-- where no tile begins none is counted
+pub count_rest : (pages : ℕ → Option Mapping) (first from end : ℕ) → first ≤ from → from ≤ end → NoneBegins pages from end → count (begins_large pages) first (end - first) ≡ count (begins_large pages) first (from - first)
+count_rest pages first from end low high none =
     let f = begins_large pages in
     omega (
       arith,
       ap (count f first) {x = end - first} {y = from - first + (end - from)} (omega arith),
       count-apart f first (from - first) (end - from) from (omega arith),
-      count-none f from (end - from) (λ n on before. ap (λ t. begins_at n t && nat_lt 0 (size_in t)) (tile_absent pages n (none n on (omega arith)))),
+      count-none f from (end - from) (λ n on before. ap (λ b. b && nat_lt 0 (size_at pages n)) (none n on (omega arith))),
     )
 
 -- ---- the counts of all sizes
@@ -419,12 +420,12 @@ sizes_other pages to counts so_far none = record {
   few = λ size low. omega (arith, so_far.few size low);
 }
 
--- no page is resident from one on and before another
-pub sizes_bare : (pages : ℕ → Option Mapping) (to end : ℕ) (counts : List ℕ) → CountsSizes pages to counts → to ≤ end → NoneResident pages to end → CountsSizes pages end counts
-sizes_bare pages to end counts so_far on none = record {
+-- no tile begins from one page on and before another
+pub sizes_rest : (pages : ℕ → Option Mapping) (to end : ℕ) (counts : List ℕ) → CountsSizes pages to counts → to ≤ end → NoneBegins pages to end → CountsSizes pages end counts
+sizes_rest pages to end counts so_far on none = record {
   long = so_far.long;
   at = λ size low.
-      let nothing = count-none (begins_tile pages size) to (end - to) (λ n from before. begins_by pages size n None (sym (ap (begun_in n) (tile_absent pages n (none n from (omega arith)))))) in
+      let nothing = count-none (begins_tile pages size) to (end - to) (λ n from before. ap (λ b. b && eqb (size_at pages n) size) (none n from (omega arith))) in
       omega (arith, so_far.at size low, ap (count (begins_tile pages size) 0) {x = end} {y = to + (end - to)} (omega arith), count-apart (begins_tile pages size) 0 to (end - to) to (omega arith), nothing);
   few = λ size low. omega (arith, so_far.few size low);
 }

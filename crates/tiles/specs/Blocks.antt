@@ -3,6 +3,7 @@ use Rattle.std.specs.Prelude.{ℕ, ◌≡◌, ◌≢◌, ◌+◌, ◌*◌, ◌/�
 use Rattle.pager_model.specs.declared.region.Rights.{Rights}
 use Rattle.pager_model.specs.declared.tile.Mapping.{Mapping}
 use Rattle.pager_model.specs.declared.tile.Tile.{Tile}
+use Rattle.pager_model.specs.Extents.{extent_start}
 use Rattle.pager_model.specs.Regions.{in_range}
 use Rattle.pager_model.specs.Tiles.{tile_of, size_at, promotions_between, demotions_between}
 use Rattle.tiles.specs.declared.moves.Moves.{Moves}
@@ -48,3 +49,7 @@ begun_in page (Some t) = if t.extent.first == page then Some t.extent.size else 
 -- the size of the tile that begins at a page
 abbrev pub begun_at : (ℕ → Option Mapping) → ℕ → Option ℕ
 begun_at pages page = begun_in page (tile_of pages page)
+
+-- the first page behind a page's tile, and behind the page where it isn't resident
+abbrev pub behind : (ℕ → Option Mapping) → ℕ → ℕ
+behind pages page = extent_start (size_at pages page) page + 8 ^ size_at pages page

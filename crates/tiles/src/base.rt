@@ -6,7 +6,7 @@ ghost use Rattle.pager_model.specs.declared.tile.Mapping.{Mapping};
 ghost use Rattle.tiles.specs.Resident.{mapping_at, frames_in, frame_of_page, Maps, Protects, AreMoves, IsNextResident, NoneResident, with_flag, with_rights, begins_large, begins_before, large_tiles_begun, large_tiles_meeting};
 ghost use Rattle.tiles.specs.Changes.{AreChanges};
 ghost use Rattle.tiles.specs.Kept.{KeepsFrame};
-ghost use Rattle.tiles.specs.Blocks.{KeepsRights, ProtectsTo, ProtectsInBlock, AreSizesOfBlock, OutsideSame, AreMovesOf, begun_at};
+ghost use Rattle.tiles.specs.Blocks.{KeepsRights, ProtectsTo, ProtectsInBlock, AreSizesOfBlock, OutsideSame, AreMovesOf, begun_at, behind};
 ghost use Rattle.pager_model.specs.Bounds.{most_frames, space_pages};
 
 use crate::changes::Changes;
@@ -69,6 +69,15 @@ impl Base {
             Some(tile) => tile.extent.size,
             None => Size::at_level(0),
         }
+    }
+
+    /// The first page behind a page's tile, and behind the page where it isn't resident.
+    fn behind(&self, page: u32) -> u32
+        requires { page < space_pages }
+        ensures { result ≡ behind (mapping_at self.now) page }
+    {
+        let pages = self.size(page).pages();
+        page - page % pages + pages
     }
 
     /// The tile of a page, where it is resident.
@@ -154,7 +163,7 @@ impl Base {
             if self.has_other_rights(page, rights) {
                 return true;
             }
-            from = page + 1;
+            from = self.behind(page);
         }
         false
     }
@@ -287,13 +296,14 @@ impl Base {
         requires { first + length ≤ space_pages }
         ensures { result ≡ large_tiles_begun first length (mapping_at self.now) }
     {
+        let end = first + length;
         let mut count = 0;
         let mut from = first;
-        while let Some(page) = self.next_resident(from, first + length) {
+        while let Some(page) = self.next_resident(from, end) {
             if self.begins_large(page) {
                 count += 1;
             }
-            from = page + 1;
+            from = self.behind(page).min(end);
         }
         count
     }
@@ -316,7 +326,7 @@ impl Base {
             if let Some(level) = self.begun(page) {
                 counts[level as usize] += 1;
             }
-            from = page + 1;
+            from = self.behind(page).min(PAGES);
         }
         counts
     }
