@@ -17,7 +17,8 @@ use Rattle.followed_space.specs.Changed.{IsChange}
 use Rattle.followed_space.specs.Follows.{Follows, IsNext}
 use Rattle.followed_space.proofs.Keeping.{frame_in}
 use Rattle.followed_space.proofs.RegionCalls.{followed}
-use Rattle.followed_space.proofs.RegionSearch.{in_bounds, bounds_in, found_from}
+use Rattle.pager_model.proofs.Ranges.{in_bounds, bounds_in}
+use Rattle.region_table.proofs.RegionSearch.{found_from}
 use Rattle.tiles.specs.Cleared.{Clears}
 use Rattle.tiles.specs.Resident.{Maps, Resident, IsNextResident, NoneResident, mapping_at}
 use Rattle.tiles.specs.Touched.{is_touched}

@@ -1,6 +1,5 @@
 -- What the next entry of a legal history may be followed by.
 use Rattle.std.proofs.Common.{◌≡◌, ◌≢◌, ℕ, ◌<◌, Bool, false, ◌==◌, if◌then◌else◌, List, [], ◌∷◌, ◌++◌, length, Option, Some, None, refl, sym, ap, inl, inr, ◌∙◌, arith, subst}
-use Rattle.std.specs.Option.{IfSome}
 use Rattle.std.proofs.lemmas.Bool.{cases_lt, ne_eqb, eq-eqb, cond-true, cond-false, true≢false}
 use Rattle.std.proofs.lemmas.List.{get_or_past}
 use Rattle.std.proofs.lemmas.Option.{none-some, same_Some}
@@ -13,6 +12,7 @@ use Rattle.pager_model.specs.Options.{is_that}
 use Rattle.pager_model.specs.Settings.{Given}
 use Rattle.pager_model.specs.SpaceStates.{SpaceState, SpaceAllows, WhatAllowed, base_after, space_after}
 use Rattle.pager_model.proofs.Histories.{IsLegal-push, space_at-named}
+use Rattle.pager_model.proofs.Options.{in_some}
 use Rattle.pager_laws.proofs.CopyLaws.{KeepsCopies-legal}
 use Rattle.pager_laws.proofs.LegalHistories.{IsKept, IsKept-legal}
 use Rattle.pager_laws.proofs.LegalPrefixes.{IsLegal-at}
@@ -30,9 +30,6 @@ puts : (st : SpaceState) (b : Bool) (c : ℕ) (what : What) (page frame : ℕ) �
 puts st b c (Take p f want) page frame h allowed = subst (λ (x : ℕ × ℕ). Puts st b (Take p f want) x.0 x.1) (same_Some _ _ h) (record { absent = allowed.1; base = λ q. refl })
 puts st b c (UseHeld p f want) page frame h allowed = subst (λ (x : ℕ × ℕ). Puts st b (UseHeld p f want) x.0 x.1) (same_Some _ _ h) (record { absent = allowed.1; base = λ q. refl })
 puts st b c what page frame h allowed = cc
-
-in_some : {A : Type 0} (P : A → Type 0) (o : Option A) (x : A) → o ≡ Some x → IfSome o P → P x
-in_some P o x is h = subst (λ p. IfSome p P) is h
 
 -- a frame that is a used place is one of the frames
 known_frame : (g : Given) (history : List Entry) (s p frame : ℕ) → IsKept g history → frame_of (frames_at g history) s p ≡ Some frame → frame < g.frames

@@ -1,4 +1,3 @@
-pub mod RegionSearch
 pub mod Keeping
 pub mod FilledPages
 pub mod ServedCalls

@@ -19,7 +19,8 @@ use Rattle.region_table.specs.Table.{IsTable, region_of}
 use Rattle.page_rights.specs.Rights.{RightsTree, rights_of}
 use Rattle.followed_space.specs.Follows.{Followed, Follows, IsNext, Keeps, OwnInRegions, Serves, rights_by}
 use Rattle.followed_space.proofs.Keeping.{absent_base, absent_mapping, frame_in, mapping_same}
-use Rattle.followed_space.proofs.RegionSearch.{in_bounds, bounds_in, none_in, found_has, found_from, found_same, found_with, found_without, found_grown, grown}
+use Rattle.pager_model.proofs.Ranges.{in_bounds, bounds_in}
+use Rattle.region_table.proofs.RegionSearch.{none_in, found_has, found_from, found_same, found_with, found_without, found_grown, grown}
 use Rattle.followed_space.proofs.ServedCalls.{served}
 use Rattle.tiles.specs.Resident.{Resident, Protects, mapping_at, with_rights}
 

@@ -1,9 +1,17 @@
 -- The numbers of a range.
 use Rattle.std.proofs.Common.{◌≡◌, ◌<◌, ◌≤◌, ℕ, zero, suc, ◌+◌, Bool, true, false, [], ◌∷◌, ◌++◌, find, Some, ◌↔◌, inl, inr, refl, ap, sym, ◌∙◌, map-id, arith}
 use Rattle.std.specs.List.{range_with_len, list_all}
-use Rattle.std.proofs.lemmas.Bool.{cases_eq, cases_Bool, cond-true, cond-false, and_parts, and_from}
+use Rattle.std.proofs.lemmas.Bool.{cases_eq, cases_Bool, cond-true, cond-false, and_parts, and_from, leb-true, ltb-true, le-leb, lt-ltb}
 use Rattle.std.proofs.lemmas.List.FromFn.{map-range_with_len_more}
 use Rattle.std.proofs.lemmas.Option.{none-some, same_Some}
+use Rattle.pager_model.specs.Regions.{in_range}
+
+-- a page of a range is one from its first to before its end
+pub in_bounds : (first len p : ℕ) → in_range first len p ≡ true → (first ≤ p) × (p < first + len)
+in_bounds first len p h = let parts = and_parts _ _ h in (leb-true _ _ parts.0, ltb-true _ _ parts.1)
+
+pub bounds_in : (first len p : ℕ) → first ≤ p → p < first + len → in_range first len p ≡ true
+bounds_in first len p low high = and_from _ _ (le-leb first p low) (lt-ltb p (first + len) high)
 
 -- one number more from 0 on
 pub range_with_len-more : (n : ℕ) → range_with_len 0 (n + 1) ≡ range_with_len 0 n ++ n ∷ []

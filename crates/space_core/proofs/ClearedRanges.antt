@@ -26,7 +26,8 @@ use Rattle.pager_model.specs.CallEntries.{answer_entry, clear_entry}
 use Rattle.pager_model.specs.Stored.{Stored, copy_at, zero_words, DropsCopies}
 use Rattle.space_core.specs.Tables.{Table, mapping_in, frame_in, own_in, dirty_in}
 use Rattle.space_core.specs.Translating.{BeginsClear, counted_up}
-use Rattle.space_core.proofs.RegionSearch.{in_bounds, bounds_in, found_without}
+use Rattle.pager_model.proofs.Ranges.{in_bounds, bounds_in}
+use Rattle.region_table.proofs.RegionSearch.{found_without}
 use Rattle.space_core.proofs.ServedPages.{kept, AreMapped}
 use Rattle.space_core.proofs.TableLemmas.{dirty_in-absent, frame-same, dirty-same, frame-mapped, mapping-absent, maps_frame}
 use Rattle.space_core.proofs.Translations.{same_translates, stays, translates_cleared, pages_from, said_gone}

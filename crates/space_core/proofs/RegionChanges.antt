@@ -25,7 +25,8 @@ use Rattle.pager_model.specs.CallEntries.{answer_entry}
 use Rattle.pager_model.specs.Stored.{Stored}
 use Rattle.space_core.specs.Tables.{Table, mapping_in, frame_in, own_in}
 use Rattle.space_core.specs.Translating.{Retouches}
-use Rattle.space_core.proofs.RegionSearch.{in_bounds, bounds_in, none_in, found_has, found_from, found_same, found_with, found_grown, grown}
+use Rattle.pager_model.proofs.Ranges.{in_bounds, bounds_in}
+use Rattle.region_table.proofs.RegionSearch.{none_in, found_has, found_from, found_same, found_with, found_grown, grown}
 use Rattle.space_core.proofs.ServedPages.{kept, AreMapped, mapped_again}
 use Rattle.space_core.proofs.TableLemmas.{protects_frame, protects_dirty}
 use Rattle.space_core.proofs.Translations.{stays, retouches, pages_from}

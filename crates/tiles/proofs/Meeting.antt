@@ -9,6 +9,7 @@ use Rattle.pager_model.specs.Regions.{in_range}
 use Rattle.pager_model.specs.Tiles.{size_at, count_pages}
 use Rattle.pager_model.proofs.CountLemmas.{weight}
 use Rattle.pager_model.proofs.ExtentLemmas.{eight_pos, extent_of_frame, range_of_extent, first_of_extent}
+use Rattle.pager_model.proofs.Ranges.{in_bounds, bounds_in}
 use Rattle.tiles.specs.Resident.{begins_large, begins_before, large_tiles_begun, extent_meets, large_tiles_meeting}
 use Rattle.tiles.proofs.Blocks.{large_test}
 use Rattle.tiles.proofs.Counting.{count_pages-is, count-sum, count_pages_at, count_pages_none}
@@ -31,12 +32,6 @@ meets_if first len size page h =
 pub if_meets : (first len size page : ℕ) → Meets first len size page → extent_meets first len size page ≡ true
 if_meets first len size page m =
     and_from _ _ (lt-ltb 0 len m.some) (and_from _ _ (lt-ltb page (first + len) m.before_end) (lt-ltb first (page + 8 ^ size) m.past_first))
-
-in_bounds : (first len p : ℕ) → in_range first len p ≡ true → (first ≤ p) × (p < first + len)
-in_bounds first len p h = let parts = and_parts _ _ h in (leb-true _ _ parts.0, ltb-true _ _ parts.1)
-
-bounds_in : (first len p : ℕ) → first ≤ p → p < first + len → in_range first len p ≡ true
-bounds_in first len p low high = and_from _ _ (le-leb first p low) (lt-ltb p (first + len) high)
 
 -- a page that both have
 pub record HasCommon (first len size page : ℕ) : Type 0 where

@@ -1,5 +1,5 @@
 use Rattle.std.proofs.Common.{arith, sym}
-use Rattle.followed_space.proofs.RegionSearch.{found_page}
+use Rattle.region_table.proofs.RegionSearch.{found_page}
 use Rattle.followed_space.proofs.space.FollowedSpace.fill.Goals as goal
 
 pub rights-rights-requires : goal.rights-rights-requires

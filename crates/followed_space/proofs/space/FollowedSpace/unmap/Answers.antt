@@ -1,6 +1,6 @@
 use Rattle.std.proofs.Common.{arith}
 use Rattle.followed_space.proofs.RegionCalls.{unmap_owned, follows_unmapped}
-use Rattle.followed_space.proofs.RegionSearch.{found_page}
+use Rattle.region_table.proofs.RegionSearch.{found_page}
 use Rattle.followed_space.proofs.space.FollowedSpace.unmap.Goals as goal
 
 pub set-requires : goal.set-requires

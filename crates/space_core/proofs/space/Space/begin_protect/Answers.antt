@@ -5,7 +5,7 @@ use Rattle.pager_model.specs.declared.reply.Reply.TheVariants.{Done, Unmapped}
 use Rattle.pager_model.specs.Regions.{end_of, range_in, region_at}
 use Rattle.space_core.specs.Standing.{Kept}
 use Rattle.space_core.proofs.Refusals.{begins_refused}
-use Rattle.space_core.proofs.RegionSearch.{found_page}
+use Rattle.region_table.proofs.RegionSearch.{found_page}
 use Rattle.space_core.proofs.RegionChanges.{protect_own, protect_mapped, changed_kept, begins_protected}
 use Rattle.space_core.proofs.Translations.{retouched_by}
 use Rattle.space_core.proofs.space.Space.begin_protect.Goals as goal

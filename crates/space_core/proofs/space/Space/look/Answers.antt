@@ -2,7 +2,8 @@ use Rattle.std.proofs.Common.{◌≡◌, ◌∙◌, ap, sym, Some, None, arith}
 use Rattle.pager_model.specs.Regions.{region_at}
 use Rattle.space_core.specs.Standing.{Kept}
 use Rattle.space_core.proofs.Refusals.{begins_denied, begins_unmapped, denied_needs_none, unmapped_needs_none}
-use Rattle.space_core.proofs.RegionSearch.{found_page, next_above}
+use Rattle.region_table.proofs.RegionSearch.{found_page}
+use Rattle.space_core.proofs.RegionSearch.{next_above}
 use Rattle.space_core.proofs.space.Space.look.Goals as goal
 
 pub want_in-requires-clause-has_first : goal.want_in-requires-clause-has_first

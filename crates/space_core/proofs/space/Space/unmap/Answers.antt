@@ -4,7 +4,7 @@ use Rattle.pager_model.specs.declared.region.Region.{Region}
 use Rattle.space_core.specs.Standing.{Kept, range_of}
 use Rattle.space_core.proofs.ClearedRanges.{unmaps, unmap_own, unmap_mapped}
 use Rattle.space_core.proofs.RegionChanges.{changed_kept}
-use Rattle.space_core.proofs.RegionSearch.{found_page}
+use Rattle.region_table.proofs.RegionSearch.{found_page}
 use Rattle.space_core.proofs.space.Space.unmap.Goals as goal
 
 pub forget_rights-requires : goal.forget_rights-requires

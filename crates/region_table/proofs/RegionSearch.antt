@@ -1,18 +1,13 @@
 -- Which region has a page after a map, a growth and an unmap.
 use Rattle.std.proofs.Common.{◌≡◌, ℕ, ◌+◌, ◌<◌, ◌≤◌, Bool, true, false, if◌then◌else◌, List, [], ◌∷◌, Option, Some, None, refl, sym, ap, inl, inr, ◌∙◌, arith, not, subst}
 use Rattle.std.specs.List.{list_any}
-use Rattle.std.proofs.lemmas.Bool.{cases_Bool, cases_lt, cond-true, cond-false, and_parts, or_parts, ltb-true, leb-true, lt-ltb, le-ltb, le-leb, and_from, true≢false}
+use Rattle.std.proofs.lemmas.Bool.{cases_Bool, cases_lt, cond-true, cond-false, or_parts, lt-ltb, le-ltb, true≢false}
 use Rattle.std.proofs.lemmas.Option.{none-some, same_Some}
 use Rattle.pager_model.specs.declared.region.Region.{Region}
 use Rattle.pager_model.specs.Regions.{end_of, has_page, in_range, meets_range, region_at, with_region, without_region, grown_regions}
+use Rattle.pager_model.proofs.Ranges.{in_bounds, bounds_in}
 use Rattle.region_table.specs.Table.{LieFrom}
 use Rattle.region_table.proofs.TableLemmas.{apart_from_meets, has_page-end, has_page-first, LieFrom-within, find-none, without_region-none, grown_regions-none}
-
-pub in_bounds : (first len p : ℕ) → in_range first len p ≡ true → (first ≤ p) × (p < first + len)
-in_bounds first len p h = let parts = and_parts _ _ h in (leb-true _ _ parts.0, ltb-true _ _ parts.1)
-
-pub bounds_in : (first len p : ℕ) → first ≤ p → p < first + len → in_range first len p ≡ true
-bounds_in first len p a b = and_from _ _ (le-leb first p a) (lt-ltb p (first + len) b)
 
 -- a page of the range is none of a region that doesn't meet it
 no_common : (first len p : ℕ) (r : Region) → meets_range first len r ≡ false → in_range first len p ≡ true → has_page p r ≡ false
