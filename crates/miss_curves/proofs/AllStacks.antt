@@ -1,6 +1,5 @@
 -- The stacks of all spaces after an entry, and the sums of what they tell.
 use Rattle.std.proofs.Common.{◌≡◌, ◌≢◌, ℕ, zero, suc, ◌+◌, ◌<◌, ◌≤◌, true, false, List, [], ◌∷◌, ◌++◌, length, get_or, set, take, Option, Some, None, inl, inr, refl, sym, ap, ◌∙◌, subst, take_all, arith}
-use Rattle.std.specs.Option.{IfSome}
 use Rattle.std.specs.List.{All, sum_by, range_with_len}
 use Rattle.std.proofs.lemmas.Bool.{cases_eq, eq-eqb, ne_eqb}
 use Rattle.std.proofs.lemmas.List.{get_or-set_same, get_or-set_other, length-set}
@@ -112,10 +111,6 @@ AreStacks-blank n stacks same blank = record {
 -- stacks of no more entries than another number
 pub AreStacks-more : (n most entries : ℕ) (stacks : List Kept) → entries ≤ most → AreStacks n entries stacks → AreStacks n most stacks
 AreStacks-more n most entries stacks few are = record { spaces = are.spaces; places = are.places; uses = omega (arith, are.uses) }
-
--- what holds of an option's value
-pub in_some : (P : ℕ → Type 0) (o : Option ℕ) (s : ℕ) → o ≡ Some s → IfSome o P → P s
-in_some P o s is holds = subst (λ p. IfSome p P) is holds
 
 -- Sums.
 

@@ -21,6 +21,7 @@ use Rattle.pager_model.specs.SpaceStates.{SpaceState, WhatAllowed, pages_after, 
 use Rattle.pager_model.specs.Tiles.{tile_in, tile_of, tile_with}
 use Rattle.pager_model.specs.TraceText.{HasText}
 use Rattle.pager_model.proofs.Histories.{IsLegal-push, space_at-named, space_at-other}
+use Rattle.pager_model.proofs.Options.{in_some}
 use Rattle.pager_laws.proofs.LegalPrefixes.{IsLegal-at}
 use Rattle.followed_space.specs.Follows.{Followed, Follows, IsNext}
 use Rattle.followed_space.proofs.AnsweredLines.{AnswersLine-run, processor-run}
@@ -33,7 +34,6 @@ use Rattle.miss_curves.specs.Curves.{AnswersAlone, base_alone, is_answer, page_u
 use Rattle.miss_curves.specs.Histories.{Comes, EachComes, FollowEach, IsNew, IsRunOf, KeepsUp, Told, use_of}
 use Rattle.miss_curves.specs.Rows.{Rows, StandAfter}
 use Rattle.miss_curves.specs.Stacks.{IsUse}
-use Rattle.miss_curves.proofs.AllStacks.{in_some}
 use Rattle.miss_curves.proofs.Usual.{sizes-of}
 
 -- The page that was used.

@@ -21,9 +21,10 @@ use Rattle.pager_model.specs.Options.{is_that}
 use Rattle.pager_model.specs.Settings.{Given, is_told, faults_at_entry}
 use Rattle.pager_model.specs.SpaceStates.{SpaceState, empty_state, SpaceAllows, AnswerAllowed, WhatAllowed, pages_of, pages_after, served_page, space_after, tile_at, used_tile}
 use Rattle.pager_model.proofs.Histories.{IsLegal-keeps, space_at-named, space_at-other}
+use Rattle.pager_model.proofs.Options.{in_some}
 use Rattle.pager_model.proofs.Ranges.{range_with_len-more}
 use Rattle.miss_curves.specs.Curves.{Follower, follow, followed, image_after, missed, misses, page_used, used_in, AnswersAlone, is_answer}
-use Rattle.miss_curves.proofs.AllStacks.{followed-named, followed-other, in_some}
+use Rattle.miss_curves.proofs.AllStacks.{followed-named, followed-other}
 
 abbrev weight : Bool → ℕ
 weight b = cond b 1 0

@@ -1,9 +1,10 @@
 use Rattle.std.proofs.Common.{rules, subst, sym}
 use Rattle.pager_model.specs.Legal.{space_at}
 use Rattle.pager_model.specs.Entries.{space_part}
+use Rattle.pager_model.proofs.Options.{in_some}
 use Rattle.miss_curves.specs.Curves.{base_alone, followed}
 use Rattle.miss_curves.specs.Rows.{StandAfter}
-use Rattle.miss_curves.proofs.AllStacks.{StandEach-followed, StandEach-none, in_some}
+use Rattle.miss_curves.proofs.AllStacks.{StandEach-followed, StandEach-none}
 use Rattle.miss_curves.proofs.stacks.Stacks.follow_same.Goals as goal
 
 pub returns-in-Some-clause-stands : goal.returns-in-Some-clause-stands
