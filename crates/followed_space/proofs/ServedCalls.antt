@@ -1,6 +1,6 @@
 -- What an answer did to what is followed, where it is lawful, and where it isn't.
 use Rattle.std.proofs.Common.{◌≡◌, ℕ, Bool, true, false, ◌&&◌, ◌==◌, if◌then◌else◌, List, [], ◌∷◌, Option, Some, None, is_some, option_map, not, refl, sym, ap, inl, inr, ◌∙◌, subst}
-use Rattle.std.proofs.lemmas.Bool.{cases_Bool, ne_eqb, eq-eqb, cond-true, cond-false}
+use Rattle.std.proofs.lemmas.Bool.{cases_Bool, ne_eqb, eq-eqb, cond-true, cond-false, true≢false}
 use Rattle.std.proofs.lemmas.Option.{none-some}
 use Rattle.pager_model.specs.declared.call.Call.{Call}
 use Rattle.pager_model.specs.declared.call.Call.TheVariants.{Map, Grow, Unmap, Protect, Load, Store, Sync, Evict}
@@ -12,7 +12,8 @@ use Rattle.pager_model.specs.Flat.{Flat, after_call, reply_of, is_lawful, page_o
 use Rattle.pager_model.specs.Regions.{has_page, region_at, range_in, without_region, unmap_reply_at}
 use Rattle.pager_model.specs.SpaceStates.{SpaceState, HasItsPages, IsWord, ReplyAllowed, answered_flat, base_after, base_after_answer, flat_after, space_after}
 use Rattle.pager_model.specs.Tiles.{mapping_with}
-use Rattle.pager_model.proofs.SpaceEntries.{base-unnamed, frees-unlawful}
+use Rattle.pager_laws.proofs.CopyLaws.{answer_is, answered_same, same_base, unlawful}
+use Rattle.pager_laws.proofs.FlatRefusals.{Unmoved, after_refusal}
 use Rattle.followed_space.specs.Follows.{AnswersBy, Followed, Follows, IsNext, Keeps, MapsOne, Serves}
 use Rattle.followed_space.proofs.Keeping.{keeps_one, keeps_flag, keeps_same}
 use Rattle.tiles.specs.Resident.{mapping_at, with_flag}
@@ -24,81 +25,24 @@ pub record Served (st : SpaceState) (e : Entry) (call : Call) : Type 0 where
   pub pages : HasItsPages st e.processor call
   pub base : (p : ℕ) → base_after st.base e.frames e.what p ≡ base_after_answer st.base e.frames call p
 
-record IsServed (st : SpaceState) (c : ℕ) (call : Call) (reply : Reply) : Type 0 where
-  flat : answered_flat st.flat call reply ≡ after_call st.flat call
-  asked : is_lawful (reply_of st.flat call) ≡ true
-  pages : HasItsPages st c call
-
-word_lawful : (told : Bool) (asked : Reply) (tied : Option ℕ) (word : ℕ) → IsWord told asked tied word → is_lawful asked ≡ true
-word_lawful true asked tied word is = ap is_lawful is
-word_lawful false asked tied word is = ap is_lawful is.0.1
-
-lawful_served : (st : SpaceState) (c : ℕ) (call : Call) (reply : Reply) → is_lawful reply ≡ true → ReplyAllowed st c call reply → IsServed st c call reply
-lawful_served st c call Done h allowed = record { flat = refl; asked = ap is_lawful allowed.0; pages = allowed.1 refl }
-lawful_served st c call (Value word) h allowed = record { flat = refl; asked = word_lawful _ _ _ word allowed.0; pages = allowed.1 refl }
-lawful_served st c call Clean h allowed = record { flat = refl; asked = ap is_lawful allowed.0; pages = allowed.1 refl }
-lawful_served st c call Written h allowed = record { flat = refl; asked = ap is_lawful allowed.0; pages = allowed.1 refl }
-lawful_served st c call reply h allowed = cc
-
 pub served : (kept : Followed) (st : SpaceState) (e : Entry) (call : Call) → Serves e call → IsNext kept st e → Served st e call
 served kept st e call by next =
     let allowed = rw by.is at next.allowed.1 in
-    let is = lawful_served st e.processor call by.answered.reply by.lawful allowed.reply in
-    record { flat = rw by.is is.flat; asked = is.asked; pages = is.pages; base = rw by.is (λ p. refl) }
+    elim (answer_is st e.processor call by.answered.reply allowed.reply) [
+      | inl without ↦ absurd (true≢false (sym by.lawful ∙ unlawful by.answered.reply without))
+      | inr is ↦ record { flat = rw by.is is.does; asked = sym is.lawful ∙ by.lawful; pages = is.pages by.lawful; base = rw by.is (λ p. refl) }
+    ]
 
 -- A refusal, and an answer for want of a frame, of a store or of memory, changes nothing.
 
--- what is followed of flat memory is the same
-record Unmoved (f g : Flat) : Type 0 where
-  regions : g.regions ≡ f.regions
-  rights : (p : ℕ) → g.rights p ≡ f.rights p
-  dirty : (p : ℕ) → g.dirty p ≡ f.dirty p
-
--- no region has the page, so none goes
-without-none : (page : ℕ) (rs : List Region) → region_at rs page ≡ None → without_region page rs ≡ rs
-without-none page [] h = refl
-without-none page (r ∷ rs) h =
-    elim (cases_Bool (has_page page r)) [
-      | inl has ↦ absurd (none-some r (sym h ∙ cond-true _ _ _ has))
-      | inr hasnt ↦ cond-true _ _ _ (ap not hasnt) ∙ ap (λ xs. r ∷ xs) (without-none page rs (sym (cond-false _ _ _ hasnt) ∙ h))
+still : (st : SpaceState) (c : ℕ) (call : Call) (r : Reply) → is_lawful r ≡ false → ReplyAllowed st c call r → Unmoved st.flat (answered_flat st.flat call r)
+still st c call r h allowed =
+    elim (answer_is st c call r allowed) [
+      | inl without ↦
+          subst (Unmoved st.flat) (sym (answered_same st.flat call r without))
+          (record { regions = refl; rights = λ p. refl; words = λ p i. refl; copies = λ p. refl; dirty = λ p. refl })
+      | inr is ↦ subst (Unmoved st.flat) (sym is.does) (after_refusal st.flat call (sym is.lawful ∙ h))
     ]
-
-unmapped-none : (o : Option Region) → is_lawful (unmap_reply_at o) ≡ false → o ≡ None
-unmapped-none None h = refl
-unmapped-none (Some r) h = cc
-
-range_refused : (b : Bool) → is_lawful (if b then Done else Unmapped) ≡ false → b ≡ false
-range_refused true h = cc
-range_refused false h = refl
-
-after_refusal : (f : Flat) (call : Call) → is_lawful (reply_of f call) ≡ false → Unmoved f (after_call f call)
-after_refusal f (Map space page len kind rights) h = record { regions = cond-false _ _ _ h; rights = λ p. rw h refl; dirty = λ p. refl }
-after_refusal f (Grow space page by) h = record { regions = cond-false _ _ _ h; rights = λ p. cond-false _ _ _ h; dirty = λ p. refl }
-after_refusal f (Unmap space page) h =
-    let none = unmapped-none (region_at f.regions page) h in
-    record { regions = without-none page f.regions none; rights = λ p. refl; dirty = λ p. rw none refl }
-after_refusal f (Protect space page len rights) h =
-    let out = range_refused (range_in page len (region_at f.regions page)) h in
-    record { regions = refl; rights = λ p. rw out refl; dirty = λ p. refl }
-after_refusal f (Load space address) h = record { regions = refl; rights = λ p. refl; dirty = λ p. refl }
-after_refusal f (Store space address word) h = record { regions = refl; rights = λ p. refl; dirty = λ p. rw h refl }
-after_refusal f (Sync space page) h = record { regions = refl; rights = λ p. refl; dirty = λ p. rw h refl }
-after_refusal f (Evict space page) h = record { regions = refl; rights = λ p. refl; dirty = λ p. rw h refl }
-
-refused_by : (f : Flat) (call : Call) (r : Reply) → is_lawful r ≡ false → reply_of f call ≡ r → Unmoved f (after_call f call)
-refused_by f call r h e = after_refusal f call (ap is_lawful e ∙ h)
-
-unlawful : (st : SpaceState) (c : ℕ) (call : Call) (r : Reply) → is_lawful r ≡ false → ReplyAllowed st c call r → Unmoved st.flat (answered_flat st.flat call r)
-unlawful st c call Unmapped h allowed = refused_by st.flat call Unmapped refl allowed.0
-unlawful st c call Denied h allowed = refused_by st.flat call Denied refl allowed.0
-unlawful st c call Overlap h allowed = refused_by st.flat call Overlap refl allowed.0
-unlawful st c call OutOfSpace h allowed = refused_by st.flat call OutOfSpace refl allowed.0
-unlawful st c call NotGrowing h allowed = refused_by st.flat call NotGrowing refl allowed.0
-unlawful st c call RegionsFull h allowed = refused_by st.flat call RegionsFull refl allowed.0
-unlawful st c call (NoFrames wired claimed held) h allowed = record { regions = refl; rights = λ p. refl; dirty = λ p. refl }
-unlawful st c call (StoreFault space count) h allowed = record { regions = refl; rights = λ p. refl; dirty = λ p. refl }
-unlawful st c call NoMemory h allowed = record { regions = refl; rights = λ p. refl; dirty = λ p. refl }
-unlawful st c call r h allowed = cc
 
 pub follows_refused : (kept : Followed) (call : Call) (reply : Reply) → is_lawful reply ≡ false
     → (st : SpaceState) (e : Entry) → AnswersBy e call reply → IsNext kept st e → Follows kept (space_after st e)
@@ -106,10 +50,9 @@ follows_refused kept call reply not_lawful st e by next =
     let allowed = rw by.is at next.allowed.1 in
     let r = by.answered.reply in
     let h : is_lawful r ≡ false = ap is_lawful by.reply_is ∙ not_lawful in
-    let same = unlawful st e.processor call r h allowed.reply in
-    let frames : e.frames ≡ false = allowed.parts ∙ sym (frees-unlawful st call r h) in
+    let same = still st e.processor call r h allowed.reply in
     rw by.is (keeps_same kept st.flat (answered_flat st.flat call r) st.base (base_after_answer st.base e.frames call) next.follows same.regions same.rights same.dirty
-    (λ p. rw frames (base-unnamed st.base call p)))
+    (same_base st e.frames call r h allowed.parts))
 
 -- Lawful answers of pages.
 

@@ -101,33 +101,33 @@ goes_cleared st c p (Some r) is was = subst (λ n. WasCleared n p) is.next was
 -- Answers.
 
 -- an answer without service is no lawful reply, and leaves the flat memory
-unlawful : (reply : Reply) → IsWithoutService reply → is_lawful reply ≡ false
+pub unlawful : (reply : Reply) → IsWithoutService reply → is_lawful reply ≡ false
 unlawful (NoFrames wired claimed held) is = refl
 unlawful (StoreFault space count) is = refl
 unlawful NoMemory is = refl
 unlawful reply is = absurd is
 
-answered_same : (f : Flat) (call : Call) (reply : Reply) → IsWithoutService reply → answered_flat f call reply ≡ f
+pub answered_same : (f : Flat) (call : Call) (reply : Reply) → IsWithoutService reply → answered_flat f call reply ≡ f
 answered_same f call (NoFrames wired claimed held) is = refl
 answered_same f call (StoreFault space count) is = refl
 answered_same f call NoMemory is = refl
 answered_same f call reply is = absurd is
 
 -- and every page its frame
-same_base : (st : SpaceState) (frames : Bool) (call : Call) (reply : Reply) → is_lawful reply ≡ false → frames ≡ frees_its_page st call reply → (p : ℕ) → base_after_answer st.base frames call p ≡ st.base p
+pub same_base : (st : SpaceState) (frames : Bool) (call : Call) (reply : Reply) → is_lawful reply ≡ false → frames ≡ frees_its_page st call reply → (p : ℕ) → base_after_answer st.base frames call p ≡ st.base p
 same_base st frames call reply none parts p = ap (λ b. base_after_answer st.base b call p) (parts ∙ sym (frees-unlawful st call reply none)) ∙ base-unnamed st.base call p
 
 -- any other does what its call does, where the flat memory has its reply and its pages
-record IsServed (st : SpaceState) (c : ℕ) (call : Call) (reply : Reply) : Type 0 where
-  does : answered_flat st.flat call reply ≡ after_call st.flat call
-  lawful : is_lawful reply ≡ is_lawful (reply_of st.flat call)
-  pages : is_lawful reply ≡ true → HasItsPages st c call
+pub record IsServed (st : SpaceState) (c : ℕ) (call : Call) (reply : Reply) : Type 0 where
+  pub does : answered_flat st.flat call reply ≡ after_call st.flat call
+  pub lawful : is_lawful reply ≡ is_lawful (reply_of st.flat call)
+  pub pages : is_lawful reply ≡ true → HasItsPages st c call
 
 word_lawful : (told : Bool) (asked : Reply) (tied : Option ℕ) (word : ℕ) → IsWord told asked tied word → true ≡ is_lawful asked
 word_lawful true asked tied word is = sym (ap is_lawful is)
 word_lawful false asked tied word is = sym (ap is_lawful is.0.1)
 
-answer_is : (st : SpaceState) (c : ℕ) (call : Call) (reply : Reply) → ReplyAllowed st c call reply → IsWithoutService reply ⊎ IsServed st c call reply
+pub answer_is : (st : SpaceState) (c : ℕ) (call : Call) (reply : Reply) → ReplyAllowed st c call reply → IsWithoutService reply ⊎ IsServed st c call reply
 answer_is st c call (NoFrames wired claimed held) allowed = inl tt
 answer_is st c call (StoreFault space count) allowed = inl tt
 answer_is st c call NoMemory allowed = inl tt

@@ -39,3 +39,4 @@ pub mod TranslationLaws
 pub mod KeptLaws
 pub mod UnknownSpaces
 pub mod FaultReplies
+pub mod FlatRefusals

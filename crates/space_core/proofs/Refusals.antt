@@ -16,6 +16,7 @@ use Rattle.pager_model.specs.Regions.{has_page, region_at, range_in, without_reg
 use Rattle.pager_model.specs.SpaceStates.{SpaceState, answered_flat, ReplyAllowed, access_page, pages_of, pages_after, tile_at, space_after}
 use Rattle.pager_model.proofs.SpaceEntries.{base-unnamed, frees-unlawful, said-unlawful, served-unlawful}
 use Rattle.pager_model.specs.Stores.{IsCopy}
+use Rattle.pager_laws.proofs.FlatRefusals.{after_refusal}
 use Rattle.space_core.specs.Beginning.{BeginsAnswered, NeedsNoFrame}
 use Rattle.space_core.specs.Standing.{Kept, StandsFor, IsResting, CanBegin, is_allowed, rights_at, rights_by}
 use Rattle.pager_model.specs.CallEntries.{answer_entry}
@@ -23,48 +24,6 @@ use Rattle.pager_model.specs.Stored.{copy_at}
 use Rattle.space_core.specs.Pages.{permits}
 use Rattle.space_core.specs.Tables.{mapping_in, own_in}
 use Rattle.space_core.proofs.Translations.{stays, said_same}
-
--- what a space shows of flat memory is the same
-record Unmoved (f g : Flat) : Type 0 where
-  regions : g.regions ≡ f.regions
-  rights : (p : ℕ) → g.rights p ≡ f.rights p
-  words : (p i : ℕ) → g.words p i ≡ f.words p i
-  copies : (p : ℕ) → g.copies p ≡ f.copies p
-  dirty : (p : ℕ) → g.dirty p ≡ f.dirty p
-
--- no region has the page, so none goes
-without-none : (page : ℕ) (rs : List Region) → region_at rs page ≡ None → without_region page rs ≡ rs
-without-none page [] h = refl
-without-none page (r ∷ rs) h =
-    elim (cases_Bool (has_page page r)) [
-      | inl has ↦ absurd (none-some r (sym h ∙ cond-true _ _ _ has))
-      | inr hasnt ↦ cond-true _ _ _ (ap not hasnt) ∙ ap (λ xs. r ∷ xs) (without-none page rs (sym (cond-false _ _ _ hasnt) ∙ h))
-    ]
-
-unmapped-none : (o : Option Region) → is_lawful (unmap_reply_at o) ≡ false → o ≡ None
-unmapped-none None h = refl
-unmapped-none (Some r) h = cc
-
-range_refused : (b : Bool) → is_lawful (if b then Done else Unmapped) ≡ false → b ≡ false
-range_refused true h = cc
-range_refused false h = refl
-
-after_refusal : (f : Flat) (call : Call) → is_lawful (reply_of f call) ≡ false → Unmoved f (after_call f call)
-after_refusal f (Map space page len kind rights) h =
-    record { regions = cond-false _ _ _ h; rights = λ p. rw h refl; words = λ p i. refl; copies = λ p. refl; dirty = λ p. refl }
-after_refusal f (Grow space page by) h =
-    record { regions = cond-false _ _ _ h; rights = λ p. cond-false _ _ _ h; words = λ p i. refl; copies = λ p. refl; dirty = λ p. refl }
-after_refusal f (Unmap space page) h =
-    let none = unmapped-none (region_at f.regions page) h in
-    record { regions = without-none page f.regions none; rights = λ p. refl; words = λ p i. rw none refl; copies = λ p. rw none refl; dirty = λ p. rw none refl }
-after_refusal f (Protect space page len rights) h =
-    let out = range_refused (range_in page len (region_at f.regions page)) h in
-    record { regions = refl; rights = λ p. rw out refl; words = λ p i. refl; copies = λ p. refl; dirty = λ p. refl }
-after_refusal f (Load space address) h = record { regions = refl; rights = λ p. refl; words = λ p i. refl; copies = λ p. refl; dirty = λ p. refl }
-after_refusal f (Store space address word) h =
-    record { regions = refl; rights = λ p. refl; words = λ p i. rw h refl; copies = λ p. refl; dirty = λ p. rw h refl }
-after_refusal f (Sync space page) h = record { regions = refl; rights = λ p. refl; words = λ p i. refl; copies = λ p. rw h refl; dirty = λ p. rw h refl }
-after_refusal f (Evict space page) h = record { regions = refl; rights = λ p. refl; words = λ p i. refl; copies = λ p. rw h refl; dirty = λ p. rw h refl }
 
 -- the refusals of a call that needs no frame and no store
 abbrev pub is_refusal : Reply → Bool
