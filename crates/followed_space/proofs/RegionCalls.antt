@@ -19,8 +19,7 @@ use Rattle.region_table.specs.Table.{IsTable, region_of}
 use Rattle.page_rights.specs.Rights.{RightsTree, rights_of}
 use Rattle.followed_space.specs.Follows.{Followed, Follows, IsNext, Keeps, OwnInRegions, Serves, rights_by}
 use Rattle.followed_space.proofs.Keeping.{absent_base, absent_mapping, frame_in, mapping_same}
-use Rattle.pager_model.proofs.Ranges.{in_bounds, bounds_in}
-use Rattle.region_table.proofs.RegionSearch.{none_in, found_has, found_from, found_same, found_with, found_without, found_grown, grown}
+use Rattle.region_table.proofs.RegionSearch.{none_in, found_from, found_same, found_with, found_within, found_without, found_grown, grown, grown-new, grown-none, grown-old, mapped-none}
 use Rattle.followed_space.proofs.ServedCalls.{served}
 use Rattle.tiles.specs.Resident.{Resident, Protects, mapping_at, with_rights}
 
@@ -47,15 +46,6 @@ keeps_regions regions changed own given pages f g b d k regions_are rights base 
 
 -- Maps.
 
-map_tests : (b x y : Bool) → is_lawful (if b then OutOfSpace else (if x then Overlap else (if y then RegionsFull else Done))) ≡ true → (x ≡ false) × ((if b then OutOfSpace else (if x then Overlap else (if y then RegionsFull else Done))) ≡ Done)
-map_tests true x y h = cc
-map_tests false true y h = cc
-map_tests false false true h = cc
-map_tests false false false h = (refl, refl)
-
-pub map_done : (regions : List Region) (page len : ℕ) → is_lawful (map_reply regions page len) ≡ true → (list_any (meets_range page len) regions ≡ false) × (map_reply regions page len ≡ Done)
-map_done regions page len h = map_tests _ _ _ h
-
 module _ (regions : List Region) (own : RightsTree) (page len : ℕ) (kind : Kind) (rights : Rights)
     (free : list_any (meets_range page len) regions ≡ false) (owned : OwnInRegions regions own) where
   abbrev new : Region
@@ -68,11 +58,7 @@ module _ (regions : List Region) (own : RightsTree) (page len : ℕ) (kind : Kin
   at_mapped p = found_with new regions p free
 
   pub map_owned : OwnInRegions mapped own
-  map_owned p h =
-      elim (cases_Bool (has_page p new)) [
-        | inl has ↦ owned p (none_in page len p regions free has)
-        | inr hasnt ↦ owned p (sym (at_mapped p ∙ cond-false _ _ _ hasnt) ∙ h)
-      ]
+  map_owned p h = owned p (mapped-none new regions p free h)
 
   rights_mapped : (f : ℕ → Rights) → ((p : ℕ) → is_some (region_at regions p) ≡ true → f p ≡ rights_by (rights_of own p) (region_at regions p)) → (p : ℕ) → is_some (region_at mapped p) ≡ true → (if in_range page len p then rights else f p) ≡ rights_by (rights_of own p) (region_at mapped p)
   rights_mapped f before p is =
@@ -105,28 +91,6 @@ module _ (regions : List Region) (own : RightsTree) (page len : ℕ) (kind : Kin
 
 -- Growths.
 
-grow_tests : (b x y : Bool) → is_lawful (if b then NotGrowing else (if x then OutOfSpace else (if y then Overlap else Done))) ≡ true → (y ≡ false) × ((if b then NotGrowing else (if x then OutOfSpace else (if y then Overlap else Done))) ≡ Done)
-grow_tests true x y h = cc
-grow_tests false true y h = cc
-grow_tests false false true h = cc
-grow_tests false false false h = (refl, refl)
-
--- What is known where a growth is lawful.
-pub record Grows (regions : List Region) (page by : ℕ) : Type 0 where
-  pub region : Region
-  pub at : region_at regions page ≡ Some region
-  pub free : list_any (meets_range (end_of region) by) regions ≡ false
-  pub done : grow_reply regions page by ≡ Done
-
-pub grow_done : (regions : List Region) (page by : ℕ) → is_lawful (grow_reply regions page by) ≡ true → Grows regions page by
-grow_done regions page by h = at_region (region_at regions page) refl h
-  where
-    at_region : (o : Option Region) → region_at regions page ≡ o → is_lawful (grow_reply_at regions by o) ≡ true → Grows regions page by
-    at_region None at h = cc
-    at_region (Some r) at h =
-        let tests = grow_tests _ _ _ h in
-        record { region = r; at = at; free = tests.0; done = ap (grow_reply_at regions by) at ∙ tests.1 }
-
 module _ (regions : List Region) (own : RightsTree) (page by : ℕ) (ordered : IsTable regions) (r : Region) (at : region_at regions page ≡ Some r)
     (free : list_any (meets_range (end_of r) by) regions ≡ false) (owned : OwnInRegions regions own) where
   abbrev larger : List Region
@@ -135,24 +99,8 @@ module _ (regions : List Region) (own : RightsTree) (page by : ℕ) (ordered : I
   at_larger : (p : ℕ) → region_at larger p ≡ (if has_page p (grown by r) then Some (grown by r) else region_at regions p)
   at_larger p = found_grown 0 regions ordered.in_order page by r at p
 
-  -- a page of the longer region is one of its old pages or of its new ones
-  old_or_new : (p : ℕ) → has_page p (grown by r) ≡ true → in_range (end_of r) by p ≡ false → has_page p r ≡ true
-  old_or_new p has out =
-      let b = in_bounds r.first (r.length + by) p has in
-      elim (cases_lt p (end_of r)) [
-        | inl l ↦ bounds_in r.first r.length p b.0 l
-        | inr past ↦ absurd (true≢false (sym (bounds_in (end_of r) by p past (omega arith)) ∙ out))
-      ]
-
-  new_in : (p : ℕ) → in_range (end_of r) by p ≡ true → has_page p (grown by r) ≡ true
-  new_in p new = let b = in_bounds (end_of r) by p new in bounds_in r.first (r.length + by) p (omega arith) (omega arith)
-
   pub grow_owned : OwnInRegions larger own
-  grow_owned p h =
-      elim (cases_Bool (has_page p (grown by r))) [
-        | inl has ↦ absurd (none-some (grown by r) (sym h ∙ at_larger p ∙ cond-true _ _ _ has))
-        | inr hasnt ↦ owned p (sym (at_larger p ∙ cond-false _ _ _ hasnt) ∙ h)
-      ]
+  grow_owned p h = owned p (grown-none 0 regions ordered.in_order page by r at p h)
 
   same_first : (o : Option Rights) → rights_by o (Some r) ≡ rights_by o (Some (grown by r))
   same_first None = refl
@@ -167,10 +115,10 @@ module _ (regions : List Region) (own : RightsTree) (page by : ℕ) (ordered : I
       elim (cases_Bool (in_range (end_of r) by p)) [
         | inl new ↦
             let none = owned p (none_in (end_of r) by p regions free new) in
-            cond-true _ _ _ new ∙ sym (rw (at_larger p ∙ cond-true _ _ _ (new_in p new), none) refl)
+            cond-true _ _ _ new ∙ sym (rw (at_larger p ∙ cond-true _ _ _ (grown-new by p r new), none) refl)
         | inr old ↦ cond-false _ _ _ old ∙ elim (cases_Bool (has_page p (grown by r))) [
           | inl has ↦
-              let found = found_same 0 regions ordered.in_order page r at p (old_or_new p has old) in
+              let found = found_same 0 regions ordered.in_order page r at p (grown-old by p r has old) in
               before p (ap is_some found) ∙ ap (rights_by (rights_of own p)) found ∙ same_first (rights_of own p) ∙ sym (ap (rights_by (rights_of own p)) (at_larger p ∙ cond-true _ _ _ has))
           | inr hasnt ↦
               let same = at_larger p ∙ cond-false _ _ _ hasnt in
@@ -196,7 +144,7 @@ module _ (regions : List Region) (own : RightsTree) (page by : ℕ) (ordered : I
         | inl new ↦ inl (absent_base (followed regions own pages) f st.base p k (none_in (end_of r) by p regions free new))
         | inr old ↦ elim (cases_Bool (has_page p (grown by r))) [
           | inl has ↦
-              let found = ap (λ rs. region_at rs p) k.regions ∙ found_same 0 regions ordered.in_order page r at p (old_or_new p has old) in
+              let found = ap (λ rs. region_at rs p) k.regions ∙ found_same 0 regions ordered.in_order page r at p (grown-old by p r has old) in
               inr (mapping_same _ _ _ (Some (grown by r)) _ _ _ _ refl (ap (λ rs. region_at rs p) regions_then ∙ at_larger p ∙ cond-true _ _ _ has) (right p ∙ cond-false _ _ _ old) refl
               ∙ same_mapping (st.base p) (f.rights p) (f.dirty p) ∙ ap (λ o. mapping_with (st.base p) o (f.rights p) (f.dirty p)) (sym found))
           | inr hasnt ↦ inr (mapping_same _ _ _ _ _ _ _ _ refl (ap (λ rs. region_at rs p) regions_then ∙ at_larger p ∙ cond-false _ _ _ hasnt ∙ sym (ap (λ rs. region_at rs p) k.regions)) (right p ∙ cond-false _ _ _ old) refl)
@@ -204,13 +152,6 @@ module _ (regions : List Region) (own : RightsTree) (page by : ℕ) (ordered : I
       ]))
 
 -- Unmaps.
-
-pub unmap_found : (regions : List Region) (page : ℕ) → is_lawful (unmap_reply regions page) ≡ true → unmap_reply regions page ≡ Done
-unmap_found regions page h = at_region (region_at regions page) h
-  where
-    at_region : (o : Option Region) → is_lawful (unmap_reply_at o) ≡ true → unmap_reply_at o ≡ Done
-    at_region None h = cc
-    at_region (Some r) h = refl
 
 module _ (regions : List Region) (own forgotten : RightsTree) (page : ℕ) (ordered : IsTable regions) (r : Region) (at : region_at regions page ≡ Some r)
     (forgets : (p : ℕ) → rights_of forgotten p ≡ (if in_range r.first r.length p then None else rights_of own p)) where
@@ -278,10 +219,7 @@ module _ (regions : List Region) (own given : RightsTree) (page len : ℕ) (righ
   pub protect_owned : OwnInRegions regions own → OwnInRegions regions given
   protect_owned owned p none =
       elim (cases_Bool (in_range page len p)) [
-        | inl ins ↦
-            let b = in_bounds page len p ins in
-            let has = bounds_in r.first r.length p (omega (arith, (in_bounds r.first r.length page (found_has regions page r at)).0)) (omega arith) in
-            absurd (none-some r (sym none ∙ found_same 0 regions ordered.in_order page r at p has))
+        | inl ins ↦ absurd (none-some r (sym none ∙ found_within 0 regions ordered.in_order page len r at within p ins))
         | inr out ↦ gives p ∙ cond-false _ _ _ out ∙ owned p none
       ]
 

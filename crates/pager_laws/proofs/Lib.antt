@@ -40,3 +40,4 @@ pub mod KeptLaws
 pub mod UnknownSpaces
 pub mod FaultReplies
 pub mod FlatRefusals
+pub mod RegionReplies

@@ -141,6 +141,40 @@ found_grown low (s ∷ rs) l page by r h p =
           ∙ swap_tests (has_page p (grown by r)) (has_page p s) _ _ _ (λ has. behind_none s (grown by r) p f.from_on has)
     ]
 
+-- a page without a region after a map or a growth had none before
+pub mapped-none : (new : Region) (rs : List Region) (p : ℕ) → list_any (meets_range new.first new.length) rs ≡ false → region_at (with_region new rs) p ≡ None → region_at rs p ≡ None
+mapped-none new rs p m h =
+    elim (cases_Bool (has_page p new)) [
+      | inl has ↦ none_in new.first new.length p rs m has
+      | inr hasnt ↦ sym (found_with new rs p m ∙ cond-false _ _ _ hasnt) ∙ h
+    ]
+
+pub grown-none : (low : ℕ) (rs : List Region) → LieFrom low rs → (page by : ℕ) (r : Region) → region_at rs page ≡ Some r → (p : ℕ) → region_at (grown_regions page by rs) p ≡ None → region_at rs p ≡ None
+grown-none low rs l page by r at p h =
+    let is = found_grown low rs l page by r at p in
+    elim (cases_Bool (has_page p (grown by r))) [
+      | inl has ↦ absurd (none-some (grown by r) (sym h ∙ is ∙ cond-true _ _ _ has))
+      | inr hasnt ↦ sym (is ∙ cond-false _ _ _ hasnt) ∙ h
+    ]
+
+-- a page of the longer region is one of its old pages or of its new ones
+pub grown-old : (by p : ℕ) (r : Region) → has_page p (grown by r) ≡ true → in_range (end_of r) by p ≡ false → has_page p r ≡ true
+grown-old by p r has out =
+    let b = in_bounds r.first (r.length + by) p has in
+    elim (cases_lt p (end_of r)) [
+      | inl l ↦ bounds_in r.first r.length p b.0 l
+      | inr past ↦ absurd (true≢false (sym (bounds_in (end_of r) by p past (omega arith)) ∙ out))
+    ]
+
+pub grown-new : (by p : ℕ) (r : Region) → in_range (end_of r) by p ≡ true → has_page p (grown by r) ≡ true
+grown-new by p r new = let b = in_bounds (end_of r) by p new in bounds_in r.first (r.length + by) p (omega arith) (omega arith)
+
+-- each page of a range within a region finds it
+pub found_within : (low : ℕ) (rs : List Region) → LieFrom low rs → (page len : ℕ) (r : Region) → region_at rs page ≡ Some r → page + len ≤ end_of r → (p : ℕ) → in_range page len p ≡ true → region_at rs p ≡ Some r
+found_within low rs l page len r at within p inside =
+    let b = in_bounds page len p inside in
+    found_same low rs l page r at p (bounds_in r.first r.length p (omega (arith, (in_bounds r.first r.length page (found_has rs page r at)).0)) (omega arith))
+
 -- what is known of a region that has a page
 pub record HasPage (page : ℕ) (r : Region) : Type 0 where
   pub from_on : r.first ≤ page

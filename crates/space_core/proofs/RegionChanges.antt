@@ -25,8 +25,9 @@ use Rattle.pager_model.specs.CallEntries.{answer_entry}
 use Rattle.pager_model.specs.Stored.{Stored}
 use Rattle.space_core.specs.Tables.{Table, mapping_in, frame_in, own_in}
 use Rattle.space_core.specs.Translating.{Retouches}
-use Rattle.pager_model.proofs.Ranges.{in_bounds, bounds_in}
-use Rattle.region_table.proofs.RegionSearch.{none_in, found_has, found_from, found_same, found_with, found_grown, grown}
+use Rattle.pager_model.proofs.Ranges.{bounds_in}
+use Rattle.pager_laws.proofs.RegionReplies.{none_meets}
+use Rattle.region_table.proofs.RegionSearch.{none_in, found_from, found_same, found_with, found_within, found_grown, grown, grown-new, grown-none, grown-old, mapped-none}
 use Rattle.space_core.proofs.ServedPages.{kept, AreMapped, mapped_again}
 use Rattle.space_core.proofs.TableLemmas.{protects_frame, protects_dirty}
 use Rattle.space_core.proofs.Translations.{stays, retouches, pages_from}
@@ -51,14 +52,6 @@ begins_clearing old page r ordered h =
       };
     }
 
--- a reply of done is that of no refusal before it
-done_tests : (b : Bool) (x y : Reply) → x ≢ Done → (if b then x else y) ≡ Done → (b ≡ false) × (y ≡ Done)
-done_tests true x y n h = absurd (n h)
-done_tests false x y n h = (refl, h)
-
-none_meets : (regions : List Region) (page len : ℕ) → map_reply regions page len ≡ Done → list_any (meets_range page len) regions ≡ false
-none_meets regions page len h = (done_tests _ Overlap _ (λ e. cc) (done_tests _ OutOfSpace _ (λ e. cc) h).1).0
-
 -- a new region is mapped
 module _ (number : ℕ) (regions : List Region) (t : Table) (page len : ℕ) (kind : Kind) (rights : Rights)
     (done : map_reply regions page len ≡ Done) (own : (p : ℕ) → region_at regions p ≡ None → own_in t p ≡ None) where
@@ -71,15 +64,8 @@ module _ (number : ℕ) (regions : List Region) (t : Table) (page len : ℕ) (ki
   at_mapped : (p : ℕ) → region_at mapped p ≡ (if has_page p new then Some new else region_at regions p)
   at_mapped p = found_with new regions p (none_meets regions page len done)
 
-  none_before : (p : ℕ) → region_at mapped p ≡ None → region_at regions p ≡ None
-  none_before p h =
-      elim (cases_Bool (has_page p new)) [
-        | inl has ↦ none_in page len p regions (none_meets regions page len done) has
-        | inr hasnt ↦ sym (at_mapped p ∙ cond-false _ _ _ hasnt) ∙ h
-      ]
-
   pub map_own : (p : ℕ) → region_at mapped p ≡ None → own_in t p ≡ None
-  map_own p h = own p (none_before p h)
+  map_own p h = own p (mapped-none new regions p (none_meets regions page len done) h)
 
   rights_mapped : (f : ℕ → Rights) → ((p : ℕ) → is_some (region_at regions p) ≡ true → f p ≡ rights_by (own_in t p) (region_at regions p)) → (p : ℕ) → is_some (region_at mapped p) ≡ true → (if is_lawful (map_reply regions page len) && in_range page len p then rights else f p) ≡ rights_by (own_in t p) (region_at mapped p)
   rights_mapped f before p is =
@@ -163,36 +149,15 @@ changed_kept regions changed t u pending was clearing scan scan' k ordered own m
 -- a region grows
 module _ (number : ℕ) (regions : List Region) (t : Table) (page by : ℕ) (ordered : IsTable regions)
     (done : grow_reply regions page by ≡ Done) (own : (p : ℕ) → region_at regions p ≡ None → own_in t p ≡ None)
-    (r : Region) (at : region_at regions page ≡ Some r) where
+    (r : Region) (at : region_at regions page ≡ Some r) (free : list_any (meets_range (end_of r) by) regions ≡ false) where
   abbrev larger : List Region
   larger = grown_regions page by regions
-
-  free_behind : list_any (meets_range (end_of r) by) regions ≡ false
-  free_behind =
-      let here : grow_reply_at regions by (Some r) ≡ Done = ap (grow_reply_at regions by) (sym at) ∙ done in
-      (done_tests _ Overlap _ (λ e. cc) (done_tests _ OutOfSpace _ (λ e. cc) (done_tests _ NotGrowing _ (λ e. cc) here).1).1).0
 
   at_larger : (p : ℕ) → region_at larger p ≡ (if has_page p (grown by r) then Some (grown by r) else region_at regions p)
   at_larger p = found_grown 0 regions ordered.in_order page by r at p
 
-  -- a page of the longer region is one of its old pages or of its new ones
-  old_or_new : (p : ℕ) → has_page p (grown by r) ≡ true → (in_range (end_of r) by p ≡ false) → has_page p r ≡ true
-  old_or_new p has out =
-      let b = in_bounds r.first (r.length + by) p has in
-      elim (cases_lt p (end_of r)) [
-        | inl l ↦ bounds_in r.first r.length p b.0 l
-        | inr past ↦ absurd (true≢false (sym (bounds_in (end_of r) by p past (omega arith)) ∙ out))
-      ]
-
-  new_in : (p : ℕ) → in_range (end_of r) by p ≡ true → has_page p (grown by r) ≡ true
-  new_in p new = let b = in_bounds (end_of r) by p new in bounds_in r.first (r.length + by) p (omega arith) (omega arith)
-
   pub grow_own : (p : ℕ) → region_at larger p ≡ None → own_in t p ≡ None
-  grow_own p h =
-      elim (cases_Bool (has_page p (grown by r))) [
-        | inl has ↦ absurd (none-some (grown by r) (sym h ∙ at_larger p ∙ cond-true _ _ _ has))
-        | inr hasnt ↦ own p (sym (at_larger p ∙ cond-false _ _ _ hasnt) ∙ h)
-      ]
+  grow_own p h = own p (grown-none 0 regions ordered.in_order page by r at p h)
 
   same_first : (o : Option Rights) → rights_by o (Some r) ≡ rights_by o (Some (grown by r))
   same_first None = refl
@@ -204,9 +169,9 @@ module _ (number : ℕ) (regions : List Region) (t : Table) (page by : ℕ) (ord
       let is = said p m here in
       elim (cases_Bool (has_page p (grown by r))) [
         | inl has ↦ elim (cases_Bool (in_range (end_of r) by p)) [
-          | inl new ↦ absurd (none-some is.region (sym (none_in (end_of r) by p regions free_behind new) ∙ is.at))
+          | inl new ↦ absurd (none-some is.region (sym (none_in (end_of r) by p regions free new) ∙ is.at))
           | inr old ↦
-              let found = found_same 0 regions ordered.in_order page r at p (old_or_new p has old) in
+              let found = found_same 0 regions ordered.in_order page r at p (grown-old by p r has old) in
               let e : is.region ≡ r = same_Some _ _ (sym is.at ∙ found) in
               record {
                 region = grown by r;
@@ -222,11 +187,11 @@ module _ (number : ℕ) (regions : List Region) (t : Table) (page by : ℕ) (ord
   rights_grown f before p is =
       elim (cases_Bool (in_range (end_of r) by p)) [
         | inl new ↦
-            let none = own p (none_in (end_of r) by p regions free_behind new) in
-            cond-true _ _ _ new ∙ sym (rw (at_larger p ∙ cond-true _ _ _ (new_in p new), none) refl)
+            let none = own p (none_in (end_of r) by p regions free new) in
+            cond-true _ _ _ new ∙ sym (rw (at_larger p ∙ cond-true _ _ _ (grown-new by p r new), none) refl)
         | inr old ↦ cond-false _ _ _ old ∙ elim (cases_Bool (has_page p (grown by r))) [
           | inl has ↦
-              let found = found_same 0 regions ordered.in_order page r at p (old_or_new p has old) in
+              let found = found_same 0 regions ordered.in_order page r at p (grown-old by p r has old) in
               before p (ap is_some found) ∙ ap (rights_by (own_in t p)) found ∙ same_first (own_in t p) ∙ sym (ap (rights_by (own_in t p)) (at_larger p ∙ cond-true _ _ _ has))
           | inr hasnt ↦
               let same = at_larger p ∙ cond-false _ _ _ hasnt in
@@ -280,14 +245,6 @@ module _ (number : ℕ) (regions : List Region) (t : Table) (page by : ℕ) (ord
           memory = λ lacking. cc;
         }
 
--- a growth is done only where a region has the page
-pub grow_found : (regions : List Region) (page by : ℕ) → grow_reply regions page by ≡ Done → (r : Region) × (region_at regions page ≡ Some r)
-grow_found regions page by h = grow_found_at regions by (region_at regions page) h
-  where
-    grow_found_at : (regions : List Region) (by : ℕ) (o : Option Region) → grow_reply_at regions by o ≡ Done → (r : Region) × (o ≡ Some r)
-    grow_found_at regions by None h = cc
-    grow_found_at regions by (Some r) h = (r, refl)
-
 -- the pages of a range within a region get rights
 module _ (regions : List Region) (t u : Table) (page len : ℕ) (given : Rights) (ordered : IsTable regions) (r : Region) (at : region_at regions page ≡ Some r)
     (within : page + len ≤ end_of r) (protects : Protects page len given t u) where
@@ -295,10 +252,7 @@ module _ (regions : List Region) (t u : Table) (page len : ℕ) (given : Rights)
   pub protect_own : ((p : ℕ) → region_at regions p ≡ None → own_in t p ≡ None) → (p : ℕ) → region_at regions p ≡ None → own_in u p ≡ None
   protect_own own p none =
       elim (cases_Bool (in_range page len p)) [
-        | inl ins ↦
-            let b = in_bounds page len p ins in
-            let has = bounds_in r.first r.length p (omega (arith, (in_bounds r.first r.length page (found_has regions page r at)).0)) (omega arith) in
-            absurd (none-some r (sym none ∙ found_same 0 regions ordered.in_order page r at p has))
+        | inl ins ↦ absurd (none-some r (sym none ∙ found_within 0 regions ordered.in_order page len r at within p ins))
         | inr out ↦ protects.own p ∙ cond-false _ _ _ out ∙ own p none
       ]
 
