@@ -1,9 +1,10 @@
 -- What carrying out a plan does: after its pages gave their frames up each frame of its extent is free or an unused place.
-use Rattle.std.proofs.Common.{◌≡◌, ◌≢◌, ◌≤◌, ◌<◌, ℕ, zero, suc, ◌+◌, ◌^◌, Bool, true, false, ◌||◌, not, List, [], ◌∷◌, get_or, map, filter, count_by, is_some, Option, Some, None, IfSome, inl, inr, refl, sym, ap, subst, ◌∙◌, arith}
+use Rattle.std.proofs.Common.{◌≡◌, ◌≢◌, ◌≤◌, ◌<◌, ℕ, zero, suc, ◌+◌, ◌^◌, Bool, true, false, ◌||◌, not, List, [], ◌∷◌, length, get_or, map, filter, count_by, is_some, Option, Some, None, IfSome, inl, inr, refl, sym, ap, subst, ◌∙◌, arith}
 use Rattle.std.specs.List.{range_with_len, list_any}
 use Rattle.std.specs.List.Sorted.{IsPermutation}
-use Rattle.std.proofs.lemmas.Bool.{cases_Bool, cases_eq, cond-true, cond-false, eq-eqb, ne_eqb, false≢true}
-use Rattle.std.proofs.lemmas.List.{get_or-set_other}
+use Rattle.std.proofs.lemmas.Bool.{cases_Bool, cases_eq, cases_lt, cond-true, cond-false, eq-eqb, ne_eqb, false≢true}
+use Rattle.std.proofs.lemmas.List.{get_or-set_other, get_or_past}
+use Rattle.std.proofs.lemmas.List.Folds.{list_any_at}
 use Rattle.std.proofs.lemmas.List.Sorted.{sum_by-IsPermutation}
 use Rattle.std.proofs.lemmas.List.Sums.{sum_by-cons}
 use Rattle.std.proofs.lemmas.Option.{none-some}
@@ -157,19 +158,19 @@ GivenUp-all frames processors (p ∷ ps) st sound loose =
 
 -- Counts over the used frames of an extent.
 
-none_before : (used : ℕ → Bool) (f a n : ℕ) → f < a → count_by (is_that f) (map Some (filter used (range_with_len a n))) ≡ 0
-none_before used f a zero below = refl
-none_before used f a (suc n) below = elim (cases_Bool (used a)) [
-  | inl passes ↦
-      let rest = filter used (range_with_len (a + 1) n) in
-      let split = ap (λ l. count_by (is_that f) (map Some l)) (cond-true (used a) (a ∷ rest) rest passes) ∙ count-cons (is_that f) (Some a) (map Some rest) in
-      let mine : weight (is_that f (Some a)) ≡ 0 = ap weight (ne_eqb a f (λ same. absurd (omega (arith, same, below)))) in
-      let later = none_before used f (a + 1) n (omega (arith, below)) in
-      omega (arith, split, mine, later)
-  | inr fails ↦
-      ap (λ l. count_by (is_that f) (map Some l)) (cond-false (used a) (a ∷ filter used (range_with_len (a + 1) n)) (filter used (range_with_len (a + 1) n)) fails)
-      ∙ none_before used f (a + 1) n (omega (arith, below))
-]
+-- where no used frame of the range is bad, none is counted
+good_in : (used : ℕ → Bool) (bad : Option ℕ → Bool) (a n : ℕ) → ((f : ℕ) → a ≤ f → f < a + n → bad (Some f) ≡ false) → count_by bad (map Some (filter used (range_with_len a n))) ≡ 0
+good_in used bad a zero good = refl
+good_in used bad a (suc n) good =
+    let rest = filter used (range_with_len (a + 1) n) in
+    let later = good_in used bad (a + 1) n (λ f low high. good f (omega (arith, low)) (omega (arith, high))) in
+    elim (cases_Bool (used a)) [
+      | inl passes ↦
+          let split = ap (λ l. count_by bad (map Some l)) (cond-true (used a) (a ∷ rest) rest passes) ∙ count-cons bad (Some a) (map Some rest) in
+          let mine : weight (bad (Some a)) ≡ 0 = ap weight (good a (omega arith) (omega arith)) in
+          omega (arith, split, mine, later)
+      | inr fails ↦ ap (λ l. count_by bad (map Some l)) (cond-false (used a) (a ∷ rest) rest fails) ∙ later
+    ]
 
 -- a frame of a range is counted once where it is used, and no frame twice
 once_in : (used : ℕ → Bool) (f a n : ℕ) → (count_by (is_that f) (map Some (filter used (range_with_len a n))) ≤ 1) × (a ≤ f → f < a + n → used f ≡ true → 1 ≤ count_by (is_that f) (map Some (filter used (range_with_len a n))))
@@ -181,7 +182,7 @@ once_in used f a (suc n) = elim (cases_Bool (used a)) [
       elim (cases_eq a f) [
         | inl same ↦
             let mine : weight (is_that f (Some a)) ≡ 1 = ap weight (eq-eqb a f same) in
-            let after = none_before used f (a + 1) n (omega (arith, same)) in
+            let after = good_in used (is_that f) (a + 1) n (λ g low high. ne_eqb g f (λ here. absurd (omega (arith, same, here, low)))) in
             (omega (arith, split, mine, after), λ low high is. omega (arith, split, mine, after))
         | inr other ↦
             let mine : weight (is_that f (Some a)) ≡ 0 = ap weight (ne_eqb a f other) in
@@ -199,26 +200,10 @@ once_in used f a (suc n) = elim (cases_Bool (used a)) [
       )
 ]
 
--- where no used frame of the range is bad, none is counted
-good_in : (used : ℕ → Bool) (bad : Option ℕ → Bool) (a n : ℕ) → ((f : ℕ) → a ≤ f → f < a + n → bad (Some f) ≡ false) → count_by bad (map Some (filter used (range_with_len a n))) ≡ 0
-good_in used bad a zero good = refl
-good_in used bad a (suc n) good =
-    let rest = filter used (range_with_len (a + 1) n) in
-    let later = good_in used bad (a + 1) n (λ f low high. good f (omega (arith, low)) (omega (arith, high))) in
-    elim (cases_Bool (used a)) [
-      | inl passes ↦
-          let split = ap (λ l. count_by bad (map Some l)) (cond-true (used a) (a ∷ rest) rest passes) ∙ count-cons bad (Some a) (map Some rest) in
-          let mine : weight (bad (Some a)) ≡ 0 = ap weight (good a (omega arith) (omega arith)) in
-          omega (arith, split, mine, later)
-      | inr fails ↦ ap (λ l. count_by bad (map Some l)) (cond-false (used a) (a ∷ rest) rest fails) ∙ later
-    ]
-
 any_held : (held : List (Option ℕ)) (c f : ℕ) → get_or held c None ≡ Some f → list_any (is_that f) held ≡ true
-any_held [] c f is = absurd (none-some f is)
-any_held (h ∷ held) zero f is = ap (λ o. is_that f o || list_any (is_that f) held) is ∙ ap (λ b. b || list_any (is_that f) held) (eq-eqb f f refl)
-any_held (h ∷ held) (suc c) f is = elim (cases_Bool (is_that f h)) [
-  | inl passes ↦ ap (λ b. b || list_any (is_that f) held) passes
-  | inr fails ↦ ap (λ b. b || list_any (is_that f) held) fails ∙ any_held held c f is
+any_held held c f is = elim (cases_lt c (length held)) [
+  | inl below ↦ list_any_at (is_that f) held c None below (ap (is_that f) is ∙ eq-eqb f f refl)
+  | inr past ↦ absurd (none-some f (sym (get_or_past held c None past) ∙ is))
 ]
 
 -- a frame that isn't fixed is neither claimed nor held

@@ -2,18 +2,13 @@
 use Rattle.std.proofs.Common.{◌≡◌, ◌<◌, ℕ, suc, ◌+◌, List, [], ◌∷◌, ◌++◌, length, take, drop, get_or, Option, None, Some, IfSome, sym, ap, subst, ◌∙◌, arith}
 use Rattle.std.specs.List.{All}
 use Rattle.std.proofs.Math.Seq.{drop-cons}
-use Rattle.std.proofs.lemmas.List.{take-append-drop, take_more, map-append}
+use Rattle.std.proofs.lemmas.List.{take-append-drop, map-append}
 use Rattle.pager_model.specs.declared.entry.Numbered.{Numbered}
 use Rattle.pager_model.specs.FrameStates.{named_space}
 use Rattle.pager_model.specs.Legal.{IsLegal, MayFollow, entries_in}
 use Rattle.pager_model.specs.Settings.{Given}
 use Rattle.pager_laws.proofs.LegalPrefixes.{IsLegal-at}
 use Rattle.contiguity_plan.specs.Emptying.{IsOver}
-
--- the entries up to one, and that one
-pub entries-more : (history : List Numbered) (i : ℕ) (d : Numbered) → i < length history → entries_in (take (i + 1) history) ≡ entries_in (take i history) ++ (get_or history i d).entry ∷ []
-entries-more history i d known =
-    ap entries_in (take_more history i d known) ∙ map-append (λ (n : Numbered). n.entry) (take i history) (get_or history i d ∷ [])
 
 -- of a legal history those before an entry are one, which the entry may follow
 pub legal-before : (g : Given) (history : List Numbered) (i : ℕ) (d : Numbered) → i < length history → IsLegal g (entries_in history)

@@ -1,5 +1,4 @@
 pub mod PlaceLemmas
-pub mod RangeGives
 pub mod RightTables
 pub mod Extents
 pub mod Planned

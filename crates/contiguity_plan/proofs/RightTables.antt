@@ -1,5 +1,5 @@
 -- What each move of the frames does to a table that is right.
-use Rattle.std.proofs.Common.{◌≡◌, ◌≢◌, ◌≤◌, ◌<◌, ◌⊎◌, ℕ, zero, suc, true, false, cond, eqb, ◌&&◌, List, ◌∷◌, length, map, set, get_or, replicate, option_map, Option, Some, None, IsSome, IsSomeAnd, inl, inr, refl, sym, ap, subst, ◌∙◌, arith}
+use Rattle.std.proofs.Common.{◌≡◌, ◌≢◌, ◌≤◌, ◌<◌, ◌⊎◌, ℕ, zero, suc, ◌+◌, Bool, true, false, is_some, cond, eqb, ◌&&◌, List, ◌∷◌, length, map, set, get_or, replicate, option_map, Option, Some, None, IsSome, IsSomeAnd, inl, inr, refl, sym, ap, subst, ◌∙◌, arith}
 use Rattle.std.specs.BTreeMap.{BTreeMap}
 use Rattle.std.proofs.Math.ListN.{get_or-map}
 use Rattle.std.proofs.lemmas.Bool.{cases_Bool, cases_eq, cases_lt, and_parts, and_from, cond-true, cond-false, eq-eqb, eqb-true}
@@ -16,7 +16,9 @@ use Rattle.pager_model.specs.Regions.{in_range}
 use Rattle.pager_model.specs.SizeSets.{SizeSet}
 use Rattle.pager_model.proofs.Lists.{get_or-alike, get_or-set_default, unset_before}
 use Rattle.pager_model.proofs.Options.{some_from_is_some}
+use Rattle.pager_model.proofs.Ranges.{in_bounds, bounds_in}
 use Rattle.pager_laws.specs.Laid.{IsSound}
+use Rattle.pager_laws.proofs.GivenRanges.{give_if_used-none, give_if_used-some, give_range-lowest}
 use Rattle.pager_laws.proofs.LayoutPlacing.{WasPlaced, WasPlaced-placing}
 use Rattle.pager_laws.proofs.LegalHistories.{frame_of-start}
 use Rattle.pager_laws.proofs.PageMoves.{GivesPage-give_page, frame_of-give_page}
@@ -25,7 +27,6 @@ use Rattle.contiguity_plan.specs.declared.plan.PageOf.{PageOf}
 use Rattle.contiguity_plan.specs.declared.table.Use.{Use}
 use Rattle.contiguity_plan.specs.Places.{place_in}
 use Rattle.contiguity_plan.specs.Tables.{Note, note_of, noted, use_in, use_for, claim_of, reclaimed, evicted, AreRight}
-use Rattle.contiguity_plan.proofs.RangeGives.{give_if_used-none, give_if_used-some, give_range-lowest}
 
 -- Notes.
 
@@ -287,6 +288,10 @@ answer-none st space (Load s address) is allowed = allowed
 answer-none st space (Store s address word) is allowed = allowed
 answer-none st space (Sync s p) is allowed = allowed
 
+none_either : (b : Bool) (o : Option ℕ) → o ≡ None → cond b None o ≡ None
+none_either true o none = refl
+none_either false o none = none
+
 -- the lowest page of a range with a frame may give it up first
 pub lowest-gives : (frames processors : ℕ) (st : FrameState) (uses : List (Option Use)) (held : List (Option ℕ)) (places : List (BTreeMap ℕ ℕ)) (space first len page : ℕ)
     → IsSound frames processors st → AreRight st uses held places → in_range first len page ≡ true → IsSome (place_in places space page)
@@ -295,5 +300,12 @@ pub lowest-gives : (frames processors : ℕ) (st : FrameState) (uses : List (Opt
 lowest-gives frames processors st uses held places space first len page sound right within some lowest =
     let found = some_from_is_some (place_in places space page) some in
     let is : frame_of st space page ≡ Some found.0 = sym (right.places_are space page) ∙ found.1 in
+    let bounds = in_bounds first len page within in
+    let none : (p : ℕ) → first ≤ p → p < page → frame_of st space p ≡ None = λ p low below.
+    sym (right.places_are space p) ∙ lowest p below (bounds_in first len p low (omega (arith, below, bounds.1))) in
     ap (λ s. give_range s space first len) (give_if_used-some st space page found.0 is)
-    ∙ give_range-lowest frames processors space page found.0 st sound is first len within (λ p below in_it. sym (right.places_are space p) ∙ lowest p below in_it)
+    ∙ give_range-lowest space st first len page bounds.0 bounds.1 none (ap is_some is) (λ p low upto.
+    frame_of-give_page st space page found.0 sound.laid is space p ∙ elim (cases_eq p page) [
+      | inl same ↦ cond-true _ _ _ (and_from _ _ (eq-eqb space space refl) (eq-eqb p page same))
+      | inr other ↦ none_either (eqb space space && eqb p page) (frame_of st space p) (none p low (omega (arith, upto, other)))
+    ])

@@ -20,7 +20,7 @@ use Rattle.pager_core.specs.Flights.{IsReady}
 use Rattle.pager_core.specs.Rows.{call_in}
 use Rattle.pager_core.specs.Steps.{Makes, SameSpace}
 use Rattle.pager_core.proofs.EntrySteps.{Leaves-on, same_space, same_space-on}
-use Rattle.pager_core.proofs.GivenRanges.{give_range-none, give_range-lowest}
+use Rattle.pager_laws.proofs.GivenRanges.{give_range-none, give_range-lowest}
 use Rattle.pager_core.proofs.Purposes.{in_phase, with_phase, same_work, by_ready}
 
 -- One page after another.

@@ -5,7 +5,6 @@ pub mod EntrySteps
 pub mod FaultSteps
 pub mod EvictSteps
 pub mod RefusedCalls
-pub mod GivenRanges
 pub mod Lists
 pub mod ClearSteps
 pub mod TakenFrames

@@ -39,5 +39,6 @@ pub mod TranslationLaws
 pub mod KeptLaws
 pub mod UnknownSpaces
 pub mod FaultReplies
+pub mod GivenRanges
 pub mod FlatRefusals
 pub mod RegionReplies

@@ -1,8 +1,9 @@
 use Rattle.std.proofs.Common.{◌<◌, ◌++◌, ◌∷◌, [], length, take, sym, ap, subst, ◌∙◌, arith}
+use Rattle.std.proofs.lemmas.List.{map_more}
 use Rattle.pager_model.specs.declared.entry.Numbered.{Numbered}
 use Rattle.pager_model.specs.Legal.{MayFollow, frames_at, entries_in}
 use Rattle.contiguity_plan.specs.Tables.{IsRight}
-use Rattle.contiguity_plan.proofs.Followed.{entries-more, legal-before}
+use Rattle.contiguity_plan.proofs.Followed.{legal-before}
 use Rattle.contiguity_plan.proofs.table.Table.follow.Goals as goal
 
 pub loop-numbered-preserved : goal.loop-numbered-preserved
@@ -15,7 +16,7 @@ loop-numbered-preserved c = record {
       let known : i < length history = omega arith in
       let before = legal-before g history i x known legal in
       let may = subst (λ (n : Numbered). MayFollow g (entries_in (take i history)) n.entry) (sym c.numbered-item.is) before.1 in
-      let more = entries-more history i x known ∙ ap (λ (n : Numbered). entries_in (take i history) ++ n.entry ∷ []) (sym c.numbered-item.is) in
+      let more = map_more (λ (n : Numbered). n.entry) history i x known ∙ ap (λ (n : Numbered). entries_in (take i history) ++ n.entry ∷ []) (sym c.numbered-item.is) in
       subst (λ h. IsRight (frames_at g h) c.follow_one.new.self) (sym more)
       (c.in_ok-follow_one.ensures.right g (entries_in (take i history)) before.0 may (c.loop-numbered.invariant.right g legal start));
 }

@@ -1,8 +1,8 @@
 use Rattle.std.proofs.Common.{◌≡◌, ℕ, None, IsSomeAnd, sym, subst}
 use Rattle.pager_model.specs.declared.entry.What.{What}
 use Rattle.pager_model.specs.FrameStates.{FramesAllow, AllowsAnswer, frame_of, take_frame, state_taken, give_if_used, give_range, dropped, moved, moved_by_answer, named_space}
+use Rattle.pager_laws.proofs.GivenRanges.{give_if_used-some}
 use Rattle.contiguity_plan.specs.Tables.{IsRight}
-use Rattle.contiguity_plan.proofs.RangeGives.{give_if_used-some}
 use Rattle.contiguity_plan.proofs.table.Table.step.Goals as goal
 
 pub returns-in-Answer-clause-right : goal.returns-in-Answer-clause-right
