@@ -1,5 +1,5 @@
 -- What holds of frames and pages together: each frame is in one role, and spaces and frames agree on the resident pages.
-use Rattle.std.specs.Prelude.{ℕ, ◌≡◌, ◌+◌, ◌<◌, ◌^◌, ◌⊎◌, Bool, true, false, ◌&&◌, ◌==◌, nat_le, nat_lt, if◌then◌else◌, List, count_by, Option, Some, None, IsSome, length}
+use Rattle.std.specs.Prelude.{ℕ, ◌≡◌, ◌+◌, ◌<◌, ◌^◌, ◌⊎◌, Bool, true, false, ◌&&◌, nat_le, nat_lt, if◌then◌else◌, List, count_by, Option, Some, None, IsSome, length}
 use Rattle.pager_model.specs.Options.{is_that}
 use Rattle.pager_model.specs.declared.entry.Entry.{Entry}
 use Rattle.pager_model.specs.declared.reservation.Reservation.{Reservation}
