@@ -1,7 +1,7 @@
 -- A frame is claimed for an access whose page lacks one, and the claim is given up.
 use Rattle.std.proofs.Common.{◌≡◌, ℕ, ◌<◌, Bool, true, false, ◌&&◌, cond, eqb, is_some, Option, Some, None, refl, ap, sym, subst, ◌∙◌, inl, inr, arith}
 use Rattle.std.proofs.lemmas.Bool.{and_from, and_parts, eq-eqb, false≢true}
-use Rattle.std.proofs.lemmas.Option.{none-some, same_Some}
+use Rattle.std.proofs.lemmas.Option.{same_Some}
 use Rattle.pager_model.specs.declared.entry.Victim.{Victim}
 use Rattle.pager_model.specs.Agreement.{ClaimsOrHolds, OwnsBy}
 use Rattle.pager_model.specs.declared.call.Call.{Call}
@@ -15,13 +15,12 @@ use Rattle.pager_model.specs.Order.{Progress, ForAccess, Claiming, faulted_for, 
 use Rattle.pager_model.specs.Regions.{region_at}
 use Rattle.pager_model.specs.SpaceStates.{SpaceState, Anyone, IsNeeded, access_page, has_right, space_after}
 use Rattle.pager_laws.proofs.PagePlaces.{frame_in-found}
-use Rattle.space_core.specs.Standing.{Kept, IsResting, StandsFor, frame_at, is_allowed, is_in, rights_at}
+use Rattle.space_core.specs.Standing.{Kept, StandsFor, frame_at, is_allowed, is_in, rights_at}
 use Rattle.pager_core.specs.declared.flight.Flight.{Flight}
-use Rattle.pager_core.specs.declared.flight.Phase.{Phase}
 use Rattle.pager_core.specs.declared.flight.Phase.TheVariants.{Frame, Out, Unclaim}
 use Rattle.pager_core.specs.declared.flight.Purpose.TheVariants.{Call as OfCall}
 use Rattle.pager_core.specs.Flights.{HasVictim, IsLawfulAt, IsReady}
-use Rattle.pager_core.specs.Rows.{access_in, call_in, claims_for, given_up, is_store, left_by, page_or_zero, row_of}
+use Rattle.pager_core.specs.Rows.{call_in, claims_for, given_up, is_store, left_by, page_or_zero, row_of}
 use Rattle.pager_core.specs.Steps.{AreAgreed, Makes, MakesEntry, answer_made}
 use Rattle.pager_core.proofs.AnswerSteps.{is_access_by_page}
 use Rattle.pager_core.proofs.EntrySteps.{Leaves-by, Leaves-on, keeps_own_if, unchanged}

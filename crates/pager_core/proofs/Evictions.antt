@@ -1,5 +1,5 @@
 -- What a call and a turn do alike with a victim: the phases of an eviction, and what comes after it.
-use Rattle.std.proofs.Common.{◌≡◌, ℕ, ◌+◌, ◌<◌, Bool, true, false, not, Option, Some, None, refl, ap, sym, ◌∙◌, ◌≤◌, arith, inr}
+use Rattle.std.proofs.Common.{◌≡◌, ℕ, ◌<◌, Bool, true, false, Option, Some, None, refl, ap, sym, ◌∙◌, arith, inr}
 use Rattle.std.proofs.lemmas.Bool.{false≢true}
 use Rattle.std.proofs.lemmas.Option.{none-some}
 use Rattle.pager_model.specs.declared.entry.Victim.{Victim}
@@ -9,7 +9,7 @@ use Rattle.pager_model.specs.SpaceStates.{SpaceState, Anyone}
 use Rattle.space_core.specs.Standing.{Kept, IsResting, StandsFor, copied_page}
 use Rattle.pager_core.specs.declared.flight.Flight.{Flight}
 use Rattle.pager_core.specs.declared.flight.Phase.{Phase}
-use Rattle.pager_core.specs.declared.flight.Phase.TheVariants.{Out, Write, Hand, Unclaim, Back, Drop, Fault, Lack, Rested}
+use Rattle.pager_core.specs.declared.flight.Phase.TheVariants.{Out, Write, Hand, Unclaim, Back, Drop, Fault, Lack}
 use Rattle.pager_core.specs.declared.flight.Purpose.{Purpose}
 use Rattle.pager_core.specs.declared.flight.Purpose.TheVariants.{Call as OfCall, Turn as OfTurn}
 use Rattle.pager_core.specs.Flights.{Fits, IsFor, LeftBy, PhaseFits, TurnFits, is_of_turns}

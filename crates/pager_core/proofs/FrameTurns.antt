@@ -14,7 +14,7 @@ use Rattle.pager_core.specs.declared.flight.Flight.{Flight}
 use Rattle.pager_core.specs.declared.flight.Phase.TheVariants.{Out}
 use Rattle.pager_core.specs.Flights.{IsReady, IsAtRest}
 use Rattle.pager_core.specs.Machines.{IsMachine}
-use Rattle.pager_core.specs.Rows.{own_space, row_of, space_under}
+use Rattle.pager_core.specs.Rows.{row_of, space_under}
 use Rattle.pager_core.specs.Running.{Running, flight_at, jobs_at}
 use Rattle.pager_core.specs.Steps.{MakesOnFrames}
 use Rattle.pager_core.proofs.Lands.{Lands, own_kept}

@@ -1,11 +1,8 @@
 -- How a processor goes on after a step: in its job, or where that is done, with its next one.
-use Rattle.std.proofs.Common.{◌≡◌, ℕ, zero, suc, ◌+◌, ◌-◌, ◌*◌, ◌<◌, ◌≤◌, Bool, true, false, List, length, drop, get_or, slice_get, Option, Some, None, IfSome, option_map, refl, ap, sym, subst, ◌∙◌, arith, inl, inr, ◌⊎◌}
-use Rattle.std.specs.List.{sum_by}
+use Rattle.std.proofs.Common.{◌≡◌, ℕ, zero, suc, ◌+◌, ◌-◌, ◌*◌, ◌<◌, ◌≤◌, true, List, length, get_or, slice_get, Option, Some, None, IfSome, option_map, refl, ap, sym, subst, ◌∙◌, arith, inl, inr, ◌⊎◌}
 use Rattle.std.proofs.lemmas.Bool.{false≢true}
 use Rattle.std.proofs.lemmas.List.Sums.{sum_by-drop_more}
 use Rattle.std.proofs.lemmas.Option.{none-some, same_Some, slice_get_within, slice_get_cases, get_or_from_slice_get}
-use Rattle.pager_model.specs.declared.call.Call.{Call}
-use Rattle.pager_model.specs.declared.reply.Reply.{Reply}
 use Rattle.pager_model.specs.declared.trace.Job.{Job}
 use Rattle.pager_model.specs.declared.trace.Job.TheVariants.{Call as MakesCall, Turn}
 use Rattle.pager_model.specs.Order.{Looking, between, at_rest}
@@ -16,7 +13,7 @@ use Rattle.pager_core.specs.declared.flight.Phase.TheVariants.{Unclaim, Rested, 
 use Rattle.pager_core.specs.declared.flight.Purpose.{Purpose}
 use Rattle.pager_core.specs.declared.flight.Purpose.TheVariants.{Call as OfCall, Turn as OfTurn}
 use Rattle.pager_core.specs.Flights.{Fits, IsFor}
-use Rattle.pager_core.specs.Machines.{CanDo, CanFly}
+use Rattle.pager_core.specs.Machines.{CanDo}
 use Rattle.pager_core.specs.Rows.{Outcome, Going, TurnEnded, Answered, call_in, has_ended, is_between, is_of_call, mark_in, own_space, row_of, row_in, space_under}
 use Rattle.pager_core.specs.Running.{AreOfMark, FitsMark, entries_left, entries_of_job, flight_for, flight_of, job_in, kept_by, left_behind, progress_by_flight}
 use Rattle.pager_core.specs.Steps.{SameWork}

@@ -1,11 +1,11 @@
 -- A machine after a turn, whatever its step was made under.
-use Rattle.std.proofs.Common.{◌≡◌, ◌≢◌, ℕ, zero, suc, ◌+◌, ◌*◌, ◌<◌, ◌≤◌, true, List, [], ◌∷◌, ◌++◌, length, take, drop, get_or, slice_get, Option, Some, None, IfSome, option_to_list, filter_map, refl, ap, sym, subst, ◌∙◌, inl, inr, arith, ◌⊎◌}
+use Rattle.std.proofs.Common.{◌≡◌, ◌≢◌, ℕ, zero, suc, ◌+◌, ◌<◌, ◌≤◌, true, List, [], ◌∷◌, ◌++◌, length, take, get_or, slice_get, Option, Some, None, IfSome, option_to_list, filter_map, refl, ap, sym, subst, ◌∙◌, inl, inr, arith, ◌⊎◌}
 use Rattle.std.specs.List.{enumerate_from, range_with_len}
-use Rattle.std.proofs.lemmas.Bool.{cases_eq, eq-eqb, false≢true, ne_eqb}
+use Rattle.std.proofs.lemmas.Bool.{cases_eq, eq-eqb, ne_eqb}
 use Rattle.std.proofs.lemmas.List.{append-nil, map_push, take_more, length-take-le, length_push, get_or-set_same, get_or-set_other}
 use Rattle.std.proofs.lemmas.List.Elements.{filter_map-append}
-use Rattle.std.proofs.lemmas.Option.{none-some, same_Some, slice_get_within, get_or_from_slice_get}
-use Rattle.std.proofs.Math.ListN.{set, length-set, length-take}
+use Rattle.std.proofs.lemmas.Option.{slice_get_within, get_or_from_slice_get}
+use Rattle.std.proofs.Math.ListN.{set, length-set}
 use Rattle.pager_model.specs.declared.call.Call.{Call}
 use Rattle.pager_model.specs.declared.entry.Entry.{Entry}
 use Rattle.pager_model.specs.declared.entry.Numbered.{Numbered}
@@ -16,7 +16,7 @@ use Rattle.pager_model.specs.Agreement.{Agrees}
 use Rattle.pager_model.specs.Entries.{entries_of, is_of}
 use Rattle.pager_model.specs.FrameStates.{FrameState}
 use Rattle.pager_model.specs.Legal.{IsLegal, space_at, frames_at, progress_at, entries_in, MayFollow}
-use Rattle.pager_model.specs.Order.{Progress, at_rest, progress_by}
+use Rattle.pager_model.specs.Order.{Progress, progress_by}
 use Rattle.pager_model.specs.Settings.{mark_of}
 use Rattle.pager_model.specs.Showing.{answers_in, answer_in}
 use Rattle.pager_model.specs.SpaceStates.{SpaceAllows}
@@ -33,7 +33,7 @@ use Rattle.pager_core.specs.declared.flight.Phase.TheVariants.{Ended}
 use Rattle.pager_core.specs.Flights.{Fits, IsFor, IsReady, IsAtRest}
 use Rattle.pager_core.specs.Machines.{CanDo, all_left, IsFlying, IsSpaceOf, IsMachine}
 use Rattle.pager_core.specs.Rows.{Outcome, Going, TurnEnded, Answered, call_in, has_ended, mark_in, own_space, reply_in, row_of, is_between, space_under}
-use Rattle.pager_core.specs.Running.{Running, AreOfMark, FitsMark, call_of, calls_among, job_in, jobs_at, flight_at, flight_for, left_behind, progress_by_flight, progress_of_actor, kept_by, entries_left, left_at, IsNumbered, IsLawful}
+use Rattle.pager_core.specs.Running.{Running, AreOfMark, FitsMark, call_of, calls_among, job_in, jobs_at, flight_at, left_behind, progress_by_flight, progress_of_actor, kept_by, entries_left, left_at, IsNumbered, IsLawful}
 use Rattle.pager_core.specs.Steps.{MakesEntry, answer_made}
 use Rattle.pager_core.proofs.Lists.{enumerate-push, sum_by-lower}
 use Rattle.pager_core.proofs.LegalSteps.{MayFollow-step, frames_at-step}

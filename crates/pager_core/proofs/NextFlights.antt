@@ -1,14 +1,14 @@
 -- What the row of a flight says, phase by phase.
-use Rattle.std.proofs.Common.{Bool, ◌≡◌, ◌≢◌, ℕ, ◌+◌, ◌-◌, ◌*◌, ◌<◌, ◌≤◌, true, false, eqb, List, length, slice_get, Option, Some, None, option_map, refl, ap, sym, subst, ◌∙◌, arith, inl, inr, ◌⊎◌}
+use Rattle.std.proofs.Common.{Bool, ◌≡◌, ℕ, true, false, eqb, Option, Some, None, refl, ap, sym, subst, ◌∙◌, inl, inr, ◌⊎◌}
 use Rattle.std.proofs.lemmas.Bool.{cases_Bool, cond-true, cond-false, eqb-true, eq-eqb, false≢true}
-use Rattle.std.proofs.lemmas.Option.{none-some, same_Some, slice_get_within, slice_get_cases}
+use Rattle.std.proofs.lemmas.Option.{none-some, same_Some}
 use Rattle.pager_model.specs.declared.entry.Victim.{Victim}
 use Rattle.pager_model.specs.declared.call.Call.{Call}
 use Rattle.pager_model.specs.declared.call.Call.TheVariants.{Load, Store}
 use Rattle.pager_model.specs.declared.reply.Reply.{Reply}
 use Rattle.pager_model.specs.Flat.{space_of_call}
 use Rattle.pager_model.specs.Locks.{keeps_in, own_if, under_in}
-use Rattle.pager_model.specs.Order.{Access, Idle, at_rest, is_access}
+use Rattle.pager_model.specs.Order.{Access, is_access}
 use Rattle.pager_model.specs.SpaceStates.{Anyone}
 use Rattle.space_core.specs.Standing.{Kept, IsResting, copied_page}
 use Rattle.pager_core.specs.declared.flight.Flight.{Flight}
@@ -19,7 +19,7 @@ use Rattle.pager_core.specs.declared.flight.Needs.TheVariants.{Space, Both, Fram
 use Rattle.pager_core.specs.declared.flight.Purpose.{Purpose}
 use Rattle.pager_core.specs.declared.flight.Purpose.TheVariants.{Call as OfCall, Turn as OfTurn}
 use Rattle.pager_core.specs.Flights.{Fits, IsFor, PhaseFits, PhaseStands, TurnFits, is_of_turns}
-use Rattle.pager_core.specs.Rows.{Outcome, Going, TurnEnded, Answered, access_in, alone, at, call_in, claimed_in, faulted, is_between, is_of_call, looking, Row, new_flight, own_space, reply_in, row_of, row_in, space_under}
+use Rattle.pager_core.specs.Rows.{Going, TurnEnded, Answered, access_in, alone, call_in, faulted, is_between, is_of_call, Row, own_space, reply_in, row_of, row_in, space_under}
 use Rattle.pager_core.proofs.Purposes.{of_call-is, own_space-is}
 
 -- Of a row.

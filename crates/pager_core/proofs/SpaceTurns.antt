@@ -14,8 +14,8 @@ use Rattle.space_core.specs.Standing.{Kept}
 use Rattle.pager_core.specs.declared.flight.Flight.{Flight}
 use Rattle.pager_core.specs.declared.flight.Phase.TheVariants.{Out}
 use Rattle.pager_core.specs.Flights.{Fits, IsReady, IsAtRest, LeftBy}
-use Rattle.pager_core.specs.Machines.{IsFlying, IsSpaceOf, IsMachine}
-use Rattle.pager_core.specs.Rows.{own_space, row_of, space_under}
+use Rattle.pager_core.specs.Machines.{IsSpaceOf, IsMachine}
+use Rattle.pager_core.specs.Rows.{row_of, space_under}
 use Rattle.pager_core.specs.Running.{Running, flight_at, jobs_at, IsKeptByOther}
 use Rattle.pager_core.specs.Steps.{Makes, after_named}
 use Rattle.pager_core.proofs.EntrySteps.{Fits-left}

@@ -1,4 +1,4 @@
-use Rattle.std.proofs.Common.{◌≡◌, ℕ, length, map, reverse, refl, sym, ap, ◌∙◌, arith}
+use Rattle.std.proofs.Common.{◌≡◌, length, map, reverse, refl, ap, ◌∙◌, arith}
 use Rattle.std.proofs.Math.ListN.{set, length-set, length-map}
 use Rattle.pager_model.specs.Legal.{space_at, entries_in}
 use Rattle.pager_core.specs.Running.{Running}

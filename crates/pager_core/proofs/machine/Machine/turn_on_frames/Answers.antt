@@ -1,4 +1,4 @@
-use Rattle.std.proofs.Common.{◌≡◌, length, map, reverse, refl, sym, ap, ◌∙◌, arith}
+use Rattle.std.proofs.Common.{◌≡◌, length, map, reverse, refl, ap, ◌∙◌, arith}
 use Rattle.std.proofs.Math.ListN.{set, length-map}
 use Rattle.pager_core.specs.Running.{Running}
 use Rattle.pager_laws.proofs.KeptLaws.{KeepsLaws-legal}
