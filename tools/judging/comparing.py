@@ -1,20 +1,21 @@
-"""Comparing the program's texts with the checker's, on traces that examples/random_trace.py draws."""
+"""Comparing the program's texts with the checker's, on traces that examples/random_trace.py draws, or that are short of frames."""
 import multiprocessing
 import os
 import signal
 import subprocess
 import sys
-from typing import Iterator, List, NamedTuple, Optional, Tuple
+from typing import Iterator, List, NamedTuple, Optional
 
 from common import TOP, Stopped
 
 from .curves import curves_text
+from .drawing import short
 from .legal import Illegal, after_history
 from .machine import Machine, store_of
 from .plans import plan_text, planned
 from .printed import BadLine, history_in, text_of_run
 from .showing import wrong_with_answers, wrong_with_filing, wrong_with_turns
-from .trace_text import Refusal, trace_of
+from .trace_text import Refusal, text_of, trace_of
 from .values import Trace, setting_of
 
 RANDOM_TRACE = os.path.join(TOP, 'examples', 'random_trace.py')
@@ -30,18 +31,22 @@ SECONDS = 600
 
 
 class Job(NamedTuple):
-    """One run: of the trace of a seed, by a form of the program, with the copies of each space in so many slots where a number is given."""
+    """One run: of the trace of a seed, by a form of the program, with the copies of each space in so many slots where a number is given. Where
+    `beyond` is a number the trace is one short of frames, whose wired pages and processors are so many more than its frames."""
     program: str
     seed: int
     form: str
     swap: Optional[int]
     laws: bool
+    turns: int
+    beyond: Optional[int] = None
 
 
 class Outcome(NamedTuple):
-    """Of a run how many lines it printed, and what is wrong, if something is."""
+    """Of a run how many lines it printed, how many accesses it refused for want of a frame, and what is wrong, if something is."""
     job: Job
     lines: int
+    refused: int
     wrong: Optional[str]
 
 
@@ -72,7 +77,7 @@ def checked_text(trace: Trace, job: Job) -> bytes:
     """The text that the slow machine prints: of a run with its history, or what is planned after it, or its curves."""
     machine = Machine(trace, [store_of(job.swap) for _ in range(trace.spaces)])
     if job.form == 'turns':
-        machine.run_in_turns(job.seed)
+        machine.run_in_turns(job.turns)
     else:
         machine.run_in_order()
     if job.form in PLANS:
@@ -114,22 +119,38 @@ def words_of(job: Job) -> List[str]:
         return [*words, 'plan', str(PLANS[job.form])]
     if job.form == CURVE:
         return [*words, CURVE]
-    return [*words, job.form, *([str(job.seed)] if job.form == 'turns' else []), '--history']
+    return [*words, job.form, *([str(job.turns)] if job.form == 'turns' else []), '--history']
+
+
+def trace_text(job: Job) -> bytes:
+    """The text of a run's trace."""
+    if job.beyond is not None:
+        return text_of(short(job.seed, job.beyond)).encode()
+    return output_of([sys.executable, RANDOM_TRACE, *map(str, trace_words(job.seed, job.form))], b'')
+
+
+def wrong_with_run(job: Job, text: bytes, printed: bytes) -> Optional[str]:
+    """What is wrong with what the program printed for a trace's text, or None."""
+    trace = trace_of(text)
+    if job.form == 'replay' or (job.laws and job.form not in WITHOUT_HISTORY):
+        return wrong_with_text(trace, job.form, job.turns, printed, job.laws)
+    return first_difference(checked_text(trace, job), printed)
 
 
 def run(job: Job) -> Outcome:
-    """One run, compared: by `replay` its history is judged, and by the other forms its text is that of the slow machine."""
-    text = output_of([sys.executable, RANDOM_TRACE, *map(str, trace_words(job.seed, job.form))], b'')
+    """One run, compared: by `replay` its history is judged, and by the other forms its text is that of the slow machine. No access is refused
+    for want of a frame where wired pages and processors are known to be no more than the frames."""
+    text = trace_text(job)
     try:
         printed = output_of([job.program, *words_of(job)], text)
-        trace = trace_of(text)
-        if job.form == 'replay' or (job.laws and job.form not in WITHOUT_HISTORY):
-            wrong = wrong_with_text(trace, job.form, job.seed, printed, job.laws)
-        else:
-            wrong = first_difference(checked_text(trace, job), printed)
+        wrong = wrong_with_run(job, text, printed)
     except (Stopped, Refusal, Illegal) as fault:
-        return Outcome(job, 0, str(fault))
-    return Outcome(job, printed.count(b'\n'), wrong)
+        return Outcome(job, 0, 0, str(fault))
+    # With its history a run prints each answer twice, and a line of the history has the answer behind four words.
+    refused = sum(line.split(b' ')[2:3] == [b'noframes'] for line in printed.splitlines())
+    if wrong is None and job.beyond == 0 and refused:
+        wrong = '%d accesses are refused for want of a frame' % refused
+    return Outcome(job, printed.count(b'\n'), refused, wrong)
 
 
 def ignore_interrupts() -> None:
@@ -143,16 +164,21 @@ def outcomes(jobs: List[Job], processes: int) -> Iterator[Outcome]:
         yield from pool.imap_unordered(run, jobs)
 
 
-def compare(jobs: List[Job], processes: int) -> Tuple[int, int]:
-    """Runs and compares, prints a line for each run that differs, and answers how many runs are as they should be and how many lines they
-    printed. Where standard error is a terminal the count so far is shown there."""
-    alike = lines = 0
+def name_of(job: Job) -> str:
+    """What a run is called where it differs."""
+    form = 'turns %d' % job.turns if job.form == 'turns' else job.form
+    return 'seed %d%s, %s' % (job.seed, '' if job.beyond is None else ' with %d beyond' % job.beyond, form)
+
+
+def compare(jobs: List[Job], processes: int) -> List[Outcome]:
+    """Runs and compares, prints a line for each run that differs, and answers what the runs came to. Where standard error is a terminal the
+    count so far is shown there."""
+    found: List[Outcome] = []
     shows = sys.stderr.isatty()
-    for n, outcome in enumerate(outcomes(jobs, processes), 1):
+    for outcome in outcomes(jobs, processes):
+        found.append(outcome)
         if outcome.wrong:
-            print('seed %d, %s: %s' % (outcome.job.seed, outcome.job.form, outcome.wrong), flush=True)
-        else:
-            alike, lines = alike + 1, lines + outcome.lines
+            print('%s: %s' % (name_of(outcome.job), outcome.wrong), flush=True)
         if shows:
-            print('\r%d of %d runs' % (n, len(jobs)), end='\n' if n == len(jobs) else '', file=sys.stderr, flush=True)
-    return alike, lines
+            print('\r%d of %d runs' % (len(found), len(jobs)), end='\n' if len(found) == len(jobs) else '', file=sys.stderr, flush=True)
+    return found

@@ -1,8 +1,14 @@
-"""Drawn numbers, and the trace that is made from a number (TurnOrders.antt; crates/trace_make/specs/Made.antt)."""
-from .values import Call, Evict, Line, Load, Map, Protect, Store, Sync, Trace
+"""Drawn numbers, the trace that is made from a number (TurnOrders.antt; crates/trace_make/specs/Made.antt), and traces that are short of
+frames."""
+from typing import List, Tuple
+
+from .values import Call, Daemon, Evict, Line, Load, Map, Protect, Store, Sync, Trace
 
 REGION = 4096
 NEAR = 512
+FRAMES = 512
+# A page, by its space and its number there.
+Place = Tuple[int, int]
 
 
 class Generator:
@@ -43,3 +49,50 @@ def drawn_call(g: Generator, space: int, page: int) -> Call:
         return Sync(space, page) if kind < 60 else Evict(space, page)
     rights = 'read' if kind == 62 and g.draw(2) == 0 else 'write'
     return Protect(space, page - page % 8, 8, rights)
+
+
+def short(seed: int, beyond: int) -> Trace:
+    """A trace whose wired pages and processors, a daemon among them, are as many as its frames, or `beyond` more. A processor maps and loads
+    its share of the wired pages, and has a few that aren't wired; then all make calls at those, and few frames are left for them."""
+    g = Generator(seed)
+    processors, spaces = 1 + g.draw(4), 1 + g.draw(3)
+    daemon = Daemon(1 + g.draw(64), 100 + g.draw(1400)) if g.draw(2) else None
+    wired = FRAMES - processors - (daemon is not None) + beyond
+    ends = [0] * spaces
+    rows: List[List[Line]] = []
+    others: List[Place] = []
+    for c in range(processors):
+        share = wired // processors + (c < wired % processors)
+        lines, pages = mapped(g, c, ends, share, 'wired')
+        rows.append(lines + [Line(c, Load(*at_word(g, place))) for place in pages])
+        lines, pages = mapped(g, c, ends, 4 + g.draw(37), 'growing' if g.draw(2) else 'fixed')
+        rows[c][:0] = lines
+        others += pages
+    filling = [line for n in range(max(map(len, rows))) for row in rows for line in row[n:n + 1]]
+    behind = [Line(g.draw(processors), call_at(g, others[g.draw(len(others))])) for _ in range(60 + 40 * processors)]
+    return Trace(FRAMES, processors, spaces, daemon, tuple(filling + behind))
+
+
+def mapped(g: Generator, processor: int, ends: List[int], length: int, kind: str) -> Tuple[List[Line], List[Place]]:
+    """The map of a region behind the others of a space, and its pages. `ends` has where the last region of each space ends."""
+    space = g.draw(len(ends))
+    first = ends[space] + g.draw(200)
+    ends[space] = first + length
+    return [Line(processor, Map(space, first, length, kind, 'write'))], [(space, first + n) for n in range(length)]
+
+
+def at_word(g: Generator, place: Place) -> Tuple[int, int]:
+    """The space and the address of a word of a page."""
+    return place[0], place[1] * 8192 + 8 * g.draw(1024)
+
+
+def call_at(g: Generator, place: Place) -> Call:
+    """In 32 draws 16 loads, 10 stores, two syncs, three evicts and a protect."""
+    kind = g.draw(32)
+    if kind < 16:
+        return Load(*at_word(g, place))
+    if kind < 26:
+        return Store(*at_word(g, place), g.word())
+    if kind < 31:
+        return Sync(*place) if kind < 28 else Evict(*place)
+    return Protect(*place, 1, 'write' if g.draw(4) else 'read')
