@@ -92,33 +92,70 @@ trace_of 'map 0 0 2 fixed write' 'store 0 0 5' 'sync 0 0' 'load 0 0' 'evict 0 0'
     counts_of 2 2 2 510 0 2
 } >failing.text
 fails() {
-    "$program" --folder "$2" order <failing >output 2>message
-    compare "$1" $? 0 failing.text
+    name=$1
+    folder=$2
+    shift 2
+    "$@" --folder "$folder" order <failing >output 2>message
+    compare "$name" $? 0 failing.text
 }
-fails missing no-folder
-fails a-file failing
+fails missing no-folder "$program"
+fails a-file failing "$program"
+
+# Root may write to each folder, so the program is run as nobody then, who has to reach a copy of it: without words it ends with status 2.
+as_nobody() {
+    setpriv --reuid 65534 --regid 65534 --clear-groups "$@"
+}
 mkdir closed-folder
 chmod a-w closed-folder
-if [ "$(id -u)" = 0 ]; then
-    echo 'not tried, since root may write to each: a folder without the right to write'
+if [ "$(id -u)" != 0 ]; then
+    fails closed-folder closed-folder "$program"
 else
-    fails closed-folder closed-folder
+    chmod a+x .
+    cp "$program" for-nobody
+    chmod a+rx for-nobody
+    as_nobody ./for-nobody >output 2>&1
+    if [ $? = 2 ]; then
+        fails closed-folder closed-folder as_nobody ./for-nobody
+    else
+        echo 'not tried, since root may write to each: a folder without the right to write'
+    fi
 fi
 
-# A folder that fills: here a limit on the size of a file. The system then sends a signal, which would end the program: it is ignored here, so
-# that the write fails.
-trace_of 'map 0 0 64 fixed write' 'store 0 0 5' 'store 0 327680 6' 'sync 0 0' 'sync 0 40' 'load 0 327680' 'load 0 0' >filling
+# A folder that fills: it takes the copies of six pages, and not that of page 40. What it has is written again and read back, and what it
+# hasn't stays where it is.
+trace_of 'map 0 0 41 fixed write' 'store 0 0 5' 'store 0 8192 5' 'store 0 16384 5' 'store 0 24576 5' 'store 0 32768 5' 'store 0 40960 5' \
+    'store 0 327680 6' 'sync 0 0' 'sync 0 1' 'sync 0 2' 'sync 0 3' 'sync 0 4' 'sync 0 5' 'sync 0 40' 'evict 0 40' 'load 0 327680' \
+    'store 0 0 7' 'evict 0 0' 'load 0 0' >filling
 {
-    printf '0 %s\n' '0 done' '1 done miss 0' '2 done miss 0' '3 written' '4 storefault 0 1' '5 value 6 hit 0' '6 value 5 miss 0'
-    counts_of 2 1 3 448 62 2
+    printf '0 %s\n' '0 done' '1 done miss 0' '2 done miss 0' '3 done miss 0' '4 done miss 0' '5 done miss 0' '6 done miss 0' \
+        '7 done miss 0' '8 written' '9 written' '10 written' '11 written' '12 written' '13 written' '14 storefault 0 1' \
+        '15 storefault 0 2' '16 value 6 hit 0' '17 done miss 0' '18 written' '19 value 7 miss 0'
+    counts_of 7 1 9 503 2 7
 } >filling.text
-mkdir full-folder
-(
+fills() {
+    name=$1
+    shift
+    "$@" "$program" --folder full-folder order <filling >output 2>message
+    compare "$name" $? 0 filling.text
+}
+
+# Here a limit on the size of a file, in blocks of 512 or 1,024 bytes. The system then sends a signal, which would end the program: it is ignored
+# here, so that the write fails.
+under_a_limit() (
     trap '' XFSZ
-    ulimit -f 24
-    exec "$program" --folder full-folder order <filling
-) >output 2>message
-compare full-folder $? 0 filling.text
+    ulimit -f 96
+    exec "$@"
+)
+mkdir full-folder
+fills full-folder under_a_limit
+
+# And here a file system of 48 KiB, where one may be mounted. It is mounted for that run alone, so it is gone as soon as that ends, however it does.
+on_a_small_system() {
+    unshare -m sh -c 'mount -t tmpfs -o size=48k none full-folder && exec "$@"' sh "$@"
+}
+if on_a_small_system true 2>message; then
+    fills full-system on_a_small_system
+fi
 
 # A run that is killed, as soon as it wrote a copy, and one that begins anew in its folder.
 mkdir killed-folder
