@@ -62,23 +62,22 @@ def short(seed: int, beyond: int) -> Trace:
     rows: List[List[Line]] = []
     others: List[Place] = []
     for c in range(processors):
-        share = wired // processors + (c < wired % processors)
-        lines, pages = mapped(g, c, ends, share, 'wired')
-        rows.append(lines + [Line(c, Load(*at_word(g, place))) for place in pages])
-        lines, pages = mapped(g, c, ends, 4 + g.draw(37), 'growing' if g.draw(2) else 'fixed')
-        rows[c][:0] = lines
+        share, kept = mapped(g, c, ends, wired // processors + (c < wired % processors), 'wired')
+        loads = [Line(c, Load(*at_word(g, place))) for place in kept]
+        few, pages = mapped(g, c, ends, 4 + g.draw(37), 'growing' if g.draw(2) else 'fixed')
+        rows.append([few, share, *loads])
         others += pages
     filling = [line for n in range(max(map(len, rows))) for row in rows for line in row[n:n + 1]]
     behind = [Line(g.draw(processors), call_at(g, others[g.draw(len(others))])) for _ in range(60 + 40 * processors)]
     return Trace(FRAMES, processors, spaces, daemon, tuple(filling + behind))
 
 
-def mapped(g: Generator, processor: int, ends: List[int], length: int, kind: str) -> Tuple[List[Line], List[Place]]:
+def mapped(g: Generator, processor: int, ends: List[int], length: int, kind: str) -> Tuple[Line, List[Place]]:
     """The map of a region behind the others of a space, and its pages. `ends` has where the last region of each space ends."""
     space = g.draw(len(ends))
     first = ends[space] + g.draw(200)
     ends[space] = first + length
-    return [Line(processor, Map(space, first, length, kind, 'write'))], [(space, first + n) for n in range(length)]
+    return Line(processor, Map(space, first, length, kind, 'write')), [(space, first + n) for n in range(length)]
 
 
 def at_word(g: Generator, place: Place) -> Tuple[int, int]:
