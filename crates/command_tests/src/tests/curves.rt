@@ -1,13 +1,10 @@
 //! The misses at each capacity after a run.
 
 use super::runs::{AMPLE, Setup, assert_cut, assert_done, assert_stopped, push, push_number, ran};
+use super::texts::EIGHT;
 use pager_command::{REFUSED, USAGE};
 use std::process::Abort;
 use trace_reader::TraceFault;
-
-/// Eight pages become one tile.
-const EIGHT: &[u8] =
-    b"trace 1 512 1 1\n0 map 0 0 8 fixed write\n0 load 0 0\n0 load 0 8192\n0 load 0 16384\n0 load 0 24576\n0 load 0 32768\n0 load 0 40960\n0 load 0 49152\n0 load 0 57344\nend\n";
 
 /// Eight pages become one tile. A store to one of them breaks it, and when all are dirty they become one again.
 const EIGHT_STORED: &[u8] =

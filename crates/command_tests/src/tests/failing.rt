@@ -1,7 +1,7 @@
 //! Texts that are refused, and reads, writes and stores that fail.
 
 use super::runs::{AMPLE, Setup, assert_cut, assert_done, assert_stopped, ran_in_order};
-use super::texts::{EVICTED, LAST_PAGE, LAST_PAGE_TEXT, LOADED_TWICE, WRITTEN_TWICE};
+use super::texts::{EIGHT, EVICTED, LAST_PAGE, LAST_PAGE_TEXT, LOADED_TWICE, WRITTEN_TWICE};
 use pager_command::{READ_FAULT, REFUSED};
 use std::process::Abort;
 use std::sync::Wait;
@@ -97,6 +97,25 @@ fn each_read_that_fails_ends_the_run_with_nothing_written(rt: HostRuntime) {
     };
     let ending = ran_in_order(&rt, LAST_PAGE, setup);
     assert_done(&rt, &ending, LAST_PAGE_TEXT);
+}
+
+/// As many reads of the trace that makes eight pages one tile.
+const READS_OF_EIGHT: u64 = 160;
+
+#[test]
+fn each_read_and_the_write_of_a_promotion_end_the_run_where_they_fail(rt: HostRuntime) {
+    for failing_read in 1..=READS_OF_EIGHT {
+        assert_read_fault(&rt, EIGHT, failing_read);
+    }
+    let (failing_read, failing_write) = (READS_OF_EIGHT + 1, 1);
+    let setup = Setup {
+        failing_read,
+        failing_write,
+        ..AMPLE
+    };
+    let ending = ran_in_order(&rt, EIGHT, setup);
+    assert_cut(&rt, &ending, b"", 0);
+    assert_eq!(rt; ending.calls, Some(9));
 }
 
 /// The sink takes so many bytes, which are the first of the text.

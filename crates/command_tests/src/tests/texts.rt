@@ -32,3 +32,7 @@ pub const EVICTED: &[u8] =
 /// A page that is loaded twice.
 pub const LOADED_TWICE: &[u8] =
     b"trace 1 512 1 1\n0 map 0 0 8 fixed write\n0 load 0 0\n0 load 0 0\nend\n";
+
+/// Eight pages become one tile.
+pub const EIGHT: &[u8] =
+    b"trace 1 512 1 1\n0 map 0 0 8 fixed write\n0 load 0 0\n0 load 0 8192\n0 load 0 16384\n0 load 0 24576\n0 load 0 32768\n0 load 0 40960\n0 load 0 49152\n0 load 0 57344\nend\n";
