@@ -1,9 +1,9 @@
 -- What each move of the frames does to a table that is right.
-use Rattle.std.proofs.Common.{◌≡◌, ◌≢◌, ◌≤◌, ◌<◌, ◌⊎◌, ℕ, zero, suc, ◌+◌, Bool, true, false, is_some, cond, eqb, ◌&&◌, List, ◌∷◌, length, map, set, get_or, replicate, option_map, Option, Some, None, IsSome, IsSomeAnd, inl, inr, refl, sym, ap, subst, ◌∙◌, arith}
+use Rattle.std.proofs.Common.{◌≡◌, ◌≤◌, ◌<◌, ℕ, zero, suc, Bool, true, false, is_some, cond, eqb, ◌&&◌, List, ◌∷◌, length, map, set, get_or, replicate, option_map, Option, Some, None, IsSome, IsSomeAnd, inl, inr, refl, sym, ap, subst, ◌∙◌, arith}
 use Rattle.std.specs.BTreeMap.{BTreeMap}
 use Rattle.std.proofs.Math.ListN.{get_or-map}
-use Rattle.std.proofs.lemmas.Bool.{cases_Bool, cases_eq, cases_lt, and_parts, and_from, cond-true, cond-false, eq-eqb, eqb-true}
-use Rattle.std.proofs.lemmas.List.{map-set, length-set, get_or-set_same, get_or-set_other, get_or_past, set_past, length-replicate}
+use Rattle.std.proofs.lemmas.Bool.{cases_Bool, cases_eq, and_parts, and_from, cond-true, cond-false, eq-eqb, eqb-true}
+use Rattle.std.proofs.lemmas.List.{map-set, length-set, get_or-set_other, length-replicate}
 use Rattle.std.proofs.lemmas.Grind.{get_or-set_at}
 use Rattle.std.proofs.lemmas.Option.{none-some, same_Some}
 use Rattle.pager_model.specs.declared.call.Call.{Call}
@@ -14,7 +14,7 @@ use Rattle.pager_model.specs.FrameStates.{FrameState, Taking, start_frames, layo
 use Rattle.pager_model.specs.Layouts.{Placing, placing, frame_in}
 use Rattle.pager_model.specs.Regions.{in_range}
 use Rattle.pager_model.specs.SizeSets.{SizeSet}
-use Rattle.pager_model.proofs.Lists.{get_or-alike, get_or-set_default, unset_before}
+use Rattle.pager_model.proofs.Lists.{get_or-alike, get_or-set_default, set_cases, unset_before}
 use Rattle.pager_model.proofs.Options.{some_from_is_some}
 use Rattle.pager_model.proofs.Ranges.{in_bounds, bounds_in}
 use Rattle.pager_laws.specs.Laid.{IsSound}
@@ -62,18 +62,6 @@ claimed_before : (claim : Option ℕ) (o : Option Use) (u : Use) → reclaimed c
 claimed_before claim None u is = absurd (none-some u is)
 claimed_before claim (Some v) u is = (v, refl, ap (λ (w : Use). w.page) (same_Some _ u is))
 
--- what stands somewhere after a write was written there, or stood there before
-written_cases : (xs : List (Option Use)) (i j : ℕ) (o : Option Use) (x : Use) → get_or (set xs i o) j None ≡ Some x → ((j ≡ i) × (o ≡ Some x)) ⊎ ((j ≢ i) × (get_or xs j None ≡ Some x))
-written_cases xs i j o x is = elim (cases_eq j i) [
-  | inl here ↦
-      let at : get_or (set xs i o) i None ≡ Some x = ap (λ k. get_or (set xs i o) k None) (sym here) ∙ is in
-      elim (cases_lt i (length xs)) [
-        | inl known ↦ inl (here, sym (get_or-set_same xs i o None known) ∙ at)
-        | inr past ↦ absurd (none-some x (sym (ap (λ ys. get_or ys i None) (set_past xs i o past) ∙ get_or_past xs i None past) ∙ at))
-      ]
-  | inr other ↦ inr (other, sym (get_or-set_other xs i j o None other) ∙ is)
-]
-
 length-held_given : (o : Option ℕ) (frame : ℕ) (held : List (Option ℕ)) → length (held_given o frame held) ≡ length held
 length-held_given None frame held = refl
 length-held_given (Some d) frame held = length-set held d (Some frame)
@@ -98,7 +86,7 @@ module _ (st : FrameState) (uses : List (Option Use)) (held : List (Option ℕ))
         (reclaimed_alike claim (use_in uses frame) (used_at st frame) (note_at uses st.used right.notes frame));
     pages = λ f u is.
         ap (λ l. frame_in l u.page.space u.page.page) (layout_of-claimed st frame claim)
-        ∙ elim (written_cases uses frame f (reclaimed claim (use_in uses frame)) u is) [
+        ∙ elim (set_cases uses frame f (reclaimed claim (use_in uses frame)) u is) [
           | inl here ↦
               let before = claimed_before claim (use_in uses frame) u here.1 in
               ap (λ (q : PageOf). frame_of st q.space q.page) (sym before.2) ∙ right.pages frame before.0 before.1 ∙ ap Some (sym here.0)
@@ -145,7 +133,7 @@ module _ (st : FrameState) (uses : List (Option Use)) (held : List (Option ℕ))
       let value : Use = use_for (record { space = space; page = page }) want in
       record {
         notes = notes-set uses st.used right.notes place.frame (Some value) (Some (record { age = st.entries; wired = want.wired; claim = None })) refl;
-        pages = λ f u is. elim (written_cases uses place.frame f (Some value) u is) [
+        pages = λ f u is. elim (set_cases uses place.frame f (Some value) u is) [
           | inl here ↦
               subst (λ (x : Use). frame_of (taken st want place) x.page.space x.page.page ≡ Some f) (same_Some value u here.1)
               (pages space page ∙ cond-true _ _ _ (and_from _ _ (eq-eqb space space refl) (eq-eqb page page refl)) ∙ ap Some (sym here.0))

@@ -1,8 +1,8 @@
 -- What every entry that the frames allow keeps of their state.
-use Rattle.std.proofs.Common.{◌≡◌, ◌≢◌, ◌⊎◌, inl, inr, ℕ, ◌<◌, Bool, true, false, not, cond, List, [], ◌∷◌, length, get_or, set, map, fold, is_some, Option, Some, None, IsSomeAnd, option_map, refl, sym, ap, subst, ◌∙◌, arith}
-use Rattle.std.proofs.lemmas.Bool.{cases_eq, cases_lt, false≢true, and_parts}
+use Rattle.std.proofs.Common.{◌≡◌, ◌≢◌, ◌⊎◌, inl, inr, ℕ, ◌<◌, Bool, true, false, not, cond, List, [], ◌∷◌, get_or, set, map, fold, is_some, Option, Some, None, IsSomeAnd, option_map, refl, sym, ap, subst, ◌∙◌, arith}
+use Rattle.std.proofs.lemmas.Bool.{cases_eq, false≢true, and_parts}
 use Rattle.std.specs.Option.{is_none}
-use Rattle.std.proofs.lemmas.List.{get_or-set_same, get_or-set_other, length-set, map-set, set_past, get_or_past}
+use Rattle.std.proofs.lemmas.List.{get_or-set_same, get_or-set_other, length-set, map-set}
 use Rattle.std.proofs.Math.ListN.{get_or-map}
 use Rattle.std.proofs.Math.Seq.{map-set_same}
 use Rattle.std.specs.List.{range_with_len}
@@ -18,7 +18,7 @@ use Rattle.pager_model.specs.Agreement.{has_frame}
 use Rattle.pager_model.specs.FrameStates.{FrameState, Taking, layout_of, used_at, held_by, claim_in, frame_of, HasNothing, taken, taking, take_frame, state_taken, layout_given, held_given, given, given_in, give_page, give_if_used, with_claim, claimed, is_evictable, is_wired_place, dropped, dropped_in, counted, named_space, moved, moved_by_answer, AllowsAnswer, FramesAllow}
 use Rattle.pager_model.specs.Layouts.{Layout, Placing, placing, frame_for, record_at}
 use Rattle.pager_model.specs.Records.{is_used}
-use Rattle.pager_model.proofs.Lists.{get_or-set_default, unset_before}
+use Rattle.pager_model.proofs.Lists.{get_or-set_default, set_cases, unset_before}
 use Rattle.pager_model.proofs.RecordFrames.{has_frame_bounds}
 use Rattle.pager_laws.specs.Laid.{IsLaid, IsSound, IsIn}
 use Rattle.pager_laws.proofs.PagePlaces.{has_frame_for, frame_in-found, covering-is}
@@ -53,18 +53,6 @@ claim_from None c claims = absurd (none-some c claims)
 claim_from (Some u) c claims = (u, refl, claims)
 
 -- What stands in a list of options after one was written.
-
--- a value that stands somewhere is the one that was written there, or stood there before
-set_cases : {A : Type 0} (xs : List (Option A)) (i j : ℕ) (o : Option A) (x : A) → get_or (set xs i o) j None ≡ Some x → ((j ≡ i) × (o ≡ Some x)) ⊎ ((j ≢ i) × (get_or xs j None ≡ Some x))
-set_cases xs i j o x is = elim (cases_eq j i) [
-  | inl here ↦
-      let at : get_or (set xs i o) i None ≡ Some x = ap (λ k. get_or (set xs i o) k None) (sym here) ∙ is in
-      elim (cases_lt i (length xs)) [
-        | inl known ↦ inl (here, sym (get_or-set_same xs i o None known) ∙ at)
-        | inr past ↦ absurd (none-some x (sym (ap (λ ys. get_or ys i None) (set_past xs i o past) ∙ get_or_past xs i None past) ∙ at))
-      ]
-  | inr other ↦ inr (other, sym (get_or-set_other xs i j o None other) ∙ is)
-]
 
 -- after None was written a value that stands somewhere stood there before, and None was written elsewhere
 unset_cases : {A : Type 0} (xs : List (Option A)) (i j : ℕ) (x : A) → get_or (set xs i None) j None ≡ Some x → (j ≢ i) × (get_or xs j None ≡ Some x)

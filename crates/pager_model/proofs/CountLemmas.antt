@@ -59,10 +59,10 @@ count-all p a (suc n) all =
 pub count-most : (p : ℕ → Bool) (a n : ℕ) → count_by p (range_with_len a n) ≤ n
 count-most p a n = omega (arith, count_by-le-length p (range_with_len a n), length-range_with_len a n)
 
--- all numbers of a block pass where none did, and the others as before
-pub count_block : (f g : ℕ → Bool) (count first block : ℕ) → first + block ≤ count → ((n : ℕ) → first ≤ n → n < first + block → (f n ≡ false) × (g n ≡ true)) → ((n : ℕ) → (first ≤ n → n < first + block → ⊥) → g n ≡ f n)
-    → count_by g (range_with_len 0 count) ≡ count_by f (range_with_len 0 count) + block
-count_block f g count first block within inside outside =
+-- a change of a block changes a count as it changes the block's
+pub block_change : (f g : ℕ → Bool) (count first block : ℕ) → first + block ≤ count → ((n : ℕ) → (first ≤ n → n < first + block → ⊥) → g n ≡ f n)
+    → count_by g (range_with_len 0 count) + count_by f (range_with_len first block) ≡ count_by f (range_with_len 0 count) + count_by g (range_with_len first block)
+block_change f g count first block within outside =
     let rest = count - (first + block) in
     let parts : (p : ℕ → Bool) → count_by p (range_with_len 0 count) ≡ count_by p (range_with_len 0 first) + (count_by p (range_with_len first block) + count_by p (range_with_len (first + block) rest)) = λ p.
     ap (λ n. count_by p (range_with_len 0 n)) {x = count} {y = first + (block + rest)} (omega arith)
@@ -73,6 +73,15 @@ count_block f g count first block within inside outside =
       parts g,
       count-agree g f 0 first (λ n _ high. outside n (λ low _. omega arith)),
       count-agree g f (first + block) rest (λ n low _. outside n (λ _ high. omega arith)),
+    )
+
+-- all numbers of a block pass where none did, and the others as before
+pub count_block : (f g : ℕ → Bool) (count first block : ℕ) → first + block ≤ count → ((n : ℕ) → first ≤ n → n < first + block → (f n ≡ false) × (g n ≡ true)) → ((n : ℕ) → (first ≤ n → n < first + block → ⊥) → g n ≡ f n)
+    → count_by g (range_with_len 0 count) ≡ count_by f (range_with_len 0 count) + block
+count_block f g count first block within inside outside =
+    omega (
+      arith,
+      block_change f g count first block within outside,
       count-all g first block (λ n low high. (inside n low high).1),
       count-none f first block (λ n low high. (inside n low high).0),
     )

@@ -1,5 +1,5 @@
 -- Lists whose elements are all alike or all pass a test, and lists of places that may be empty.
-use Rattle.std.proofs.Common.{◌≡◌, ◌<◌, ℕ, zero, suc, Option, None, Some, List, length, get_or, replicate, inl, inr, refl, sym, ◌∙◌, ◌≢◌, set, ap, Bool, true, [], ◌∷◌, filter}
+use Rattle.std.proofs.Common.{◌≡◌, ◌<◌, ◌⊎◌, ℕ, zero, suc, Option, None, Some, List, length, get_or, replicate, inl, inr, refl, sym, ◌∙◌, ◌≢◌, set, ap, Bool, true, [], ◌∷◌, filter}
 use Rattle.std.proofs.lemmas.Bool.{cases_lt, cases_eq, and_parts, cond-true}
 use Rattle.std.proofs.lemmas.List.{get_or_past, get_or-set_same, get_or-set_other, set_past}
 use Rattle.std.proofs.lemmas.Option.{none-some}
@@ -30,6 +30,18 @@ pub unset_before : {A : Type 0} (xs : List A) (i j : ℕ) (d x : A) → d ≢ x 
 unset_before xs i j d x apart is = elim (cases_eq j i) [
   | inl here ↦ absurd (apart (sym (get_or-set_default xs i j d here) ∙ is))
   | inr other ↦ (other, sym (get_or-set_other xs i j d d other) ∙ is)
+]
+
+-- a value that stands somewhere is the one that was written there, or stood there before
+pub set_cases : {A : Type 0} (xs : List (Option A)) (i j : ℕ) (o : Option A) (x : A) → get_or (set xs i o) j None ≡ Some x → ((j ≡ i) × (o ≡ Some x)) ⊎ ((j ≢ i) × (get_or xs j None ≡ Some x))
+set_cases xs i j o x is = elim (cases_eq j i) [
+  | inl here ↦
+      let at : get_or (set xs i o) i None ≡ Some x = ap (λ k. get_or (set xs i o) k None) (sym here) ∙ is in
+      elim (cases_lt i (length xs)) [
+        | inl known ↦ inl (here, sym (get_or-set_same xs i o None known) ∙ at)
+        | inr past ↦ absurd (none-some x (sym (ap (λ ys. get_or ys i None) (set_past xs i o past) ∙ get_or_past xs i None past) ∙ at))
+      ]
+  | inr other ↦ inr (other, sym (get_or-set_other xs i j o None other) ∙ is)
 ]
 
 -- where all pass the test, all are kept
