@@ -3,7 +3,8 @@ use Rattle.std.proofs.Common.{◌≡◌, ℕ, zero, suc, ◌+◌, ◌-◌, ◌*�
 use Rattle.std.proofs.Math.Nat.{mul-le-mul_left}
 use Rattle.std.proofs.lemmas.Bool.{cases_lt, false≢true}
 use Rattle.pager_model.proofs.Options.{cases_Option}
-use Rattle.extent_tree.specs.Rows.{Arena, spot_at, number_at, part_at, place_of, spot_of, row, is_split}
+use Rattle.extent_tree.specs.declared.spot.Row.{Row}
+use Rattle.extent_tree.specs.Rows.{Arena, NoRows, IsNextRow, spot_at, number_at, part_at, place_of, spot_of, row, is_split}
 use Rattle.extent_tree.specs.Kept.{AreInOrder, IsTree}
 use Rattle.extent_tree.proofs.Places.{number_step, place_alike, place_down, root_place, spot_some}
 use Rattle.extent_tree.proofs.Splits.{splits_are_rows}
@@ -34,10 +35,6 @@ number_behind (suc zero) page other h behind = omega arith
 number_behind (suc (suc zero)) page other h behind = omega arith
 number_behind (suc (suc (suc zero))) page other h behind = omega arith
 number_behind (suc (suc (suc (suc height)))) page other h behind = absurd (omega arith)
-
--- a page's rest is the page
-pub page_alone : (height page other : ℕ) → height ≡ 3 → page ≤ other → other < page + rest_at height page → other ≡ page
-page_alone height page other last on before = omega (arith, ap (λ h. rest_at h page) last)
 
 number_up : (height page other : ℕ) → height ≤ 3 → page ≤ other → number_at height page ≤ number_at height other
 number_up zero page other h on = omega arith
@@ -71,24 +68,62 @@ rest_in_order t height place page stop end low forward full order other on befor
     let whole = full (omega arith) in
     order other (omega arith) before ∙ ap Some (omega (arith, number_behind height page other low (omega arith), ap (number_at height) whole))
 
--- ---- rows of pages
+-- ---- rows
 
--- no page has a row in an extent that isn't split
-pub no_row_within : {V : Type 0} (t : Arena V) → IsTree t → (height place page other : ℕ) → height < 3 → place_of t height page ≡ Some place → (spot_at t place).node ≡ None → number_at height other ≡ number_at height page → row t 0 other ≡ None
+-- the row of the extent of a height round a page is the value at its place
+pub row_at : {V : Type 0} (t : Arena V) (height place page other : ℕ) → height ≤ 3 → place_of t height page ≡ Some place → number_at height other ≡ number_at height page → row t (3 - height) other ≡ (spot_at t place).value
+unfolding row
+row_at t height place page other low at same =
+    let back : 3 - (3 - height) ≡ height = omega arith in
+    ap (λ h. (spot_of t h other).value) back ∙ ap (λ s. s.value) (spot_some t height other place (place_alike t height other page low same ∙ at))
+
+-- no smaller extent has a row in one that isn't split
+no_part_row : {V : Type 0} (t : Arena V) → IsTree t → (height place page size other : ℕ) → height ≤ 3 → place_of t height page ≡ Some place → (spot_at t place).node ≡ None → number_at height other ≡ number_at height page → size < 3 - height → row t size other ≡ None
 unfolding is_split
-no_row_within t tree height place page other low at bare same = elim (cases_Option (row t 0 other)) [
+no_part_row t tree height place page size other low at bare same less = elim (cases_Option (row t size other)) [
   | inl none ↦ none
   | inr some ↦
-      let split = (splits_are_rows t tree).above (3 - height) 0 other (omega arith) (omega arith) (ap is_some some.1) in
+      let split = (splits_are_rows t tree).above (3 - height) size other less (omega arith) (ap is_some some.1) in
       let back : 3 - (3 - height) ≡ height = omega arith in
-      let spot = spot_some t height other place (place_alike t height other page (omega arith) same ∙ at) in
+      let spot = spot_some t height other place (place_alike t height other page low same ∙ at) in
       absurd (false≢true (sym (ap (λ h. is_some (spot_of t h other).node) back ∙ (ap (λ s. is_some s.node) spot ∙ ap is_some bare)) ∙ split))
 ]
 
--- a page's row is the value at its place
-pub row_at : {V : Type 0} (t : Arena V) (page place : ℕ) → place_of t 3 page ≡ Some place → row t 0 page ≡ (spot_at t place).value
-unfolding row
-row_at t page place at = ap (λ s. s.value) (spot_some t 3 page place at)
+-- and none up to its own size has one, where it has none itself
+pub no_row_within : {V : Type 0} (t : Arena V) → IsTree t → (height place page size other : ℕ) → height ≤ 3 → place_of t height page ≡ Some place → (spot_at t place).value ≡ None → (spot_at t place).node ≡ None → number_at height other ≡ number_at height page → size ≤ 3 - height → row t size other ≡ None
+no_row_within t tree height place page size other low at none bare same most = elim (cases_lt size (3 - height)) [
+  | inl less ↦ no_part_row t tree height place page size other low at bare same less
+  | inr not ↦ ap (λ k. row t k other) {x = size} {y = 3 - height} (omega arith) ∙ (row_at t height place page other low at same ∙ none)
+]
+
+-- there is none up to the size of a height's extents, where they have none themselves and their parts have none
+pub no_rows_up : {V : Type 0} (t : Arena V) (height from end : ℕ) → NoRows t (3 - (height + 1)) from end → ((page : ℕ) → from ≤ page → page < end → row t (3 - height) page ≡ None) → NoRows t (3 - height) from end
+no_rows_up t height from end parts none size page most on before = elim (cases_lt size (3 - height)) [
+  | inl less ↦ parts size page (omega arith) on before
+  | inr not ↦ ap (λ k. row t k page) {x = size} {y = 3 - height} (omega arith) ∙ none page on before
+]
+
+-- and none round the pages before one, and none from it on
+pub no_rows_on : {V : Type 0} (t : Arena V) (top from page end : ℕ) → NoRows t top from page → NoRows t top page end → NoRows t top from end
+no_rows_on t top from page end so_far more size other most on before = elim (cases_lt other page) [
+  | inl earlier ↦ so_far size other most on earlier
+  | inr later ↦ more size other most later before
+]
+
+-- the next row in the parts of an extent, where it has none itself and there is none before it
+pub next_up : {V : Type 0} (t : Arena V) (height from page stop end : ℕ) (found : Row V) → IsNextRow t (3 - (height + 1)) page stop found → from ≤ page → stop ≤ end → NoRows t (3 - height) from page
+    → ((other : ℕ) → page ≤ other → other < stop → row t (3 - height) other ≡ None) → IsNextRow t (3 - height) from end found
+next_up t height from page stop end found next on before so_far none = record {
+  from_on = omega (arith, next.from_on);
+  before_end = omega (arith, next.before_end);
+  low = omega (arith, next.low);
+  is = next.is;
+  largest = λ size more most. elim (cases_lt size (3 - height)) [
+    | inl less ↦ next.largest size more (omega arith)
+    | inr not ↦ ap (λ k. row t k found.page) {x = size} {y = 3 - height} (omega arith) ∙ none found.page next.from_on next.before_end
+  ];
+  lowest = no_rows_on t (3 - height) from page found.page so_far (no_rows_up t height page found.page next.lowest (λ other low less. none other low (omega (arith, next.before_end))));
+}
 
 -- ---- looks
 

@@ -7,14 +7,14 @@
 
 ghost use Rattle.std.specs.Prelude.{suc, slice_index_or, ◌/◌, ◌%◌, ◌≡◌, [], length, ℕ, ◌+◌, ◌-◌, ◌*◌, ◌<◌, ◌≤◌, ◌^◌, true, Some, None, IfNone, IfOk, IfSome, MatchOption, is_some};
 ghost use Rattle.extent_tree.specs.Counts.{splits_with};
-ghost use Rattle.extent_tree.specs.Rows.{ChangesEight, ChangesOnly, IsNextPageRow, NoPageRows, NoSplitRoots, SplitsAreRowsBelow, blank, is_split, row, spot_of};
+ghost use Rattle.extent_tree.specs.Rows.{ChangesEight, ChangesOnly, IsNextRow, NoRows, NoSplitRoots, SplitsAreRowsBelow, blank, is_split, row, spot_of};
 
 mod spot;
 mod store;
 mod walk;
 
 use pager_model::{NoMemory, Size, Steps};
-pub use spot::Spot;
+pub use spot::{Row, Spot};
 use std::alloc::Global;
 use std::marker::Model;
 use std::sync::ledger::Ledger;
@@ -108,15 +108,15 @@ impl<V: Copy> ExtentTree<V> {
         }
     }
 
-    /// The lowest page from `from` on and before `end` that has a row of its own, as an extent of size 0.
+    /// The largest row round the lowest page from `from` on and before `end` that has one round it.
     ///
-    /// The walk goes from extent to extent, down into those that are split alone, and looks at each once. So it makes at most four looks
-    /// for each page that it goes over, and one for each 512 where nothing is below the roots.
-    pub fn next<L: Ledger>(&self, from: u32, end: u32, steps: &mut Steps<L>) -> Option<u32>
+    /// An extent that has a row is looked at once, and so is one that isn't split, which is passed over whole. That makes at most four looks for
+    /// each page up to the one that is found or the end, and one for each root where none is split.
+    pub fn next<L: Ledger>(&self, from: u32, end: u32, steps: &mut Steps<L>) -> Option<Row<V>>
         requires { end ≤ 512 * self.now.roots }
-        ensures some { IfSome result (IsNextPageRow self.now from end) }
-        ensures none { IfNone result (NoPageRows self.now from end) }
-        ensures cost { MatchOption result (steps.new ≤ steps.old + 4 * (end - from)) (λ page. steps.new ≤ steps.old + 4 * (page + 1 - from)) }
+        ensures some { IfSome result (IsNextRow self.now 3 from end) }
+        ensures none { IfNone result (NoRows self.now 3 from end) }
+        ensures cost { MatchOption result (steps.new ≤ steps.old + 4 * (end - from)) (λ found. steps.new ≤ steps.old + 4 * (found.page + 1 - from)) }
         ensures roots { from ≤ end → NoSplitRoots self.now from end → steps.new + from / 512 ≤ steps.old + (end + 511) / 512 }
     {
         walk::next(&self.store, from / 512, 0, from, end, steps)

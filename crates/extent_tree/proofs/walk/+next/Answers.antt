@@ -1,28 +1,36 @@
-use Rattle.std.proofs.Common.{rules, ◌≡◌, ℕ, ◌+◌, ◌-◌, ◌*◌, ◌<◌, ◌≤◌, is_some, inl, inr, sym, ap, ◌∙◌, arith}
-use Rattle.std.proofs.lemmas.Bool.{cases_lt}
-use Rattle.pager_model.proofs.Options.{none_from_is_some}
-use Rattle.extent_tree.specs.Rows.{NoPageRows, NoSplitRoots, place_of, row}
-use Rattle.extent_tree.proofs.Nexts.{above_pages, looks_all, page_alone, rest_at, rest_some, number_within, first_place, parts_in_order, rest_in_order, no_row_within, row_at, looks_more, no_root_node}
+use Rattle.std.proofs.Common.{rules, ◌≡◌, ℕ, ◌+◌, ◌-◌, ◌*◌, ◌<◌, ◌≤◌, refl, inl, sym, ap, ◌∙◌, arith}
+use Rattle.extent_tree.specs.Rows.{NoRows, NoSplitRoots, number_at, row}
+use Rattle.extent_tree.proofs.Nexts.{above_pages, looks_all, rest_at, rest_some, number_within, first_place, parts_in_order, rest_in_order, no_row_within, no_rows_on, no_rows_up, next_up, row_at, looks_more, no_root_node}
 use Rattle.extent_tree.proofs.Trees.{place_known}
 use Rattle.extent_tree.proofs.walk.+next.Goals as goal
-use Rattle.extent_tree.proofs.walk.+next.Goals.{in-Some+in_default-next, in_default, else-height-eq3-via-then-height-eq3+else-is_some, else-height-eq3-via-else-height-eq3}
+use Rattle.extent_tree.proofs.walk.+next.Goals.{in-Some-node+in_default-next, in_default-node}
 use Rattle.extent_tree.proofs.walk.+next.Given.{Over}
 
-pub returns-then-is_some-clause-some : goal.returns-then-is_some-clause-some
-returns-then-is_some-clause-some g t c =
+pub returns-in-Some-clause-some : goal.returns-in-Some-clause-some
+returns-in-Some-clause-some g t c =
     let s = c.args.store.now in
-    let at = first_place s c.args.height c.loop-page.place c.loop-page.page c.args.end c.loop-page.invariant.places c.loop-page-test.true in
-    let value = row_at s c.loop-page.page c.loop-page.place (ap (λ h. place_of s h c.loop-page.page) (sym c.if-height-eq3.true) ∙ at) in
+    let h = c.args.height in
+    let page = c.loop-page.page in
+    let at = first_place s h c.loop-page.place page c.args.end c.loop-page.invariant.places c.loop-page-test.true in
+    let value = sym (ap (λ s. s.value) c.spot-spot.ensures.spot) ∙ c.in-Some.is in
     record {
       from_on = c.loop-page.invariant.from_on;
       before_end = c.loop-page-test.true;
-      has = ap is_some (value ∙ sym (ap (λ s. s.value) c.spot-spot.ensures.spot)) ∙ sym c.if-is_some.ensures;
+      low = omega (arith, c.size_at.ensures);
+      is = ap (λ k. row s k page) c.size_at.ensures ∙ (row_at s h c.loop-page.place page page c.requires.height at refl ∙ value);
+      largest = λ size more most. absurd (omega (arith, c.size_at.ensures));
       lowest = c.loop-page.invariant.none;
     }
 
+pub part_at-requires : goal.part_at-requires
+part_at-requires g t c =
+    let s = c.args.store.now in
+    let at = first_place s c.args.height c.loop-page.place c.loop-page.page c.args.end c.loop-page.invariant.places c.loop-page-test.true in
+    omega (arith, above_pages s c.requires.tree c.args.height c.loop-page.page c.loop-page.place c.in-Some-node.node c.requires.height at (sym (ap (λ s. s.node) c.spot-spot.ensures.spot) ∙ c.in-Some-node.is))
+
 pub place-first-requires : goal.place-first-requires
 place-first-requires g t c =
-    let hangs = c.requires.tree.nodes.hangs c.loop-page.place c.in-Some.node (sym (ap (λ s. s.node) c.spot-spot.ensures.spot) ∙ c.in-Some.is) in
+    let hangs = c.requires.tree.nodes.hangs c.loop-page.place c.in-Some-node.node (sym (ap (λ s. s.node) c.spot-spot.ensures.spot) ∙ c.in-Some-node.is) in
     omega (arith, hangs.0, c.requires.tree.nodes.fits, c.requires.tree.nodes.small, c.part_at.ensures.small)
 
 pub next-requires : goal.next-requires
@@ -31,25 +39,36 @@ next-requires g t c κs within =
     let h = c.args.height in
     let page = c.loop-page.page in
     let at = first_place s h c.loop-page.place page c.args.end c.loop-page.invariant.places c.loop-page-test.true in
-    let leads = sym (ap (λ s. s.node) c.spot-spot.ensures.spot) ∙ c.in-Some.is in
-    let low = above_pages s c.requires.tree h page c.loop-page.place c.in-Some.node c.requires.height at leads in
-    let first = c.place-first.ensures ∙ ap (λ n. s.roots + 8 * c.in-Some.node + n) c.part_at.ensures.part in
+    let leads = sym (ap (λ s. s.node) c.spot-spot.ensures.spot) ∙ c.in-Some-node.is in
+    let low = above_pages s c.requires.tree h page c.loop-page.place c.in-Some-node.node c.requires.height at leads in
+    let first = c.place-first.ensures ∙ ap (λ n. s.roots + 8 * c.in-Some-node.node + n) c.part_at.ensures.part in
     let stop : page + c.min.result ≤ page + rest_at h page = omega (arith, c.min.ensures, c.rest_at.ensures) in
     let smaller : 4 - (h + 1) < 4 - h = omega (arith, low) in
     let lower : h + 1 ≤ 3 = omega (arith, low) in
-    let parts = parts_in_order s h c.loop-page.place page (page + c.min.result) c.in-Some.node c.place-first.result low stop at leads first in
+    let parts = parts_in_order s h c.loop-page.place page (page + c.min.result) c.in-Some-node.node c.place-first.result low stop at leads first in
     (search (rules, smaller), (within.0, (within.1, (lower, (c.requires.tree, parts)))))
+
+pub returns-in-Some-next-clause-some : goal.returns-in-Some-next-clause-some
+returns-in-Some-next-clause-some g t c =
+    let s = c.args.store.now in
+    let h = c.args.height in
+    let page = c.loop-page.page in
+    let stop = page + c.min.result in
+    let at = first_place s h c.loop-page.place page c.args.end c.loop-page.invariant.places c.loop-page-test.true in
+    let value = sym (ap (λ s. s.value) c.spot-spot.ensures.spot) ∙ c.in_default.is in
+    next_up s h c.args.from page stop c.args.end c.in-Some-next.found c.in-Some-next.ensures.some c.loop-page.invariant.from_on (omega (arith, c.min.ensures, c.loop-page-test.true)) c.loop-page.invariant.none
+    (λ other on before. row_at s h c.loop-page.place page other c.requires.height at (number_within h page other c.requires.height on (omega (arith, before, c.min.ensures, c.rest_at.ensures))) ∙ value)
 
 pub returns-in-Some-next-clause-cost : goal.returns-in-Some-next-clause-cost
 returns-in-Some-next-clause-cost g t c =
     let next = c.in-Some-next.ensures in
-    looks_more c.args.height c.args.from c.loop-page.page (c.in-Some-next.found + 1) c.args.steps.now c.loop-page.steps c.next.new.steps c.requires.height c.loop-page.invariant.from_on (omega (arith, next.some.from_on)) c.loop-page.invariant.cost (omega (arith, next.cost, c.spot-spot.ensures.cost))
+    looks_more c.args.height c.args.from c.loop-page.page (c.in-Some-next.found.page + 1) c.args.steps.now c.loop-page.steps c.next.new.steps c.requires.height c.loop-page.invariant.from_on (omega (arith, next.some.from_on)) c.loop-page.invariant.cost (omega (arith, next.cost, c.spot-spot.ensures.cost))
 
 pub returns-in-Some-next-clause-roots : goal.returns-in-Some-next-clause-roots
 returns-in-Some-next-clause-roots g t c root _ bare =
     let s = c.args.store.now in
     let at = first_place s c.args.height c.loop-page.place c.loop-page.page c.args.end c.loop-page.invariant.places c.loop-page-test.true in
-    absurd (no_root_node s c.args.height c.loop-page.page c.loop-page.place c.in-Some.node root at (sym (ap (λ s. s.node) c.spot-spot.ensures.spot) ∙ c.in-Some.is) (bare c.loop-page.page c.loop-page.invariant.from_on c.loop-page-test.true))
+    absurd (no_root_node s c.args.height c.loop-page.page c.loop-page.place c.in-Some-node.node root at (sym (ap (λ s. s.node) c.spot-spot.ensures.spot) ∙ c.in-Some-node.is) (bare c.loop-page.page c.loop-page.invariant.from_on c.loop-page-test.true))
 
 pub overflow_add-place : goal.overflow_add-place
 overflow_add-place g t c =
@@ -61,41 +80,38 @@ pub loop-page-smaller : goal.loop-page-smaller
 loop-page-smaller g t c =
     omega (arith, c.min.ensures, c.rest_at.ensures, rest_some c.args.height c.loop-page.page c.requires.height, c.loop-page-test.true)
 
--- no page of the extent round the page has a row
-passed : (g : Over) (t : ℕ) (c : goal.Joined-spot g t) → NoPageRows c.args.store.now c.loop-page.page (c.loop-page.page + c.min.result)
-passed g t c other on before =
+-- no page of the extent round the page has a row round it
+passed : (g : Over) (t : ℕ) (c : goal.Joined-spot-2 g t) → NoRows c.args.store.now (3 - c.args.height) c.loop-page.page (c.loop-page.page + c.min.result)
+passed g t c =
     let s = c.args.store.now in
     let h = c.args.height in
     let page = c.loop-page.page in
-    let at = first_place s h c.loop-page.place page c.args.end c.loop-page.invariant.places c.loop-page-test.true in
-    let within : other < page + rest_at h page = omega (arith, before, c.min.ensures, c.rest_at.ensures) in
-    elim c.match-spot.branch [
-      | in-Some+in_default-next w ↦ w.in_default-next.ensures.none other on before
-      | in_default w ↦ elim c.else-height-eq3.branch [
-        | else-height-eq3-via-then-height-eq3+else-is_some v ↦
-            let row_is = row_at s page c.loop-page.place (ap (λ h. place_of s h page) (sym v.if-height-eq3.true) ∙ at) in
-            let none = none_from_is_some c.spot-spot.result.value (sym v.if-is_some.ensures) in
-            ap (row s 0) (page_alone h page other v.if-height-eq3.true on within) ∙ (row_is ∙ (sym (ap (λ s. s.value) c.spot-spot.ensures.spot) ∙ none))
-        | else-height-eq3-via-else-height-eq3 v ↦
-            no_row_within s c.requires.tree h c.loop-page.place page other (omega (arith, c.requires.height, v.if-height-eq3.false)) at (sym (ap (λ s. s.node) c.spot-spot.ensures.spot) ∙ w.in_default.is) (number_within h page other c.requires.height on within)
-      ]
+    let place = c.loop-page.place in
+    let at = first_place s h place page c.args.end c.loop-page.invariant.places c.loop-page-test.true in
+    let value = sym (ap (λ s. s.value) c.spot-spot.ensures.spot) ∙ c.in_default.is in
+    let inside : (other : ℕ) → page ≤ other → other < page + c.min.result → number_at h other ≡ number_at h page = λ other on before. number_within h page other c.requires.height on (omega (arith, before, c.min.ensures, c.rest_at.ensures)) in
+    elim c.match-spot-2.branch [
+      | in-Some-node+in_default-next w ↦
+          no_rows_up s h page (page + c.min.result) w.in_default-next.ensures.none (λ other on before. row_at s h place page other c.requires.height at (inside other on before) ∙ value)
+      | in_default-node w ↦ λ size other most on before.
+          no_row_within s c.requires.tree h place page size other c.requires.height at value (sym (ap (λ s. s.node) c.spot-spot.ensures.spot) ∙ w.in_default-node.is) (inside other on before) most
     ]
 
 -- the looks at the extent round the page
-looks : (g : Over) (t : ℕ) (c : goal.Joined-spot g t) → c.match-spot.steps ≤ c.loop-page.steps + 1 + (4 - (c.args.height + 1)) * (c.loop-page.page + c.min.result - c.loop-page.page)
-looks g t c = elim c.match-spot.branch [
-  | in-Some+in_default-next w ↦ omega (arith, w.steps-is, w.in_default-next.ensures.cost, c.spot-spot.ensures.cost)
-  | in_default w ↦ omega (arith, w.steps-is, c.spot-spot.ensures.cost)
+looks : (g : Over) (t : ℕ) (c : goal.Joined-spot-2 g t) → c.match-spot-2.steps ≤ c.loop-page.steps + 1 + (4 - (c.args.height + 1)) * (c.loop-page.page + c.min.result - c.loop-page.page)
+looks g t c = elim c.match-spot-2.branch [
+  | in-Some-node+in_default-next w ↦ omega (arith, w.steps-is, w.in_default-next.ensures.cost, c.spot-spot.ensures.cost)
+  | in_default-node w ↦ omega (arith, w.steps-is, c.spot-spot.ensures.cost)
 ]
 
-root_look : (g : Over) (t : ℕ) (c : goal.Joined-spot g t) → c.args.height ≡ 0 → NoSplitRoots c.args.store.now c.args.from c.args.end → c.match-spot.steps ≡ c.loop-page.steps + 1
+root_look : (g : Over) (t : ℕ) (c : goal.Joined-spot-2 g t) → c.args.height ≡ 0 → NoSplitRoots c.args.store.now c.args.from c.args.end → c.match-spot-2.steps ≡ c.loop-page.steps + 1
 root_look g t c root bare =
     let s = c.args.store.now in
     let at = first_place s c.args.height c.loop-page.place c.loop-page.page c.args.end c.loop-page.invariant.places c.loop-page-test.true in
-    elim c.match-spot.branch [
-      | in-Some+in_default-next w ↦
-          absurd (no_root_node s c.args.height c.loop-page.page c.loop-page.place w.in-Some.node root at (sym (ap (λ s. s.node) c.spot-spot.ensures.spot) ∙ w.in-Some.is) (bare c.loop-page.page c.loop-page.invariant.from_on c.loop-page-test.true))
-      | in_default w ↦ omega (arith, w.steps-is, c.spot-spot.ensures.cost)
+    elim c.match-spot-2.branch [
+      | in-Some-node+in_default-next w ↦
+          absurd (no_root_node s c.args.height c.loop-page.page c.loop-page.place w.in-Some-node.node root at (sym (ap (λ s. s.node) c.spot-spot.ensures.spot) ∙ w.in-Some-node.is) (bare c.loop-page.page c.loop-page.invariant.from_on c.loop-page-test.true))
+      | in_default-node w ↦ omega (arith, w.steps-is, c.spot-spot.ensures.cost)
     ]
 
 pub loop-page-preserved : goal.loop-page-preserved
@@ -109,14 +125,11 @@ loop-page-preserved g t c =
     let full : page + c.min.result < c.args.end → c.min.result ≡ rest_at h page = λ before. omega (arith, before, c.min.ensures, c.rest_at.ensures) in
     let least : c.min.result ≤ rest_at h page = omega (arith, c.min.ensures, c.rest_at.ensures) in
     record {
+      none = no_rows_on s (3 - h) c.args.from page (page + c.min.result) was.none (passed g t c);
       from_on = omega (arith, was.from_on);
       within = inl within;
       places = rest_in_order s h c.loop-page.place page (page + c.min.result) c.args.end c.requires.height (omega arith) (λ before. omega (arith, full before)) was.places;
-      none = λ other low before. elim (cases_lt other page) [
-        | inl earlier ↦ was.none other low earlier
-        | inr on ↦ passed g t c other on before
-      ];
-      cost = looks_more h c.args.from page (page + c.min.result) c.args.steps.now c.loop-page.steps c.match-spot.steps c.requires.height was.from_on (omega (arith, some)) was.cost (looks g t c);
+      cost = looks_more h c.args.from page (page + c.min.result) c.args.steps.now c.loop-page.steps c.match-spot-2.steps c.requires.height was.from_on (omega (arith, some)) was.cost (looks g t c);
       roots = λ root bare before. omega (arith, was.roots root bare c.loop-page-test.true, root_look g t c root bare, full before, ap (λ h. rest_at h page) root);
       all_roots = λ root bare. omega (arith, was.roots root bare c.loop-page-test.true, root_look g t c root bare, some, least, ap (λ h. rest_at h page) root);
     }
