@@ -1,56 +1,50 @@
--- How many pages are mapped after a change of an extent.
-use Rattle.std.proofs.Common.{◌≡◌, ◌≢◌, ℕ, ◌+◌, ◌*◌, ◌/◌, ◌^◌, ◌<◌, true, false, Some, None, is_some, inl, inr, refl, sym, ap, ◌∙◌, arith}
+-- How many pages are mapped.
+use Rattle.std.proofs.Common.{◌≡◌, ◌≢◌, ℕ, ◌+◌, ◌/◌, ◌^◌, ◌<◌, ◌≤◌, true, false, None, is_some, refl, sym, ap, ◌∙◌, arith}
 use Rattle.std.specs.List.{range_with_len, count_by}
-use Rattle.std.proofs.lemmas.Bool.{cases_eq}
 use Rattle.pager_model.specs.declared.extent.Extent.{Extent}
-use Rattle.pager_model.specs.declared.tile.Tile.{Tile}
+use Rattle.pager_model.specs.declared.tile.Mapping.{Mapping}
 use Rattle.pager_model.specs.Extents.{IsExtent}
-use Rattle.pager_model.proofs.CountLemmas.{count_block, count-agree}
+use Rattle.pager_model.specs.Tiles.{count_pages}
+use Rattle.pager_model.proofs.CountLemmas.{count_block, count-agree, count-none}
 use Rattle.pager_model.proofs.ExtentLemmas.{extent_within, in_extent, of_extent}
 use Rattle.extent_tree.specs.Rows.{Arena}
-use Rattle.page_map.specs.declared.target.Target.{Target}
-use Rattle.page_map.specs.Tiles.{tile_at, pages_in, Maps}
-use Rattle.page_map.specs.Kept.{IsKept}
-use Rattle.page_map.proofs.TileCounts.{maps_inside, maps_outside}
-use Rattle.page_map.proofs.CountChanges.{Given}
+use Rattle.page_map.specs.Entries.{entry_at, pages_in}
 
-over_roots : (m : Arena Target) (pages : ℕ) → 512 * m.roots ≡ pages → pages_in m ≡ count_by (λ page. is_some (tile_at m page)) (range_with_len 0 pages)
-unfolding pages_in
-over_roots m pages e = ap (λ n. count_by (λ page. is_some (tile_at m page)) (range_with_len 0 n)) e
+-- they are counted over so many pages
+pub pages_over : (m : Arena Mapping) (pages : ℕ) → pages ≡ 1048576 → pages_in m ≡ count_by (λ page. is_some (entry_at m page)) (range_with_len 0 pages)
+unfolding pages_in count_pages
+pages_over m pages e = ap (λ n. count_by (λ page. is_some (entry_at m page)) (range_with_len 0 n)) (sym e)
+
+-- an extent that begins in the space ends in it
+pub ends_within : (extent : Extent) (pages : ℕ) → IsExtent extent.size extent.first → extent.first < 1048576 → pages ≡ 1048576 → extent.first + 8 ^ extent.size ≤ pages
+ends_within extent pages is inside e = omega (arith, extent_within extent.size extent.first 2048 is.0 is.1 (omega (arith, inside)), e)
 
 -- the pages of an extent are mapped where none was
-more_pages : (few many : Arena Target) (extent : Extent) → IsKept few → IsKept many → IsExtent extent.size extent.first → extent.first < 1048576 → ((page : ℕ) → page / 8 ^ extent.size ≡ extent.first / 8 ^ extent.size → (is_some (tile_at few page) ≡ false) × (is_some (tile_at many page) ≡ true))
-    → ((page : ℕ) → page / 8 ^ extent.size ≢ extent.first / 8 ^ extent.size → tile_at many page ≡ tile_at few page) → pages_in many ≡ pages_in few + 8 ^ extent.size
-more_pages few many extent kept_few kept_many is within inside outside =
-    let pages = 512 * few.roots in
-    let same : 512 * many.roots ≡ pages = ap (λ n. 512 * n) (kept_many.roots ∙ sym kept_few.roots) in
-    omega (
-      arith,
-      over_roots few pages refl,
-      over_roots many pages same,
-      count_block (λ page. is_some (tile_at few page)) (λ page. is_some (tile_at many page)) pages extent.first (8 ^ extent.size)
-          (extent_within extent.size extent.first few.roots is.0 is.1 (omega (arith, within, kept_few.roots)))
-          (λ page low high. inside page (in_extent extent.size extent.first page is.0 is.1 low high))
-          (λ page apart. ap is_some (outside page (λ at. let in_it = of_extent extent.size extent.first page is.0 is.1 at in apart in_it.0 in_it.1))),
-    )
-
-pub pages_put : (old new : Arena Target) (tile : Tile) → IsKept old → IsKept new → IsExtent tile.extent.size tile.extent.first → tile.extent.first < 1048576 → Given old tile.extent (λ _. None) → Maps tile.extent (λ _. Some tile) old new → pages_in new ≡ pages_in old + 8 ^ tile.extent.size
-pages_put old new tile kept_old kept_new is within none maps =
-    more_pages old new tile.extent kept_old kept_new is within (λ page at. (ap is_some (none page at), ap is_some (maps_inside old new tile.extent (λ _. Some tile) page maps at))) (λ page apart. maps_outside old new tile.extent (λ _. Some tile) page maps apart)
-
-pub pages_removed : (old new : Arena Target) (tile : Tile) → IsKept old → IsKept new → IsExtent tile.extent.size tile.extent.first → tile.extent.first < 1048576 → Given old tile.extent (λ _. Some tile) → Maps tile.extent (λ _. None) old new → pages_in new + 8 ^ tile.extent.size ≡ pages_in old
-pages_removed old new tile kept_old kept_new is within there maps =
-    sym (more_pages new old tile.extent kept_new kept_old is within (λ page at. (ap is_some (maps_inside old new tile.extent (λ _. None) page maps at), ap is_some (there page at))) (λ page apart. sym (maps_outside old new tile.extent (λ _. None) page maps apart)))
-
--- and as many are where each page of it has a tile before and after
-pub pages_stay : (old new : Arena Target) (extent : Extent) (before after : ℕ → Tile) → IsKept old → IsKept new → Given old extent (λ page. Some (before page)) → Maps extent (λ page. Some (after page)) old new → pages_in new ≡ pages_in old
-pages_stay old new extent before after kept_old kept_new there maps =
-    let pages = 512 * old.roots in
-    let same : 512 * new.roots ≡ pages = ap (λ n. 512 * n) (kept_new.roots ∙ sym kept_old.roots) in
-    over_roots new pages same ∙ (count-agree (λ page. is_some (tile_at new page)) (λ page. is_some (tile_at old page)) 0 pages (λ page _ _. alike page) ∙ sym (over_roots old pages refl))
+pub more_pages : (few many : Arena Mapping) (extent : Extent) → IsExtent extent.size extent.first → extent.first < 1048576 → ((page : ℕ) → page / 8 ^ extent.size ≡ extent.first / 8 ^ extent.size → (is_some (entry_at few page) ≡ false) × (is_some (entry_at many page) ≡ true))
+    → ((page : ℕ) → page / 8 ^ extent.size ≢ extent.first / 8 ^ extent.size → entry_at many page ≡ entry_at few page) → pages_in many ≡ pages_in few + 8 ^ extent.size
+more_pages few many extent is within inside outside = over 1048576 refl
   where
-    alike : (page : ℕ) → is_some (tile_at new page) ≡ is_some (tile_at old page)
-    alike page = elim (cases_eq (page / 8 ^ extent.size) (extent.first / 8 ^ extent.size)) [
-      | inl at ↦ ap is_some (maps_inside old new extent (λ page. Some (after page)) page maps at) ∙ sym (ap is_some (there page at))
-      | inr apart ↦ ap is_some (maps_outside old new extent (λ page. Some (after page)) page maps apart)
-    ]
+    over : (pages : ℕ) → pages ≡ 1048576 → pages_in many ≡ pages_in few + 8 ^ extent.size
+    over pages e =
+        omega (
+          arith,
+          pages_over few pages e,
+          pages_over many pages e,
+          count_block (λ page. is_some (entry_at few page)) (λ page. is_some (entry_at many page)) pages extent.first (8 ^ extent.size) (ends_within extent pages is within e)
+              (λ page low high. inside page (in_extent extent.size extent.first page is.0 is.1 low high))
+              (λ page apart. ap is_some (outside page (λ at. let in_it = of_extent extent.size extent.first page is.0 is.1 at in apart in_it.0 in_it.1))),
+        )
+
+-- as many are where the same pages are
+pub same_pages : (m n : Arena Mapping) → ((page : ℕ) → is_some (entry_at m page) ≡ is_some (entry_at n page)) → pages_in m ≡ pages_in n
+same_pages m n alike = over 1048576 refl
+  where
+    over : (pages : ℕ) → pages ≡ 1048576 → pages_in m ≡ pages_in n
+    over pages e =
+        pages_over m pages e ∙ (count-agree (λ page. is_some (entry_at m page)) (λ page. is_some (entry_at n page)) 0 pages (λ page _ _. alike page) ∙ sym (pages_over n pages e))
+
+pub no_pages : (m : Arena Mapping) → ((page : ℕ) → entry_at m page ≡ None) → pages_in m ≡ 0
+no_pages m none = over 1048576 refl
+  where
+    over : (pages : ℕ) → pages ≡ 1048576 → pages_in m ≡ 0
+    over pages e = pages_over m pages e ∙ count-none (λ page. is_some (entry_at m page)) 0 pages (λ page _ _. ap is_some (none page))

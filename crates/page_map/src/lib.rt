@@ -1,46 +1,49 @@
-//! A space's pages by the tiles that map them, each changed in place.
+//! A space's pages by the entries that map them, each changed in place.
 //!
-//! Each tile is one row of a tree of extents, so to find a page's tile is to look at four nodes at most, and a tile breaks into its eight
-//! parts, or eight parts join, by writes at two nodes. Each look at a root or a node, and each write of one, counts as a step.
+//! An entry maps the pages of an extent to frames in the same order. It is one row of a tree of extents, so to find a page's entry is to look at
+//! four nodes at most, and an entry breaks into its eight parts, or eight parts join, by writes at two nodes. Each look at a root or a node, and
+//! each write of one, counts as a step.
 #![tactic(auto)]
 
-ghost use Rattle.std.specs.Prelude.{◌≡◌, ◌∷◌, [], ℕ, ◌+◌, ◌/◌, ◌<◌, ◌≤◌, ◌^◌, true, Some, None, IfOk};
+ghost use Rattle.std.specs.Prelude.{◌≡◌, ◌∷◌, [], ℕ, ◌+◌, ◌-◌, ◌*◌, ◌/◌, ◌<◌, ◌≤◌, ◌^◌, true, max, None, Some, IfNone, IfOk, IfSome, MatchOption};
 ghost use Rattle.pager_model.specs.Bounds.{most_frames, space_pages};
 ghost use Rattle.pager_model.specs.Extents.{IsExtent};
-ghost use Rattle.pager_model.specs.declared.tile.Tile.{Tile};
-ghost use Rattle.page_map.specs.Tiles.{tile_at, frames_in, pages_in, tile_count, is_in, part_of, AreParts, Maps};
+ghost use Rattle.page_map.specs.declared.entry.Entry.{Entry as Item};
+ghost use Rattle.page_map.specs.Entries.{entry_at, extent_round, frames_in, pages_in, entry_count, is_in, part_of, AreEntries, AreParts, IsNextEntry, Maps, NoneMapped};
 
 mod counts;
-mod target;
+mod entry;
+mod parts;
 
+pub use entry::Entry;
+use entry::parts_from;
 use extent_tree::ExtentTree;
-use pager_model::{Extent, NoMemory, Size, Steps, Tile};
+use pager_model::{Extent, Mapping, NoMemory, Size, Steps};
 use std::alloc::Global;
 use std::marker::Model;
 use std::sync::ledger::Ledger;
-use target::Target;
 
 /// The extents of 512 pages of a space.
 const ROOTS: u32 = 2048;
 
-/// The tiles that map a space's pages; no two share a page.
+/// The entries that map a space's pages, of all four sizes mixed; no two map a page.
 ///
-/// Contracts see the tile of each page (`tile_at`), how many frames there is room for (`frames_in`) and how many pages are mapped
+/// Contracts see the entry of each page (`entry_at`), how many frames there is room for (`frames_in`) and how many pages are mapped
 /// (`pages_in`). There is room for three nodes of the tree for each page that may be mapped, since each node is of an extent with such a
 /// page. `create` takes it, and nodes are written as they are first used.
 #[derive(Drop)]
 pub struct Mixed {
-    tree: ExtentTree<Target>,
-    /// How many tiles there are of each size.
+    tree: ExtentTree<Mapping>,
+    /// How many entries there are of each size.
     counts: [u32; 4],
 }
 
 impl Model for Mixed {
     ghost use Rattle.extent_tree.specs.Rows.{Arena};
-    ghost use Rattle.page_map.specs.declared.target.Target.{Target};
+    ghost use Rattle.pager_model.specs.declared.tile.Mapping.{Mapping as Item};
     ghost use Rattle.page_map.specs.Kept.{IsKept, AreCounts};
 
-    ghost Value = { Arena Target };
+    ghost Value = { Arena Item };
 
     ghost view = { λ m. m.tree };
 
@@ -48,11 +51,11 @@ impl Model for Mixed {
 }
 
 impl Mixed {
-    /// No tile, and room for tiles over so many frames.
+    /// No entry, and room for the mappings of so many frames.
     pub fn create(alloc: Global, frames: u32) -> Result<Mixed, NoMemory>
         requires { frames ≤ most_frames }
         ensures frames { IfOk result (λ m. frames_in m ≡ frames) }
-        ensures none { IfOk result (λ m. (page : ℕ) → tile_at m page ≡ None) }
+        ensures none { IfOk result (λ m. (page : ℕ) → entry_at m page ≡ None) }
         ensures pages { IfOk result (λ m. pages_in m ≡ 0) }
     {
         let tree = ExtentTree::create(alloc, ROOTS, 3 * frames)?;
@@ -62,94 +65,121 @@ impl Mixed {
         })
     }
 
-    /// The tile that has a page, where one has it.
-    pub fn lookup<L: Ledger>(&self, page: u32, steps: &mut Steps<L>) -> Option<Tile>
-        ensures tile { result ≡ tile_at self.now page }
+    /// The entry that maps a page, where one does.
+    pub fn lookup<L: Ledger>(&self, page: u32, steps: &mut Steps<L>) -> Option<Entry>
+        ensures entry { result ≡ entry_at self.now page }
         ensures cost { steps.new ≤ steps.old + 4 }
     {
-        let large = self.tree.at(Size::at_level(3), page, steps);
-        if let Some(target) = large.value() {
-            return Some(target.tile_round(Size::at_level(3), page));
+        let mut size = Size::at_level(3);
+        let mut spot = self.tree.at(size, page, steps);
+        while spot.value().is_none() && size.level() > 0 {
+            size = size.smaller();
+            spot = self.tree.part(spot, size, page, steps);
         }
-        let middle = self.tree.part(large, Size::at_level(2), page, steps);
-        if let Some(target) = middle.value() {
-            return Some(target.tile_round(Size::at_level(2), page));
-        }
-        let small = self.tree.part(middle, Size::at_level(1), page, steps);
-        if let Some(target) = small.value() {
-            return Some(target.tile_round(Size::at_level(1), page));
-        }
-        let base = self.tree.part(small, Size::at_level(0), page, steps);
-        let target = base.value()?;
-        Some(target.tile_round(Size::at_level(0), page))
+        Some(Entry::round(size, page, spot.value()?))
     }
 
-    /// Maps the pages of a tile, of which none is mapped.
-    pub fn put<L: Ledger>(&mut self, tile: Tile, steps: &mut Steps<L>)
-        requires extent { IsExtent tile.extent.size tile.extent.first }
-        requires inside { tile.extent.first < space_pages }
-        requires apart { (page : ℕ) → is_in tile.extent page ≡ true → tile_at self.old page ≡ None }
-        requires room { pages_in self.old + 8 ^ tile.extent.size ≤ frames_in self.old }
-        ensures tiles { Maps tile.extent (λ _. Some tile) self.old self.new }
-        ensures pages { pages_in self.new ≡ pages_in self.old + 8 ^ tile.extent.size }
-        ensures cost { steps.new ≤ steps.old + 10 }
+    /// The entry of the lowest page from `from` on and before `end` that is mapped. Pages that no entry maps are passed over by extents.
+    pub fn next<L: Ledger>(&self, from: u32, end: u32, steps: &mut Steps<L>) -> Option<Entry>
+        requires { end ≤ space_pages }
+        ensures some { IfSome result (IsNextEntry self.now from end) }
+        ensures none { IfNone result (NoneMapped self.now from end) }
+        ensures cost { MatchOption result (steps.new ≤ steps.old + 4 * (end - from)) (λ entry. steps.new + 4 * from ≤ steps.old + 4 * (max from entry.extent.first + 1)) }
+        ensures empty { from ≤ end → NoneMapped self.now (from / 512 * 512) ((end + 511) / 512 * 512) → steps.new + from / 512 ≤ steps.old + (end + 511) / 512 }
     {
-        let target = Target::of(&tile);
-        let extent = tile.extent;
-        self.tree.put(extent.size, extent.first, target, steps);
-        counts::add(&mut self.counts, extent.size, 1);
+        let row = self.tree.next(from, end, steps)?;
+        Some(Entry::round(row.size, row.page, row.value))
     }
 
-    /// Unmaps the pages of a tile that is there.
-    pub fn remove<L: Ledger>(&mut self, tile: &Tile, steps: &mut Steps<L>)
-        requires { tile_at self.old tile.now.extent.first ≡ Some tile.now }
-        ensures tiles { Maps tile.now.extent (λ _. None) self.old self.new }
-        ensures pages { pages_in self.new + 8 ^ tile.now.extent.size ≡ pages_in self.old }
+    /// Maps the pages of an entry's extent, of which none is mapped.
+    pub fn put<L: Ledger>(&mut self, entry: &Entry, steps: &mut Steps<L>)
+        requires extent { IsExtent entry.now.extent.size entry.now.extent.first }
+        requires inside { entry.now.extent.first < space_pages }
+        requires apart { (page : ℕ) → is_in entry.now.extent page ≡ true → entry_at self.old page ≡ None }
+        requires room { pages_in self.old + 8 ^ entry.now.extent.size ≤ frames_in self.old }
+        ensures entries { Maps entry.now.extent (λ _. Some entry.now) self.old self.new }
+        ensures pages { pages_in self.new ≡ pages_in self.old + 8 ^ entry.now.extent.size }
         ensures cost { steps.new ≤ steps.old + 10 }
     {
-        let Extent { size, first } = tile.extent;
+        let Extent { size, first } = entry.extent;
+        self.tree.put(size, first, entry.mapping, steps);
+        counts::add(&mut self.counts, size, 1);
+    }
+
+    /// Maps the pages of an entry's extent otherwise, which is the extent of an entry that is there.
+    pub fn replace<L: Ledger>(&mut self, entry: &Entry, steps: &mut Steps<L>)
+        requires { (before : Item) × (entry_at self.old entry.now.extent.first ≡ Some before) × (before.extent ≡ entry.now.extent) }
+        ensures entries { Maps entry.now.extent (λ _. Some entry.now) self.old self.new }
+        ensures pages { pages_in self.new ≡ pages_in self.old }
+        ensures cost { steps.new ≤ steps.old + 10 }
+    {
+        let _ = &self.counts;
+        let Extent { size, first } = entry.extent;
+        self.tree.put(size, first, entry.mapping, steps);
+    }
+
+    /// Unmaps the pages of an entry that is there.
+    pub fn remove<L: Ledger>(&mut self, entry: &Entry, steps: &mut Steps<L>)
+        requires { entry_at self.old entry.now.extent.first ≡ Some entry.now }
+        ensures entries { Maps entry.now.extent (λ _. None) self.old self.new }
+        ensures pages { pages_in self.new + 8 ^ entry.now.extent.size ≡ pages_in self.old }
+        ensures cost { steps.new ≤ steps.old + 10 }
+    {
+        let Extent { size, first } = entry.extent;
         self.tree.remove(size, first, steps);
         counts::subtract(&mut self.counts, size, 1);
     }
 
-    /// Breaks a tile that is there into its eight parts.
-    pub fn split<L: Ledger>(&mut self, tile: &Tile, steps: &mut Steps<L>)
-        requires large { 0 < tile.now.extent.size }
-        requires there { tile_at self.old tile.now.extent.first ≡ Some tile.now }
-        requires frame { tile.now.frame < most_frames }
-        ensures tiles { Maps tile.now.extent (λ page. Some (part_of tile.now page)) self.old self.new }
+    /// Breaks an entry that is there into its eight parts.
+    pub fn split<L: Ledger>(&mut self, entry: &Entry, steps: &mut Steps<L>)
+        requires large { 0 < entry.now.extent.size }
+        requires there { entry_at self.old entry.now.extent.first ≡ Some entry.now }
+        requires fits { entry.now.mapping.frame + 8 ^ entry.now.extent.size < 2 ^ 32 }
+        ensures entries { Maps entry.now.extent (λ page. Some (part_of entry.now page)) self.old self.new }
         ensures pages { pages_in self.new ≡ pages_in self.old }
         ensures cost { steps.new ≤ steps.old + 12 }
     {
-        let Extent { size, first } = tile.extent;
+        let Extent { size, first } = entry.extent;
         let part = size.smaller();
-        let parts = Target::of(tile).parts(part.pages());
+        let parts = parts_from(&entry.mapping, part.pages());
         self.tree.split(size, first, &parts, steps);
         counts::subtract(&mut self.counts, size, 1);
         counts::add(&mut self.counts, part, 8);
     }
 
-    /// Joins the tiles of the eight parts of an extent, which are those of one tile, to that tile.
-    pub fn join<L: Ledger>(&mut self, extent: Extent, steps: &mut Steps<L>)
-        requires large { 0 < extent.size }
-        requires extent { IsExtent extent.size extent.first }
-        requires parts { (whole : Tile) × AreParts extent whole self.old }
-        ensures tiles { (whole : Tile) → AreParts extent whole self.old → Maps extent (λ _. Some whole) self.old self.new }
-        ensures pages { pages_in self.new ≡ pages_in self.old }
-        ensures cost { steps.new ≤ steps.old + 16 }
+    /// The entry of the extent of a size round a page that its eight parts form, where they do: each is an entry, and they continue each other in
+    /// frames of an extent.
+    pub fn whole<L: Ledger>(&self, size: Size, page: u32, steps: &mut Steps<L>) -> Option<Entry>
+        requires { 0 < size }
+        ensures whole { MatchOption result
+            ((whole : Item) → whole.extent ≡ extent_round size page → AreParts whole self.now → ⊥)
+            (λ whole. (whole.extent ≡ extent_round size page) × AreParts whole self.now) }
+        ensures cost { steps.new + size ≤ steps.old + 5 }
     {
-        let part = extent.size.smaller();
-        let Some(target) = self.tree.at(part, extent.first, steps).value() else {
-            return;
-        };
-        self.tree.join(extent.size, extent.first, target, steps);
-        counts::subtract(&mut self.counts, part, 8);
-        counts::add(&mut self.counts, extent.size, 1);
+        let over = self.tree.at(size, page, steps);
+        let parts = self.tree.eight(over, steps);
+        let mapping = parts::joined(parts, size.smaller().pages())?;
+        Some(Entry::round(size, page, mapping))
     }
 
-    /// How many tiles there are of each size.
+    /// Joins the eight parts of an entry to it.
+    pub fn join<L: Ledger>(&mut self, whole: &Entry, steps: &mut Steps<L>)
+        requires large { 0 < whole.now.extent.size }
+        requires extent { IsExtent whole.now.extent.size whole.now.extent.first }
+        requires parts { AreParts whole.now self.old }
+        ensures entries { Maps whole.now.extent (λ _. Some whole.now) self.old self.new }
+        ensures pages { pages_in self.new ≡ pages_in self.old }
+        ensures cost { steps.new ≤ steps.old + 12 }
+    {
+        let Extent { size, first } = whole.extent;
+        self.tree.join(size, first, whole.mapping, steps);
+        counts::subtract(&mut self.counts, size.smaller(), 8);
+        counts::add(&mut self.counts, size, 1);
+    }
+
+    /// How many entries there are of each size.
     pub fn counts(&self) -> [u32; 4]
-        ensures { result ≡ tile_count self.now 0 ∷ tile_count self.now 1 ∷ tile_count self.now 2 ∷ tile_count self.now 3 ∷ [] }
+        ensures { result ≡ entry_count self.now 0 ∷ entry_count self.now 1 ∷ entry_count self.now 2 ∷ entry_count self.now 3 ∷ [] }
     {
         let _ = &self.tree;
         self.counts

@@ -1,5 +1,6 @@
-use Rattle.page_map.proofs.Changes.{none_kept, none_at, pages_none}
+use Rattle.page_map.proofs.Changes.{none_kept, none_at}
 use Rattle.page_map.proofs.CountChanges.{none_counts}
+use Rattle.page_map.proofs.PageCounts.{no_pages}
 use Rattle.page_map.proofs.Mixed.create.Goals as goal
 
 pub invariant_of-result : goal.invariant_of-result
@@ -12,4 +13,4 @@ pub returns-clause-none : goal.returns-clause-none
 returns-clause-none c = none_at c.in_ok-tree.tree c.in_ok-tree.ensures.empty
 
 pub returns-clause-pages : goal.returns-clause-pages
-returns-clause-pages c = pages_none c.in_ok-tree.tree c.in_ok-tree.ensures.empty
+returns-clause-pages c = no_pages c.in_ok-tree.tree (none_at c.in_ok-tree.tree c.in_ok-tree.ensures.empty)

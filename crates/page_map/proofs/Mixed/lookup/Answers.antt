@@ -1,40 +1,45 @@
-use Rattle.std.proofs.Common.{Some, ap, sym, ◌∙◌, arith}
+use Rattle.std.proofs.Common.{◌≡◌, ◌≤◌, ℕ, Some, None, is_some, inl, inr, sym, ap, ◌∙◌, arith}
+use Rattle.std.proofs.lemmas.Bool.{cases_lt, false≢true}
 use Rattle.extent_tree.specs.Rows.{row}
-use Rattle.page_map.specs.Tiles.{tile_at}
-use Rattle.page_map.proofs.Changes.{found, none_found}
+use Rattle.pager_model.proofs.Options.{none_from_is_some}
+use Rattle.page_map.specs.Entries.{entry_at}
+use Rattle.page_map.proofs.Changes.{entry_is, page_none, spot_row}
 use Rattle.page_map.proofs.Mixed.lookup.Goals as goal
+use Rattle.page_map.proofs.Mixed.lookup.Goals.{then-loop-size-test+else-level-gt0, else-loop-size-test}
 
-pub returns-in-Some-clause-tile : goal.returns-in-Some-clause-tile
-returns-in-Some-clause-tile g c =
-    found c.self.inside.tree 3 c.at_level.result c.at_level-in-Some.result c.args.page c.in-Some.target c.at-large.result.value c.tile_round.result c.self.invariant.0 (omega arith) c.at_level.ensures c.at_level-in-Some.ensures c.at-large.ensures.value (sym c.in-Some.is ∙ c.value.ensures)
-    (ap Some c.tile_round.ensures)
-    ∙ ap (λ t. tile_at t c.args.page) c.self.view_is
-
-pub returns-in-Some-value-clause-tile : goal.returns-in-Some-value-clause-tile
-returns-in-Some-value-clause-tile g c =
-    found c.self.inside.tree 2 c.at_level-2.result c.at_level-in-Some-value.result c.args.page c.in-Some-value.target c.part-middle.result.value c.tile_round-in-Some-value.result c.self.invariant.0 (omega arith) c.at_level-2.ensures c.at_level-in-Some-value.ensures c.part-middle.ensures.value (sym c.in-Some-value.is ∙ c.value-2.ensures)
-    (ap Some c.tile_round-in-Some-value.ensures)
-    ∙ ap (λ t. tile_at t c.args.page) c.self.view_is
-
-pub returns-in-Some-value-2-clause-tile : goal.returns-in-Some-value-2-clause-tile
-returns-in-Some-value-2-clause-tile g c =
-    found c.self.inside.tree 1 c.at_level-3.result c.at_level-in-Some-value-2.result c.args.page c.in-Some-value-2.target c.part-small.result.value c.tile_round-in-Some-value-2.result c.self.invariant.0 (omega arith) c.at_level-3.ensures c.at_level-in-Some-value-2.ensures c.part-small.ensures.value (sym c.in-Some-value-2.is ∙ c.value-3.ensures)
-    (ap Some c.tile_round-in-Some-value-2.ensures)
-    ∙ ap (λ t. tile_at t c.args.page) c.self.view_is
-
-pub returns-clause-tile : goal.returns-clause-tile
-returns-clause-tile g c =
-    found c.self.inside.tree 0 c.at_level-4.result c.at_level-5.result c.args.page c.in_ok-target.target c.part-base.result.value c.tile_round-2.result c.self.invariant.0 (omega arith) c.at_level-4.ensures c.at_level-5.ensures c.part-base.ensures.value (sym c.in_ok-target.was ∙ c.value-4.ensures)
-    (ap Some c.tile_round-2.ensures)
-    ∙ ap (λ t. tile_at t c.args.page) c.self.view_is
-
-pub returns-in_err-target-clause-tile : goal.returns-in_err-target-clause-tile
-returns-in_err-target-clause-tile g c =
+pub loop-size-preserved : goal.loop-size-preserved
+loop-size-preserved g c =
     let t = c.self.inside.tree in
-    c.from_residual.ensures
-    ∙ (sym (none_found t c.args.page
-    (ap (λ k. row t k c.args.page) (sym c.at_level.ensures) ∙ (sym c.at-large.ensures.value ∙ (sym c.value.ensures ∙ c.in_default.is)))
-    (ap (λ k. row t k c.args.page) (sym c.at_level-2.ensures) ∙ (sym c.part-middle.ensures.value ∙ (sym c.value-2.ensures ∙ c.in_default-value.is)))
-    (ap (λ k. row t k c.args.page) (sym c.at_level-3.ensures) ∙ (sym c.part-small.ensures.value ∙ (sym c.value-3.ensures ∙ c.in_default-value-2.is)))
-    (ap (λ k. row t k c.args.page) (sym c.at_level-4.ensures) ∙ (sym c.part-base.ensures.value ∙ (sym c.value-4.ensures ∙ c.in_err-target.was))))
-    ∙ ap (λ t. tile_at t c.args.page) c.self.view_is)
+    let size = c.loop-size.size in
+    let here : row t size c.args.page ≡ None = sym (spot_row t size c.args.page c.loop-size.spot c.loop-size.invariant.spot) ∙ (sym c.value.ensures ∙ none_from_is_some c.value.result c.loop-size-test.ensures) in
+    record {
+      low = omega (arith, c.loop-size.invariant.low, c.smaller-size.ensures);
+      spot = c.part-spot.ensures.spot;
+      above = λ other over low. elim (cases_lt size other) [
+        | inl higher ↦ c.loop-size.invariant.above other higher low
+        | inr same ↦ ap (λ k. row t k c.args.page) {x = other} {y = size} (omega (arith, c.smaller-size.ensures)) ∙ here
+      ];
+      cost = omega (arith, c.loop-size.invariant.cost, c.part-spot.ensures.cost, c.smaller-size.ensures, c.if-level-gt0.true, c.level.ensures.level);
+    }
+
+pub returns-in_err-value-clause-entry : goal.returns-in_err-value-clause-entry
+returns-in_err-value-clause-entry g c =
+    let t = c.self.inside.tree in
+    let size = c.loop-size.size in
+    let here : row t size c.args.page ≡ None = sym (spot_row t size c.args.page c.loop-size.spot c.loop-size.invariant.spot) ∙ (sym c.value-2.ensures ∙ c.in_err-value.was) in
+    let last : size ≡ 0 = elim c.loop-size-test.branch [
+      | then-loop-size-test+else-level-gt0 w ↦ omega (arith, w.level.ensures.level, w.if-level-gt0.false)
+      | else-loop-size-test w ↦ absurd (false≢true (sym (ap is_some (c.value.ensures ∙ (sym c.value-2.ensures ∙ c.in_err-value.was))) ∙ w.loop-size-test.ensures))
+    ] in
+    let none : (other : ℕ) → other ≤ 3 → row t other c.args.page ≡ None = λ other low. elim (cases_lt size other) [
+      | inl higher ↦ c.loop-size.invariant.above other higher low
+      | inr same ↦ ap (λ k. row t k c.args.page) {x = other} {y = size} (omega (arith, last)) ∙ here
+    ] in
+    c.from_residual.ensures ∙ (sym (page_none t c.args.page none).1 ∙ ap (λ t. entry_at t c.args.page) c.self.view_is)
+
+pub returns-clause-entry : goal.returns-clause-entry
+returns-clause-entry g c =
+    let t = c.self.inside.tree in
+    let size = c.loop-size.size in
+    let here = sym (spot_row t size c.args.page c.loop-size.spot c.loop-size.invariant.spot) ∙ sym c.in_ok-value.ensures in
+    ap Some c.round.ensures ∙ (sym (entry_is t size c.args.page c.in_ok-value.field-0 c.self.invariant.0 c.loop-size.invariant.low here) ∙ ap (λ t. entry_at t c.args.page) c.self.view_is)

@@ -1,11 +1,11 @@
 use Rattle.std.proofs.Common.{◌≡◌, ℕ, ◌*◌, ◌<◌, Some, length}
 use Rattle.std.specs.List.{slice_get}
-use Rattle.page_map.specs.Tiles.{moved_to}
-use Rattle.page_map.proofs.target.Target.parts.Given as goal
+use Rattle.pager_model.specs.Tiles.{moved_by}
+use Rattle.page_map.proofs.entry.parts_from.Given as goal
 
 -- the parts so far
 abbrev pub invariant-loop-part : goal.invariant-loop-part
 invariant-loop-part l = record {
   eight : length l.parts ≡ 8;
-  parts : (part : ℕ) → part < l.part → slice_get l.parts part ≡ Some (moved_to l.fn.self (part * l.frames));
+  parts : (part : ℕ) → part < l.part → slice_get l.parts part ≡ Some (moved_by (part * l.pages) l.mapping);
 }
