@@ -1,24 +1,23 @@
--- Eligible extents: each of their pages has its first page's mapping, moved. Eight that continue each other make a larger one.
+-- Eligible extents: each of their pages has its first page's mapping, moved.
 use Rattle.std.proofs.Common.{◌≡◌, ℕ, zero, suc, ◌+◌, ◌-◌, ◌*◌, ◌/◌, ◌%◌, ◌^◌, ◌<◌, ◌≤◌, Bool, true, false, cond, ◌&&◌, eqb, Option, Some, None, is_some, refl, sym, ap, inl, inr, ◌∙◌, arith, subst}
-use Rattle.std.proofs.Math.Nat.{pow-suc}
 use Rattle.std.specs.Cmp.{both_ways}
 use Rattle.std.proofs.lemmas.Bool.{cases_eq, and_parts, and_from, eqb-true, eq-eqb}
-use Rattle.std.proofs.lemmas.Option.{none-some, same_Some, cond_some}
+use Rattle.std.proofs.lemmas.Option.{none-some, cond_some}
 use Rattle.pager_model.specs.declared.region.Rights.{Rights}
 use Rattle.pager_model.specs.declared.tile.Mapping.{Mapping}
 use Rattle.pager_model.specs.declared.tile.Tile.{Tile}
 use Rattle.pager_model.specs.Extents.{extent_start}
 use Rattle.tiles.specs.Beside.{whole}
 use Rattle.pager_model.specs.Tiles.{moved_by, same_rights, same_flag, is_mapping, is_eligible, tile_with, eligible_with, eligible_at}
-use Rattle.pager_model.proofs.ExtentLemmas.{eight_pos, part_inside, extent_of_frame, range_of_extent, first_of_extent}
+use Rattle.pager_model.proofs.ExtentLemmas.{eight_pos, extent_of_frame, range_of_extent, first_of_extent}
 use Rattle.pager_model.proofs.Ranges.{list_all-range}
 use Rattle.pager_model.proofs.TileParts.{same_rights-true, same_flag-true, same_rights-refl, same_flag-refl}
 use Rattle.pager_model.proofs.Options.{some_from_is_some, none_from_is_some}
-use Rattle.tiles.proofs.Extents.{lies_in, in_part}
+use Rattle.tiles.proofs.Extents.{lies_in}
 
 -- ---- mappings
 
-same_mapping : (n m : Mapping) → n.frame ≡ m.frame → n.region ≡ m.region → n.rights ≡ m.rights → n.dirty ≡ m.dirty → n ≡ m
+pub same_mapping : (n m : Mapping) → n.frame ≡ m.frame → n.region ≡ m.region → n.rights ≡ m.rights → n.dirty ≡ m.dirty → n ≡ m
 same_mapping n m a b c d =
     ap (λ (x : ℕ). let r : Mapping = record { frame = x; region = n.region; rights = n.rights; dirty = n.dirty } in r) a
     ∙ ap (λ (x : ℕ). let r : Mapping = record { frame = m.frame; region = x; rights = n.rights; dirty = n.dirty } in r) b
@@ -139,38 +138,6 @@ smaller pages j (suc k) page less low h = elim (cases_eq (suc k) j) [
   | inl e ↦ subst (λ (i : ℕ). HasExtent pages i page) e h
   | inr n ↦ smaller pages j k page (omega arith) (omega arith) (one_smaller pages k page low h)
 ]
-
--- A part of the extent of a size round a page continues the extent's first page, and is eligible.
-pub record GoesOn (pages : ℕ → Option Mapping) (k page part : ℕ) (head : Mapping) : Type 0 where
-  pub follows : pages (extent_start (suc k) page + part * 8 ^ k) ≡ Some (moved_by (part * 8 ^ k) head)
-  pub eligible : whole pages k (extent_start (suc k) page + part * 8 ^ k) ≡ true
-
--- eight parts that continue each other make the whole
-pub eight_join : (pages : ℕ → Option Mapping) (k page : ℕ) (head : Mapping) → suc k ≤ 3 → pages (extent_start (suc k) page) ≡ Some head → head.frame % 8 ^ suc k ≡ 0 → ((part : ℕ) → part < 8 → GoesOn pages k page part head) → HasExtent pages (suc k) page
-eight_join pages k page head low begins aligned parts = record { head = head; begins = begins; is = record { aligned = aligned; uniform = uniform } }
-  where
-    uniform : (x : ℕ) → x < 8 ^ suc k → pages (extent_start (suc k) page + x) ≡ Some (moved_by x head)
-    uniform x within =
-        let part = x / 8 ^ k in
-        let rest = x % 8 ^ k in
-        let at = in_part k page x low within in
-        let first = extent_start (suc k) page + part * 8 ^ k in
-        let goes = parts part at.part_in in
-        let has = whole_has pages k first goes.eligible in
-        let same : has.head ≡ moved_by (part * 8 ^ k) head = same_Some has.head (moved_by (part * 8 ^ k) head) (sym has.begins ∙ ap pages at.first ∙ goes.follows) in
-        let e : extent_start (suc k) page + x ≡ extent_start k first + rest = omega (arith, at.split, at.first) in
-        ap pages e ∙ has.is.uniform rest at.rest_in ∙ ap (λ (m : Mapping). Some (moved_by rest m)) same ∙ ap Some (sym (moved_twice (part * 8 ^ k) rest x head at.split))
-
--- and conversely
-pub whole_parts : (pages : ℕ → Option Mapping) (k page : ℕ) (h : HasExtent pages (suc k) page) → suc k ≤ 3 → (part : ℕ) → part < 8 → GoesOn pages k page part h.head
-whole_parts pages k page h low part few =
-    let first = extent_start (suc k) page + part * 8 ^ k in
-    let within : part * 8 ^ k < 8 ^ suc k = omega (arith, part_inside part (8 ^ k) 8 few, pow-suc 8 k, eight_pos k) in
-    let joined : first / 8 ^ suc k ≡ page / 8 ^ suc k = extent_of_frame (page / 8 ^ suc k) (8 ^ suc k) first (omega arith) (omega arith) in
-    record {
-      follows = h.is.uniform (part * 8 ^ k) within;
-      eligible = has_whole pages k first (one_smaller pages k first low (whole_has pages (suc k) first (whole_alike pages (suc k) page first joined ∙ has_whole pages (suc k) page h)));
-    }
 
 -- a resident page is an eligible extent by itself, and only a resident one is
 pub page_whole : (pages : ℕ → Option Mapping) (page : ℕ) (m : Mapping) → pages page ≡ Some m → HasExtent pages 0 page

@@ -1,13 +1,12 @@
 -- The size of a page's tile: the largest at which the extent round it is eligible.
-use Rattle.std.proofs.Common.{◌≡◌, ℕ, zero, suc, ◌+◌, ◌-◌, ◌/◌, ◌%◌, ◌^◌, ◌<◌, ◌≤◌, Bool, true, false, Option, Some, None, eqb, refl, sym, ap, inl, inr, ◌∙◌, ◌⊎◌, arith, subst}
+use Rattle.std.proofs.Common.{◌≡◌, ℕ, zero, suc, ◌+◌, ◌-◌, ◌/◌, ◌%◌, ◌^◌, ◌<◌, ◌≤◌, Bool, true, false, Option, Some, None, refl, sym, ap, inl, inr, ◌∙◌, ◌⊎◌, arith, subst}
 use Rattle.std.specs.Option.{option_or}
 use Rattle.std.proofs.lemmas.Bool.{cases_Bool, cases_eq, cases_lt}
-use Rattle.std.proofs.lemmas.Bool.Decides.{nat_tests}
 use Rattle.std.proofs.lemmas.Option.{none-some, same_Some}
 use Rattle.pager_model.specs.declared.tile.Mapping.{Mapping}
 use Rattle.pager_model.specs.declared.tile.Tile.{Tile}
 use Rattle.pager_model.specs.Extents.{extent_start}
-use Rattle.pager_model.specs.Tiles.{moved_by, tile_with, eligible_at, largest_up_to, tile_of, size_in, size_at, begins_at}
+use Rattle.pager_model.specs.Tiles.{moved_by, tile_with, eligible_at, largest_up_to, tile_of, size_in, size_at}
 use Rattle.pager_model.proofs.ExtentLemmas.{coarser}
 use Rattle.tiles.specs.Beside.{whole}
 use Rattle.tiles.proofs.Eligible.{HasExtent, whole_has, has_whole, whole_none, whole_alike, eligible_is, page_in, smaller, page_whole}
@@ -172,17 +171,6 @@ tile_by_own pages page m at =
     let tile = resident_tile pages page m at in
     let by = by_head k page m tile.has.head (starts_below k page tile.low) (same_Some m _ (sym at ∙ page_in pages k page page tile.has tile.low refl)) in
     record { is = tile.is ∙ ap Some by.0; from_frame = by.1 }
-
--- a page begins its tile where it is a multiple of the tile's length
-pub begins_if : (pages : ℕ → Option Mapping) (page : ℕ) (m : Mapping) → pages page ≡ Some m → begins_at page (tile_of pages page) ≡ eqb (page % 8 ^ size_at pages page) 0
-begins_if pages page m at =
-    let k = size_at pages page in
-    let starts = starts_below k page (size_small pages page) in
-    let within = starts.within in
-    ap (begins_at page) (tile_by_own pages page m at).is ∙ grind (arith, nat_tests)
-
-pub tile_begins : (pages : ℕ → Option Mapping) (page size : ℕ) → HasTile pages page size → begins_at page (tile_of pages page) ≡ eqb (extent_start size page) page
-tile_begins pages page size tile = ap (begins_at page) tile.is
 
 -- a page that isn't resident has no tile
 pub tile_absent : (pages : ℕ → Option Mapping) (page : ℕ) → pages page ≡ None → tile_of pages page ≡ None

@@ -1,22 +1,22 @@
 -- What a change of one page does to the tiles, by the page's tile before it and after.
-use Rattle.std.proofs.Common.{◌≡◌, ◌≢◌, ℕ, ◌+◌, ◌<◌, Bool, true, false, not, ◌&&◌, List, [], length, max, if◌then◌else◌, nat_lt, ◌-◌, is_some, Option, Some, None, option_map, refl, sym, ap, inl, inr, ◌∙◌, ◌⊎◌, arith}
+use Rattle.std.proofs.Common.{◌≡◌, ◌≢◌, ℕ, ◌+◌, ◌<◌, Bool, true, false, not, ◌&&◌, List, [], length, if◌then◌else◌, ◌-◌, is_some, Option, Some, None, option_map, refl, sym, ap, inl, inr, ◌∙◌, ◌⊎◌, arith, subst}
 use Rattle.std.specs.List.{list_any}
 use Rattle.std.specs.Option.{IfSome}
 use Rattle.std.proofs.lemmas.Bool.{cases_Bool, cond-true, cond-false, false_from_ne_true, true≢false}
 use Rattle.std.proofs.lemmas.Option.{none-some, same_Some}
 use Rattle.pager_model.specs.declared.tile.Mapping.{Mapping}
 use Rattle.pager_model.specs.declared.tile.Tile.{Tile}
+use Rattle.pager_model.specs.SizeSets.{size_within}
 use Rattle.pager_model.specs.Tiles.{tile_of, size_in, is_tile, same_tile}
 use Rattle.pager_model.proofs.ExtentLemmas.{eight_pos, eight_small}
 use Rattle.pager_model.proofs.TileParts.{same_tile-true, same_tile-refl}
-use Rattle.tiles.specs.declared.moves.Moves.{Moves}
-use Rattle.tiles.specs.declared.rows.Turn.{Turn}
+use Rattle.tiles.specs.declared.pages.Turn.{Turn}
 use Rattle.tiles.specs.Beside.{OthersSame}
-use Rattle.tiles.specs.Changes.{AreChanges, Came, HasPieces, IsRound, IsTurn, are_same, coming, cut_round, times, pieces}
+use Rattle.tiles.specs.Changes.{AreChanges, Came, HasPieces, IsRound, IsTurn, are_same, coming, cut_round, moves_between, moves_of, times, pieces}
 use Rattle.tiles.specs.Kept.{ArePages}
-use Rattle.tiles.specs.Resident.{Resident, mapping_at, Maps}
-use Rattle.tiles.specs.Touched.{IsInSpace, extent_range}
-use Rattle.tiles.proofs.MoveCounts.{others_same, moves_in_larger, moves_same}
+use Rattle.tiles.specs.Resident.{Resident, mapping_at, frames_in, Maps}
+use Rattle.tiles.specs.Sized.{AreMovesIn, size_by}
+use Rattle.tiles.proofs.MoveCounts.{others_same, moves_one, moves_same}
 use Rattle.tiles.proofs.Pieces.{came_none, came_pieces, cut_round-none, none_stands, one_stands}
 use Rattle.tiles.proofs.SizeChanges.{others_back}
 use Rattle.tiles.proofs.TileLaws.{tile_largest, tile_uniform}
@@ -27,7 +27,7 @@ round_of r kept page None at = tt
 round_of r kept page (Some t) at =
     let is = tile_largest (mapping_at r) page t (sym at) in
     let uniform = tile_uniform (mapping_at r) t is.0 in
-    let frame : t.frame + 0 < r.frames = kept.known (t.extent.first + 0) (t.frame + 0) (ap (option_map (λ (m : Mapping). m.frame)) (uniform.1 0 (eight_pos t.extent.size))) in
+    let frame : t.frame + 0 < frames_in r = kept.known (t.extent.first + 0) (t.frame + 0) (ap (option_map (λ (m : Mapping). m.frame)) (uniform.1 0 (eight_pos t.extent.size))) in
     record { low = is.0.extent.0; starts = is.1; fits = omega (arith, frame, kept.few, eight_small t.extent.size is.0.extent.0) }
 
 pub turn_of : (r s : Resident) → ArePages r → ArePages s → (page : ℕ) (turn : Turn) → turn.before ≡ tile_of (mapping_at r) page → turn.after ≡ tile_of (mapping_at s) page → IsTurn page r s turn
@@ -86,25 +86,27 @@ came_of old new page before after tiles others had has list = elim (same_or_othe
       (came_pieces old new page others (λ e. other (had ∙ e ∙ sym has)))
 ]
 
-pub changes_of : (r s : Resident) (page : ℕ) (given : Option Mapping) (turn : Turn) (moves : Moves) → page < 1048576 → Maps page given r s → IsTurn page r s turn
-    → moves.promotions ≡ (if nat_lt (size_in turn.before) (size_in turn.after) then 1 else 0) → moves.demotions ≡ (if nat_lt (size_in turn.after) (size_in turn.before) then 1 else 0)
-    → moves.touched ≡ extent_range (max (size_in turn.before) (size_in turn.after)) page → AreChanges r s (record { page = page; before = turn.before; after = turn.after; moves = moves })
-changes_of r s page given turn moves in_space maps turned promoted demoted touched =
+pub changes_of : (r s : Resident) (page : ℕ) (given : Option Mapping) (turn : Turn) → page < 1048576 → Maps page given r s → IsTurn page r s turn
+    → AreChanges r s (record { page = page; before = turn.before; after = turn.after })
+changes_of r s page given turn in_space maps turned =
     let others = others_same r s page given maps in
     record {
       gone = came_of (mapping_at s) (mapping_at r) page turn.after turn.before _ (others_back (mapping_at r) (mapping_at s) page others) turned.after turned.before (has_pieces page turn.after turn.before);
       came = came_of (mapping_at r) (mapping_at s) page turn.before turn.after _ others turned.before turned.after (has_pieces page turn.before turn.after);
-      moves = moves_in_larger r s page (size_in turn.before) (size_in turn.after) given moves maps in_space (ap size_in turned.before) (ap size_in turned.after) promoted demoted touched;
+      moves_in = λ z.
+          subst (λ o. AreMovesIn z (mapping_at r) (mapping_at s) (moves_of z (record { page = page; before = turn.before; after = o }))) (sym turned.after)
+          (subst (λ b. AreMovesIn z (mapping_at r) (mapping_at s) (moves_between page turn.before b (size_by z (mapping_at s) page))) (ap (λ o. size_within z (size_in o)) (sym turned.before))
+          (moves_one z (mapping_at r) (mapping_at s) page others in_space turn.before turned.before));
     }
 
 -- nothing goes or comes where each page is as it was
-pub changes_none : (r s : Resident) (moves : Moves) → ((p : ℕ) → mapping_at s p ≡ mapping_at r p) → moves.promotions ≡ 0 → moves.demotions ≡ 0 → IsInSpace moves.touched → AreChanges r s (record { page = 0; before = None; after = None; moves = moves })
-changes_none r s moves same no_promotion no_demotion in_range =
+pub changes_none : (r s : Resident) → ((p : ℕ) → mapping_at s p ≡ mapping_at r p) → AreChanges r s (record { page = 0; before = None; after = None })
+changes_none r s same =
     let one : mapping_at s ≡ mapping_at r = λ i p. same p i in
     record {
       gone = came_none (mapping_at s) (mapping_at r) 0 (λ p _. sym (same p)) (ap (λ (pages : ℕ → Option Mapping). tile_of pages 0) one);
       came = came_none (mapping_at r) (mapping_at s) 0 (λ p _. same p) (ap (λ (pages : ℕ → Option Mapping). tile_of pages 0) (sym one));
-      moves = moves_same r s moves same no_promotion no_demotion in_range;
+      moves_in = λ z. moves_same z (mapping_at r) (mapping_at s) _ same refl refl (omega arith);
     }
 
 -- what was a tile is one still where it isn't among those that went

@@ -1,14 +1,18 @@
 -- Which tiles came with a change of pages, and which went.
-use Rattle.std.specs.Prelude.{ℕ, zero, suc, ◌≡◌, ◌≢◌, ◌+◌, ◌-◌, ◌*◌, ◌/◌, ◌%◌, ◌^◌, ◌<◌, ◌≤◌, Bool, true, false, ◌&&◌, ◌==◌, not, if◌then◌else◌, count_by, List, [], ◌∷◌, ◌++◌, length, Option, Some, None, IfSome}
+use Rattle.std.specs.Prelude.{ℕ, zero, suc, ◌≡◌, ◌≢◌, ◌+◌, ◌-◌, ◌*◌, ◌/◌, ◌%◌, ◌^◌, ◌<◌, ◌≤◌, Bool, true, false, ◌&&◌, ◌||◌, ◌==◌, not, max, nat_lt, if◌then◌else◌, count_by, List, [], ◌∷◌, ◌++◌, length, Option, Some, None, IfSome, is_some}
 use Rattle.std.specs.Option.{option_to_list}
+use Rattle.pager_model.specs.declared.page_range.PageRange.{PageRange}
 use Rattle.pager_model.specs.declared.tile.Mapping.{Mapping}
 use Rattle.pager_model.specs.declared.tile.Tile.{Tile}
 use Rattle.pager_model.specs.Bounds.{space_pages}
 use Rattle.pager_model.specs.Extents.{extent_start}
+use Rattle.pager_model.specs.SizeSets.{SizeSet, size_within}
 use Rattle.pager_model.specs.Tiles.{same_tile, tile_of, is_tile, size_in}
 use Rattle.tiles.specs.declared.moves.Moves.{Moves}
-use Rattle.tiles.specs.declared.rows.Turn.{Turn}
-use Rattle.tiles.specs.Resident.{Resident, mapping_at, AreMoves}
+use Rattle.tiles.specs.declared.pages.Turn.{Turn}
+use Rattle.tiles.specs.Resident.{Resident, mapping_at}
+use Rattle.tiles.specs.Sized.{AreMovesIn}
+use Rattle.tiles.specs.Touched.{extent_range}
 
 -- how often a tile stands in a list
 abbrev pub times : Tile → List Tile → ℕ
@@ -81,12 +85,11 @@ pub record IsTurn (page : ℕ) (old new : Resident) (turn : Turn) : Type 0 where
   pub before_round : IfSome turn.before (IsRound page)
   pub after_round : IfSome turn.after (IsRound page)
 
--- What is told of a change of one page: its tile before and after, and the moves.
+-- What is told of a change of one page: its tile before and after.
 pub record PageChange : Type 0 where
   pub page : ℕ
   pub before : Option Tile
   pub after : Option Tile
-  pub moves : Moves
 
 -- the tiles that went with it, and those that came
 abbrev pub gone_of : PageChange → List Tile
@@ -95,14 +98,31 @@ gone_of changes = coming changes.page changes.after changes.before
 abbrev pub came_of : PageChange → List Tile
 came_of changes = coming changes.page changes.before changes.after
 
+-- the pages of the extent of a size round the page; but no tile goes where it had none, and has one of a page at most
+abbrev pub touched_of : ℕ → Option Tile → ℕ → ℕ → PageRange
+touched_of page tile before after =
+    if is_some tile || nat_lt 0 after then extent_range (max before after) page else record { first = 0; length = 0 }
+
+-- one move of the page's tile, which had one size and has another now, in the larger of the two
+abbrev pub moves_between : ℕ → Option Tile → ℕ → ℕ → Moves
+moves_between page tile before after = record {
+  promotions = if nat_lt before after then 1 else 0;
+  demotions = if nat_lt after before then 1 else 0;
+  touched = touched_of page tile before after;
+}
+
+-- the moves by some sizes: those of the page's tile, as it is cut to them
+abbrev pub moves_of : SizeSet → PageChange → Moves
+moves_of z changes = moves_between changes.page changes.before (size_within z (size_in changes.before)) (size_within z (size_in changes.after))
+
 -- it is of a page of the space, and of tiles round it
 pub record IsTold (changes : PageChange) : Type 0 where
   pub page : changes.page < space_pages
   pub before : IfSome changes.before (IsRound changes.page)
   pub after : IfSome changes.after (IsRound changes.page)
 
--- They are the tiles that went with a change of the pages and those that came, and its moves.
+-- They are the tiles that went with a change of the pages and those that came, and the moves by any sizes.
 pub record AreChanges (old new : Resident) (changes : PageChange) : Type 0 where
   pub gone : Came (mapping_at new) (mapping_at old) (gone_of changes)
   pub came : Came (mapping_at old) (mapping_at new) (came_of changes)
-  pub moves : AreMoves old new changes.moves
+  pub moves_in : (z : SizeSet) → AreMovesIn z (mapping_at old) (mapping_at new) (moves_of z changes)

@@ -5,4 +5,5 @@ pub mod Cleared
 pub mod Kept
 pub mod Parts
 pub mod Resident
+pub mod Sized
 pub mod Touched

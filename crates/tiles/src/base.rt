@@ -1,25 +1,39 @@
 //! The resident pages of a space, and what each change does to their tiles.
 
-ghost use Rattle.std.specs.Prelude.{◌≡◌, ◌≢◌, ◌∷◌, [], ℕ, ◌+◌, ◌*◌, ◌<◌, ◌≤◌, true, false, Option, None, Some, IfOk, IfNone, IfSome, option_map, slice_index};
-ghost use Rattle.pager_model.specs.Tiles.{tile_of, is_tile, size_at, tiles_of_size};
+ghost use Rattle.std.specs.Int.{div_ceil};
+ghost use Rattle.std.specs.Prelude.{◌≡◌, ◌≢◌, ◌∷◌, [], ℕ, ◌+◌, ◌*◌, ◌%◌, ◌^◌, ◌<◌, ◌≤◌, true, false, Option, None, Some, IfOk, IfNone, IfSome, option_map, slice_index};
+ghost use Rattle.pager_model.specs.Tiles.{tile_in, is_tile_in, tile_count_in, cut_to};
 ghost use Rattle.pager_model.specs.declared.tile.Mapping.{Mapping};
-ghost use Rattle.tiles.specs.Resident.{mapping_at, frames_in, frame_of_page, Maps, Protects, AreMoves, IsNextResident, NoneResident, with_flag, with_rights, begins_large, begins_before, large_tiles_begun, large_tiles_meeting};
-ghost use Rattle.tiles.specs.Changes.{AreChanges};
-ghost use Rattle.tiles.specs.Kept.{KeepsFrame};
-ghost use Rattle.tiles.specs.Blocks.{KeepsRights, ProtectsTo, ProtectsInBlock, AreSizesOfBlock, OutsideSame, AreMovesOf, begun_at, behind};
+ghost use Rattle.tiles.specs.Resident.{mapping_at, frames_in, frame_of_page, Maps, Protects, IsNextResident, NoneResident, with_flag, with_rights};
+ghost use Rattle.tiles.specs.Changes.{AreChanges, IsRound};
+ghost use Rattle.page_map.specs.Entries.{entry_at};
+ghost use Rattle.tiles.specs.Blocks.{KeepsRights, ProtectsTo, ProtectsInBlock, AreSizesOfBlock, OutsideSame};
+ghost use Rattle.tiles.specs.Sized.{AreMovesIn, size_by, begins_before_in, large_tiles_begun_in, large_tiles_meeting_in};
+ghost use Rattle.tiles.specs.Kept.{FitsFrames};
 ghost use Rattle.pager_model.specs.Bounds.{most_frames, space_pages};
 
 use crate::changes::Changes;
+use crate::counted;
 use crate::moves::Moves;
 use crate::pages::Pages;
-use pager_model::{Extent, Mapping, NoMemory, PAGES, PageRange, Rights, Size, Tile};
+use crate::tile_list::part_from;
+use page_map::Entry;
+use pager_model::{Mapping, NoMemory, PageRange, Rights, Size, Sizes, Steps, Tile};
 use std::alloc::Global;
-use std::marker::Model;
+use std::marker::{Brand, Model};
+use std::sync::ledger::{Blank, Ledger};
 
 /// The pages of the largest extent.
 const BLOCK: u32 = 512;
 
-/// The resident pages of a space, and which extents of them are eligible.
+/// What a resident page is mapped by: its mapping, and the tile that it lies in.
+#[derive(Clone, Copy, Debug, PartialEq, Eq)]
+pub struct Translation {
+    pub mapping: Mapping,
+    pub tile: Tile,
+}
+
+/// The resident pages of a space, each mapped by its tile.
 #[derive(Drop)]
 pub struct Base {
     pages: Pages,
@@ -31,6 +45,58 @@ impl Model for Base {
     ghost Value = { Resident };
 
     ghost view = { λ b. b.pages };
+}
+
+/// The first page behind an entry.
+fn behind(entry: &Entry) -> u32
+    requires { entry.now.extent.first + 8 ^ entry.now.extent.size < 2 ^ 32 }
+    ensures { result ≡ entry.now.extent.first + 8 ^ entry.now.extent.size }
+{
+    entry.extent.first + entry.extent.size.pages()
+}
+
+/// The size of the largest part of an entry that begins at a page and ends by another one.
+fn largest_part(entry: &Entry, page: u32, end: u32) -> Size
+    requires { page < end }
+    ensures within { result ≤ entry.now.extent.size }
+    ensures first { page % 8 ^ result ≡ 0 }
+    ensures last { page + 8 ^ result ≤ end }
+{
+    let mut size = entry.extent.size;
+    while page % size.pages() != 0 || end - page < size.pages() {
+        size = size.smaller();
+    }
+    size
+}
+
+/// The part round a page of a tile, of the largest of some sizes that fits.
+fn cut_to(sizes: Sizes, page: u32, tile: &Tile) -> Tile
+    requires { IsRound page tile.now }
+    ensures { result ≡ cut_to sizes page tile.now }
+{
+    let size = sizes.within(tile.extent.size);
+    let pages = size.pages();
+    part_from(size, page / pages * pages, tile)
+}
+
+/// How many extents of a size begin at a page from one on and before another one; those of a page aren't counted.
+fn large_begun(size: Size, from: u32, end: u32) -> u32
+    requires range { from ≤ end }
+    ensures small { size ≡ 0 → result ≡ 0 }
+    ensures large { 0 < size → result + div_ceil from (8 ^ size) ≡ div_ceil end (8 ^ size) }
+{
+    if size.level() == 0 {
+        return 0;
+    }
+    end.div_ceil(size.pages()) - from.div_ceil(size.pages())
+}
+
+/// Whether a mapping has other rights.
+fn has_other_rights(mapping: &Mapping, rights: Rights) -> bool
+    ensures same { result ≡ false → with_rights rights mapping.now ≡ mapping.now }
+    ensures other { result ≡ true → with_rights rights mapping.now ≢ mapping.now }
+{
+    mapping.rights != rights
 }
 
 impl Base {
@@ -49,7 +115,8 @@ impl Base {
         ensures mapping { result ≡ mapping_at self.now page }
         ensures in_space { IfSome result (λ m. (page < space_pages) × (m.frame < frames_in self.now)) }
     {
-        self.pages.mapping(page)
+        let entry = self.pages.lookup(page)?;
+        Some(entry.mapping_of(page))
     }
 
     /// The lowest resident page from `from` on and before `end`. Extents without a resident page are passed over.
@@ -58,99 +125,95 @@ impl Base {
         ensures some { IfSome result (IsNextResident (mapping_at self.now) from end) }
         ensures none { IfNone result (NoneResident (mapping_at self.now) from end) }
     {
-        self.pages.next(from, end)
+        let entry = self.pages.next(from, end)?;
+        Some(from.max(entry.extent.first))
     }
 
-    /// The size of a page's tile, and a page's where it isn't resident.
-    fn size(&self, page: u32) -> Size
-        ensures { result ≡ size_at (mapping_at self.now) page }
+    /// What a page is mapped by, where it is resident: its mapping, and its tile by some sizes, found by one look-up.
+    pub fn translate(&self, page: u32, sizes: Sizes) -> Option<Translation>
+        ensures mapping { option_map (λ t. t.mapping) result ≡ mapping_at self.now page }
+        ensures tile { option_map (λ t. t.tile) result ≡ tile_in sizes (mapping_at self.now) page }
+        ensures in_space { IfSome result (λ t. (page < space_pages) × (t.mapping.frame < frames_in self.now)) }
     {
-        match self.pages.tile_of(page) {
-            Some(tile) => tile.extent.size,
-            None => Size::at_level(0),
-        }
+        let entry = self.pages.lookup(page)?;
+        Some(Translation {
+            mapping: entry.mapping_of(page),
+            tile: cut_to(sizes, page, &entry.tile()),
+        })
     }
 
-    /// The first page behind a page's tile, and behind the page where it isn't resident.
-    fn behind(&self, page: u32) -> u32
-        requires { page < space_pages }
-        ensures { result ≡ behind (mapping_at self.now) page }
+    /// The tile of a page by some sizes, where it is resident.
+    pub fn tile_of(&self, page: u32, sizes: Sizes) -> Option<Tile>
+        ensures { result ≡ tile_in sizes (mapping_at self.now) page }
     {
-        let pages = self.size(page).pages();
-        page - page % pages + pages
+        let entry = self.pages.lookup(page)?;
+        Some(cut_to(sizes, page, &entry.tile()))
     }
 
-    /// The tile of a page, where it is resident.
-    pub fn tile_of(&self, page: u32) -> Option<Tile>
-        ensures { result ≡ tile_of (mapping_at self.now) page }
+    /// Whether it is a tile by some sizes of the pages as they are.
+    pub fn is_tile(&self, tile: &Tile, sizes: Sizes) -> bool
+        ensures { result ≡ is_tile_in sizes (mapping_at self.now) tile.now }
     {
-        self.pages.tile_of(page)
-    }
-
-    /// Whether it is a tile of the pages as they are.
-    pub fn is_tile(&self, tile: &Tile) -> bool
-        ensures { result ≡ is_tile (mapping_at self.now) tile.now }
-    {
-        self.tile_of(tile.extent.first) == Some(*tile)
+        self.tile_of(tile.extent.first, sizes) == Some(*tile)
     }
 
     /// A page that isn't resident is, with this mapping; no other page has its frame.
-    pub fn after_fill(&mut self, page: u32, mapping: Mapping) -> Changes
+    pub fn after_fill<L: Ledger>(
+        &mut self,
+        page: u32,
+        mapping: Mapping,
+        steps: &mut Steps<L>,
+    ) -> Changes
         requires page { page < space_pages }
         requires absent { mapping_at self.old page ≡ None }
         requires known { mapping.frame < frames_in self.old }
         requires other { (p : ℕ) → frame_of_page self.old p ≢ Some mapping.frame }
         ensures maps { Maps page (Some mapping) self.old self.new }
         ensures changes { AreChanges self.old self.new result }
+        ensures cost { steps.new ≤ steps.old + 58 }
     {
-        let turn = self.pages.fill(page, mapping);
+        let turn = self.pages.fill(page, mapping, steps);
         Changes::of(page, turn)
     }
 
     /// A page is resident no more.
-    pub fn after_remove(&mut self, page: u32) -> Changes
+    pub fn after_remove<L: Ledger>(&mut self, page: u32, steps: &mut Steps<L>) -> Changes
         ensures maps { Maps page None self.old self.new }
         ensures changes { AreChanges self.old self.new result }
+        ensures cost { steps.new ≤ steps.old + 50 }
     {
-        match self.pages.mapping(page) {
-            Some(_) => self.change(page, None),
-            None => Changes::none(),
-        }
-    }
-
-    /// A page has this dirty flag, where it is resident.
-    pub fn after_dirty(&mut self, page: u32, dirty: bool) -> Changes
-        ensures maps { Maps page (option_map (with_flag dirty) (mapping_at self.old page)) self.old self.new }
-        ensures changes { AreChanges self.old self.new result }
-    {
-        match self.pages.mapping(page) {
-            Some(mapping) if mapping.dirty != dirty => {
-                self.change(page, Some(Mapping { dirty, ..mapping }))
-            }
-            _ => Changes::none(),
-        }
-    }
-
-    /// A resident page has this mapping, in the frame that it has, or is resident no more.
-    fn change(&mut self, page: u32, mapping: Option<Mapping>) -> Changes
-        requires page { page < space_pages }
-        requires keeps { KeepsFrame page mapping self.old }
-        ensures maps { Maps page mapping self.old self.new }
-        ensures changes { AreChanges self.old self.new result }
-    {
-        let turn = self.pages.change(page, mapping);
+        let Some(entry) = self.pages.find(page, steps) else {
+            return Changes::none();
+        };
+        let turn = self.pages.remove(entry, page, steps);
         Changes::of(page, turn)
     }
 
-    /// Whether a page is resident with other rights.
-    fn has_other_rights(&self, page: u32, rights: Rights) -> bool
-        ensures in_space { result ≡ true → page < space_pages }
-        ensures keeps { result ≡ false → option_map (with_rights rights) (mapping_at self.now page) ≡ mapping_at self.now page }
+    /// A page has this dirty flag, where it is resident.
+    pub fn after_dirty<L: Ledger>(
+        &mut self,
+        page: u32,
+        dirty: bool,
+        steps: &mut Steps<L>,
+    ) -> Changes
+        ensures maps { Maps page (option_map (with_flag dirty) (mapping_at self.old page)) self.old self.new }
+        ensures changes { AreChanges self.old self.new result }
+        ensures cost { steps.new ≤ steps.old + 62 }
     {
-        match self.pages.mapping(page) {
-            Some(mapping) => mapping.rights != rights,
-            None => false,
+        let Some(entry) = self.pages.find(page, steps) else {
+            return Changes::none();
+        };
+        if entry.mapping.dirty == dirty {
+            return Changes::none();
         }
+        let mapping = Mapping {
+            dirty,
+            ..entry.mapping_of(page)
+        };
+        let turn = self
+            .pages
+            .set(entry, Size::at_level(0), page, mapping, steps);
+        Changes::of(page, turn)
     }
 
     /// Whether a page of a range is resident with other rights.
@@ -159,25 +222,36 @@ impl Base {
         ensures { result ≡ false → KeepsRights first end rights (mapping_at self.now) }
     {
         let mut from = first;
-        while let Some(page) = self.next_resident(from, end) {
-            if self.has_other_rights(page, rights) {
+        while let Some(entry) = self.pages.next(from, end) {
+            if has_other_rights(&entry.mapping, rights) {
                 return true;
             }
-            from = self.behind(page);
+            from = behind(&entry);
         }
         false
     }
 
-    /// A page has these rights, where it is resident.
-    fn after_rights_of_one(&mut self, page: u32, rights: Rights)
-        ensures { Maps page (option_map (with_rights rights) (mapping_at self.old page)) self.old self.new }
+    /// The largest part of an entry that begins at a page and ends by another one has these rights, or the rest of the entry where it has them
+    /// already. The first page behind it.
+    fn after_rights_of_part(&mut self, entry: Entry, page: u32, end: u32, rights: Rights) -> u32
+        requires there { entry_at self.old page ≡ Some entry }
+        requires fits { FitsFrames self.old page entry }
+        requires page { page < end }
+        requires end { end ≤ space_pages }
+        ensures further { page < result }
+        ensures within { result ≤ end }
+        ensures protects { ProtectsTo page result rights self.old self.new }
     {
-        match self.pages.mapping(page) {
-            Some(mapping) if mapping.rights != rights => {
-                self.pages.change(page, Some(Mapping { rights, ..mapping }));
-            }
-            _ => {}
+        if !has_other_rights(&entry.mapping, rights) {
+            return behind(&entry).min(end);
         }
+        let size = largest_part(&entry, page, end);
+        let mapping = Mapping {
+            rights,
+            ..entry.mapping_of(page)
+        };
+        counted::set::<Brand>(&mut self.pages, entry, size, page, mapping, Blank::new(1));
+        page + size.pages()
     }
 
     /// The resident pages of a range have these rights.
@@ -187,29 +261,33 @@ impl Base {
         ensures { ProtectsTo first end rights self.old self.new }
     {
         let mut from = first;
-        while let Some(page) = self.next_resident(from, end) {
-            self.after_rights_of_one(page, rights);
-            from = page + 1;
+        while let Some(entry) = self.pages.next(from, end) {
+            let page = from.max(entry.extent.first);
+            from = self.after_rights_of_part(entry, page, end, rights);
         }
     }
 
-    /// The sizes of the tiles at the first of each eight pages of a block.
-    fn sizes_of_block(&self, block: u32) -> [u8; 64]
+    /// The sizes of the tiles by some sizes at the first of each eight pages of a block: each tile of size 1 or more begins at such a page.
+    fn sizes_of_block(&self, block: u32, sizes: Sizes) -> [u8; 64]
         requires { block < 2048 }
-        ensures sizes { AreSizesOfBlock block result (mapping_at self.now) }
+        ensures sizes { AreSizesOfBlock sizes block result (mapping_at self.now) }
         ensures small { (i : ℕ) → i < 64 → slice_index result i ≤ 3 }
     {
-        self.pages.sizes_of_block(block)
+        let mut levels = [0; 64];
+        for i in 0..64 {
+            levels[i] = self.size(block * BLOCK + 8 * i as u32, sizes).level();
+        }
+        levels
     }
 
-    /// The moves of a change within a block, before which its first of each eight pages had tiles of these sizes.
-    fn moves_of_block(&self, block: u32, before: &[u8; 64]) -> Moves
+    /// The moves by some sizes of a change within a block, before which its first of each eight pages had tiles of these sizes.
+    fn moves_of_block(&self, block: u32, before: &[u8; 64], sizes: Sizes) -> Moves
         requires block { block < 2048 }
         requires small { (i : ℕ) → i < 64 → slice_index before.now i ≤ 3 }
-        ensures { (old : ℕ → Option Mapping) → AreSizesOfBlock block before.now old → OutsideSame block old (mapping_at self.now)
-            → AreMovesOf old (mapping_at self.now) result }
+        ensures { (old : ℕ → Option Mapping) → AreSizesOfBlock sizes block before.now old → OutsideSame block old (mapping_at self.now)
+            → AreMovesIn sizes old (mapping_at self.now) result }
     {
-        let after = self.sizes_of_block(block);
+        let after = self.sizes_of_block(block, sizes);
         let mut moves = Moves::NONE;
         for i in 0..64 {
             let page = block * BLOCK + 8 * i as u32;
@@ -224,109 +302,98 @@ impl Base {
         }
     }
 
-    /// The resident pages of a range that are in a block have these rights.
+    /// The resident pages of a range that are in a block have these rights. The moves by some sizes.
     fn after_rights_in_block(
         &mut self,
         block: u32,
         first: u32,
         length: u32,
         rights: Rights,
+        sizes: Sizes,
     ) -> Moves
         requires range { first + length ≤ space_pages }
         requires block { block < 2048 }
         requires from { first ≤ block * 512 + 512 }
         requires to { block * 512 ≤ first + length }
         ensures protects { ProtectsInBlock block first length rights self.old self.new }
-        ensures moves { AreMoves self.old self.new result }
+        ensures moves { AreMovesIn sizes (mapping_at self.old) (mapping_at self.new) result }
     {
         let from = first.max(block * BLOCK);
         let end = (first + length).min(block * BLOCK + BLOCK);
         if !self.any_has_other_rights(from, end, rights) {
             return Moves::NONE;
         }
-        let before = self.sizes_of_block(block);
+        let before = self.sizes_of_block(block, sizes);
         self.after_rights_of_all(from, end, rights);
-        self.moves_of_block(block, &before)
+        self.moves_of_block(block, &before, sizes)
     }
 
-    /// The resident pages of a range have these rights. Moves are those of the whole change.
-    pub fn after_rights(&mut self, first: u32, length: u32, rights: Rights) -> Moves
+    /// The resident pages of a range have these rights. The moves by some sizes are those of the whole change.
+    pub fn after_rights(&mut self, first: u32, length: u32, rights: Rights, sizes: Sizes) -> Moves
         requires { first + length ≤ space_pages }
         ensures protects { Protects first length rights self.old self.new }
-        ensures moves { AreMoves self.old self.new result }
+        ensures moves { AreMovesIn sizes (mapping_at self.old) (mapping_at self.new) result }
     {
         let mut moves = Moves::NONE;
         for block in first / BLOCK..(first + length).div_ceil(BLOCK) {
-            moves = moves.and(self.after_rights_in_block(block, first, length, rights));
+            moves = moves.and(self.after_rights_in_block(block, first, length, rights, sizes));
         }
         moves
     }
 
-    /// The level of the tile that begins at a page, where one does.
-    fn begun(&self, page: u32) -> Option<u8>
-        ensures begun { result ≡ begun_at (mapping_at self.now) page }
-        ensures small { IfSome result (λ level. level ≤ 3) }
+    /// The size of a page's tile by some sizes, and a page's where it isn't resident.
+    fn size(&self, page: u32, sizes: Sizes) -> Size
+        ensures { result ≡ size_by sizes (mapping_at self.now) page }
     {
-        let tile = self.tile_of(page)?;
-        if tile.extent.first == page {
-            Some(tile.extent.size.level())
-        } else {
-            None
+        match self.pages.lookup(page) {
+            Some(entry) => sizes.within(entry.extent.size),
+            None => Size::at_level(0),
         }
     }
 
-    /// How many tiles of size 1 or more have a page of the range.
-    pub fn tiles_meeting(&self, first: u32, length: u32) -> u32
+    /// How many tiles of size 1 or more by some sizes have a page of the range.
+    pub fn tiles_meeting(&self, first: u32, length: u32, sizes: Sizes) -> u32
         requires { first + length ≤ space_pages }
-        ensures { result ≡ large_tiles_meeting first length (mapping_at self.now) }
+        ensures { result ≡ large_tiles_meeting_in sizes first length (mapping_at self.now) }
     {
-        let crossing = length > 0 && self.begins_before(first);
-        self.tiles_begun(first, length) + u32::from(crossing)
+        let crossing = length > 0 && self.begins_before(first, sizes);
+        self.tiles_begun(first, length, sizes) + u32::from(crossing)
     }
 
-    /// Whether a page's tile begins before it.
-    fn begins_before(&self, page: u32) -> bool
-        ensures { result ≡ begins_before (mapping_at self.now) page }
+    /// Whether a page's tile by some sizes begins before it.
+    fn begins_before(&self, page: u32, sizes: Sizes) -> bool
+        ensures { result ≡ begins_before_in sizes (mapping_at self.now) page }
     {
-        page % self.size(page).pages() != 0
+        page % self.size(page, sizes).pages() != 0
     }
 
-    /// How many tiles of size 1 or more begin in the range.
-    fn tiles_begun(&self, first: u32, length: u32) -> u32
+    /// How many tiles of size 1 or more by some sizes begin in the range.
+    fn tiles_begun(&self, first: u32, length: u32, sizes: Sizes) -> u32
         requires { first + length ≤ space_pages }
-        ensures { result ≡ large_tiles_begun first length (mapping_at self.now) }
+        ensures { result ≡ large_tiles_begun_in sizes first length (mapping_at self.now) }
     {
         let end = first + length;
         let mut count = 0;
         let mut from = first;
-        while let Some(page) = self.next_resident(from, end) {
-            if self.begins_large(page) {
-                count += 1;
-            }
-            from = self.behind(page).min(end);
+        while let Some(entry) = self.pages.next(from, end) {
+            let page = from.max(entry.extent.first);
+            from = behind(&entry).min(end);
+            count += large_begun(sizes.within(entry.extent.size), page, from);
         }
         count
     }
 
-    /// Whether a page is the first of a tile of size 1 or more.
-    fn begins_large(&self, page: u32) -> bool
-        ensures { result ≡ begins_large (mapping_at self.now) page }
+    /// How many tiles by some sizes there are of each size: those of a size are cut into tiles of the largest of these that fits.
+    pub fn counts(&self, sizes: Sizes) -> [u32; 4]
+        ensures { result ≡ tile_count_in sizes (mapping_at self.now) 0 ∷ tile_count_in sizes (mapping_at self.now) 1 ∷ tile_count_in sizes (mapping_at self.now) 2 ∷ tile_count_in sizes (mapping_at self.now) 3 ∷ [] }
     {
-        let size = self.size(page);
-        size.level() > 0 && page % size.pages() == 0
-    }
-
-    /// How many tiles there are of each size.
-    pub fn counts(&self) -> [u32; 4]
-        ensures { result ≡ tiles_of_size (mapping_at self.now) 0 ∷ tiles_of_size (mapping_at self.now) 1 ∷ tiles_of_size (mapping_at self.now) 2 ∷ tiles_of_size (mapping_at self.now) 3 ∷ [] }
-    {
+        let whole = self.pages.counts();
         let mut counts = [0; 4];
-        let mut from = 0;
-        while let Some(page) = self.next_resident(from, PAGES) {
-            if let Some(level) = self.begun(page) {
-                counts[level as usize] += 1;
-            }
-            from = self.behind(page).min(PAGES);
+        for level in 0..4 {
+            let size = Size::at_level(level);
+            let within = sizes.within(size);
+            let parts = size.pages() / within.pages();
+            counts[within.level() as usize] += parts * whole[level as usize];
         }
         counts
     }

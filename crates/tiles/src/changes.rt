@@ -2,24 +2,23 @@
 
 ghost use Rattle.std.specs.Prelude.{◌≡◌, ◌<◌, ℕ, false, [], Option, IfSome};
 ghost use Rattle.pager_model.specs.Bounds.{space_pages};
-ghost use Rattle.tiles.specs.Changes.{AreChanges, IsRound, IsTurn, came_of, gone_of};
+ghost use Rattle.tiles.specs.Changes.{AreChanges, IsRound, IsTurn, came_of, gone_of, moves_of};
 ghost use Rattle.pager_model.specs.declared.tile.Mapping.{Mapping};
 ghost use Rattle.tiles.specs.Resident.{Maps, Resident, mapping_at};
 
 use crate::moves::Moves;
-use crate::rows::Turn;
+use crate::pages::Turn;
 use crate::tile_list::{TileList, size_of};
-use pager_model::Tile;
+use pager_model::{Sizes, Tile};
 use std::marker::Model;
 
-/// Which tiles a change of one page took and made, and how many of size 1 or more that are. The tiles follow from the page's own one before the
-/// change and after it, and are listed where they are asked for.
+/// Which tiles a change of one page took and made. They follow from the page's own tile before the change and after it, and so do the moves by
+/// each set of sizes; they are told where they are asked for.
 #[derive(Debug, Drop)]
 pub struct Changes {
     page: u32,
     before: Option<Tile>,
     after: Option<Tile>,
-    moves: Moves,
 }
 
 impl Model for Changes {
@@ -27,9 +26,9 @@ impl Model for Changes {
 
     ghost Value = { PageChange };
 
-    ghost view = { λ c. record { page = c.page; before = c.before; after = c.after; moves = c.moves } };
+    ghost view = { λ c. record { page = c.page; before = c.before; after = c.after } };
 
-    ghost invariant = { λ c. IsTold (record { page = c.page; before = c.before; after = c.after; moves = c.moves }) };
+    ghost invariant = { λ c. IsTold (record { page = c.page; before = c.before; after = c.after }) };
 }
 
 impl Changes {
@@ -41,7 +40,6 @@ impl Changes {
             page: 0,
             before: None,
             after: None,
-            moves: Moves::NONE,
         }
     }
 
@@ -56,15 +54,19 @@ impl Changes {
             page,
             before: turn.before,
             after: turn.after,
-            moves: Moves::of_one(page, size_of(&turn.before), size_of(&turn.after)),
         }
     }
 
-    /// How many tiles of size 1 or more came and went.
-    pub fn moves(&self) -> Moves
-        ensures { result ≡ self.now.moves }
+    /// How many tiles of size 1 or more came and went by some sizes, and where.
+    pub fn moves(&self, sizes: Sizes) -> Moves
+        ensures { result ≡ moves_of sizes self.now }
     {
-        self.moves
+        let before = sizes.within(size_of(&self.before));
+        let after = sizes.within(size_of(&self.after));
+        if self.before.is_none() && after.level() == 0 {
+            return Moves::NONE;
+        }
+        Moves::of_one(self.page, before, after)
     }
 
     /// The tiles that are none any more.

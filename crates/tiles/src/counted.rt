@@ -1,105 +1,103 @@
-//! The calls of the rows, each with a counter of steps of its own that begins at 0.
+//! Calls with a counter of steps of their own, which begins at 0, for callers that count none.
 
-ghost use Rattle.std.specs.Prelude.{◌≡◌, ℕ, ◌*◌, ◌<◌, ◌≤◌, ◌==◌, IfNone, IfSome, if◌then◌else◌};
-ghost use Rattle.extent_tree.specs.Rows.{IsNextPageRow, NoPageRows};
-ghost use Rattle.pager_model.specs.Tiles.{tile_of};
-ghost use Rattle.tiles.specs.Blocks.{AreSizesOfBlock};
-ghost use Rattle.tiles.specs.Kept.{AreRight, HasRoom, pages_of, resident_with};
+ghost use Rattle.std.specs.Prelude.{◌≡◌, ◌≢◌, ℕ, ◌%◌, ◌^◌, ◌<◌, ◌≤◌, IfNone, IfSome, None, Some, option_map};
+ghost use Rattle.page_map.specs.Entries.{IsNextEntry, NoneMapped, entry_at, mapping_of};
+ghost use Rattle.pager_model.specs.Bounds.{space_pages};
+ghost use Rattle.tiles.specs.Changes.{AreChanges};
+ghost use Rattle.tiles.specs.Kept.{MapsExtent};
+ghost use Rattle.tiles.specs.Resident.{Maps, frame_of_page, frames_in, mapping_at, with_flag};
 
-use crate::rows::{self, Turn};
-use extent_tree::ExtentTree;
-use pager_model::{Mapping, Size, Steps, Tile};
+use crate::base::Base;
+use crate::changes::Changes;
+use crate::pages::Pages;
+use page_map::{Entry, Mixed};
+use pager_model::{Mapping, Size, Steps};
 use std::sync::ledger::{Blank, Ledger};
 
-/// The mapping of a page, where it is resident.
-pub(crate) fn find<L: Ledger>(
-    tree: &ExtentTree<Mapping>,
+/// The entry that maps a page, where one does.
+pub(crate) fn lookup<L: Ledger>(map: &Mixed, page: u32, blank: Blank) -> Option<Entry>
+    requires name { blank.name ≡ L.name }
+    requires parts { blank.parts ≡ L.parts }
+    requires share { 0 < blank.parts }
+    ensures { result ≡ entry_at map.now page }
+{
+    let (book, share) = blank.open::<L>();
+    map.lookup(page, &mut Steps::begin(book, share))
+}
+
+/// The entry of the lowest page from one on and before an end that is mapped.
+pub(crate) fn next<L: Ledger>(map: &Mixed, from: u32, end: u32, blank: Blank) -> Option<Entry>
+    requires name { blank.name ≡ L.name }
+    requires parts { blank.parts ≡ L.parts }
+    requires share { 0 < blank.parts }
+    requires end { end ≤ space_pages }
+    ensures some { IfSome result (IsNextEntry map.now from end) }
+    ensures none { IfNone result (NoneMapped map.now from end) }
+{
+    let (book, share) = blank.open::<L>();
+    map.next(from, end, &mut Steps::begin(book, share))
+}
+
+/// The pages of the extent of a size from a page on, which lies in one entry, have another mapping, in the frames that they have.
+pub(crate) fn set<L: Ledger>(
+    pages: &mut Pages,
+    entry: Entry,
+    size: Size,
     page: u32,
+    mapping: Mapping,
     blank: Blank,
-) -> Option<Mapping>
+)
     requires name { blank.name ≡ L.name }
     requires parts { blank.parts ≡ L.parts }
     requires share { 0 < blank.parts }
-    ensures { result ≡ pages_of tree.now page }
+    requires there { entry_at pages.old page ≡ Some entry }
+    requires size { size ≤ entry.extent.size }
+    requires first { page % 8 ^ size ≡ 0 }
+    requires frame { mapping.frame ≡ (mapping_of entry page).frame }
+    requires other { mapping ≢ mapping_of entry page }
+    ensures { MapsExtent size page mapping pages.old pages.new }
 {
     let (book, share) = blank.open::<L>();
-    tree.at(Size::at_level(0), page, &mut Steps::begin(book, share))
-        .value()
+    let mut steps = Steps::begin(book, share);
+    pages.set(entry, size, page, mapping, &mut steps);
 }
 
-/// The lowest page from one on and before an end that is resident.
-pub(crate) fn next<L: Ledger>(
-    tree: &ExtentTree<Mapping>,
-    from: u32,
-    end: u32,
-    blank: Blank,
-) -> Option<u32>
+/// A page that isn't resident is, with this mapping; no other page has its frame.
+pub fn after_fill<L: Ledger>(base: &mut Base, page: u32, mapping: Mapping, blank: Blank) -> Changes
     requires name { blank.name ≡ L.name }
     requires parts { blank.parts ≡ L.parts }
     requires share { 0 < blank.parts }
-    requires end { end ≤ 512 * tree.now.roots }
-    ensures some { IfSome result (IsNextPageRow tree.now from end) }
-    ensures none { IfNone result (NoPageRows tree.now from end) }
+    requires page { page < space_pages }
+    requires absent { mapping_at base.old page ≡ None }
+    requires known { mapping.frame < frames_in base.old }
+    requires other { (p : ℕ) → frame_of_page base.old p ≢ Some mapping.frame }
+    ensures maps { Maps page (Some mapping) base.old base.new }
+    ensures changes { AreChanges base.old base.new result }
 {
     let (book, share) = blank.open::<L>();
-    tree.next(from, end, &mut Steps::begin(book, share))
+    base.after_fill(page, mapping, &mut Steps::begin(book, share))
 }
 
-/// The tile of a page, where it is resident.
-pub(crate) fn tile_of<L: Ledger>(
-    tree: &ExtentTree<Mapping>,
-    page: u32,
-    blank: Blank,
-) -> Option<Tile>
+/// A page is resident no more.
+pub fn after_remove<L: Ledger>(base: &mut Base, page: u32, blank: Blank) -> Changes
     requires name { blank.name ≡ L.name }
     requires parts { blank.parts ≡ L.parts }
     requires share { 0 < blank.parts }
-    requires right { AreRight tree.now }
-    ensures { result ≡ tile_of (pages_of tree.now) page }
+    ensures maps { Maps page None base.old base.new }
+    ensures changes { AreChanges base.old base.new result }
 {
     let (book, share) = blank.open::<L>();
-    rows::tile_of(tree, page, &mut Steps::begin(book, share))
+    base.after_remove(page, &mut Steps::begin(book, share))
 }
 
-/// The sizes of the tiles at the first of each eight pages of a block of 512.
-pub(crate) fn sizes_of_block<L: Ledger>(
-    tree: &ExtentTree<Mapping>,
-    block: u32,
-    blank: Blank,
-) -> [u8; 64]
+/// A page has this dirty flag, where it is resident.
+pub fn after_dirty<L: Ledger>(base: &mut Base, page: u32, dirty: bool, blank: Blank) -> Changes
     requires name { blank.name ≡ L.name }
     requires parts { blank.parts ≡ L.parts }
     requires share { 0 < blank.parts }
-    requires right { AreRight tree.now }
-    requires block { block < 2048 }
-    ensures { AreSizesOfBlock block result (pages_of tree.now) }
+    ensures maps { Maps page (option_map (with_flag dirty) (mapping_at base.old page)) base.old base.new }
+    ensures changes { AreChanges base.old base.new result }
 {
     let (book, share) = blank.open::<L>();
-    rows::sizes_of_block(tree, block, &mut Steps::begin(book, share))
-}
-
-/// The page has this mapping, or none, and each extent of size 1 to 3 that is eligible then has its row. The page's tile before and after.
-pub(crate) fn replace<L: Ledger>(
-    tree: &mut ExtentTree<Mapping>,
-    page: u32,
-    mapping: Option<Mapping>,
-    blank: Blank,
-) -> Turn
-    requires name { blank.name ≡ L.name }
-    requires parts { blank.parts ≡ L.parts }
-    requires share { 0 < blank.parts }
-    requires page { page < 512 * tree.old.roots }
-    requires right { AreRight tree.old }
-    requires room { HasRoom tree.old }
-    requires few { 3 * resident_with tree.old page ≤ tree.old.room }
-    ensures right { AreRight tree.new }
-    ensures pages { (p : ℕ) → pages_of tree.new p ≡ (if p == page then mapping else pages_of tree.old p) }
-    ensures roots { tree.new.roots ≡ tree.old.roots }
-    ensures capacity { tree.new.room ≡ tree.old.room }
-    ensures room { HasRoom tree.new }
-    ensures before { result.before ≡ tile_of (pages_of tree.old) page }
-    ensures after { result.after ≡ tile_of (pages_of tree.new) page }
-{
-    let (book, share) = blank.open::<L>();
-    rows::replace(tree, page, mapping, &mut Steps::begin(book, share))
+    base.after_dirty(page, dirty, &mut Steps::begin(book, share))
 }

@@ -5,10 +5,10 @@ ghost use Rattle.pager_model.specs.declared.tile.Mapping.{Mapping};
 ghost use Rattle.pager_model.specs.declared.tile.Tile.{Tile};
 ghost use Rattle.pager_model.specs.Extents.{extent_start};
 ghost use Rattle.pager_model.specs.SizeSets.{SizeSet};
-ghost use Rattle.pager_model.specs.Tiles.{IsTile, tile_of, is_tile, tile_in, is_tile_in, cut_to, promotions_between, demotions_between};
+ghost use Rattle.pager_model.specs.Tiles.{IsTile, tile_of, tile_in, is_tile_in, cut_to, promotions_in, demotions_in};
 ghost use Rattle.tiles.specs.Cleared.{Clears};
 ghost use Rattle.tiles.specs.Parts.{IsPart};
-ghost use Rattle.tiles.specs.Resident.{large_tiles_meeting};
+ghost use Rattle.tiles.specs.Sized.{large_tiles_meeting_in};
 
 /// The tile of a page is an eligible extent round it that lies in no larger one, and each such extent is the tile of its pages.
 pub fn a_tile_is_a_largest_eligible_extent()
@@ -41,17 +41,17 @@ pub fn a_tile_is_uniform()
         ≡ Some (record { frame = t.frame + i; region = region; rights = t.rights; dirty = t.dirty })) }
 {}
 
-/// Where the pages of a range are cleared, no tile becomes larger, and each tile of size 1 or more that has a page of it is broken.
+/// Where the pages of a range are cleared, no tile by any sizes becomes larger, and each of size 1 or more that has a page of it is broken.
 pub fn a_clear_breaks_the_tiles_that_meet_its_range()
-    ensures promotions { (first len : ℕ) (old new : ℕ → Option Mapping) → Clears first len old new → promotions_between old new ≡ 0 }
-    ensures demotions { (first len : ℕ) (old new : ℕ → Option Mapping) → Clears first len old new
-        → demotions_between old new ≡ large_tiles_meeting first len old }
+    ensures promotions { (z : SizeSet) (first len : ℕ) (old new : ℕ → Option Mapping) → Clears first len old new → promotions_in z old new ≡ 0 }
+    ensures demotions { (z : SizeSet) (first len : ℕ) (old new : ℕ → Option Mapping) → Clears first len old new
+        → demotions_in z old new ≡ large_tiles_meeting_in z first len old }
 {}
 
-/// Where the pages are as they were, so are the tiles, and none becomes larger or is broken.
+/// Where the pages are as they were, so are the tiles by any sizes, and none becomes larger or is broken.
 pub fn the_same_pages_have_the_same_tiles()
-    ensures tiles { (old new : ℕ → Option Mapping) → ((p : ℕ) → new p ≡ old p) → (page : ℕ) → tile_of new page ≡ tile_of old page }
-    ensures tests { (old new : ℕ → Option Mapping) → ((p : ℕ) → new p ≡ old p) → (t : Tile) → is_tile new t ≡ is_tile old t }
-    ensures promotions { (old new : ℕ → Option Mapping) → ((p : ℕ) → new p ≡ old p) → promotions_between old new ≡ 0 }
-    ensures demotions { (old new : ℕ → Option Mapping) → ((p : ℕ) → new p ≡ old p) → demotions_between old new ≡ 0 }
+    ensures tiles { (z : SizeSet) (old new : ℕ → Option Mapping) → ((p : ℕ) → new p ≡ old p) → (page : ℕ) → tile_in z new page ≡ tile_in z old page }
+    ensures tests { (z : SizeSet) (old new : ℕ → Option Mapping) → ((p : ℕ) → new p ≡ old p) → (t : Tile) → is_tile_in z new t ≡ is_tile_in z old t }
+    ensures promotions { (z : SizeSet) (old new : ℕ → Option Mapping) → ((p : ℕ) → new p ≡ old p) → promotions_in z old new ≡ 0 }
+    ensures demotions { (z : SizeSet) (old new : ℕ → Option Mapping) → ((p : ℕ) → new p ≡ old p) → demotions_in z old new ≡ 0 }
 {}

@@ -1,33 +1,32 @@
-//! The resident pages of a space, and which extents of them are eligible.
+//! The resident pages of a space, by the tiles that map them.
 
-ghost use Rattle.std.specs.Prelude.{◌≡◌, ◌≢◌, ◌<◌, ◌≤◌, ℕ, None, Some, IfNone, IfOk, IfSome};
+ghost use Rattle.std.specs.Prelude.{◌≡◌, ◌≢◌, ℕ, ◌∷◌, [], ◌+◌, ◌%◌, ◌^◌, ◌<◌, ◌≤◌, None, Some, IfNone, IfOk, IfSome, option_map};
+ghost use Rattle.page_map.specs.Entries.{entry_at, mapping_of, tile_of_entry};
 ghost use Rattle.pager_model.specs.Bounds.{most_frames, space_pages};
-ghost use Rattle.pager_model.specs.Tiles.{tile_of};
-ghost use Rattle.tiles.specs.Blocks.{AreSizesOfBlock};
+ghost use Rattle.pager_model.specs.Tiles.{tile_of, tiles_of_size};
 ghost use Rattle.tiles.specs.Changes.{IsTurn};
-ghost use Rattle.tiles.specs.Kept.{KeepsFrame, MayHave};
-ghost use Rattle.tiles.specs.Resident.{mapping_at, frame_of_page, frames_in, IsNextResident, Maps, NoneResident};
+ghost use Rattle.tiles.specs.Kept.{FitsFrames, IsNextTile, MapsExtent};
+ghost use Rattle.tiles.specs.Resident.{mapping_at, frame_of_page, frames_in, Maps, NoneResident};
 
-use crate::counted;
-use crate::rows::Turn;
-use extent_tree::ExtentTree;
-use pager_model::{Mapping, NoMemory, Tile};
+use crate::{counted, entries};
+use page_map::{Entry, Mixed};
+use pager_model::{Mapping, NoMemory, Size, Steps, Tile};
 use std::alloc::Global;
 use std::marker::{Brand, Model};
-use std::sync::ledger::Blank;
+use std::sync::ledger::{Blank, Ledger};
 
-/// The extents of 512 pages of a space.
-const ROOTS: u32 = 2048;
+/// The tile of a page before a change of it, and after.
+#[derive(Clone, Copy, Debug, PartialEq, Eq)]
+pub(crate) struct Turn {
+    pub(crate) before: Option<Tile>,
+    pub(crate) after: Option<Tile>,
+}
 
 /// The resident pages of a space.
-///
-/// There is room for three nodes of the tree for each frame, since each node is of an extent with a resident page. `create` takes it,
-/// and nodes are written as they are first used.
 #[derive(Drop)]
 pub(crate) struct Pages {
-    /// What is said of each resident page, as the row of the page, and of the first page of each eligible extent of size 1 to 3.
-    rows: ExtentTree<Mapping>,
-    frames: u32,
+    /// The entry of each resident page is its tile.
+    map: Mixed,
 }
 
 impl Model for Pages {
@@ -36,9 +35,9 @@ impl Model for Pages {
 
     ghost Value = { Resident };
 
-    ghost view = { λ p. record { rows = p.rows; frames = p.frames } };
+    ghost view = { λ p. p.map };
 
-    ghost invariant = { λ p. ArePages (record { rows = p.rows; frames = p.frames }) };
+    ghost invariant = { λ p. ArePages p.map };
 }
 
 impl Pages {
@@ -48,71 +47,110 @@ impl Pages {
         ensures frames { IfOk result (λ pages. frames_in pages ≡ frames) }
         ensures none { IfOk result (λ pages. (p : ℕ) → mapping_at pages p ≡ None) }
     {
-        let rows = ExtentTree::create(alloc, ROOTS, 3 * frames)?;
-        Ok(Pages { rows, frames })
+        let map = Mixed::create(alloc, frames)?;
+        Ok(Pages { map })
     }
 
-    /// What is said of a page, where it is resident.
-    pub(crate) fn mapping(&self, page: u32) -> Option<Mapping>
-        ensures mapping { result ≡ mapping_at self.now page }
-        ensures in_space { IfSome result (λ m. (page < space_pages) × (m.frame < frames_in self.now)) }
+    /// The entry of a page, where it is resident.
+    pub(crate) fn lookup(&self, page: u32) -> Option<Entry>
+        ensures entry { result ≡ entry_at self.now page }
+        ensures mapping { option_map (λ entry. mapping_of entry page) result ≡ mapping_at self.now page }
+        ensures tile { option_map tile_of_entry result ≡ tile_of (mapping_at self.now) page }
+        ensures fits { IfSome result (FitsFrames self.now page) }
     {
-        counted::find::<Brand>(&self.rows, page, Blank::new(1))
+        counted::lookup::<Brand>(&self.map, page, Blank::new(1))
     }
 
-    /// The lowest resident page from `from` on and before `end`.
-    pub(crate) fn next(&self, from: u32, end: u32) -> Option<u32>
+    /// The same, where the caller counts the looks.
+    pub(crate) fn find<L: Ledger>(&self, page: u32, steps: &mut Steps<L>) -> Option<Entry>
+        ensures entry { result ≡ entry_at self.now page }
+        ensures mapping { option_map (λ entry. mapping_of entry page) result ≡ mapping_at self.now page }
+        ensures fits { IfSome result (FitsFrames self.now page) }
+        ensures cost { steps.new ≤ steps.old + 4 }
+    {
+        self.map.lookup(page, steps)
+    }
+
+    /// The entry of the lowest resident page from `from` on and before `end`.
+    pub(crate) fn next(&self, from: u32, end: u32) -> Option<Entry>
         requires { end ≤ space_pages }
-        ensures some { IfSome result (IsNextResident (mapping_at self.now) from end) }
+        ensures some { IfSome result (IsNextTile self.now from end) }
         ensures none { IfNone result (NoneResident (mapping_at self.now) from end) }
     {
-        counted::next::<Brand>(&self.rows, from, end, Blank::new(1))
+        counted::next::<Brand>(&self.map, from, end, Blank::new(1))
     }
 
-    /// The tile of a page, where it is resident.
-    pub(crate) fn tile_of(&self, page: u32) -> Option<Tile>
-        ensures { result ≡ tile_of (mapping_at self.now) page }
+    /// How many tiles there are of each size.
+    pub(crate) fn counts(&self) -> [u32; 4]
+        ensures { result ≡ tiles_of_size (mapping_at self.now) 0 ∷ tiles_of_size (mapping_at self.now) 1 ∷ tiles_of_size (mapping_at self.now) 2 ∷ tiles_of_size (mapping_at self.now) 3 ∷ [] }
     {
-        counted::tile_of::<Brand>(&self.rows, page, Blank::new(1))
-    }
-
-    /// The sizes of the tiles at the first of each eight pages of a block of 512.
-    pub(crate) fn sizes_of_block(&self, block: u32) -> [u8; 64]
-        requires { block < 2048 }
-        ensures { AreSizesOfBlock block result (mapping_at self.now) }
-    {
-        counted::sizes_of_block::<Brand>(&self.rows, block, Blank::new(1))
+        self.map.counts()
     }
 
     /// A page that isn't resident is, with this mapping; no other page has its frame. Its tile before and after.
-    pub(crate) fn fill(&mut self, page: u32, mapping: Mapping) -> Turn
+    pub(crate) fn fill<L: Ledger>(
+        &mut self,
+        page: u32,
+        mapping: Mapping,
+        steps: &mut Steps<L>,
+    ) -> Turn
         requires page { page < space_pages }
+        requires absent { mapping_at self.old page ≡ None }
         requires known { mapping.frame < frames_in self.old }
         requires other { (p : ℕ) → frame_of_page self.old p ≢ Some mapping.frame }
         ensures maps { Maps page (Some mapping) self.old self.new }
         ensures turn { IsTurn page self.old self.new result }
+        ensures cost { steps.new ≤ steps.old + 58 }
     {
-        self.set(page, Some(mapping))
+        let entry = entries::fill(&mut self.map, page, mapping, steps);
+        Turn {
+            before: None,
+            after: Some(entry.tile()),
+        }
     }
 
-    /// A resident page has this mapping, in the frame that it has, or is resident no more. Its tile before and after.
-    pub(crate) fn change(&mut self, page: u32, mapping: Option<Mapping>) -> Turn
-        requires page { page < space_pages }
-        requires keeps { KeepsFrame page mapping self.old }
-        ensures maps { Maps page mapping self.old self.new }
+    /// A page of an entry is resident no more. Its tile before and after.
+    pub(crate) fn remove<L: Ledger>(
+        &mut self,
+        entry: Entry,
+        page: u32,
+        steps: &mut Steps<L>,
+    ) -> Turn
+        requires { entry_at self.old page ≡ Some entry }
+        ensures maps { Maps page None self.old self.new }
         ensures turn { IsTurn page self.old self.new result }
+        ensures cost { steps.new ≤ steps.old + 46 }
     {
-        let _ = &self.rows;
-        self.set(page, mapping)
+        entries::remove(&mut self.map, entry, page, steps);
+        Turn {
+            before: Some(entry.tile()),
+            after: None,
+        }
     }
 
-    /// A page has this mapping, or none. Its tile before and after.
-    fn set(&mut self, page: u32, mapping: Option<Mapping>) -> Turn
-        requires page { page < space_pages }
-        requires frame { (number : ℕ) × MayHave self.old page number mapping }
-        ensures maps { Maps page mapping self.old self.new }
+    /// The pages of the extent of a size from a page on, which lies in one entry, have another mapping, in the frames that they have. The page's
+    /// tile before and after.
+    pub(crate) fn set<L: Ledger>(
+        &mut self,
+        entry: Entry,
+        size: Size,
+        page: u32,
+        mapping: Mapping,
+        steps: &mut Steps<L>,
+    ) -> Turn
+        requires there { entry_at self.old page ≡ Some entry }
+        requires size { size ≤ entry.extent.size }
+        requires first { page % 8 ^ size ≡ 0 }
+        requires frame { mapping.frame ≡ (mapping_of entry page).frame }
+        requires other { mapping ≢ mapping_of entry page }
+        ensures maps { MapsExtent size page mapping self.old self.new }
         ensures turn { IsTurn page self.old self.new result }
+        ensures cost { steps.new ≤ steps.old + 58 }
     {
-        counted::replace::<Brand>(&mut self.rows, page, mapping, Blank::new(1))
+        let after = entries::set(&mut self.map, entry, size, page, mapping, steps);
+        Turn {
+            before: Some(entry.tile()),
+            after: Some(after.tile()),
+        }
     }
 }

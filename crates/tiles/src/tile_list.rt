@@ -54,7 +54,7 @@ fn is_same(one: &Tile, other: &Tile) -> bool
 }
 
 /// The part of a size of a tile from a page on.
-fn part_from(size: Size, first: u32, whole: &Tile) -> Tile
+pub(crate) fn part_from(size: Size, first: u32, whole: &Tile) -> Tile
     requires from { whole.now.extent.first ≤ first }
     requires fits { whole.now.frame + (first - whole.now.extent.first) < 2 ^ 32 }
     ensures { result ≡ part_from size first whole.now }

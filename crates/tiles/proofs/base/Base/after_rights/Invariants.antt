@@ -1,4 +1,5 @@
-use Rattle.tiles.specs.Resident.{AreMoves}
+use Rattle.tiles.specs.Resident.{mapping_at}
+use Rattle.tiles.specs.Sized.{AreMovesIn}
 use Rattle.tiles.proofs.Blocks.{ProtectsBlocks}
 use Rattle.tiles.proofs.base.Base.after_rights.Given as goal
 
@@ -6,5 +7,5 @@ use Rattle.tiles.proofs.base.Base.after_rights.Given as goal
 abbrev pub invariant-loop-block : goal.invariant-loop-block
 invariant-loop-block l = record {
   protects : ProtectsBlocks l.block l.first l.length l.rights l.fn.self l.self;
-  moves : AreMoves l.fn.self l.self l.moves;
+  moves : AreMovesIn l.sizes (mapping_at l.fn.self) (mapping_at l.self) l.moves;
 }

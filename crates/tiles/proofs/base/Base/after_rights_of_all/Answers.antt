@@ -1,21 +1,25 @@
-use Rattle.std.proofs.Common.{arith}
-use Rattle.tiles.proofs.Blocks.{protects_bare, protects_one}
+use Rattle.std.proofs.Common.{subst, arith}
+use Rattle.tiles.specs.Kept.{IsNextTile}
+use Rattle.tiles.specs.Resident.{mapping_at, NoneResident}
+use Rattle.tiles.proofs.Blocks.{protects_bare, protects_on}
 use Rattle.tiles.proofs.base.Base.after_rights_of_all.Goals as goal
 
-pub loop-page-preserved : goal.loop-page-preserved
-loop-page-preserved c =
-    let so_far = c.loop-page.invariant in
-    let next = c.in-Some.ensures.some in
+pub loop-entry-preserved : goal.loop-entry-preserved
+loop-entry-preserved c =
+    let so_far = c.loop-entry.invariant in
+    let next = subst (λ r. IsNextTile r c.loop-entry.from c.args.end c.in-Some.entry) c.self.view_is c.in-Some.ensures.some in
+    let part = c.after_rights_of_part-from.ensures in
+    let page = c.max-page.result in
     record {
-      from_on = omega (arith, so_far.from_on, next.from_on);
-      within = omega (arith, next.before_end);
+      from_on = omega (arith, so_far.from_on, part.further, c.max-page.ensures);
+      within = part.within;
       protects =
-          protects_one c.args.first c.in-Some.page c.args.rights c.args.self.now c.loop-page.self c.after_rights_of_one.new.self (omega (arith, so_far.from_on, next.from_on))
-          (protects_bare c.args.first c.loop-page.from c.in-Some.page c.args.rights c.args.self.now c.loop-page.self next.from_on next.lowest so_far.protects)
-          c.after_rights_of_one.ensures;
+          protects_on c.args.first page c.after_rights_of_part-from.result c.args.rights c.args.self.now c.loop-entry.self c.after_rights_of_part-from.new.self (omega (arith, so_far.from_on, c.max-page.ensures)) (omega (arith, part.further))
+          (protects_bare c.args.first c.loop-entry.from page c.args.rights c.args.self.now c.loop-entry.self (omega (arith, c.max-page.ensures)) (rw c.max-page.ensures next.lowest) so_far.protects)
+          part.protects;
     }
 
 pub returns : goal.returns
 returns c =
-    let so_far = c.loop-page.invariant in
-    protects_bare c.args.first c.loop-page.from c.args.end c.args.rights c.args.self.now c.loop-page.self so_far.within c.in_default.ensures.none so_far.protects
+    let so_far = c.loop-entry.invariant in
+    protects_bare c.args.first c.loop-entry.from c.args.end c.args.rights c.args.self.now c.loop-entry.self so_far.within (subst (λ r. NoneResident (mapping_at r) c.loop-entry.from c.args.end) c.self.view_is c.in_default.ensures.none) so_far.protects

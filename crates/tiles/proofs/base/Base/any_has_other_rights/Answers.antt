@@ -1,22 +1,34 @@
-use Rattle.std.proofs.Common.{option_map, inl, inr, ap, sym, ◌∙◌, arith}
+use Rattle.std.proofs.Common.{max, option_map, inl, inr, ap, subst, sym, ◌∙◌, arith}
 use Rattle.std.proofs.lemmas.Bool.{cases_lt}
+use Rattle.tiles.specs.Kept.{IsNextTile}
 use Rattle.tiles.specs.Resident.{mapping_at, with_rights}
-use Rattle.tiles.proofs.Behind.{behind_on, keeps_behind}
+use Rattle.tiles.proofs.Behind.{end_fits, keeps_within}
 use Rattle.tiles.proofs.base.Base.any_has_other_rights.Goals as goal
+use Rattle.tiles.proofs.base.Base.any_has_other_rights.Goals.{In-Some}
 
-pub loop-page-smaller : goal.loop-page-smaller
-loop-page-smaller c =
-    omega (arith, c.behind-from.ensures, behind_on (mapping_at c.args.self.now) c.in-Some.page, c.in-Some.ensures.some.from_on, c.in-Some.ensures.some.before_end)
+-- the entry in hand, by what is resident
+found : (c : In-Some) → IsNextTile c.args.self.now c.loop-entry.from c.args.end c.in-Some.entry
+found c = subst (λ r. IsNextTile r c.loop-entry.from c.args.end c.in-Some.entry) c.self.view_is c.in-Some.ensures.some
 
-pub loop-page-preserved : goal.loop-page-preserved
-loop-page-preserved c p low before =
+pub behind-from-requires : goal.behind-from-requires
+behind-from-requires c = end_fits c.self.inside.pages _ c.in-Some.entry c.in-Some.ensures.some.fits
+
+pub loop-entry-smaller : goal.loop-entry-smaller
+loop-entry-smaller c =
+    let next = c.in-Some.ensures.some in
+    omega (arith, c.behind-from.ensures, next.fits.to, next.next.before_end)
+
+pub loop-entry-preserved : goal.loop-entry-preserved
+loop-entry-preserved c p low before =
     let pages = mapping_at c.args.self.now in
     let rights = c.args.rights in
-    let next = c.in-Some.ensures.some in
-    elim (cases_lt p c.loop-page.from) [
-      | inl earlier ↦ c.loop-page.invariant p low earlier
-      | inr on ↦ elim (cases_lt p c.in-Some.page) [
+    let e = c.in-Some.entry in
+    let next = found (goal.at.loop-entry-preserved c).In-Some in
+    let same = c.has_other_rights.ensures.same c.if-has_other_rights.false in
+    elim (cases_lt p c.loop-entry.from) [
+      | inl earlier ↦ c.loop-entry.invariant p low earlier
+      | inr on ↦ elim (cases_lt p (max c.loop-entry.from e.extent.first)) [
         | inl bare ↦ let none = next.lowest p on bare in ap (option_map (with_rights rights)) none ∙ sym none
-        | inr after ↦ keeps_behind rights pages c.in-Some.page (c.has_other_rights.ensures.keeps c.if-has_other_rights.false) p after (omega (arith, before, c.behind-from.ensures))
+        | inr after ↦ keeps_within rights c.args.self.now _ e next.fits same p (omega arith) (omega (arith, before, c.behind-from.ensures))
       ]
     ]

@@ -1,40 +1,75 @@
-use Rattle.std.proofs.Common.{◌+◌, ◌≤◌, ◌∙◌, refl, sym, arith}
-use Rattle.tiles.specs.Blocks.{behind}
+use Rattle.std.proofs.Common.{◌≡◌, ◌+◌, ◌^◌, ◌<◌, ◌∙◌, ℕ, slice_index, sym, ap, inl, inr, arith}
+use Rattle.std.proofs.lemmas.Bool.{cases_eq}
+use Rattle.std.proofs.lemmas.List.{get_or-set_other, get_or-set_same, length-set}
+use Rattle.page_map.proofs.CountChanges.{are_four}
+use Rattle.pager_model.specs.SizeSets.{size_within}
 use Rattle.tiles.specs.Resident.{mapping_at}
-use Rattle.tiles.proofs.Behind.{behind_on, none_begins, none_begins_behind}
-use Rattle.tiles.proofs.Blocks.{sizes_none, sizes_other, sizes_one, sizes_rest, sizes_all}
+use Rattle.tiles.proofs.CutCounts.{counted_all, counted_below, counted_few, counted_none, counted_other, parts_more, zeros}
 use Rattle.tiles.proofs.base.Base.counts.Goals as goal
-use Rattle.tiles.proofs.base.Base.counts.Goals.{in-Some-begun, in_default-begun}
 
-pub loop-page-init : goal.loop-page-init
-loop-page-init c = (sizes_none (mapping_at c.args.self.now), omega arith)
+pub loop-level-init : goal.loop-level-init
+loop-level-init c = record {
+  long = omega arith;
+  at = λ size low. zeros size low ∙ sym (counted_none c.args.sizes (mapping_at c.args.self.now) size);
+}
 
-pub loop-page-smaller : goal.loop-page-smaller
-loop-page-smaller c =
-    let next = c.in-Some.ensures.some in
-    omega (arith, c.min-from.ensures, c.behind.ensures, behind_on (mapping_at c.args.self.now) c.in-Some.page, next.from_on, next.before_end)
-
-pub loop-page-preserved : goal.loop-page-preserved
-loop-page-preserved c =
+pub overflow_mul-counts : goal.overflow_mul-counts
+overflow_mul-counts c =
+    let z = c.args.sizes in
     let pages = mapping_at c.args.self.now in
-    let next = c.in-Some.ensures.some in
-    let page = c.in-Some.page in
-    let stop = c.min-from.result in
-    let past = behind_on pages page in
-    let least : page + 1 ≤ stop = omega (arith, c.min-from.ensures, c.behind.ensures, past, next.before_end) in
-    let most : stop ≤ behind pages page = omega (arith, c.min-from.ensures, c.behind.ensures) in
-    let within : stop ≤ 1048576 = omega (arith, c.min-from.ensures) in
-    let rest = none_begins_behind pages page stop most in
-    let so_far = sizes_rest pages c.loop-page.from page c.loop-page.counts c.loop-page.invariant.0 next.from_on (none_begins pages c.loop-page.from page next.lowest) in
-    elim c.match-begun.branch [
-      | in-Some-begun w ↦
-          (sizes_rest pages (page + 1) stop c.match-begun.counts (rw w.counts-is (sizes_one pages page w.in-Some-begun.level c.loop-page.counts so_far w.in-Some-begun.ensures.small (sym w.in-Some-begun.is ∙ c.begun.ensures.begun))) least rest, within)
-      | in_default-begun w ↦
-          (sizes_rest pages (page + 1) stop c.match-begun.counts (rw w.counts-is (sizes_other pages page c.loop-page.counts so_far (sym w.in_default-begun.is ∙ c.begun.ensures.begun))) least rest, within)
-    ]
+    let level = c.loop-level.level in
+    let size = c.within-within.result in
+    omega (
+      arith,
+      parts_more z pages c.counts-whole.result level size c.pages.result c.pages-in-loop-level.result c.loop-level-test.true (c.within-within.ensures ∙ ap (size_within z) c.at_level-size.ensures)
+          (c.pages.ensures ∙ ap (λ n. 8 ^ n) c.at_level-size.ensures) c.pages-in-loop-level.ensures (rw c.self.view_is at c.counts-whole.ensures),
+      counted_few z pages size (level + 1),
+    )
+
+pub overflow_add-counts : goal.overflow_add-counts
+overflow_add-counts c =
+    let z = c.args.sizes in
+    let pages = mapping_at c.args.self.now in
+    let level = c.loop-level.level in
+    let size = c.level.result in
+    omega (
+      arith,
+      parts_more z pages c.counts-whole.result level size c.pages.result c.pages-in-loop-level.result c.loop-level-test.true
+          (c.level.ensures.level ∙ c.within-within.ensures ∙ ap (size_within z) c.at_level-size.ensures) (c.pages.ensures ∙ ap (λ n. 8 ^ n) c.at_level-size.ensures)
+          (c.pages-in-loop-level.ensures ∙ ap (λ n. 8 ^ n) (sym c.level.ensures.level)) (rw c.self.view_is at c.counts-whole.ensures),
+      counted_few z pages size (level + 1),
+      c.loop-level.invariant.at size (omega (arith, c.level.ensures.small)),
+    )
+
+pub loop-level-preserved : goal.loop-level-preserved
+loop-level-preserved c =
+    let z = c.args.sizes in
+    let pages = mapping_at c.args.self.now in
+    let level = c.loop-level.level in
+    let within = c.level.result in
+    let own = c.level.ensures.level ∙ c.within-within.ensures ∙ ap (size_within z) c.at_level-size.ensures in
+    record {
+      long = length-set c.loop-level.counts _ _ ∙ c.loop-level.invariant.long;
+      at = λ size low. elim (cases_eq size within) [
+        | inl same ↦
+            ap (slice_index _) same ∙ get_or-set_same c.loop-level.counts within _ 0 (omega (arith, c.level.ensures.small, c.loop-level.invariant.long))
+            ∙ omega (
+              arith,
+              c.loop-level.invariant.at within (omega (arith, c.level.ensures.small)),
+              parts_more z pages c.counts-whole.result level within c.pages.result c.pages-in-loop-level.result c.loop-level-test.true own (c.pages.ensures ∙ ap (λ n. 8 ^ n) c.at_level-size.ensures)
+                  (c.pages-in-loop-level.ensures ∙ ap (λ n. 8 ^ n) (sym c.level.ensures.level)) (rw c.self.view_is at c.counts-whole.ensures),
+              ap (λ n. counted_below z pages n (level + 1)) same,
+            )
+        | inr apart ↦
+            get_or-set_other c.loop-level.counts within size _ 0 apart ∙ c.loop-level.invariant.at size low
+            ∙ sym (counted_other z pages size level (λ e. apart (sym e ∙ sym own)))
+      ];
+    }
 
 pub returns : goal.returns
 returns c =
+    let z = c.args.sizes in
     let pages = mapping_at c.args.self.now in
-    sizes_all pages 1048576 c.loop-page.counts refl
-    (sizes_rest pages c.loop-page.from 1048576 c.loop-page.counts c.loop-page.invariant.0 c.loop-page.invariant.1 (none_begins pages c.loop-page.from 1048576 c.in_default.ensures.none))
+    let ended : c.loop-level.level ≡ 4 = omega (arith, c.loop-level-test.false, c.loop-level.auto.level-end) in
+    let at : (size : ℕ) → size < 4 → _ = λ size low. c.loop-level.invariant.at size low ∙ ap (counted_below z pages size) ended ∙ counted_all z pages size in
+    are_four c.loop-level.counts _ _ _ _ c.loop-level.invariant.long (at 0 (omega arith)) (at 1 (omega arith)) (at 2 (omega arith)) (at 3 (omega arith))

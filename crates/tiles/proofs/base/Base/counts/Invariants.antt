@@ -1,11 +1,11 @@
-use Rattle.std.proofs.Common.{◌≤◌, ◌-◌}
+use Rattle.std.proofs.Common.{◌≡◌, ◌<◌, ℕ, length, slice_index}
 use Rattle.tiles.specs.Resident.{mapping_at}
-use Rattle.tiles.proofs.Blocks.{CountsSizes}
+use Rattle.tiles.proofs.CutCounts.{counted_below}
 use Rattle.tiles.proofs.base.Base.counts.Given as goal
 
--- the tiles that begin so far
-abbrev pub invariant-loop-page : goal.invariant-loop-page
-invariant-loop-page l = CountsSizes (mapping_at l.self) l.from l.counts × (l.from ≤ 1048576)
-
-abbrev pub decreases-loop-page : goal.decreases-loop-page
-decreases-loop-page l = 1048576 - l.from
+-- the parts of the tiles of the sizes so far
+abbrev pub invariant-loop-level : goal.invariant-loop-level
+invariant-loop-level l = record {
+  long : length l.counts ≡ 4;
+  at : (size : ℕ) → size < 4 → slice_index l.counts size ≡ counted_below l.sizes (mapping_at l.self) size l.level;
+}

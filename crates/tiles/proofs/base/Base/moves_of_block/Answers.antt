@@ -9,7 +9,7 @@ loop-i-init c = record {
   few_promotions = omega arith;
   few_demotions = omega arith;
   in_space = omega arith;
-  counts = λ old sizes. counts_none c.args.block old (mapping_at c.args.self.now) _ refl refl;
+  counts = λ old sizes. counts_none c.args.sizes c.args.block old (mapping_at c.args.self.now) _ refl refl;
 }
 
 pub loop-i-preserved : goal.loop-i-preserved
@@ -18,7 +18,7 @@ loop-i-preserved c = record {
   few_demotions = omega (arith, c.loop-i.invariant.few_demotions, c.and-moves.ensures.demotions, c.at.ensures.demotions, one_most (is_grown_at (c.args.block * 512 + 8 * c.loop-i.i) (slice_index c.sizes_of_block-after.result c.loop-i.i) (slice_index c.args.before.now c.loop-i.i)));
   in_space = c.and-moves.ensures.in_space;
   counts = λ old sizes.
-      counts_more c.args.block c.loop-i.i (slice_index c.args.before.now c.loop-i.i) (slice_index c.sizes_of_block-after.result c.loop-i.i) old (mapping_at c.args.self.now) c.loop-i.moves c.at.result c.and-moves.result (c.loop-i.invariant.counts old sizes)
+      counts_more c.args.sizes c.args.block c.loop-i.i (slice_index c.args.before.now c.loop-i.i) (slice_index c.sizes_of_block-after.result c.loop-i.i) old (mapping_at c.args.self.now) c.loop-i.moves c.at.result c.and-moves.result (c.loop-i.invariant.counts old sizes)
       (sizes c.loop-i.i c.loop-i-test.true) (c.sizes_of_block-after.ensures.sizes c.loop-i.i c.loop-i-test.true) c.at.ensures.promotions c.at.ensures.demotions c.and-moves.ensures.promotions c.and-moves.ensures.demotions;
 }
 
@@ -27,5 +27,5 @@ returns c old sizes outside =
     let past = c.loop-i-test.false in
     let ended = c.loop-i.auto.i-end in
     let all : c.loop-i.i ≡ 64 = omega arith in
-    let counts = subst (λ (i : ℕ). CountsTo c.args.block i old (mapping_at c.args.self.now) c.loop-i.moves) all (c.loop-i.invariant.counts old sizes) in
-    counts_all c.args.block old (mapping_at c.args.self.now) _ c.requires.block outside (record { promotions = counts.promotions; demotions = counts.demotions }) refl
+    let counts = subst (λ (i : ℕ). CountsTo c.args.sizes c.args.block i old (mapping_at c.args.self.now) c.loop-i.moves) all (c.loop-i.invariant.counts old sizes) in
+    counts_all c.args.sizes c.args.block old (mapping_at c.args.self.now) _ c.requires.block outside (record { promotions = counts.promotions; demotions = counts.demotions }) refl

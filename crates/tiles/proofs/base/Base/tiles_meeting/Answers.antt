@@ -2,7 +2,8 @@ use Rattle.std.proofs.Common.{◌≡◌, ◌<◌, ◌≤◌, ℕ, Bool, true, fa
 use Rattle.std.proofs.lemmas.Bool.Decides.{nat_tests}
 use Rattle.pager_model.specs.Regions.{in_range}
 use Rattle.pager_model.proofs.CountLemmas.{weight}
-use Rattle.tiles.specs.Resident.{mapping_at, begins_large, begins_before}
+use Rattle.tiles.specs.Resident.{mapping_at}
+use Rattle.tiles.specs.Sized.{begins_large_in, begins_before_in}
 use Rattle.tiles.proofs.Blocks.{one_most}
 use Rattle.tiles.proofs.Counting.{count_pages_most}
 use Rattle.tiles.proofs.Meeting.{tiles_meeting}
@@ -21,15 +22,15 @@ module _ (c : goal.After-from) where
   as_number true e = rw e at c.from.ensures
   as_number false e = rw e at c.from.ensures
 
-  crosses : c.if-length-gt0.crossing ≡ (nat_lt 0 c.args.length && begins_before (mapping_at c.args.self.now) c.args.first)
+  crosses : c.if-length-gt0.crossing ≡ (nat_lt 0 c.args.length && begins_before_in c.args.sizes (mapping_at c.args.self.now) c.args.first)
   crosses =
-      let behind = begins_before (mapping_at c.args.self.now) c.args.first in
+      let behind = begins_before_in c.args.sizes (mapping_at c.args.self.now) c.args.first in
       elim c.if-length-gt0.branch [
         | then-length-gt0 w ↦ w.crossing-is ∙ w.begins_before-crossing.ensures ∙ ap (λ b. b && behind) (sym (lt_yes c.args.length w.if-length-gt0.true))
         | else-length-gt0 w ↦ let none = lt_no c.args.length w.if-length-gt0.false in w.crossing-is ∙ none ∙ ap (λ b. b && behind) (sym none)
       ]
 
-  one_more : c.from.result ≡ weight (nat_lt 0 c.args.length && begins_before (mapping_at c.args.self.now) c.args.first)
+  one_more : c.from.result ≡ weight (nat_lt 0 c.args.length && begins_before_in c.args.sizes (mapping_at c.args.self.now) c.args.first)
   one_more = as_number _ crosses
 
 pub overflow_add-result : goal.overflow_add-result
@@ -37,10 +38,10 @@ overflow_add-result c =
     omega (
       arith,
       c.tiles_begun.ensures,
-      count_pages_most (λ page. in_range c.args.first c.args.length page && begins_large (mapping_at c.args.self.now) page),
+      count_pages_most (λ page. in_range c.args.first c.args.length page && begins_large_in c.args.sizes (mapping_at c.args.self.now) page),
       one_more c,
-      one_most (nat_lt 0 c.args.length && begins_before (mapping_at c.args.self.now) c.args.first),
+      one_most (nat_lt 0 c.args.length && begins_before_in c.args.sizes (mapping_at c.args.self.now) c.args.first),
     )
 
 pub returns : goal.returns
-returns c = omega (arith, c.tiles_begun.ensures, one_more c, tiles_meeting (mapping_at c.args.self.now) c.args.first c.args.length c.requires)
+returns c = omega (arith, c.tiles_begun.ensures, one_more c, tiles_meeting c.args.sizes (mapping_at c.args.self.now) c.args.first c.args.length c.requires)

@@ -1,6 +1,5 @@
-use Rattle.std.proofs.Common.{refl, arith}
 use Rattle.tiles.proofs.PageChanges.{changes_none}
 use Rattle.tiles.proofs.changes.Changes.none.Goals as goal
 
 pub returns : goal.returns
-returns c old new same = changes_none old new _ same refl refl (omega arith)
+returns c old new same = changes_none old new same

@@ -1,11 +1,10 @@
-use Rattle.std.proofs.Common.{◌∙◌, refl}
-use Rattle.tiles.proofs.KeptPages.{fresh_kept, mapping_at-is}
+use Rattle.std.proofs.Common.{arith}
+use Rattle.tiles.proofs.EntryTiles.{none_says}
+use Rattle.tiles.proofs.KeptPages.{fresh_kept}
 use Rattle.tiles.proofs.pages.Pages.create.Goals as goal
 
 pub invariant_of-result : goal.invariant_of-result
-invariant_of-result c =
-    let made = c.in_ok-rows.ensures in
-    fresh_kept (record { rows = c.in_ok-rows.rows; frames = c.args.frames }) c.args.frames made.empty made.splits made.roots made.room refl c.requires
+invariant_of-result c = fresh_kept c.in_ok-map.map c.in_ok-map.ensures.none (omega (arith, c.in_ok-map.ensures.frames, c.requires))
 
 pub returns-clause-none : goal.returns-clause-none
-returns-clause-none c p = mapping_at-is (record { rows = c.in_ok-rows.rows; frames = c.args.frames }) p ∙ c.in_ok-rows.ensures.empty 0 p
+returns-clause-none c p = none_says c.in_ok-map.map p (c.in_ok-map.ensures.none p)

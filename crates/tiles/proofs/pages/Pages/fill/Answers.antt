@@ -1,5 +1,51 @@
-use Rattle.tiles.proofs.KeptPages.{may_fill}
+use Rattle.std.proofs.Common.{◌≡◌, ◌≢◌, ◌<◌, ℕ, None, Some, sym, subst}
+use Rattle.page_map.specs.Entries.{entry_at}
+use Rattle.tiles.specs.Changes.{IsTurn}
+use Rattle.tiles.specs.Kept.{ArePages}
+use Rattle.tiles.specs.Resident.{mapping_at, frames_in, frame_of_page}
+use Rattle.tiles.specs.contracts.pages.Pages.{the_view}
+use Rattle.tiles.proofs.EntryTiles.{none_says, unmapped}
+use Rattle.tiles.proofs.KeptPages.{room_for_one, fill_kept, tile_there}
+use Rattle.tiles.proofs.Largest.{tile_absent}
+use Rattle.tiles.proofs.PageChanges.{turn_of}
 use Rattle.tiles.proofs.pages.Pages.fill.Goals as goal
+use Rattle.tiles.proofs.pages.Pages.fill.Goals.{After-fill-entry}
+use Rattle.tiles.proofs.pages.Pages.fill.Given.{Over}
 
-pub set-requires-clause-frame : goal.set-requires-clause-frame
-set-requires-clause-frame c = (c.args.mapping.frame, may_fill c.args.self.now c.args.page c.args.mapping c.requires.known c.requires.other)
+pub fill-entry-requires-clause-absent : goal.fill-entry-requires-clause-absent
+fill-entry-requires-clause-absent g c = rw c.self.view_is (unmapped c.args.self.now c.args.page c.requires.absent)
+
+pub fill-entry-requires-clause-room : goal.fill-entry-requires-clause-room
+fill-entry-requires-clause-room g c =
+    let absent = unmapped c.args.self.now c.args.page c.requires.absent in
+    rw c.self.view_is (room_for_one c.args.self.now (rw c.self.view_is at c.self.invariant) c.args.page c.args.mapping absent c.requires.known c.requires.other c.requires.page)
+
+module _ (g : Over) (c : After-fill-entry g) where
+  absent : entry_at (the_view c.self.inside) c.args.page ≡ None
+  absent = rw c.self.view_is (unmapped c.args.self.now c.args.page c.requires.absent)
+
+  known : c.args.mapping.frame < frames_in (the_view c.self.inside)
+  known = subst (λ r. c.args.mapping.frame < frames_in r) (sym c.self.view_is) c.requires.known
+
+  other : (p : ℕ) → frame_of_page (the_view c.self.inside) p ≢ Some c.args.mapping.frame
+  other = subst (λ r. (p : ℕ) → frame_of_page r p ≢ Some c.args.mapping.frame) (sym c.self.view_is) c.requires.other
+
+  kept : ArePages c.fill-entry.new.map
+  kept =
+      let made = c.fill-entry.ensures in
+      fill_kept (the_view c.self.inside) c.self.invariant c.args.page c.args.mapping absent known other c.fill-entry.new.map made.tiles (record { frames = made.frames; at = made.pages })
+
+pub invariant_of-self : goal.invariant_of-self
+invariant_of-self g c = kept g (goal.at.invariant_of-self g c).After-fill-entry
+
+pub returns-clause-turn : goal.returns-clause-turn
+returns-clause-turn g c =
+    let made = c.fill-entry.ensures in
+    let r = the_view c.self.inside in
+    let s = c.fill-entry.new.map in
+    let page = c.args.page in
+    let b = (goal.at.returns-clause-turn g c).After-fill-entry in
+    subst (λ q. IsTurn page q s (record { before = None; after = Some c.tile.result })) c.self.view_is
+    (turn_of r s c.self.invariant (kept g b) page _
+    (sym (tile_absent (mapping_at r) page (none_says r page (absent g b))))
+    (tile_there s page c.fill-entry.result c.tile.result made.tiles made.there c.tile.ensures))

@@ -1,36 +1,39 @@
-use Rattle.std.proofs.Common.{sym, subst, ◌∙◌}
+use Rattle.std.proofs.Common.{◌≡◌, Some, ap, subst, ◌∙◌, arith}
+use Rattle.page_map.specs.Entries.{entry_at}
 use Rattle.tiles.specs.Changes.{IsTurn}
-use Rattle.tiles.specs.Kept.{MayHave}
-use Rattle.tiles.specs.Resident.{Resident, Maps}
+use Rattle.tiles.specs.Kept.{ArePages}
 use Rattle.tiles.specs.contracts.pages.Pages.{the_view}
-use Rattle.tiles.proofs.KeptPages.{room_with, changed_kept, changed_maps, tile_rows}
+use Rattle.tiles.proofs.KeptPages.{entry_fits, set_kept, tile_there}
 use Rattle.tiles.proofs.PageChanges.{turn_of}
 use Rattle.tiles.proofs.pages.Pages.set.Goals as goal
-use Rattle.tiles.proofs.pages.Pages.set.Goals.{After-new}
+use Rattle.tiles.proofs.pages.Pages.set.Goals.{After-set-after}
+use Rattle.tiles.proofs.pages.Pages.set.Given.{Over}
 
--- the frame that the page may have
-may : (c : After-new) → MayHave (the_view c.self.inside) c.args.page c.requires.frame.0 c.args.mapping
-may c = subst (λ r. MayHave r c.args.page c.requires.frame.0 c.args.mapping) (sym c.self.view_is) c.requires.frame.1
+pub set-after-requires-clause-fits : goal.set-after-requires-clause-fits
+set-after-requires-clause-fits g c =
+    let fits = entry_fits c.args.self.now (rw c.self.view_is at c.self.invariant) c.args.page c.args.entry c.requires.there in
+    omega (arith, fits.frames, fits.few)
 
-pub replace-requires-clause-few : goal.replace-requires-clause-few
-replace-requires-clause-few c = room_with (the_view c.self.inside) c.self.invariant c.args.page c.requires.frame.0 c.args.mapping (may c)
+module _ (g : Over) (c : After-set-after g) where
+  there : entry_at (the_view c.self.inside) c.args.page ≡ Some c.args.entry
+  there = ap (λ r. entry_at r c.args.page) c.self.view_is ∙ c.requires.there
+
+  kept : ArePages c.set-after.new.map
+  kept =
+      let made = c.set-after.ensures in
+      set_kept (the_view c.self.inside) c.set-after.new.map c.args.size c.args.page c.args.mapping c.args.entry c.self.invariant there c.requires.size c.requires.first c.requires.frame made.tiles (record { frames = made.frames; at = made.pages })
 
 pub invariant_of-self : goal.invariant_of-self
-invariant_of-self c =
-    let made = c.replace.ensures in
-    changed_kept (the_view c.self.inside) c.self.invariant c.args.page c.requires.frame.0 c.args.mapping (may (goal.at.invariant_of-self c).After-new) c.replace.new.tree made.right made.room made.roots made.capacity made.pages
-
-pub returns-clause-maps : goal.returns-clause-maps
-returns-clause-maps c =
-    let made = c.replace.ensures in
-    subst (λ r. Maps c.args.page c.args.mapping r (record { rows = c.replace.new.tree; frames = c.self.inside.frames })) c.self.view_is
-    (changed_maps (the_view c.self.inside) c.self.invariant c.args.page c.requires.frame.0 c.args.mapping (may (goal.at.returns-clause-maps c).After-new) c.replace.new.tree made.right made.room made.roots made.capacity made.pages)
+invariant_of-self g c = kept g (goal.at.invariant_of-self g c).After-set-after
 
 pub returns-clause-turn : goal.returns-clause-turn
-returns-clause-turn c =
-    let made = c.replace.ensures in
+returns-clause-turn g c =
+    let made = c.set-after.ensures in
     let r = the_view c.self.inside in
-    let s : Resident = record { rows = c.replace.new.tree; frames = c.self.inside.frames } in
-    let later = changed_kept r c.self.invariant c.args.page c.requires.frame.0 c.args.mapping (may (goal.at.returns-clause-turn c).After-new) c.replace.new.tree made.right made.room made.roots made.capacity made.pages in
-    subst (λ q. IsTurn c.args.page q s c.replace.result) c.self.view_is
-    (turn_of r s c.self.invariant later c.args.page c.replace.result (made.before ∙ tile_rows r c.args.page) (made.after ∙ tile_rows s c.args.page))
+    let s = c.set-after.new.map in
+    let page = c.args.page in
+    let b = (goal.at.returns-clause-turn g c).After-set-after in
+    subst (λ q. IsTurn page q s (record { before = Some c.tile.result; after = Some c.tile-2.result })) c.self.view_is
+    (turn_of r s c.self.invariant (kept g b) page _
+    (tile_there r page c.args.entry c.tile.result c.self.invariant.tiles (there g b) c.tile.ensures)
+    (tile_there s page c.set-after.result c.tile-2.result made.tiles made.there c.tile-2.ensures))

@@ -1,0 +1,20 @@
+use Rattle.std.proofs.Common.{sym, subst, ap, ◌+◌, arith}
+use Rattle.pager_model.proofs.ExtentLemmas.{eight_pos}
+use Rattle.pager_model.specs.declared.tile.Mapping.{Mapping}
+use Rattle.tiles.specs.Blocks.{ProtectsTo}
+use Rattle.tiles.specs.Kept.{MapsExtent}
+use Rattle.tiles.specs.Resident.{with_rights}
+use Rattle.tiles.proofs.Blocks.{protects_part}
+use Rattle.tiles.proofs.base.Base.after_rights_of_part.Goals as goal
+
+pub returns-clause-further : goal.returns-clause-further
+returns-clause-further c = omega (arith, c.pages.ensures, eight_pos c.largest_part-size.result)
+
+pub returns-clause-protects : goal.returns-clause-protects
+returns-clause-protects c =
+    let part = c.largest_part-size.ensures in
+    let given : Mapping = record { frame = c.mapping_of.result.frame; region = c.mapping_of.result.region; rights = c.args.rights; dirty = c.mapping_of.result.dirty } in
+    let is = ap (λ m. with_rights c.args.rights m) c.mapping_of.ensures in
+    subst (λ n. ProtectsTo c.args.page (c.args.page + n) c.args.rights c.args.self.now c.set.new.pages) (sym c.pages.ensures)
+    (protects_part c.largest_part-size.result c.args.page c.args.rights given c.args.entry c.args.self.now c.set.new.pages c.requires.fits part.within part.first is
+    (subst (λ r. MapsExtent c.largest_part-size.result c.args.page given r c.set.new.pages) c.self.view_is c.set.ensures))

@@ -1,4 +1,0 @@
-use Rattle.tiles.proofs.pages.Pages.mapping.Given as goal
-
-abbrev pub ghosts-find : goal.ghosts-find
-ghosts-find a = record { name = a.blank.name; parts = a.blank.parts }
