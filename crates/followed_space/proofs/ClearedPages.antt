@@ -22,7 +22,7 @@ use Rattle.region_table.proofs.RegionSearch.{found_from}
 use Rattle.tiles.specs.Cleared.{Clears}
 use Rattle.tiles.specs.Resident.{Maps, Resident, IsNextResident, NoneResident, mapping_at}
 use Rattle.tiles.specs.Touched.{is_touched}
-use Rattle.tiles.proofs.MoveCounts.{size_local}
+use Rattle.tiles.proofs.SizedTiles.{size_local}
 use Rattle.tiles.proofs.TouchedTiles.{tile_same}
 
 -- Each page of a block of a page of the range is one of the blocks.

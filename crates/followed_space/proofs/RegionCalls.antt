@@ -1,18 +1,18 @@
 -- What is followed after a region is mapped, grows, goes, or gets other rights.
 use Rattle.std.proofs.Common.{◌≡◌, ℕ, ◌+◌, ◌≤◌, ◌⊎◌, Bool, true, false, ◌&&◌, if◌then◌else◌, List, Option, Some, None, is_some, option_map, refl, sym, ap, inl, inr, ◌∙◌, arith, subst}
 use Rattle.std.specs.List.{list_any}
-use Rattle.std.proofs.lemmas.Bool.{cases_Bool, cases_lt, cond-true, cond-false, true≢false, leb-true}
+use Rattle.std.proofs.lemmas.Bool.{cases_Bool, cond-true, cond-false, true≢false, leb-true}
 use Rattle.std.proofs.lemmas.Option.{none-some}
 use Rattle.pager_model.specs.declared.call.Call.TheVariants.{Map, Grow, Unmap, Protect}
 use Rattle.pager_model.specs.declared.entry.Entry.{Entry}
 use Rattle.pager_model.specs.declared.region.Kind.{Kind}
 use Rattle.pager_model.specs.declared.region.Region.{Region}
 use Rattle.pager_model.specs.declared.region.Rights.{Rights}
-use Rattle.pager_model.specs.declared.reply.Reply.TheVariants.{Done, Unmapped, Overlap, OutOfSpace, NotGrowing, RegionsFull}
+use Rattle.pager_model.specs.declared.reply.Reply.TheVariants.{Done, Unmapped}
 use Rattle.pager_model.specs.declared.tile.Mapping.{Mapping}
 use Rattle.pager_model.specs.Bounds.{space_pages}
 use Rattle.pager_model.specs.Flat.{Flat, after_call, is_lawful}
-use Rattle.pager_model.specs.Regions.{end_of, has_page, in_range, meets_range, region_at, with_region, without_region, grown_regions, map_reply, grow_reply, grow_reply_at, range_in, unmap_reply, unmap_reply_at}
+use Rattle.pager_model.specs.Regions.{end_of, has_page, in_range, meets_range, region_at, with_region, without_region, grown_regions, range_in}
 use Rattle.pager_model.specs.SpaceStates.{SpaceState, IsCleared, IsClearedAt, base_after, space_after}
 use Rattle.pager_model.specs.Tiles.{mapping_with, mappings}
 use Rattle.region_table.specs.Table.{IsTable, region_of}

@@ -1,16 +1,13 @@
 -- What an answer did to what is followed, where it is lawful, and where it isn't.
-use Rattle.std.proofs.Common.{◌≡◌, ℕ, Bool, true, false, ◌&&◌, ◌==◌, if◌then◌else◌, List, [], ◌∷◌, Option, Some, None, is_some, option_map, not, refl, sym, ap, inl, inr, ◌∙◌, subst}
-use Rattle.std.proofs.lemmas.Bool.{cases_Bool, ne_eqb, eq-eqb, cond-true, cond-false, true≢false}
-use Rattle.std.proofs.lemmas.Option.{none-some}
+use Rattle.std.proofs.Common.{◌≡◌, ℕ, Bool, true, false, ◌&&◌, ◌==◌, if◌then◌else◌, Option, Some, None, is_some, option_map, refl, sym, ap, inl, inr, ◌∙◌, subst}
+use Rattle.std.proofs.lemmas.Bool.{ne_eqb, eq-eqb, cond-true, cond-false, true≢false}
 use Rattle.pager_model.specs.declared.call.Call.{Call}
-use Rattle.pager_model.specs.declared.call.Call.TheVariants.{Map, Grow, Unmap, Protect, Load, Store, Sync, Evict}
+use Rattle.pager_model.specs.declared.call.Call.TheVariants.{Load, Store, Sync, Evict}
 use Rattle.pager_model.specs.declared.entry.Entry.{Entry}
-use Rattle.pager_model.specs.declared.region.Region.{Region}
 use Rattle.pager_model.specs.declared.reply.Reply.{Reply}
-use Rattle.pager_model.specs.declared.reply.Reply.TheVariants.{Done, Value, Clean, Written, Unmapped, Denied, Overlap, OutOfSpace, NotGrowing, RegionsFull, NoFrames, StoreFault, NoMemory}
 use Rattle.pager_model.specs.Flat.{Flat, after_call, reply_of, is_lawful, page_of}
-use Rattle.pager_model.specs.Regions.{has_page, region_at, range_in, without_region, unmap_reply_at}
-use Rattle.pager_model.specs.SpaceStates.{SpaceState, HasItsPages, IsWord, ReplyAllowed, answered_flat, base_after, base_after_answer, flat_after, space_after}
+use Rattle.pager_model.specs.Regions.{region_at}
+use Rattle.pager_model.specs.SpaceStates.{SpaceState, HasItsPages, ReplyAllowed, answered_flat, base_after, base_after_answer, flat_after, space_after}
 use Rattle.pager_model.specs.Tiles.{mapping_with}
 use Rattle.pager_laws.proofs.CopyLaws.{answer_is, answered_same, same_base, unlawful}
 use Rattle.pager_laws.proofs.FlatRefusals.{Unmoved, after_refusal}

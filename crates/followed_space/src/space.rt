@@ -6,7 +6,7 @@ ghost use Rattle.pager_model.specs.declared.entry.Entry.{Entry as Item};
 ghost use Rattle.pager_model.specs.declared.entry.What.TheVariants.{Out, Give, Clear};
 ghost use Rattle.pager_model.specs.Bounds.{most_frames, space_bytes, space_pages};
 ghost use Rattle.pager_model.specs.Regions.{in_range};
-ghost use Rattle.pager_model.specs.SizeSets.{SizeSet};
+ghost use Rattle.pager_model.specs.SizeSets.{SizeSet, all_sizes};
 ghost use Rattle.pager_model.specs.SpaceStates.{SpaceState, empty_state, space_after};
 ghost use Rattle.pager_model.specs.Tiles.{tile_of, is_tile, eligible_at, is_that_tile};
 ghost use Rattle.page_rights.specs.Rights.{rights_of};
@@ -20,16 +20,31 @@ use crate::changed::Changed;
 use crate::reply::{is_lawful, page_of};
 use page_rights::PageRights;
 use pager_model::{
-    Call, Entry, Extent, Kind, Mapping, NoMemory, PageRange, Region, Reply, Rights, Size, Tile,
-    What,
+    Call, Entry, Kind, Mapping, NoMemory, PageRange, Region, Reply, Rights, Sizes, Tile, What,
 };
 use region_table::Regions;
 use std::alloc::Global;
-use std::marker::Model;
+use std::marker::{Brand, Model};
+use std::sync::ledger::Blank;
 use tiles::Base;
+use tiles::counted::{after_dirty, after_fill, after_remove};
 
 /// The pages of the largest extent.
 const BLOCK: u32 = 512;
+
+/// All four page sizes.
+fn all_sizes() -> Sizes
+    ensures { result ≡ all_sizes }
+{
+    Sizes::of(true, true, true)
+}
+
+/// Base pages alone.
+fn base_alone() -> Sizes
+    ensures { result ≡ record { one = false; two = false; three = false } }
+{
+    Sizes::of(false, false, false)
+}
 
 /// The regions of a space, the rights of its pages and its resident pages with their tiles.
 #[derive(Drop)]
@@ -68,37 +83,28 @@ impl FollowedSpace {
     pub fn tile_of(&self, page: u32) -> Option<Tile>
         ensures { result ≡ tile_of (mapping_at self.now.pages) page }
     {
-        self.pages.tile_of(page)
+        self.pages.tile_of(page, all_sizes())
     }
 
     /// Whether it is a tile of the pages as they are.
     pub fn is_tile(&self, tile: &Tile) -> bool
         ensures { result ≡ is_tile (mapping_at self.now.pages) tile.now }
     {
-        self.pages.is_tile(tile)
+        self.pages.is_tile(tile, all_sizes())
     }
 
     /// The tile of a page by base pages alone, where it is resident.
     pub fn base_tile_of(&self, page: u32) -> Option<Tile>
         ensures { result ≡ eligible_at (mapping_at self.now.pages) 0 page }
     {
-        let mapping = self.pages.mapping(page)?;
-        Some(Tile {
-            extent: Extent {
-                size: Size::at_level(0),
-                first: page,
-            },
-            frame: mapping.frame,
-            rights: mapping.rights,
-            dirty: mapping.dirty,
-        })
+        self.pages.tile_of(page, base_alone())
     }
 
     /// Whether it is a tile of the pages as they are, by base pages alone.
     pub fn is_base_tile(&self, tile: &Tile) -> bool
         ensures { result ≡ is_that_tile tile.now (eligible_at (mapping_at self.now.pages) 0 tile.now.extent.first) }
     {
-        self.base_tile_of(tile.extent.first) == Some(*tile)
+        self.pages.is_tile(tile, base_alone())
     }
 
     /// A page got this frame, which no other page has.
@@ -113,15 +119,13 @@ impl FollowedSpace {
             unreachable!()
         };
         let rights = self.rights(page, region);
-        let changes = self.pages.after_fill(
-            page,
-            Mapping {
-                frame,
-                region: region.first,
-                rights,
-                dirty: false,
-            },
-        );
+        let mapping = Mapping {
+            frame,
+            region: region.first,
+            rights,
+            dirty: false,
+        };
+        let changes = after_fill::<Brand>(&mut self.pages, page, mapping, Blank::new(1));
         Changed::Page { page, changes }
     }
 
@@ -141,7 +145,7 @@ impl FollowedSpace {
         if self.pages.mapping(page).is_none() {
             return Changed::Nothing;
         }
-        let changes = self.pages.after_remove(page);
+        let changes = after_remove::<Brand>(&mut self.pages, page, Blank::new(1));
         Changed::Page { page, changes }
     }
 
@@ -152,7 +156,7 @@ impl FollowedSpace {
     {
         match self.pages.mapping(page) {
             Some(mapping) if mapping.dirty != dirty => {
-                let changes = self.pages.after_dirty(page, dirty);
+                let changes = after_dirty::<Brand>(&mut self.pages, page, dirty, Blank::new(1));
                 Changed::Page { page, changes }
             }
             _ => Changed::Nothing,
@@ -256,7 +260,7 @@ impl FollowedSpace {
         ensures changed { IsChange self.old.pages self.new.pages result }
     {
         self.own.set(page, length, Some(rights));
-        self.pages.after_rights(page, length, rights);
+        self.pages.after_rights(page, length, rights, all_sizes());
         Changed::Range(blocks_round(page, length))
     }
 
@@ -357,7 +361,7 @@ fn remove_all(pages: &mut Base, first: u32, length: u32)
 {
     let mut from = first;
     while let Some(page) = pages.next_resident(from, first + length) {
-        pages.after_remove(page);
+        after_remove::<Brand>(pages, page, Blank::new(1));
         from = page + 1;
     }
 }

@@ -24,7 +24,8 @@ use Rattle.followed_space.proofs.BaseTiles.{base_none, base_tile}
 use Rattle.tiles.specs.Beside.{OthersSame}
 use Rattle.tiles.specs.Changes.{AreChanges, PageChange, gone_of}
 use Rattle.tiles.specs.Resident.{Resident, mapping_at}
-use Rattle.tiles.specs.Touched.{KeepsOutside, is_touched}
+use Rattle.tiles.specs.Sized.{KeepsOutsideIn}
+use Rattle.tiles.specs.Touched.{is_touched}
 use Rattle.tiles.proofs.Largest.{tile_absent, tile_by, tile_by_own}
 use Rattle.tiles.proofs.PageChanges.{stays_where}
 use Rattle.tiles.proofs.TileLaws.{largest_tile, tile_largest}
@@ -152,7 +153,7 @@ base_at_page page old new others t b was is =
     (λ apart. others t.extent.first (λ here. true≢false (sym (eq-eqb t.extent.first page here) ∙ apart))) is
 
 -- Pages of a range changed.
-pub tile_in_range : (old new : ℕ → Option Mapping) (range : PageRange) → KeepsOutside range old new → (t : Tile) (b : Bool) → is_tile old t ≡ true
+pub tile_in_range : (old new : ℕ → Option Mapping) (range : PageRange) → KeepsOutsideIn all_sizes range old new → (t : Tile) (b : Bool) → is_tile old t ≡ true
     → b ≡ (not (is_touched range t.extent.first) || is_tile new t) → b ≡ is_tile new t
 tile_in_range old new range keeps t b was is = is ∙ by (is_touched range t.extent.first) refl
   where

@@ -19,7 +19,8 @@ ghost use Rattle.miss_curves.specs.Rows.{StandAfter};
 ghost use Rattle.tiles.specs.Beside.{OthersSame};
 ghost use Rattle.tiles.specs.Changes.{AreChanges};
 ghost use Rattle.tiles.specs.Resident.{Resident, frames_in, mapping_at};
-ghost use Rattle.tiles.specs.Touched.{KeepsOutside, is_touched};
+ghost use Rattle.tiles.specs.Sized.{KeepsOutsideIn};
+ghost use Rattle.tiles.specs.Touched.{is_touched};
 
 use crate::stack::Use;
 use crate::stacks::{Curves, Stacks};
@@ -135,7 +136,7 @@ fn tell_range(
     ensures entries { stacks.new.entries ≤ stacks.old.entries + 1 }
     ensures stands { (g : Given) (history : List Item) (old : Resident)
         → ((p : ℕ) → is_touched range p ≡ false → mapping_at space.now.pages p ≡ mapping_at old p)
-        → KeepsOutside range (mapping_at old) (mapping_at space.now.pages) → Told g history entry.now old space.now.pages used used_base
+        → KeepsOutsideIn all_sizes range (mapping_at old) (mapping_at space.now.pages) → Told g history entry.now old space.now.pages used used_base
         → StandAfter g stacks.old history → StandAfter g stacks.new (history ++ entry.now ∷ []) }
 {
     stacks.follow(

@@ -13,3 +13,6 @@ invariant-loop-page l = record {
 
 abbrev pub decreases-loop-page : goal.decreases-loop-page
 decreases-loop-page l = l.first + l.length - l.from
+
+abbrev pub ghosts-after_remove : goal.ghosts-after_remove
+ghosts-after_remove a = record { name = a.blank.name; parts = a.blank.parts }

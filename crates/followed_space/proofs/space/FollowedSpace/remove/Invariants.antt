@@ -1,0 +1,4 @@
+use Rattle.followed_space.proofs.space.FollowedSpace.remove.Given as goal
+
+abbrev pub ghosts-after_remove : goal.ghosts-after_remove
+ghosts-after_remove a = record { name = a.blank.name; parts = a.blank.parts }
