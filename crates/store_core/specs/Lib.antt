@@ -1,1 +1,2 @@
+pub mod CopiedWords
 pub mod MemoryState

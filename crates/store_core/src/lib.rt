@@ -8,4 +8,4 @@ mod memory;
 mod store;
 
 pub use memory::MemoryStore;
-pub use store::{Store, StoreFailed, WriteRefused};
+pub use store::{Copied, Store, StoreFailed, WriteRefused};

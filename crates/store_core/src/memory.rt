@@ -7,11 +7,12 @@ ghost use Rattle.std.specs.Ordering.{nat_cmp};
 ghost use Rattle.pager_model.specs.Regions.{in_range};
 ghost use Rattle.pager_model.specs.SpaceStates.{Rises};
 ghost use Rattle.pager_model.specs.Stored.{Stored, copy_in, copy_at, keeps_at, zero_words, SameCopies, SetsCopy, DropsCopies, TellsZero};
+ghost use Rattle.store_core.specs.CopiedWords.{copied_words};
 ghost use Rattle.store_core.specs.MemoryState.{MemoryState, copies_of, one_more, stored_of};
 
 mod room;
 
-use crate::store::{Store, StoreFailed, WriteRefused};
+use crate::store::{Copied, Store, StoreFailed, WriteRefused};
 use pager_model::NoMemory;
 use room::Room;
 use std::alloc::Global;
@@ -75,15 +76,18 @@ impl MemoryStore {
     }
 }
 
-/// Reads the copy of a page: zero words where it has none of its own, or where it is unknown.
+/// Reads the copy of a page: zero words where it has none of its own, or where it is unknown. It writes nothing then.
 #[tactic(auto, using(crate::proofs::CopyLemmas::copy_in_entries))]
-fn read_copy(copies: &BTreeMap<u32, Room>, page: u32, words: &mut [u64])
+fn read_copy(copies: &BTreeMap<u32, Room>, page: u32, words: &mut [u64]) -> Copied
     requires count { length words.old ≡ 1024 }
-    ensures { words.new ≡ unwrap_or (copy_in (copies_of copies.now.entries) page) zero_words }
+    ensures { copied_words result words.new ≡ unwrap_or (copy_in (copies_of copies.now.entries) page) zero_words }
 {
     match copies.get(&page).and_then(Room::words) {
-        Some(copy) => words.copy_from_slice(copy),
-        None => words.fill(0),
+        Some(copy) => {
+            words.copy_from_slice(copy);
+            Copied::Words
+        }
+        None => Copied::Zeros,
     }
 }
 
@@ -138,12 +142,13 @@ impl Store for MemoryStore {
 
     ghost reads = { λ s. s.reads };
 
-    fn read(&mut self, page: u32, words: &mut [u64]) -> Result<(), StoreFailed>
+    fn read(&mut self, page: u32, words: &mut [u64]) -> Result<Copied, StoreFailed>
         requires count { length words.old ≡ 1024 }
 
         // As at any store.
         ensures read { IfOk result
-            (λ _. (stored_of self.old).tells ≡ true → IfSome (copy_at (stored_of self.old) page) (λ copy. words.new ≡ copy)) }
+            (λ copied. (stored_of self.old).tells ≡ true
+            → IfSome (copy_at (stored_of self.old) page) (λ copy. copied_words copied words.new ≡ copy)) }
         ensures same { SameCopies (stored_of self.old) (stored_of self.new) }
         ensures counted { self.new.reads ≡ one_more self.old.reads }
         ensures rose { OnErr result (Rises self.old.faults self.new.faults) }
@@ -152,7 +157,8 @@ impl Store for MemoryStore {
 
         // When it fails, what it gives, and how it goes on.
         ensures fails { IsErr result ↔ Contains self.old.failing_reads (one_more self.old.reads) }
-        ensures gave { OnOk result (words.new ≡ unwrap_or (copy_at (stored_of self.old) page) zero_words) }
+        ensures gave { IfOk result
+            (λ copied. copied_words copied words.new ≡ unwrap_or (copy_at (stored_of self.old) page) zero_words) }
         ensures ok_state { OnOk result (self.new ≡ record self.old { reads = one_more self.old.reads }) }
         ensures err_words { OnErr result (words.new ≡ words.old) }
         ensures err_state { OnErr result (self.new ≡ record self.old {
@@ -165,8 +171,7 @@ impl Store for MemoryStore {
             self.faults = self.faults.saturating_add(1);
             return Err(StoreFailed);
         }
-        read_copy(&self.copies, page, words);
-        Ok(())
+        Ok(read_copy(&self.copies, page, words))
     }
 
     fn write(&mut self, page: u32, words: &[u64]) -> Result<(), WriteRefused>

@@ -3,9 +3,19 @@
 ghost use Rattle.std.specs.Prelude.{◌≡◌, ℕ, ◌-◌, ◌^◌, ◌≤◌, true, false, length, Some, None, IfOk, IfSome, OnErr};
 ghost use Rattle.pager_model.specs.SpaceStates.{Rises};
 ghost use Rattle.pager_model.specs.Stored.{Stored, copy_at, keeps_at, SameCopies, SetsCopy, DropsCopies, TellsZero};
+ghost use Rattle.store_core.specs.CopiedWords.{copied_words};
 ghost use Rattle.store_core.specs.MemoryState.{one_more};
 
 use pager_model::NoMemory;
+
+/// What a read gave.
+#[derive(Clone, Copy, Debug, PartialEq, Eq)]
+pub enum Copied {
+    /// The words that were handed in are the copy's now.
+    Words,
+    /// The copy is of zero words, and the words that were handed in are as they were or anything else.
+    Zeros,
+}
 
 /// A read failed. The store's count of faults rose.
 #[derive(Clone, Copy, Debug, PartialEq, Eq)]
@@ -42,13 +52,13 @@ pub trait Store {
     // How many reads there were of it.
     ghost reads: { Self → ℕ };
 
-    /// Reads the copy of a page. Where it fails, or the copy is unknown, `words` may be anything.
-    fn read(&mut self, page: u32, words: &mut [u64]) -> Result<(), StoreFailed>
+    /// Reads the copy of a page into `words`, or tells that it is zero. Where it fails, or the copy is unknown, `words` may be anything.
+    fn read(&mut self, page: u32, words: &mut [u64]) -> Result<Copied, StoreFailed>
         requires count { length words.old ≡ 1024 }
 
         // Where it tells its copies, and this one is known.
         ensures read { IfOk result
-            (λ _. (seen self.old).tells ≡ true → IfSome (copy_at (seen self.old) page) (λ copy. words.new ≡ copy)) }
+            (λ copied. (seen self.old).tells ≡ true → IfSome (copy_at (seen self.old) page) (λ copy. copied_words copied words.new ≡ copy)) }
 
         ensures same { SameCopies (seen self.old) (seen self.new) }
         ensures counted { reads self.new ≡ one_more (reads self.old) }

@@ -3,11 +3,12 @@
 ghost use Rattle.std.specs.Prelude.{◌≡◌, ◌≢◌, ℕ, ◌-◌, ◌^◌, ◌≤◌, true, false, length, None, Some, is_some, is_ok, if◌then◌else◌, slice_set, Ok, Err, IfOk, IfSome, OnOk, OnErr};
 ghost use Rattle.pager_model.specs.Regions.{in_range};
 ghost use Rattle.pager_model.specs.SpaceStates.{Rises};
-ghost use Rattle.pager_model.specs.Stored.{copy_at, zero_words, DropsCopies, SameCopies, SetsCopy, keeps_at};
+ghost use Rattle.pager_model.specs.Stored.{copy_at, DropsCopies, SameCopies, SetsCopy, keeps_at};
+ghost use Rattle.store_core.specs.CopiedWords.{copied_words};
 ghost use Rattle.store_core.specs.MemoryState.{one_more};
 ghost use Rattle.store_file.specs.FileState.{fresh, is_copied, is_in_file, no_pages, MovesPage, untold};
 
-use crate::page_bytes::{PAGE_BYTES, clear_words, put_words, read_page, take_words, write_page};
+use crate::page_bytes::{PAGE_BYTES, put_words, read_page, take_words, write_page};
 use crate::page_file::PageFile;
 use crate::page_set::PageSet;
 use pager_model::{NoMemory, PAGES};
@@ -19,7 +20,7 @@ use std::os::fd::AsRawFd;
 use std::os::unix::fs::FileExt;
 use std::path::Path;
 use std::rt::Files;
-use store_core::{Store, StoreFailed, WriteRefused};
+use store_core::{Copied, Store, StoreFailed, WriteRefused};
 
 /// Keeps the copies of a space's pages in a file: that of page p is the 8,192 bytes from byte 8192 * p on, each word's lowest byte first.
 ///
@@ -113,12 +114,13 @@ impl<F: FileExt + Drop> Store for FileStore<F> {
 
     ghost reads = { λ s. s.reads };
 
-    fn read(&mut self, page: u32, words: &mut [u64]) -> Result<(), StoreFailed>
+    fn read(&mut self, page: u32, words: &mut [u64]) -> Result<Copied, StoreFailed>
         requires count { length words.old ≡ 1024 }
 
         // As at any store.
         ensures read { IfOk result
-            (λ _. (untold self.old.faults).tells ≡ true → IfSome (copy_at (untold self.old.faults) page) (λ copy. words.new ≡ copy)) }
+            (λ copied. (untold self.old.faults).tells ≡ true
+            → IfSome (copy_at (untold self.old.faults) page) (λ copy. copied_words copied words.new ≡ copy)) }
         ensures same { SameCopies (untold self.old.faults) (untold self.new.faults) }
         ensures counted { self.new.reads ≡ one_more self.old.reads }
         ensures rose { OnErr result (Rises self.old.faults self.new.faults) }
@@ -127,7 +129,7 @@ impl<F: FileExt + Drop> Store for FileStore<F> {
 
         // It fails only at a copy in the file. Any other page is zero.
         ensures fails { OnErr result (is_in_file self.old page ≡ true) }
-        ensures zero { is_in_file self.old page ≡ false → words.new ≡ zero_words }
+        ensures zero { is_in_file self.old page ≡ false → result ≡ Ok Copied.Zeros }
 
         // Where it doesn't fail, the file gave the whole copy. Else it counts one fault.
         ensures gave { OnOk result (is_in_file self.old page ≡ true → MovesPage page self.old.file.gave self.new.file.gave) }
@@ -140,8 +142,7 @@ impl<F: FileExt + Drop> Store for FileStore<F> {
     {
         self.reads = self.reads.saturating_add(1);
         if !self.is_in_file(page) {
-            clear_words(words);
-            return Ok(());
+            return Ok(Copied::Zeros);
         }
         let mut bytes = [0; PAGE_BYTES];
         if !read_page(&mut self.file, page, &mut bytes) {
@@ -149,7 +150,7 @@ impl<F: FileExt + Drop> Store for FileStore<F> {
             return Err(StoreFailed);
         }
         take_words(&bytes, words);
-        Ok(())
+        Ok(Copied::Words)
     }
 
     #[tactic(auto, using(crate::proofs::UntoldCopies::sets_copy, crate::proofs::UntoldCopies::keeps_page))]

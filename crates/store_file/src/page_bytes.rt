@@ -1,7 +1,6 @@
 //! The bytes of a page, and where they stand in a file.
 
 ghost use Rattle.std.specs.Prelude.{◌≡◌, ◌+◌, ◌*◌, ◌^◌, ◌<◌, ◌≤◌, true, length};
-ghost use Rattle.pager_model.specs.Stored.{zero_words};
 ghost use Rattle.store_file.specs.FileState.{MovesPage};
 
 use crate::page_file::PageFile;
@@ -24,14 +23,6 @@ pub(crate) fn take_words(bytes: &[u8; PAGE_BYTES], words: &mut [u64]) {
     for (word, piece) in words.iter_mut().zip(pieces) {
         *word = u64::from_le_bytes(*piece);
     }
-}
-
-/// Makes the words of a page zero.
-pub(crate) fn clear_words(words: &mut [u64])
-    requires { length words.old ≡ 1024 }
-    ensures { words.new ≡ zero_words }
-{
-    words.fill(0);
 }
 
 /// Where a byte of a page stands in the file.

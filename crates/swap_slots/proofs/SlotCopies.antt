@@ -51,13 +51,13 @@ keeps_at-slots s page = among_space page ∙ ap (nat_lt page) counted
 -- ---- what a read gives
 
 -- the copy of a page without a slot is zero or unknown
-pub reads_zero : (s : SlotState) (page : ℕ) (words : List ℕ) → slot_in (copy_of s.slots page) ≡ None → words ≡ zero_words → IfSome (copy_at (stored_slots s) page) (λ copy. words ≡ copy)
-reads_zero s page words none is =
-    let P : Option (List ℕ) → Type 0 = λ o. IfSome o (λ copy. words ≡ copy) in
+pub reads_zero : (s : SlotState) (page : ℕ) → slot_in (copy_of s.slots page) ≡ None → IfSome (copy_at (stored_slots s) page) (λ copy. zero_words ≡ copy)
+reads_zero s page none =
+    let P : Option (List ℕ) → Type 0 = λ o. IfSome o (λ copy. zero_words ≡ copy) in
     subst P (sym (copy_at-slots s page)) (by_copy (copy_of s.slots page) none)
   where
-    by_copy : (c : PageCopy) → slot_in c ≡ None → IfSome (words_of s.device c) (λ copy. words ≡ copy)
-    by_copy Zero none = is
+    by_copy : (c : PageCopy) → slot_in c ≡ None → IfSome (words_of s.device c) (λ copy. zero_words ≡ copy)
+    by_copy Zero none = refl
     by_copy Lost none = tt
     by_copy (Slot t) some = absurd (none-some t (sym some))
 

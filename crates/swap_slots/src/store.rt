@@ -2,8 +2,9 @@
 
 ghost use Rattle.std.specs.Prelude.{◌≡◌, ◌≢◌, ℕ, ◌+◌, ◌-◌, ◌^◌, ◌<◌, ◌≤◌, ◌⊎◌, ◌↔◌, true, false, [], length, min, Some, None, IfOk, IfErr, IfSome, OnOk, OnErr, if◌then◌else◌};
 ghost use Rattle.pager_model.specs.SpaceStates.{Rises};
-ghost use Rattle.pager_model.specs.Stored.{copy_at, keeps_at, zero_words, SameCopies, SetsCopy, DropsCopies, TellsZero};
+ghost use Rattle.pager_model.specs.Stored.{copy_at, keeps_at, SameCopies, SetsCopy, DropsCopies, TellsZero};
 ghost use Rattle.pager_model.specs.Regions.{in_range};
+ghost use Rattle.store_core.specs.CopiedWords.{copied_words};
 ghost use Rattle.store_core.specs.MemoryState.{one_more};
 ghost use Rattle.swap_slots.specs.Devices.{SetsWords};
 ghost use Rattle.swap_slots.specs.SlotState.{SlotState, stored_slots, WritesTo};
@@ -14,7 +15,7 @@ use crate::table::{PageCopy, SlotTable};
 use pager_model::PAGES;
 use std::alloc::Global;
 use std::marker::Model;
-use store_core::{Store, StoreFailed, WriteRefused};
+use store_core::{Copied, Store, StoreFailed, WriteRefused};
 
 /// The most slots of a device that a store uses.
 const MOST_SLOTS: u32 = 1 << 18;
@@ -126,12 +127,13 @@ impl<B: Blocks> Store for SlotStore<B> {
 
     ghost reads = { λ s. s.reads };
 
-    fn read(&mut self, page: u32, words: &mut [u64]) -> Result<(), StoreFailed>
+    fn read(&mut self, page: u32, words: &mut [u64]) -> Result<Copied, StoreFailed>
         requires count { length words.old ≡ 1024 }
 
         // As at any store.
         ensures read { IfOk result
-            (λ _. (stored_slots self.old).tells ≡ true → IfSome (copy_at (stored_slots self.old) page) (λ copy. words.new ≡ copy)) }
+            (λ copied. (stored_slots self.old).tells ≡ true
+            → IfSome (copy_at (stored_slots self.old) page) (λ copy. copied_words copied words.new ≡ copy)) }
         ensures same { SameCopies (stored_slots self.old) (stored_slots self.new) }
         ensures counted { self.new.reads ≡ one_more self.old.reads }
         ensures rose { OnErr result (Rises (stored_slots self.old).faults (stored_slots self.new).faults) }
@@ -140,19 +142,18 @@ impl<B: Blocks> Store for SlotStore<B> {
 
         // It fails only where its device does; a page without a slot reads as zero.
         ensures device { OnErr result (Rises self.old.device.faults self.new.device.faults) }
-        ensures zero { slot_in (copy_of self.old.slots page) ≡ None → (result ≡ Ok tt) × (words.new ≡ zero_words) }
+        ensures zero { slot_in (copy_of self.old.slots page) ≡ None → result ≡ Ok Copied.Zeros }
         ensures table { self.new.slots ≡ self.old.slots }
         ensures refused { self.new.refused ≡ self.old.refused }
     {
         self.reads = self.reads.saturating_add(1);
         let Some(slot) = self.slot_of(page) else {
-            words.fill(0);
-            return Ok(());
+            return Ok(Copied::Zeros);
         };
         let Ok(()) = self.blocks.read(slot, words) else {
             return Err(StoreFailed);
         };
-        Ok(())
+        Ok(Copied::Words)
     }
 
     fn write(&mut self, page: u32, words: &[u64]) -> Result<(), WriteRefused>

@@ -1,5 +1,4 @@
-use Rattle.std.proofs.Common.{◌≡◌, true, IfSome, refl, sym, ap, subst, ◌∙◌, replicate}
-use Rattle.pager_model.specs.Stored.{zero_words}
+use Rattle.std.proofs.Common.{◌≡◌, true, IfSome, sym, ap, subst, ◌∙◌}
 use Rattle.swap_slots.specs.Devices.{Device, words_at, SameWords}
 use Rattle.swap_slots.specs.SlotState.{SlotState}
 use Rattle.swap_slots.specs.Slots.{copy_of, slot_in}
@@ -7,14 +6,8 @@ use Rattle.swap_slots.proofs.SlotCopies.{same_copies, reads_zero, reads_slot}
 use Rattle.swap_slots.proofs.store.SlotStoreStore.read.Goals as goal
 
 pub returns-in_default-clause-read : goal.returns-in_default-clause-read
-returns-in_default-clause-read g c =
-    let filled : c.fill.new.self ≡ zero_words = c.fill.ensures.after (λ y same. same) ∙ ap (λ n. replicate n 0) c.requires.count
-    in λ told. reads_zero c.args.self.now c.args.page c.fill.new.self (sym (ap (λ s. slot_in (copy_of s.slots c.args.page)) c.self.view_is) ∙ sym c.in_default.ensures.slot) filled
-
-pub returns-in_default-clause-zero : goal.returns-in_default-clause-zero
-returns-in_default-clause-zero g c =
-    let filled : c.fill.new.self ≡ zero_words = c.fill.ensures.after (λ y same. same) ∙ ap (λ n. replicate n 0) c.requires.count
-    in λ none. (refl, filled)
+returns-in_default-clause-read g c = λ told.
+    reads_zero c.args.self.now c.args.page (sym (ap (λ s. slot_in (copy_of s.slots c.args.page)) c.self.view_is) ∙ sym c.in_default.ensures.slot)
 
 pub returns-in_default-read-clause-same : goal.returns-in_default-read-clause-same
 returns-in_default-read-clause-same g c =
