@@ -1,5 +1,5 @@
 -- The counts of the spaces at the end of a run.
-use Rattle.std.proofs.Common.{◌≡◌, ℕ, zero, suc, ◌+◌, ◌*◌, ◌^◌, ◌<◌, ◌≤◌, not, List, [], ◌∷◌, length, take, fold, slice_get, Option, Some, refl, ap, sym, ◌∙◌, arith}
+use Rattle.std.proofs.Common.{◌≡◌, ℕ, zero, suc, ◌+◌, ◌*◌, ◌^◌, ◌<◌, ◌≤◌, ◌&&◌, ◌==◌, not, List, [], ◌∷◌, length, take, fold, slice_get, Option, Some, refl, ap, sym, ◌∙◌, arith}
 use Rattle.std.specs.List.{range_with_len, sum_by}
 use Rattle.std.proofs.lemmas.List.Filters.{length-filter_both}
 use Rattle.std.proofs.lemmas.List.FromFn.{length-range_with_len}
@@ -15,7 +15,7 @@ use Rattle.pager_model.specs.Legal.{space_at, frames_at}
 use Rattle.pager_model.specs.Settings.{Given, is_told, faults_at_entry}
 use Rattle.pager_model.specs.SizeSets.{SizeSet}
 use Rattle.pager_model.specs.SpaceStates.{SpaceState, empty_state, space_after, pages_of, pages_after}
-use Rattle.pager_model.specs.Tiles.{tiles_of_size, tile_count_in, begins_tile, count_pages, is_promoted_in}
+use Rattle.pager_model.specs.Tiles.{tile_in, tile_count_in, tile_size_in, begins_at, count_pages, is_promoted_in}
 use Rattle.space_core.specs.Standing.{Kept}
 use Rattle.space_core.specs.Tables.{mapping_in}
 use Rattle.tiles.proofs.Counting.{count_pages_most}
@@ -42,8 +42,8 @@ sum_by-most f most (x ∷ xs) each =
     omega (arith, cons, each x, rest, all)
 
 -- Each page is the first of at most one tile, so an entry promotes and breaks few.
-pub tiles_few : (pages : ℕ → Option Mapping) (size : ℕ) → tiles_of_size pages size ≤ 1048576
-tiles_few pages size = count_pages_most (begins_tile pages size)
+pub tiles_few : (z : SizeSet) (pages : ℕ → Option Mapping) (size : ℕ) → tile_count_in z pages size ≤ 1048576
+tiles_few z pages size = count_pages_most (λ page. begins_at page (tile_in z pages page) && (tile_size_in z pages page == size))
 
 four_fewer : (most a b c d : ℕ) → a < most → b < most → c < most → d < most → AreFewer (a ∷ b ∷ c ∷ d ∷ []) most
 four_fewer most a b c d in_a in_b in_c in_d zero = in_a
@@ -53,19 +53,19 @@ four_fewer most a b c d in_a in_b in_c in_d (suc (suc (suc zero))) = in_d
 four_fewer most a b c d in_a in_b in_c in_d (suc (suc (suc (suc size)))) = omega (arith, in_a)
 
 -- one space's tiles, and those of some of few spaces
-pub own_fewer : (pages : ℕ → Option Mapping) → AreFewer (tiles_of_size pages 0 ∷ tiles_of_size pages 1 ∷ tiles_of_size pages 2 ∷ tiles_of_size pages 3 ∷ []) 1073741824
-own_fewer pages = four_fewer 1073741824 _ _ _ _ (below 0) (below 1) (below 2) (below 3)
+pub own_fewer : (z : SizeSet) (pages : ℕ → Option Mapping) → AreFewer (tile_count_in z pages 0 ∷ tile_count_in z pages 1 ∷ tile_count_in z pages 2 ∷ tile_count_in z pages 3 ∷ []) 1073741824
+own_fewer z pages = four_fewer 1073741824 _ _ _ _ (below 0) (below 1) (below 2) (below 3)
   where
-    below : (size : ℕ) → tiles_of_size pages size < 1073741824
-    below size = (let few = tiles_few pages size in omega (arith, few))
+    below : (size : ℕ) → tile_count_in z pages size < 1073741824
+    below size = (let few = tiles_few z pages size in omega (arith, few))
 
 pub some_fewer : (spaces : List Kept) (n : ℕ) → length spaces ≤ 16 → AreFewer (tiles_in (take n spaces) 0 ∷ tiles_in (take n spaces) 1 ∷ tiles_in (take n spaces) 2 ∷ tiles_in (take n spaces) 3 ∷ []) 1073741824
 some_fewer spaces n few = four_fewer 1073741824 _ _ _ _ (below 0) (below 1) (below 2) (below 3)
   where
     below : (size : ℕ) → tiles_in (take n spaces) size < 1073741824
     below size =
-        let part = sum_by-take-le (λ (k : Kept). tiles_of_size (mapping_in k.table) size) spaces n in
-        let all = sum_by-most (λ (k : Kept). tiles_of_size (mapping_in k.table) size) 1048576 spaces (λ k. tiles_few (mapping_in k.table) size) in
+        let part = sum_by-take-le (λ (k : Kept). tile_count_in k.table.sizes (mapping_in k.table) size) spaces n in
+        let all = sum_by-most (λ (k : Kept). tile_count_in k.table.sizes (mapping_in k.table) size) 1048576 spaces (λ k. tiles_few k.table.sizes (mapping_in k.table) size) in
         omega (arith, part, all, few)
 
 promotions_few : (es : List Entry) (st : SpaceState) → (fold space_after st es).promotions ≤ st.promotions + 1048576 * length es
@@ -110,8 +110,8 @@ module _ (given : Given) (h : List Entry) (spaces : List Kept) (pool : FrameStat
 
   tiles_summed : (size : ℕ) → tiles_in spaces size ≡ tiles_after given h size
   tiles_summed size =
-      summed (λ (k : Kept). tiles_of_size (mapping_in k.table) size) (λ st. tile_count_in st.sizes (pages_of st) size)
-      (λ s kept at. ap (λ (ps : ℕ → Option Mapping). tiles_of_size ps size) (let same : mapping_in kept.table ≡ pages_of (space_at given h s) = λ i p. sym ((rest.spaces_rest s kept at).stands.pages p) i in same)
+      summed (λ (k : Kept). tile_count_in k.table.sizes (mapping_in k.table) size) (λ st. tile_count_in st.sizes (pages_of st) size)
+      (λ s kept at. ap (λ (ps : ℕ → Option Mapping). tile_count_in kept.table.sizes ps size) (let same : mapping_in kept.table ≡ pages_of (space_at given h s) = λ i p. sym ((rest.spaces_rest s kept at).stands.pages p) i in same)
       ∙ ap (λ (z : SizeSet). tile_count_in z (pages_of (space_at given h s)) size) (sym (rest.spaces_rest s kept at).stands.translates.sizes))
 
   promotions_summed : promotions_in spaces ≡ over_spaces given h (λ st. st.promotions)

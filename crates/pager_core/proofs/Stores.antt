@@ -14,6 +14,7 @@ use Rattle.pager_model.specs.Entries.{space_part}
 use Rattle.pager_model.specs.FrameStates.{FrameState}
 use Rattle.pager_model.specs.Legal.{space_at, entries_in}
 use Rattle.pager_model.specs.Settings.{Given, is_told, faults_at_entry}
+use Rattle.pager_model.specs.SizeSets.{SizeSet, all_sizes}
 use Rattle.pager_model.specs.SpaceStates.{SpaceState, empty_state, space_after}
 use Rattle.pager_model.specs.Stored.{Stored, TellsZero}
 use Rattle.pager_model.specs.Stores.{given_over, EndsWith, StoresEnd}
@@ -116,37 +117,37 @@ abbrev pub IsZeroIfTold : Stored → Type 0
 IsZeroIfTold store = store.told ≡ true → TellsZero store
 
 -- each space is as a run begins with it, whatever was told of its store that is so
-abbrev pub AreNew : ℕ → ℕ → List Kept → Type 0
-AreNew frames processors spaces = (s : ℕ) (kept : Kept) (told : Bool) → slice_get spaces s ≡ Some kept → (told ≡ true → TellsZero kept.store) → IsNew frames processors s told kept.store.faults kept
+abbrev pub AreNew : Capacity → List Kept → Type 0
+AreNew room spaces = (s : ℕ) (kept : Kept) (told : Bool) → slice_get spaces s ≡ Some kept → (told ≡ true → TellsZero kept.store) → IsNew room.sizes room.frames room.processors s told kept.store.faults kept
 
 -- what is read off the store of this number
 read_at : {X Y : Type 0} (f : X → Y) (d : Y) (xs : List X) (i : ℕ) (x : X) → slice_get xs i ≡ Some x → get_or (map f xs) i d ≡ f x
 read_at f d xs i x at = get_or_from_slice_get (map f xs) i (f x) d (slice_get-map f xs i ∙ ap (option_map f) at)
 
 -- rooms for the stores that the setting is over
-pub AreRoomsOver-made : (frames : ℕ) (marks : List ℕ) (stores : List Stored) (given : Given) (rooms : List Capacity) (n processors : ℕ) → given ≡ given_over frames marks stores → n ≡ length stores → processors ≡ length marks → rooms ≡ replicate n (record { frames = frames; processors = processors }) → Each IsZeroIfTold stores → AreRoomsOver given stores rooms
-AreRoomsOver-made frames marks stores given rooms n processors is count many are zeros =
+pub AreRoomsOver-made : (frames : ℕ) (marks : List ℕ) (stores : List Stored) (given : Given) (rooms : List Capacity) (n processors : ℕ) (z : SizeSet) → given ≡ given_over frames marks stores → n ≡ length stores → processors ≡ length marks → z ≡ all_sizes → rooms ≡ replicate n (record { frames = frames; processors = processors; sizes = z }) → Each IsZeroIfTold stores → AreRoomsOver given stores rooms
+AreRoomsOver-made frames marks stores given rooms n processors z is count many all are zeros =
     let told_count = length-map stores (λ (s : Stored). s.told) in
     subst (λ (g : Given). AreRoomsOver g stores rooms) (sym is) (record {
-      rooms_are = are ∙ (λ i. replicate ((count ∙ sym told_count) i) (record { frames = frames; processors = many i }));
+      rooms_are = are ∙ (λ i. replicate ((count ∙ sym told_count) i) (record { frames = frames; processors = many i; sizes = all i }));
       told = λ s store at told. zeros s store at (sym (read_at (λ (x : Stored). x.told) false stores s store at) ∙ told);
       faults = λ s store at. read_at (λ (x : Stored). x.faults) 0 stores s store at;
     })
 
 -- The start: each space is in one of the rooms and over the store of its number, and what the setting says of the store is so.
 pub are_new : (given : Given) (rooms : List Capacity) (spaces : List Kept) (others all : List Stored) → all ≡ map (λ (k : Kept). k.store) spaces ++ others → length spaces ≡ length rooms
-    → ((room : Capacity) → All (λ r. r ≡ room) rooms → AreNew room.frames room.processors spaces)
+    → ((room : Capacity) → All (λ r. r ≡ room) rooms → AreNew room spaces)
     → AreRoomsOver given (take (length rooms) all) rooms → AreNewSpaces given spaces
 are_new given rooms spaces others all are count each over =
     let own : List Stored = map (λ (k : Kept). k.store) spaces in
     let first : take (length rooms) all ≡ own = ap (take (length rooms)) are ∙ ap (λ m. take m (own ++ others)) (sym (length-map spaces (λ (k : Kept). k.store) ∙ count)) ∙ take-append_seam own others in
-    let room : Capacity = record { frames = given.frames; processors = length given.marks } in
+    let room : Capacity = record { frames = given.frames; processors = length given.marks; sizes = given.sizes } in
     let alike : All (λ r. r ≡ room) rooms = subst (All (λ r. r ≡ room)) (sym over.rooms_are) (All-replicate (λ r. r ≡ room) (length given.told) room refl) in
     record {
       count = count ∙ ap length over.rooms_are ∙ length-replicate (length given.told) room;
       new = λ s kept at.
           let store : slice_get (take (length rooms) all) s ≡ Some kept.store = ap (λ l. slice_get l s) first ∙ slice_get-map (λ (k : Kept). k.store) spaces s ∙ ap (option_map (λ (k : Kept). k.store)) at in
-          subst (λ f. IsNew given.frames (length given.marks) s (is_told given s) f kept) (sym (over.faults s kept.store store))
+          subst (λ f. IsNew given.sizes given.frames (length given.marks) s (is_told given s) f kept) (sym (over.faults s kept.store store))
           (each room alike s kept (is_told given s) at (over.told s kept.store store));
     }
 
@@ -158,7 +159,7 @@ pub record AreRoomsTurned {P : Type 0} (seen : P → Stored) (turned : List P) (
 
 pub turned_rooms : {P : Type 0} (seen : P → Stored) (stores turned : List P) (given : Given) (rooms : List Capacity) (n : ℕ) → turned ≡ reverse stores → n ≤ length stores → length given.told ≡ n → AreRoomsOver given (take n (map seen stores)) rooms → AreRoomsTurned seen turned given rooms n
 turned_rooms seen stores turned given rooms n round within told over =
-    let many : length rooms ≡ n = ap length over.rooms_are ∙ length-replicate (length given.told) (record { frames = given.frames; processors = length given.marks }) ∙ told in
+    let many : length rooms ≡ n = ap length over.rooms_are ∙ length-replicate (length given.told) (record { frames = given.frames; processors = length given.marks; sizes = given.sizes }) ∙ told in
     let long : length turned ≡ length stores = ap length round ∙ length-reverse stores in
     record {
       count = many;
@@ -166,12 +167,12 @@ turned_rooms seen stores turned given rooms n round within told over =
       over = subst (λ l. AreRoomsOver given l rooms) (ap (take n) (sym (turned_back seen stores turned round)) ∙ ap (λ m. take m (map seen (reverse turned))) (sym many)) over;
     }
 
-pub AreNew-push : (frames processors : ℕ) (spaces more : List Kept) (space : Kept) → AreNew frames processors spaces → more ≡ spaces ++ space ∷ [] → ((told : Bool) → (told ≡ true → TellsZero space.store) → IsNew frames processors (length spaces) told space.store.faults space) → AreNew frames processors more
-AreNew-push frames processors spaces more space are pushed new s kept told at zeros =
+pub AreNew-push : (room : Capacity) (spaces more : List Kept) (space : Kept) → AreNew room spaces → more ≡ spaces ++ space ∷ [] → ((told : Bool) → (told ≡ true → TellsZero space.store) → IsNew room.sizes room.frames room.processors (length spaces) told space.store.faults space) → AreNew room more
+AreNew-push room spaces more space are pushed new s kept told at zeros =
     elim (slice_get-push spaces space s kept (subst (λ l. slice_get l s ≡ Some kept) pushed at)) [
       | inl before ↦ are s kept told before zeros
-      | inr last ↦ subst (λ n. IsNew frames processors n told kept.store.faults kept) (sym last.0)
-          (subst (λ k. IsNew frames processors (length spaces) told k.store.faults k) last.1 (new told (λ is. subst (λ k. TellsZero k.store) (sym last.1) (zeros is))))
+      | inr last ↦ subst (λ n. IsNew room.sizes room.frames room.processors n told kept.store.faults kept) (sym last.0)
+          (subst (λ k. IsNew room.sizes room.frames room.processors (length spaces) told k.store.faults k) last.1 (new told (λ is. subst (λ k. TellsZero k.store) (sym last.1) (zeros is))))
     ]
 
 -- The end.

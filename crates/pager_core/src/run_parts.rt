@@ -59,7 +59,7 @@ impl<S: Store + Send + Drop> RunRoom<S> {
         let all_sizes = Sizes::of(true, true, true);
         let pool = Pool::create(alloc, frames, processors, all_sizes)?;
         let setting = setting_of(alloc, frames, marks, stores)?;
-        let spaces = SpaceRooms::create(alloc, frames, processors, spaces)?;
+        let spaces = SpaceRooms::create(alloc, frames, processors, all_sizes, spaces)?;
         Ok(RunRoom {
             setting,
             spaces,
@@ -88,20 +88,21 @@ impl<S: Store + Send + Drop> Model for SpaceRooms<S> {
 }
 
 impl<S: Store + Send + Drop> SpaceRooms<S> {
-    /// Room for so many spaces, each for so many frames and processors.
+    /// Room for so many spaces, each for so many frames and processors, and with these page sizes.
     fn create(
         alloc: Global,
         frames: u32,
         processors: u32,
+        sizes: Sizes,
         count: u32,
     ) -> Result<SpaceRooms<S>, NoMemory>
         requires frames { frames ≤ most_frames }
         requires few { count ≤ 16 }
-        ensures { IfOk result (λ rooms. rooms ≡ replicate count (record { frames = frames; processors = processors })) }
+        ensures { IfOk result (λ rooms. rooms ≡ replicate count (record { frames = frames; processors = processors; sizes = sizes })) }
     {
         let mut rooms = Vec::with_capacity(alloc, count as usize)?;
         for _ in 0..count {
-            rooms.push(SpaceRoom::create(alloc, frames, processors)?)?;
+            rooms.push(SpaceRoom::create(alloc, frames, processors, sizes)?)?;
         }
         let spaces = Vec::with_capacity(alloc, count as usize)?;
         Ok(SpaceRooms { rooms, spaces })

@@ -9,11 +9,10 @@ use Rattle.std.proofs.Math.ListN.{length-map}
 use Rattle.journal_core.specs.Journals.{JournalName, AuthorState, new_author}
 use Rattle.pager_model.specs.FrameStates.{FrameState, start_frames}
 use Rattle.pager_model.specs.Settings.{Given, is_told, faults_at_entry}
-use Rattle.pager_model.specs.SizeSets.{SizeSet, all_sizes}
-use Rattle.pager_model.specs.SpaceStates.{empty_state}
+use Rattle.pager_model.specs.SizeSets.{all_sizes}
 use Rattle.pager_model.specs.Stores.{given_over}
 use Rattle.pager_model.specs.Stored.{Stored}
-use Rattle.space_core.specs.Standing.{Kept, StandsFor}
+use Rattle.space_core.specs.Standing.{Kept}
 use Rattle.pager_core.specs.RunParts.{IsNew}
 use Rattle.pager_core.specs.RunParts.{AreNewSpaces}
 use Rattle.pager_locks.specs.Locked.{IsLockedSpace, IsPoolAt}
@@ -45,15 +44,15 @@ IsPoolAt-new j spaces authors rest last pool parts split =
     subst (IsPoolAt j pool) (sym is) (record { journal = refl; part = refl; state = parts.pool_is })
 
 -- a space and its author at the start
-locked_new : (j : JournalName) (s : ℕ) (kept : Kept) (a : AuthorState) → s < length j.setting.told → j.setting.sizes ≡ all_sizes → IsNew j.setting.frames (length j.setting.marks) s (is_told j.setting s) (faults_at_entry j.setting s) kept → a ≡ new_author j s → IsLockedSpace j s kept (Some a)
-locked_new j s kept a below sizes new is =
+locked_new : (j : JournalName) (s : ℕ) (kept : Kept) (a : AuthorState) → s < length j.setting.told → IsNew j.setting.sizes j.setting.frames (length j.setting.marks) s (is_told j.setting s) (faults_at_entry j.setting s) kept → a ≡ new_author j s → IsLockedSpace j s kept (Some a)
+locked_new j s kept a below new is =
     subst (λ x. IsLockedSpace j s kept (Some x)) (sym is)
     (record {
       author = new_author j s;
       there = refl;
       part_is = refl;
       stands = record { journal = refl; within = below; number = new.number_is; frames = new.frames_are; processors = new.processors_are };
-      rest = record { resting = new.resting; stands = subst (λ (z : SizeSet). StandsFor kept (empty_state z (is_told j.setting s) (faults_at_entry j.setting s))) (sym sizes) new.stands; next = refl };
+      rest = record { resting = new.resting; stands = new.stands; next = refl };
     })
 
 -- what stands at a place of a list, from its end
@@ -89,7 +88,7 @@ AreLeft-new j spaces turned authors rest turned_authors last pool parts split is
           let below : s < length j.setting.told = omega (arith, both) in
           let here = reverse_at spaces i s kept (both ∙ sym new.count) (subst (λ l. slice_get l i ≡ Some kept) is at) in
           let author = reverse_at rest i s a (both ∙ sym many) (subst (λ l. slice_get l i ≡ Some a) is_authors at_author) in
-          locked_new j s kept a below parts.sizes (new.new s kept here) (map_at (new_author j) (length j.setting.told) s a below (subst (λ l. slice_get l s ≡ Some a) own author));
+          locked_new j s kept a below (new.new s kept here) (map_at (new_author j) (length j.setting.told) s a below (subst (λ l. slice_get l s ≡ Some a) own author));
     }
 
 -- the next space is the last of those that are left
@@ -138,7 +137,6 @@ pub AreNewParts-made : (j : JournalName) (given : Given) (frames : ℕ) (marks :
 AreNewParts-made j given frames marks stores spaces authors pool setting over few new are_authors start =
     record {
       few = (let count = new.count in let same : length j.setting.told ≡ length given.told = ap (λ (g : Given). length g.told) setting in omega (arith, count, same, few));
-      sizes = ap (λ (g : Given). g.sizes) (setting ∙ over);
       spaces_are = subst (λ (g : Given). AreNewSpaces g spaces) (sym setting) new;
       authors_are = are_authors ∙ ap (λ (g : Given). map (new_author j) (range_with_len 0 (length g.told + 1))) (sym setting);
       pool_is = start ∙ sym (ap (λ (g : Given). start_frames g.sizes g.frames (length g.marks)) (setting ∙ over));

@@ -6,7 +6,6 @@ use Rattle.pager_model.specs.FrameStates.{FrameState, start_frames}
 use Rattle.pager_model.specs.Legal.{entries_in}
 use Rattle.pager_model.specs.Order.{IsWhole}
 use Rattle.pager_model.specs.Settings.{mark_of}
-use Rattle.pager_model.specs.SizeSets.{all_sizes}
 use Rattle.space_core.specs.Standing.{Kept}
 use Rattle.pager_core.specs.RunParts.{AreNewSpaces}
 
@@ -18,7 +17,6 @@ pub record PreparedState : Type 0 where
 -- The parts of a pager over a journal without entries: new spaces, the pool as it is at the start, and all authors of the journal.
 pub record AreNewParts (j : JournalName) (spaces : List Kept) (authors : List AuthorState) (pool : FrameState) : Type 0 where
   pub few : length j.setting.told ≤ 16
-  pub sizes : j.setting.sizes ≡ all_sizes
   pub spaces_are : AreNewSpaces j.setting spaces
   pub authors_are : authors ≡ map (new_author j) (range_with_len 0 (length j.setting.told + 1))
   pub pool_is : pool ≡ start_frames j.setting.sizes j.setting.frames (length j.setting.marks)

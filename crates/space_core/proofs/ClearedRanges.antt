@@ -13,7 +13,7 @@ use Rattle.pager_model.specs.declared.tile.Mapping.{Mapping}
 use Rattle.pager_model.specs.declared.tile.Tile.{Tile}
 use Rattle.pager_model.specs.Flat.{goes}
 use Rattle.pager_model.specs.Images.{still_tiles}
-use Rattle.pager_model.specs.SizeSets.{all_sizes}
+use Rattle.pager_model.specs.SizeSets.{SizeSet}
 use Rattle.pager_model.specs.Regions.{has_page, in_range, region_at, without_region, unmap_reply_at}
 use Rattle.pager_model.specs.SpaceStates.{SpaceState, IsClearedAt, pages_of, space_after}
 use Rattle.region_table.specs.Table.{IsTable}
@@ -32,7 +32,7 @@ use Rattle.space_core.proofs.ServedPages.{kept, AreMapped}
 use Rattle.space_core.proofs.TableLemmas.{dirty_in-absent, frame-same, dirty-same, frame-mapped, mapping-absent, maps_frame}
 use Rattle.space_core.proofs.Translations.{same_translates, stays, translates_cleared, pages_from, said_gone}
 use Rattle.tiles.specs.Cleared.{Clears}
-use Rattle.tiles.specs.Resident.{large_tiles_meeting}
+use Rattle.tiles.specs.Sized.{large_tiles_meeting_in}
 use Rattle.tiles.proofs.Cleared.{promotions_cleared, demotions_cleared}
 
 -- A page of the range that is cleared gives its frame up.
@@ -75,7 +75,7 @@ module _ (number : ℕ) (regions : List Region) (t u : Table) (pending : Option 
         | inr unsettled ↦ cond-false _ _ _ unsettled ∙ sym (cond-false _ _ _ (settled_others p n ∙ unsettled))
       ]
 
-  pub clears_one : (frame : ℕ) → is_clearing is first len ≡ true → (is_clearing was first len ≡ true → broken ≡ had_broken) → (is_clearing was first len ≡ false → broken ≡ large_tiles_meeting first len (mapping_in t))
+  pub clears_one : (frame : ℕ) → is_clearing is first len ≡ true → (is_clearing was first len ≡ true → broken ≡ had_broken) → (is_clearing was first len ≡ false → broken ≡ large_tiles_meeting_in t.sizes first len (mapping_in t))
       → frame_in t page ≡ Some frame → ((p : ℕ) → in_range first len p ≡ true → p < page → frame_in t p ≡ None) → ClearsOne having lacking first len page frame
   clears_one frame begun went_on counted had lowest =
       record {
@@ -105,12 +105,12 @@ module _ (number : ℕ) (regions : List Region) (t u : Table) (pending : Option 
           };
           base = λ p out. s.base p out ∙ sym (frame_others p (outside p out));
           pages = λ p out. s.pages p out ∙ sym (mapping_others p (outside p out));
-          translates = same_translates having lacking st (record { images = refl; promotions = refl; demotions = refl }) s.translates;
+          translates = same_translates having lacking st (record { sizes = moves.same.sizes; images = refl; promotions = refl; demotions = refl }) s.translates;
           not_begun = λ none. absurd (true≢false (sym begun ∙ none));
           counted = λ _. elim (cases_Bool (is_clearing was first len)) [
             | inl on ↦ went_on on ∙ s.counted on
-            | inr off ↦ counted off ∙ ap (large_tiles_meeting first len) (sym (let whole : pages_of st ≡ mapping_in t = λ i p. s.not_begun off p i in whole))
-          ];
+            | inr off ↦ counted off ∙ ap (large_tiles_meeting_in t.sizes first len) (sym (let whole : pages_of st ≡ mapping_in t = λ i p. s.not_begun off p i in whole))
+          ] ∙ ap (λ (z : SizeSet). large_tiles_meeting_in z first len (pages_of st)) (sym moves.same.sizes);
         };
       }
 
@@ -121,7 +121,7 @@ module _ (number : ℕ) (regions : List Region) (t : Table) (was : Option PageRa
   clearing = kept number regions t None was paged store reads images promotions demotions had_broken
 
   abbrev all_cleared : Kept
-  all_cleared = kept number regions t None (Some (range_of first len)) paged store reads (map (still_tiles all_sizes (mapping_in t)) images) promotions (counted_up demotions broken) broken
+  all_cleared = kept number regions t None (Some (range_of first len)) paged store reads (map (still_tiles t.sizes (mapping_in t)) images) promotions (counted_up demotions broken) broken
 
   frame_cleared : (b : Bool) (o : Option ℕ) (p : ℕ) → (b ≡ true → frame_in t p ≡ None) → (b ≡ false → o ≡ frame_in t p) → (if b then None else o) ≡ frame_in t p
   frame_cleared true o p gone left = sym (gone refl)
@@ -131,14 +131,14 @@ module _ (number : ℕ) (regions : List Region) (t : Table) (was : Option PageRa
   said_cleared true o p gone left = sym (gone refl)
   said_cleared false o p gone left = left refl
 
-  clears_counted : ((st : SpaceState) → StandsBut first len clearing st → broken ≡ large_tiles_meeting first len (pages_of st)) → ClearsNone clearing all_cleared first len
+  clears_counted : ((st : SpaceState) → StandsBut first len clearing st → broken ≡ large_tiles_meeting_in t.sizes first len (pages_of st)) → ClearsNone clearing all_cleared first len
   clears_counted counted =
       record {
         none = none;
         clearing = refl;
         same_pending = refl;
         same_paged = refl;
-        same = record { same = record { number = refl; frames = refl; processors = length-map images (still_tiles all_sizes (mapping_in t)); regions = refl; rights = λ p. refl }; frame = λ p. refl };
+        same = record { same = record { number = refl; frames = refl; processors = length-map images (still_tiles t.sizes (mapping_in t)); regions = refl; rights = λ p. refl }; frame = λ p. refl };
         unread = refl;
         stands = λ st c s.
             let after = space_after st (clear_entry c number first len) in
@@ -162,18 +162,18 @@ module _ (number : ℕ) (regions : List Region) (t : Table) (was : Option PageRa
               };
               base = λ p. frame_cleared (in_range first len p) (st.base p) p (none p) (s.base p);
               pages = pages;
-              translates = translates_cleared clearing all_cleared st after c broken (record { sizes = refl; images = refl; promotions = refl; demotions = refl }) s.translates pages (length-map images (still_tiles all_sizes (mapping_in t)))
-                  (λ i within. get_or-map (still_tiles all_sizes (mapping_in t)) images i [] [] within)
-                  (promotions_cleared first len (pages_of st) (pages_of after) clears)
-                  (demotions_cleared first len (pages_of st) (pages_of after) clears ∙ sym (counted st s)) refl refl;
+              translates = translates_cleared clearing all_cleared st after c broken (record { sizes = refl; images = refl; promotions = refl; demotions = refl }) s.translates pages refl (length-map images (still_tiles t.sizes (mapping_in t)))
+                  (λ i within. get_or-map (still_tiles t.sizes (mapping_in t)) images i [] [] within)
+                  (promotions_cleared first len (pages_of st) (pages_of after) clears t.sizes)
+                  (demotions_cleared first len (pages_of st) (pages_of after) clears t.sizes ∙ sym (counted st s)) refl refl;
             };
       }
 
   pub clears_none : is_clearing was first len ≡ true → broken ≡ had_broken → ClearsNone clearing all_cleared first len
   clears_none on went_on = clears_counted (λ st s. went_on ∙ s.counted on)
 
-  pub clears_at_once : is_clearing was first len ≡ false → broken ≡ large_tiles_meeting first len (mapping_in t) → ClearsNone clearing all_cleared first len
-  clears_at_once off counted = clears_counted (λ st s. counted ∙ ap (large_tiles_meeting first len) (sym (let whole : pages_of st ≡ mapping_in t = λ i p. s.not_begun off p i in whole)))
+  pub clears_at_once : is_clearing was first len ≡ false → broken ≡ large_tiles_meeting_in t.sizes first len (mapping_in t) → ClearsNone clearing all_cleared first len
+  clears_at_once off counted = clears_counted (λ st s. counted ∙ ap (large_tiles_meeting_in t.sizes first len) (sym (let whole : pages_of st ≡ mapping_in t = λ i p. s.not_begun off p i in whole)))
 
 -- the lowest page from a page on is the lowest of the range, where none before it is resident
 pub none_below : (t : Table) (first len from end page : ℕ) → ((p : ℕ) → first ≤ p → p < from → frame_in t p ≡ None) → IsFirstResident t from end page → (p : ℕ) → in_range first len p ≡ true → p < page → frame_in t p ≡ None
@@ -195,8 +195,8 @@ module _ (old : Kept) (number : ℕ) (regions : List Region) (t : Table) (pendin
   here : is ≡ Some (range_of first len)
   here = begins.begun
 
-  counted_first : is_clearing old.clearing first len ≡ false → broken ≡ large_tiles_meeting first len (mapping_in t)
-  counted_first off = begins.counted off ∙ ap (λ (u : Table). large_tiles_meeting first len (mapping_in u)) table_was
+  counted_first : is_clearing old.clearing first len ≡ false → broken ≡ large_tiles_meeting_in t.sizes first len (mapping_in t)
+  counted_first off = begins.counted off ∙ ap (λ (u : Table). large_tiles_meeting_in u.sizes first len (mapping_in u)) table_was
 
   none_before : (from : ℕ) → ((p : ℕ) → first ≤ p → p < from → frame_at old p ≡ None) → (p : ℕ) → first ≤ p → p < from → frame_in t p ≡ None
   none_before from before p low below = ap (λ (u : Table). frame_in u p) (sym table_was) ∙ before p low below
@@ -225,7 +225,7 @@ module _ (old : Kept) (number : ℕ) (regions : List Region) (t : Table) (pendin
       )
 
   abbrev all_gone : Option ℕ → Option PageRange → Kept
-  all_gone o range = kept number regions t o range paged store reads (map (still_tiles all_sizes (mapping_in t)) images) promotions (counted_up demotions broken) broken
+  all_gone o range = kept number regions t o range paged store reads (map (still_tiles t.sizes (mapping_in t)) images) promotions (counted_up demotions broken) broken
 
   -- no page is resident
   pub clears_range : (from : ℕ) → old.pending ≡ None → ((p : ℕ) → first ≤ p → p < from → frame_at old p ≡ None) → NoneFrom t from (first + len)
@@ -397,6 +397,6 @@ module _ (number : ℕ) (regions : List Region) (t u : Table) (page : ℕ) (r : 
                 };
                 base = base;
                 pages = pages;
-                translates = stays cleared left st after c (record { sizes = refl; images = refl; promotions = refl; demotions = refl }) s.translates s.pages pages (record { images = refl; promotions = refl; demotions = refl }) forgets.mapping;
+                translates = stays cleared left st after c (record { sizes = refl; images = refl; promotions = refl; demotions = refl }) s.translates s.pages pages (record { sizes = forgets.sizes; images = refl; promotions = refl; demotions = refl }) forgets.mapping;
               };
         }

@@ -234,5 +234,5 @@ begins_evicting old mid new page written resting in_space unwired resident saves
       unread = outs.unread ∙ store_reads old mid saves.same;
       stands = copied_aside old resting new page same clearing pending frame (λ p i. ap (λ t. word_in t p i) table)
           (subst (λ (store : Stored). IsSaved old store page) (sym outs.store) (saved old resting mid page written saves)) (λ p. ap (λ t. mapping_in t p) table)
-          (let still = store_still old mid saves.same in record { images = outs.still.images ∙ still.images; promotions = outs.still.promotions ∙ still.promotions; demotions = outs.still.demotions ∙ still.demotions }) outs.paged;
+          (let still = store_still old mid saves.same in record { sizes = outs.still.sizes ∙ still.sizes; images = outs.still.images ∙ still.images; promotions = outs.still.promotions ∙ still.promotions; demotions = outs.still.demotions ∙ still.demotions }) outs.paged;
     }

@@ -10,3 +10,4 @@ pub mod RegionSearch
 pub mod RegionChanges
 pub mod ClearedRanges
 pub mod Translations
+pub mod MappedAccesses

@@ -1,6 +1,6 @@
 -- A refusal changes nothing that a space shows.
-use Rattle.std.proofs.Common.{◌≡◌, ◌≢◌, ℕ, Bool, true, false, if◌then◌else◌, List, [], ◌∷◌, Option, Some, None, is_some, option_map, refl, sym, ap, inl, inr, ◌∙◌, ◌||◌, not, subst}
-use Rattle.std.proofs.lemmas.Bool.{cases_Bool, cond-true, cond-false, true≢false, and_parts}
+use Rattle.std.proofs.Common.{◌≡◌, ◌≢◌, ℕ, Bool, true, false, if◌then◌else◌, List, Option, Some, None, is_some, option_map, refl, sym, ap, ◌∙◌, ◌||◌, subst}
+use Rattle.std.proofs.lemmas.Bool.{cond-false, true≢false, and_parts}
 use Rattle.std.proofs.lemmas.Option.{none-some, same_Some}
 use Rattle.pager_model.specs.declared.call.Call.{Call}
 use Rattle.pager_model.specs.declared.call.Call.TheVariants.{Map, Grow, Unmap, Protect, Load, Store, Sync, Evict}
@@ -12,7 +12,7 @@ use Rattle.pager_model.specs.declared.tile.Tile.{Tile}
 use Rattle.pager_model.specs.Images.{is_in_image, images_with}
 use Rattle.pager_model.specs.Flat.{Flat, reply_of, is_lawful, after_call, access_reply, page_of, can_read, can_write}
 use Rattle.pager_model.specs.Order.{is_plain, is_no_memory, is_unmapped, is_answered_alone}
-use Rattle.pager_model.specs.Regions.{has_page, region_at, range_in, without_region, unmap_reply_at, map_reply, grow_reply, grow_reply_at}
+use Rattle.pager_model.specs.Regions.{region_at, map_reply, grow_reply, grow_reply_at}
 use Rattle.pager_model.specs.SpaceStates.{SpaceState, answered_flat, ReplyAllowed, access_page, pages_of, pages_after, tile_at, space_after}
 use Rattle.pager_model.proofs.SpaceEntries.{base-unnamed, frees-unlawful, said-unlawful, served-unlawful}
 use Rattle.pager_model.specs.Stores.{IsCopy}
@@ -130,7 +130,7 @@ begins_refused old c call r can resting refused alone asked =
               pages = is;
               translates = stays old old st after c
                   (record { sizes = refl; images = ap (λ o. images_with st.sizes (pages_of after) c (tile_at st.sizes (pages_of after) o) st.images) (served-unlawful call r (refusal-lawful r refused)); promotions = refl; demotions = refl })
-                  s.translates s.pages is (record { images = refl; promotions = refl; demotions = refl }) (λ p. refl);
+                  s.translates s.pages is (record { sizes = refl; images = refl; promotions = refl; demotions = refl }) (λ p. refl);
             };
       };
       memory = λ lacking. absurd (no_memory_refused r refused lacking);
@@ -140,7 +140,7 @@ access_denied : (o : Option Region) (allowed : Bool) (reply : Reply) → is_some
 access_denied None allowed reply has refused = cc
 access_denied (Some r) allowed reply has refused = cond-false _ _ _ refused
 
-rights_here : (old : Kept) (q page : ℕ) (r : Region) → q ≡ page → region_at old.regions page ≡ Some r → (is_some (region_at old.regions q) ≡ true) × (rights_at old q ≡ rights_by (own_in old.table page) (Some r))
+pub rights_here : (old : Kept) (q page : ℕ) (r : Region) → q ≡ page → region_at old.regions page ≡ Some r → (is_some (region_at old.regions q) ≡ true) × (rights_at old q ≡ rights_by (own_in old.table page) (Some r))
 rights_here old q page r same at = rw same (ap is_some at, ap (rights_by (own_in old.table page)) at)
 
 -- an access without the right is denied

@@ -1,7 +1,7 @@
 -- What becomes of a space when a region is mapped, grows, or gets new rights, and what an unmap and an access need first.
-use Rattle.std.proofs.Common.{◌≡◌, ◌≢◌, ℕ, ◌+◌, ◌≤◌, Bool, true, false, ◌&&◌, if◌then◌else◌, List, Option, Some, None, is_some, option_map, nat_le, refl, sym, ap, inl, inr, ◌∙◌, arith}
+use Rattle.std.proofs.Common.{◌≡◌, ℕ, ◌+◌, ◌≤◌, Bool, true, false, ◌&&◌, if◌then◌else◌, List, Option, Some, None, is_some, option_map, nat_le, refl, sym, ap, inl, inr, ◌∙◌, arith}
 use Rattle.std.specs.List.{list_any}
-use Rattle.std.proofs.lemmas.Bool.{cases_Bool, cases_lt, cond-true, cond-false, true≢false}
+use Rattle.std.proofs.lemmas.Bool.{cases_Bool, cond-true, cond-false}
 use Rattle.std.proofs.lemmas.Bool.Decides.{nat_tests}
 use Rattle.std.proofs.lemmas.Option.{none-some, same_Some}
 use Rattle.pager_model.specs.declared.call.Call.TheVariants.{Map, Grow, Unmap, Protect}
@@ -9,12 +9,11 @@ use Rattle.pager_model.specs.declared.region.Kind.{Kind}
 use Rattle.pager_model.specs.declared.page_range.PageRange.{PageRange}
 use Rattle.pager_model.specs.declared.region.Region.{Region}
 use Rattle.pager_model.specs.declared.region.Rights.{Rights}
-use Rattle.pager_model.specs.declared.reply.Reply.{Reply}
-use Rattle.pager_model.specs.declared.reply.Reply.TheVariants.{Done, OutOfSpace, Overlap, NotGrowing}
+use Rattle.pager_model.specs.declared.reply.Reply.TheVariants.{Done}
 use Rattle.pager_model.specs.declared.tile.Mapping.{Mapping}
 use Rattle.pager_model.specs.declared.tile.Tile.{Tile}
 use Rattle.pager_model.specs.Flat.{is_lawful}
-use Rattle.pager_model.specs.Regions.{end_of, has_page, in_range, meets_range, region_at, with_region, grown_regions, map_reply, grow_reply, grow_reply_at, range_in}
+use Rattle.pager_model.specs.Regions.{end_of, has_page, in_range, meets_range, region_at, with_region, grown_regions, map_reply, grow_reply, range_in}
 use Rattle.pager_model.specs.SpaceStates.{pages_of, space_after}
 use Rattle.region_table.specs.Table.{IsTable, region_of}
 use Rattle.space_core.specs.Beginning.{BeginsAnswered, BeginsClearing}
@@ -127,7 +126,7 @@ module _ (number : ℕ) (regions : List Region) (t : Table) (page len : ℕ) (ki
                   };
                   base = s.base;
                   pages = pages;
-                  translates = stays before after st then_st c (record { sizes = refl; images = refl; promotions = refl; demotions = refl }) s.translates s.pages pages (record { images = refl; promotions = refl; demotions = refl }) (λ p. refl);
+                  translates = stays before after st then_st c (record { sizes = refl; images = refl; promotions = refl; demotions = refl }) s.translates s.pages pages (record { sizes = refl; images = refl; promotions = refl; demotions = refl }) (λ p. refl);
                 };
           };
           memory = λ lacking. cc;
@@ -239,7 +238,7 @@ module _ (number : ℕ) (regions : List Region) (t : Table) (page by : ℕ) (ord
                   };
                   base = s.base;
                   pages = pages;
-                  translates = stays shorter_kept longer_kept st then_st c (record { sizes = refl; images = refl; promotions = refl; demotions = refl }) s.translates s.pages pages (record { images = refl; promotions = refl; demotions = refl }) (λ p. refl);
+                  translates = stays shorter_kept longer_kept st then_st c (record { sizes = refl; images = refl; promotions = refl; demotions = refl }) s.translates s.pages pages (record { sizes = refl; images = refl; promotions = refl; demotions = refl }) (λ p. refl);
                 };
           };
           memory = λ lacking. cc;

@@ -141,7 +141,7 @@ next_stands k st after c rest at base highest pages follows s =
     let is : (p : ℕ) → pages_of after p ≡ mapping_in k.table p = λ p. pages p ∙ s.pages p in
     raised_stands k k st after (record { regions = refl; rights = λ p. refl; tells = refl; faults = omega arith }) refl rest (omega (arith, highest, s.beside.highest))
     (λ p. record { frame = refl; dirty = refl; pending = refl; paged = refl; word = λ i _. refl; copy = λ _. refl }) at base s is
-    (stays k k st after c follows s.translates s.pages is (record { images = refl; promotions = refl; demotions = refl }) (λ p. refl))
+    (stays k k st after c follows s.translates s.pages is (record { sizes = refl; images = refl; promotions = refl; demotions = refl }) (λ p. refl))
 
 -- A space where one page changed stands for a state where nothing but that page did.
 pub one_stands : (old new : Kept) (st after : SpaceState) (page : ℕ) → SameWhole old new → new.clearing ≡ old.clearing → SameRest st after → after.highest ≤ new.store.faults

@@ -90,7 +90,7 @@ module _ (old new : Kept) (only : new ≡ with_store old new.store) where
   store_reads = ap (λ (k : Kept). k.reads) only
 
   pub store_still : Still old new
-  store_still = record { images = ap (λ (k : Kept). k.images) only; promotions = ap (λ (k : Kept). k.promotions) only; demotions = ap (λ (k : Kept). k.demotions) only }
+  store_still = record { sizes = ap (λ (k : Kept). k.table.sizes) only; images = ap (λ (k : Kept). k.images) only; promotions = ap (λ (k : Kept). k.promotions) only; demotions = ap (λ (k : Kept). k.demotions) only }
 
   pub store_mapping : (p : ℕ) → mapping_in new.table p ≡ mapping_in old.table p
   store_mapping p = ap (λ (k : Kept). mapping_in k.table p) only
@@ -308,7 +308,7 @@ module _ (old : Kept) (resting : IsResting old) where
 retouches_from : (old mid new : Kept) → mid ≡ with_store old mid.store → Retouches mid new → Retouches old new
 retouches_from old mid new only r =
     let is = subst (λ (k : Kept). Retouches k new) only r in
-    record { processors = is.processors; images = is.images; promotions = is.promotions; demotions = is.demotions }
+    record { sizes = is.sizes; processors = is.processors; images = is.images; promotions = is.promotions; demotions = is.demotions }
 
 -- A page's copy is saved, and then the page is clean.
 module _ (old mid new : Kept) (page : ℕ) (written : Bool) (resting : IsResting old) (saves : Saves old mid page written) (cleans : CleansPage mid new page) where
@@ -337,6 +337,7 @@ module _ (old mid new : Kept) (page : ℕ) (written : Bool) (resting : IsResting
         let stored = store_still old mid saves.same in
         inr (
           record {
+            sizes = ap (λ (k : Kept). k.table.sizes) same ∙ stored.sizes;
             images = ap (λ (k : Kept). k.images) same ∙ stored.images;
             promotions = ap (λ (k : Kept). k.promotions) same ∙ stored.promotions;
             demotions = ap (λ (k : Kept). k.demotions) same ∙ stored.demotions;

@@ -15,8 +15,8 @@ use Rattle.pager_model.specs.Flat.{page_of, word_of, access_reply, reply_of, is_
 use Rattle.pager_model.specs.Images.{is_in_image}
 use Rattle.pager_model.specs.Regions.{region_at}
 use Rattle.pager_model.specs.SpaceStates.{SpaceState, IsResident, IsValue, IsWord, empty_state, pages_of, answered_flat, space_after}
-use Rattle.pager_model.specs.SizeSets.{SizeSet, all_sizes}
-use Rattle.pager_model.specs.Tiles.{mapping_with, mappings, tile_of, tile_in}
+use Rattle.pager_model.specs.SizeSets.{SizeSet}
+use Rattle.pager_model.specs.Tiles.{mapping_with, mappings, tile_in}
 use Rattle.pager_model.proofs.Lists.{get_or-alike}
 use Rattle.space_core.specs.Beginning.{Places, Finishes, SameRegions}
 use Rattle.space_core.specs.Keeping.{IsKept, IsMapped}
@@ -328,7 +328,7 @@ module _ (number : ℕ) (regions : List Region) (t : Table) (store : Stored) (re
   loaded = kept number regions t None None None store reads images promotions demotions broken
 
   abbrev tile_here : Option Tile
-  tile_here = tile_of (mapping_in t) (page_of address)
+  tile_here = tile_in t.sizes (mapping_in t) (page_of address)
 
   settled_here : is_settled loaded (page_of address) ≡ true
   settled_here = ap (λ b. b && true) (some_from _ resident)
@@ -355,9 +355,9 @@ module _ (number : ℕ) (regions : List Region) (t : Table) (store : Stored) (re
                 λ lawful. resident_from st.base (page_of address) _ (s.base (page_of address)) resident,
               );
               parts = refl;
-              hit = ap (λ (ts : List Tile). is_in_image ts tile_here) (sym (s.translates.images c within)) ∙ ap (λ (ps : ℕ → Option Mapping). is_in_image (st.images c) (tile_of ps (page_of address))) (sym (whole st s))
+              hit = ap (λ (ts : List Tile). is_in_image ts tile_here) (sym (s.translates.images c within)) ∙ ap (λ (ps : ℕ → Option Mapping). is_in_image (st.images c) (tile_in t.sizes ps (page_of address))) (sym (whole st s))
                   ∙ ap (λ (z : SizeSet). is_in_image (st.images c) (tile_in z (pages_of st) (page_of address))) (sym s.translates.sizes);
-              size = ap (λ (ps : ℕ → Option Mapping). option_map (λ (x : Tile). x.extent.size) (tile_of ps (page_of address))) (sym (whole st s))
+              size = ap (λ (ps : ℕ → Option Mapping). option_map (λ (x : Tile). x.extent.size) (tile_in t.sizes ps (page_of address))) (sym (whole st s))
                   ∙ ap (λ (z : SizeSet). option_map (λ (x : Tile). x.extent.size) (tile_in z (pages_of st) (page_of address))) (sym s.translates.sizes);
             };
             stands = λ st s n. record {
@@ -381,15 +381,20 @@ module _ (number : ℕ) (regions : List Region) (t : Table) (store : Stored) (re
               base = s.base;
               pages = s.pages;
               translates = stays_used loaded loaded (kept number regions t None None None store reads new_images promotions demotions broken) st (space_after st (answer_entry c n (Load number address) (record { reply = Value word; hit = is_in_image (image_at loaded c) tile_here; size = option_map (λ (x : Tile). x.extent.size) tile_here }))) c (page_of address)
-                  (record { sizes = refl; images = refl; promotions = refl; demotions = refl }) s.translates s.pages s.pages touches (record { images = refl; promotions = refl; demotions = refl }) (λ p. refl);
+                  (record { sizes = refl; images = refl; promotions = refl; demotions = refl }) s.translates s.pages s.pages refl touches (record { sizes = refl; images = refl; promotions = refl; demotions = refl }) (λ p. refl);
             };
           };
         }
 
-    pub loads : (new : Kept) → Touches loaded new c tile_here → Finishes loaded new c (Load number address) (record { reply = Value word; hit = is_in_image (image_at loaded c) tile_here; size = option_map (λ (x : Tile). x.extent.size) tile_here })
-    loads new touches =
+    loads_here : (new : Kept) → Touches loaded new c tile_here → Finishes loaded new c (Load number address) (record { reply = Value word; hit = is_in_image (image_at loaded c) tile_here; size = option_map (λ (x : Tile). x.extent.size) tile_here })
+    loads_here new touches =
         subst (λ (k : Kept). Finishes loaded k c (Load number address) (record { reply = Value word; hit = is_in_image (image_at loaded c) tile_here; size = option_map (λ (x : Tile). x.extent.size) tile_here }))
         (sym touches.same) (loads_into new.images (subst (λ (k : Kept). Touches loaded k c tile_here) touches.same touches))
+
+    pub loads : (tile : Tile) → tile_here ≡ Some tile → (new : Kept) → Touches loaded new c (Some tile) → Finishes loaded new c (Load number address) (record { reply = Value word; hit = is_in_image (image_at loaded c) (Some tile); size = Some tile.extent.size })
+    loads tile is new touches =
+        subst (λ (o : Option Tile). Finishes loaded new c (Load number address) (record { reply = Value word; hit = is_in_image (image_at loaded c) o; size = option_map (λ (x : Tile). x.extent.size) o }))
+        is (loads_here new (subst (λ (o : Option Tile). Touches loaded new c o) (sym is) touches))
 
 -- a resident page's word is written
 module _ (number : ℕ) (regions : List Region) (t u : Table) (store : Stored) (reads : ℕ) (images mid_images : List (List Tile)) (promotions mid_promotions demotions mid_demotions broken : ℕ)
@@ -440,7 +445,7 @@ module _ (number : ℕ) (regions : List Region) (t u : Table) (store : Stored) (
       ]
 
   abbrev tile_stored : Option Tile
-  tile_stored = tile_of (mapping_in u) (page_of address)
+  tile_stored = tile_in u.sizes (mapping_in u) (page_of address)
 
   -- a dirty page is dirty still, and else the pages' moves were counted
   abbrev pub Turned : Type 0
@@ -462,7 +467,7 @@ module _ (number : ℕ) (regions : List Region) (t u : Table) (store : Stored) (
     same_processors : length mid_images ≡ length images
     same_processors = elim turned [ inl still ↦ ap length still.0.images | inr retouched ↦ retouched.processors ]
 
-    stores_into : (new_images : List (List Tile)) → Touches mid (kept number regions u None None None store reads new_images mid_promotions mid_demotions broken) c tile_stored → Finishes before (kept number regions u None None None store reads new_images mid_promotions mid_demotions broken) c (Store number address word) (record { reply = Done; hit = is_in_image (image_at before c) (tile_of (mapping_in t) (page_of address)); size = option_map (λ (x : Tile). x.extent.size) tile_stored })
+    stores_into : (new_images : List (List Tile)) → Touches mid (kept number regions u None None None store reads new_images mid_promotions mid_demotions broken) c tile_stored → Finishes before (kept number regions u None None None store reads new_images mid_promotions mid_demotions broken) c (Store number address word) (record { reply = Done; hit = is_in_image (image_at before c) (tile_in t.sizes (mapping_in t) (page_of address)); size = option_map (λ (x : Tile). x.extent.size) tile_stored })
     stores_into new_images touches =
         let same : SameRegions before (kept number regions u None None None store reads new_images mid_promotions mid_demotions broken) = record {
           number = refl;
@@ -481,14 +486,15 @@ module _ (number : ℕ) (regions : List Region) (t u : Table) (store : Stored) (
             allowed = λ st s n. record {
               reply = (asked st s, λ lawful. resident_from st.base (page_of address) _ (s.base (page_of address)) resident);
               parts = refl;
-              hit = ap (λ (ts : List Tile). is_in_image ts (tile_of (mapping_in t) (page_of address))) (sym (s.translates.images c within)) ∙ ap (λ (ps : ℕ → Option Mapping). is_in_image (st.images c) (tile_of ps (page_of address))) (sym (whole st s))
+              hit = ap (λ (ts : List Tile). is_in_image ts (tile_in t.sizes (mapping_in t) (page_of address))) (sym (s.translates.images c within)) ∙ ap (λ (ps : ℕ → Option Mapping). is_in_image (st.images c) (tile_in t.sizes ps (page_of address))) (sym (whole st s))
                   ∙ ap (λ (z : SizeSet). is_in_image (st.images c) (tile_in z (pages_of st) (page_of address))) (sym s.translates.sizes);
-              size = ap (λ (ps : ℕ → Option Mapping). option_map (λ (x : Tile). x.extent.size) (tile_of ps (page_of address)))
-                  (sym (let then_whole : pages_of (space_after st (answer_entry c n (Store number address word) (record { reply = Done; hit = is_in_image (image_at before c) (tile_of (mapping_in t) (page_of address)); size = option_map (λ (x : Tile). x.extent.size) tile_stored }))) ≡ mapping_in u = λ i p. pages_stored st s n (record { reply = Done; hit = is_in_image (image_at before c) (tile_of (mapping_in t) (page_of address)); size = option_map (λ (x : Tile). x.extent.size) tile_stored }) refl p i in then_whole))
-                  ∙ ap (λ (z : SizeSet). option_map (λ (x : Tile). x.extent.size) (tile_in z (pages_of (space_after st (answer_entry c n (Store number address word) (record { reply = Done; hit = is_in_image (image_at before c) (tile_of (mapping_in t) (page_of address)); size = option_map (λ (x : Tile). x.extent.size) tile_stored })))) (page_of address))) (sym s.translates.sizes);
+              size = ap (λ (z : SizeSet). option_map (λ (x : Tile). x.extent.size) (tile_in z (mapping_in u) (page_of address))) writes.same.sizes
+                  ∙ ap (λ (ps : ℕ → Option Mapping). option_map (λ (x : Tile). x.extent.size) (tile_in t.sizes ps (page_of address)))
+                  (sym (let then_whole : pages_of (space_after st (answer_entry c n (Store number address word) (record { reply = Done; hit = is_in_image (image_at before c) (tile_in t.sizes (mapping_in t) (page_of address)); size = option_map (λ (x : Tile). x.extent.size) tile_stored }))) ≡ mapping_in u = λ i p. pages_stored st s n (record { reply = Done; hit = is_in_image (image_at before c) (tile_in t.sizes (mapping_in t) (page_of address)); size = option_map (λ (x : Tile). x.extent.size) tile_stored }) refl p i in then_whole))
+                  ∙ ap (λ (z : SizeSet). option_map (λ (x : Tile). x.extent.size) (tile_in z (pages_of (space_after st (answer_entry c n (Store number address word) (record { reply = Done; hit = is_in_image (image_at before c) (tile_in t.sizes (mapping_in t) (page_of address)); size = option_map (λ (x : Tile). x.extent.size) tile_stored })))) (page_of address))) (sym s.translates.sizes);
             };
             stands = λ st s n.
-                let then_st = space_after st (answer_entry c n (Store number address word) (record { reply = Done; hit = is_in_image (image_at before c) (tile_of (mapping_in t) (page_of address)); size = option_map (λ (x : Tile). x.extent.size) tile_stored })) in
+                let then_st = space_after st (answer_entry c n (Store number address word) (record { reply = Done; hit = is_in_image (image_at before c) (tile_in t.sizes (mapping_in t) (page_of address)); size = option_map (λ (x : Tile). x.extent.size) tile_stored })) in
                 record {
                   beside = record {
                     regions = s.beside.regions;
@@ -517,10 +523,10 @@ module _ (number : ℕ) (regions : List Region) (t u : Table) (store : Stored) (
                     highest = s.beside.highest;
                   };
                   base = λ p. s.base p ∙ sym (frame_stored p);
-                  pages = pages_stored st s n (record { reply = Done; hit = is_in_image (image_at before c) (tile_of (mapping_in t) (page_of address)); size = option_map (λ (x : Tile). x.extent.size) tile_stored }) refl;
+                  pages = pages_stored st s n (record { reply = Done; hit = is_in_image (image_at before c) (tile_in t.sizes (mapping_in t) (page_of address)); size = option_map (λ (x : Tile). x.extent.size) tile_stored }) refl;
                   translates = elim turned [
-                    | inl still ↦ stays_used before mid (kept number regions u None None None store reads new_images mid_promotions mid_demotions broken) st then_st c (page_of address) (record { sizes = refl; images = refl; promotions = refl; demotions = refl }) s.translates s.pages (pages_stored st s n (record { reply = Done; hit = is_in_image (image_at before c) (tile_of (mapping_in t) (page_of address)); size = option_map (λ (x : Tile). x.extent.size) tile_stored }) refl) touches still.0 still.1
-                    | inr retouched ↦ retouches_used before mid (kept number regions u None None None store reads new_images mid_promotions mid_demotions broken) st then_st c (page_of address) (record { sizes = refl; images = refl; promotions = refl; demotions = refl }) s.translates s.pages (pages_stored st s n (record { reply = Done; hit = is_in_image (image_at before c) (tile_of (mapping_in t) (page_of address)); size = option_map (λ (x : Tile). x.extent.size) tile_stored }) refl) touches retouched
+                    | inl still ↦ stays_used before mid (kept number regions u None None None store reads new_images mid_promotions mid_demotions broken) st then_st c (page_of address) (record { sizes = refl; images = refl; promotions = refl; demotions = refl }) s.translates s.pages (pages_stored st s n (record { reply = Done; hit = is_in_image (image_at before c) (tile_in t.sizes (mapping_in t) (page_of address)); size = option_map (λ (x : Tile). x.extent.size) tile_stored }) refl) writes.same.sizes touches still.0 still.1
+                    | inr retouched ↦ retouches_used before mid (kept number regions u None None None store reads new_images mid_promotions mid_demotions broken) st then_st c (page_of address) (record { sizes = refl; images = refl; promotions = refl; demotions = refl }) s.translates s.pages (pages_stored st s n (record { reply = Done; hit = is_in_image (image_at before c) (tile_in t.sizes (mapping_in t) (page_of address)); size = option_map (λ (x : Tile). x.extent.size) tile_stored }) refl) writes.same.sizes touches retouched
                   ];
                 };
           };
@@ -530,17 +536,23 @@ module _ (number : ℕ) (regions : List Region) (t u : Table) (store : Stored) (
         and_true true = refl
         and_true false = refl
 
-    pub stores : (new : Kept) → Touches mid new c tile_stored → Finishes before new c (Store number address word) (record { reply = Done; hit = is_in_image (image_at before c) (tile_of (mapping_in t) (page_of address)); size = option_map (λ (x : Tile). x.extent.size) tile_stored })
-    stores new touches =
-        subst (λ (k : Kept). Finishes before k c (Store number address word) (record { reply = Done; hit = is_in_image (image_at before c) (tile_of (mapping_in t) (page_of address)); size = option_map (λ (x : Tile). x.extent.size) tile_stored }))
+    stores_here : (new : Kept) → Touches mid new c tile_stored → Finishes before new c (Store number address word) (record { reply = Done; hit = is_in_image (image_at before c) (tile_in t.sizes (mapping_in t) (page_of address)); size = option_map (λ (x : Tile). x.extent.size) tile_stored })
+    stores_here new touches =
+        subst (λ (k : Kept). Finishes before k c (Store number address word) (record { reply = Done; hit = is_in_image (image_at before c) (tile_in t.sizes (mapping_in t) (page_of address)); size = option_map (λ (x : Tile). x.extent.size) tile_stored }))
         (sym touches.same) (stores_into new.images (subst (λ (k : Kept). Touches mid k c tile_stored) touches.same touches))
 
+    -- the page's tile was one, and is another or the same
+    pub stores : (was tile : Tile) → tile_in t.sizes (mapping_in t) (page_of address) ≡ Some was → tile_stored ≡ Some tile → (new : Kept) → Touches mid new c (Some tile) → Finishes before new c (Store number address word) (record { reply = Done; hit = is_in_image (image_at before c) (Some was); size = Some tile.extent.size })
+    stores was tile first then_is new touches =
+        subst (λ (o : Option Tile). Finishes before new c (Store number address word) (record { reply = Done; hit = is_in_image (image_at before c) o; size = Some tile.extent.size })) first
+        (subst (λ (o : Option Tile). Finishes before new c (Store number address word) (record { reply = Done; hit = is_in_image (image_at before c) (tile_in t.sizes (mapping_in t) (page_of address)); size = option_map (λ (x : Tile). x.extent.size) o })) then_is
+        (stores_here new (subst (λ (o : Option Tile). Touches mid new c o) (sym then_is) touches)))
+
     -- where nothing else is said of any page, the page's tile is the one before
-    pub stores_same : ((p : ℕ) → mapping_in u p ≡ mapping_in t p) → (new : Kept) → Touches mid new c tile_stored → Finishes before new c (Store number address word) (record { reply = Done; hit = is_in_image (image_at before c) tile_stored; size = option_map (λ (x : Tile). x.extent.size) tile_stored })
-    stores_same same new touches =
-        let whole : mapping_in t ≡ mapping_in u = λ i p. sym (same p) i in
-        subst (λ (ps : ℕ → Option Mapping). Finishes before new c (Store number address word) (record { reply = Done; hit = is_in_image (image_at before c) (tile_of ps (page_of address)); size = option_map (λ (x : Tile). x.extent.size) tile_stored }))
-        whole (stores new touches)
+    pub stores_same : ((p : ℕ) → mapping_in u p ≡ mapping_in t p) → (tile : Tile) → tile_in t.sizes (mapping_in t) (page_of address) ≡ Some tile → (new : Kept) → Touches mid new c (Some tile) → Finishes before new c (Store number address word) (record { reply = Done; hit = is_in_image (image_at before c) (Some tile); size = Some tile.extent.size })
+    stores_same same tile is =
+        let whole : mapping_in u ≡ mapping_in t = λ i p. same p i in
+        stores tile tile is (ap (λ (z : SizeSet). tile_in z (mapping_in u) (page_of address)) writes.same.sizes ∙ ap (λ (ps : ℕ → Option Mapping). tile_in t.sizes ps (page_of address)) whole ∙ is)
 
 -- a dirty page that is stored to has the same said of it
 pub same_stored : (t u : Table) (page index word : ℕ) → Writes page index word t u → dirty_in t page ≡ true → (p : ℕ) → mapping_in u p ≡ mapping_in t p
@@ -555,7 +567,7 @@ same_stored t u page index word writes dirty p =
     flagged (Some m) h = ap (λ d. Some (with_flag d m)) (sym h)
 
 -- a space begins with no region, no resident page and no right
-module _ (number frames processors : ℕ) (t : Table) (store : Stored) (reads : ℕ) (fresh : IsFresh frames t) where
+module _ (number frames processors : ℕ) (z : SizeSet) (t : Table) (store : Stored) (reads : ℕ) (fresh : IsFresh frames z t) where
   abbrev begun : Kept
   begun = kept number [] t None None None store reads (replicate processors []) 0 0 0
 
@@ -571,18 +583,18 @@ module _ (number frames processors : ℕ) (t : Table) (store : Stored) (reads : 
   zero_word : (i : ℕ) → 0 ≡ slice_index_or zero_words i 0
   zero_word i = sym (get_or-alike 1024 i 0)
 
-  pub begins_empty : (told : Bool) → (told ≡ true → TellsZero store) → StandsFor begun (empty_state all_sizes told store.faults)
+  pub begins_empty : (told : Bool) → (told ≡ true → TellsZero store) → StandsFor begun (empty_state z told store.faults)
   begins_empty told zero =
       record {
         beside = record {
           regions = refl;
           rights = λ p has. cc;
           dirty = λ p out. sym (dirty_in-absent t p (frame_none p));
-          told = λ tells. let z = zero tells in record {
-            tells = z.tells;
-            words = λ p i out. sym (cond-false _ _ _ (unsettled p) ∙ rw (z.zero p) (sym (zero_word i)));
-            copies = λ p out is. rw (z.zero p) zero_word;
-            copied = λ p out level. record { words = zero_words; known = z.zero p; equal = λ i. cond-false _ _ _ (unsettled p) ∙ rw (z.zero p) refl };
+          told = λ tells. let all = zero tells in record {
+            tells = all.tells;
+            words = λ p i out. sym (cond-false _ _ _ (unsettled p) ∙ rw (all.zero p) (sym (zero_word i)));
+            copies = λ p out is. rw (all.zero p) zero_word;
+            copied = λ p out level. record { words = zero_words; known = all.zero p; equal = λ i. cond-false _ _ _ (unsettled p) ∙ rw (all.zero p) refl };
           };
           tied = λ p i word said settled. absurd (none-some word said);
           untied = λ p i is. refl;
@@ -590,5 +602,5 @@ module _ (number frames processors : ℕ) (t : Table) (store : Stored) (reads : 
         };
         base = λ p. sym (frame_none p);
         pages = λ p. sym (fresh.none_resident p);
-        translates = record { sizes = refl; images = λ c within. sym (no_image c); tiles = λ c within. refl; promotions = λ low. refl; demotions = λ low. refl };
+        translates = record { sizes = sym fresh.sizes; images = λ c within. sym (no_image c); tiles = λ c within. refl; promotions = λ low. refl; demotions = λ low. refl };
       }

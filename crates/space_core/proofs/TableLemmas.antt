@@ -11,6 +11,7 @@ use Rattle.std.proofs.lemmas.Option.{none-some, same_Some}
 use Rattle.pager_model.specs.declared.region.Rights.{Rights}
 use Rattle.pager_model.specs.declared.tile.Mapping.{Mapping}
 use Rattle.pager_model.specs.Frame.{Framed}
+use Rattle.pager_model.specs.SizeSets.{SizeSet}
 use Rattle.pager_model.proofs.Lists.{get_or_within}
 use Rattle.page_rights.specs.Rights.{RightsTree, rights_of}
 use Rattle.space_core.specs.Pages.{IsFrameAt, IsPaged, IsFresh, Maps, Refills, HasWords, SetsWord, Writes, Cleans, Protects, Forgets, IsFirstResident, NoneFrom}
@@ -139,9 +140,6 @@ pub word_in-is : (t : Table) (p i : ℕ) → word_in t p i ≡ word_in_frame (fr
 unfolding word_in
 word_in-is t p i = refl
 
-pub word_in-absent : (t : Table) (p i : ℕ) → frame_in t p ≡ None → word_in t p i ≡ 0
-word_in-absent t p i h = word_in-is t p i ∙ ap (λ o. word_in_frame (frame_of t.frames o) i) h
-
 pub word_in-found : (t : Table) (p i number : ℕ) → frame_in t p ≡ Some number → word_in t p i ≡ word_in_frame (slice_index_or t.frames number None) i
 word_in-found t p i number h = word_in-is t p i ∙ ap (λ o. word_in_frame (frame_of t.frames o) i) h
 
@@ -196,7 +194,7 @@ word-same t u p i e same =
 module _ (t : Table) (paged : IsPaged t) (page k : ℕ) (given : Option Mapping) (f : Option Framed) (pages : Resident)
     (maps : MapsTo page given t.pages pages) (others : (p : ℕ) → p ≢ page → frame_in t p ≢ Some k) where
   abbrev pub moved : Table
-  moved = record { pages = pages; own = t.own; frames = slice_set t.frames k f }
+  moved = record { sizes = t.sizes; pages = pages; own = t.own; frames = slice_set t.frames k f }
 
   frame_moved-other : (p : ℕ) → p ≢ page → frame_in moved p ≡ frame_in t p
   frame_moved-other p n = frame-same t moved p (maps.at p ∙ cond-false _ _ _ (ne_eqb p page n))
@@ -211,7 +209,7 @@ module _ (t : Table) (paged : IsPaged t) (page k : ℕ) (given : Option Mapping)
   pub moved_maps : Maps page given t moved
   moved_maps =
       record {
-        same = record { count = length-set t.frames k f; own = λ p. own_in-is moved p ∙ sym (own_in-is t p) };
+        same = record { sizes = refl; count = length-set t.frames k f; own = λ p. own_in-is moved p ∙ sym (own_in-is t p) };
         mapping = maps.at;
         word = word_moved;
       }
@@ -253,7 +251,7 @@ module _ (t : Table) (paged : IsPaged t) (page k : ℕ) (given : Option Mapping)
 module _ (t : Table) (paged : IsPaged t) (page : ℕ) (m : Mapping) (f : Framed) (pages : Resident) (maps : MapsTo page (Some m) t.pages pages)
     (number : m.frame ≡ f.number) (known : f.number < length t.frames) (other : (p : ℕ) → frame_in t p ≢ Some f.number) where
   abbrev pub put_table : Table
-  put_table = record { pages = pages; own = t.own; frames = slice_set t.frames f.number (Some f) }
+  put_table = record { sizes = t.sizes; pages = pages; own = t.own; frames = slice_set t.frames f.number (Some f) }
 
   pub put_paged : IsPaged put_table
   put_paged =
@@ -269,7 +267,7 @@ others_apart t paged page k has p n e = n (paged.apart p page k e has)
 -- a resident page loses its frame
 module _ (t : Table) (paged : IsPaged t) (page k : ℕ) (pages : Resident) (maps : MapsTo page None t.pages pages) (has : frame_in t page ≡ Some k) where
   abbrev pub taken : Table
-  taken = record { pages = pages; own = t.own; frames = slice_set t.frames k None }
+  taken = record { sizes = t.sizes; pages = pages; own = t.own; frames = slice_set t.frames k None }
 
   pub take_paged : IsPaged taken
   take_paged = moved_paged t paged page k None None pages maps (others_apart t paged page k has) (λ n e. absurd (none-some n e)) (λ e. absurd (none-some k e))
@@ -281,7 +279,7 @@ module _ (t : Table) (paged : IsPaged t) (page k : ℕ) (pages : Resident) (maps
 pub maps_none : (t : Table) (page : ℕ) → frame_in t page ≡ None → Maps page None t t
 maps_none t page none =
     record {
-      same = record { count = refl; own = λ p. refl };
+      same = record { sizes = refl; count = refl; own = λ p. refl };
       mapping = λ p. elim (cases_eq p page) [
         | inl e ↦ rw e (mapping-absent t page none ∙ sym (cond-true _ _ _ (eq-eqb page page refl)))
         | inr n ↦ sym (cond-false _ _ _ (ne_eqb p page n))
@@ -292,7 +290,7 @@ maps_none t page none =
 -- The words of a resident page's frame are written.
 module _ (t : Table) (paged : IsPaged t) (page k : ℕ) (f : Framed) (has : frame_in t page ≡ Some k) (number : f.number ≡ k) where
   abbrev pub rewritten : Table
-  rewritten = record { pages = t.pages; own = t.own; frames = slice_set t.frames k (Some f) }
+  rewritten = record { sizes = t.sizes; pages = t.pages; own = t.own; frames = slice_set t.frames k (Some f) }
 
   known : k < length t.frames
   known = found_within t paged page k has
@@ -320,7 +318,7 @@ module _ (t : Table) (paged : IsPaged t) (page k : ℕ) (f : Framed) (has : fram
   pub refills : Refills page t rewritten
   refills =
       record {
-        same = record { count = length-set t.frames k (Some f); own = λ p. own_in-is rewritten p ∙ sym (own_in-is t p) };
+        same = record { sizes = refl; count = length-set t.frames k (Some f); own = λ p. own_in-is rewritten p ∙ sym (own_in-is t p) };
         mapping = λ p. refl;
         word = λ p i n.
             word_in-is rewritten p i ∙ ap (λ o. word_in_frame (frame_of (slice_set t.frames k (Some f)) o) i) (frame_rewritten p) ∙ word-other t.frames k (Some f) (frame_in t p) i (others_apart t paged page k has p n) ∙ sym (word_in-is t p i);
@@ -329,7 +327,7 @@ module _ (t : Table) (paged : IsPaged t) (page k : ℕ) (f : Framed) (has : fram
 -- What is said of pages changed, and each keeps its frame.
 module _ (t : Table) (paged : IsPaged t) (pages : Resident) (count : frames_in pages ≡ frames_in t.pages) where
   abbrev pub said : Table
-  said = record { pages = pages; own = t.own; frames = t.frames }
+  said = record { sizes = t.sizes; pages = pages; own = t.own; frames = t.frames }
 
   pub said_paged : ((p : ℕ) → frame_in said p ≡ frame_in t p) → IsPaged said
   said_paged frame = kept_paged t said paged count refl frame (λ n at. frame_at-same t said n refl at)
@@ -337,7 +335,7 @@ module _ (t : Table) (paged : IsPaged t) (pages : Resident) (count : frames_in p
 -- the flag of a page is written, where it is resident
 module _ (t : Table) (page : ℕ) (flag : Bool) (pages : Resident) (maps : MapsTo page (option_map (with_flag flag) (mapping_at t.pages page)) t.pages pages) where
   abbrev flagged : Table
-  flagged = record { pages = pages; own = t.own; frames = t.frames }
+  flagged = record { sizes = t.sizes; pages = pages; own = t.own; frames = t.frames }
 
   pub mapping_flagged : (p : ℕ) → mapping_in flagged p ≡ (if p == page then option_map (with_flag flag) (mapping_in t p) else mapping_in t p)
   mapping_flagged p = maps.at p ∙ elim (cases_eq p page) [
@@ -352,18 +350,18 @@ module _ (t : Table) (page : ℕ) (flag : Bool) (pages : Resident) (maps : MapsT
   word_flagged p i = word-same t flagged p i refl (frame_flagged p)
 
 -- and each keeps its frame
-pub flagged_paged : (t : Table) → IsPaged t → (page : ℕ) (flag : Bool) (pages : Resident) (maps : MapsTo page (option_map (with_flag flag) (mapping_at t.pages page)) t.pages pages) → IsPaged (record { pages = pages; own = t.own; frames = t.frames })
+pub flagged_paged : (t : Table) → IsPaged t → (page : ℕ) (flag : Bool) (pages : Resident) (maps : MapsTo page (option_map (with_flag flag) (mapping_at t.pages page)) t.pages pages) → IsPaged (record { sizes = t.sizes; pages = pages; own = t.own; frames = t.frames })
 flagged_paged t paged page flag pages maps = said_paged t paged pages maps.frames (frame_flagged t page flag pages maps)
 
-pub cleans : (t : Table) (page : ℕ) (pages : Resident) (maps : MapsTo page (option_map (with_flag false) (mapping_at t.pages page)) t.pages pages) → Cleans page t (record { pages = pages; own = t.own; frames = t.frames })
+pub cleans : (t : Table) (page : ℕ) (pages : Resident) (maps : MapsTo page (option_map (with_flag false) (mapping_at t.pages page)) t.pages pages) → Cleans page t (record { sizes = t.sizes; pages = pages; own = t.own; frames = t.frames })
 cleans t page pages maps =
-    record { same = record { count = refl; own = λ p. own_in-is _ p ∙ sym (own_in-is t p) }; mapping = mapping_flagged t page false pages maps; word = word_flagged t page false pages maps }
+    record { same = record { sizes = refl; count = refl; own = λ p. own_in-is _ p ∙ sym (own_in-is t p) }; mapping = mapping_flagged t page false pages maps; word = word_flagged t page false pages maps }
 
 -- a clean page is clean as it is
 pub cleans_none : (t : Table) (page : ℕ) → dirty_in t page ≡ false → Cleans page t t
 cleans_none t page clean =
     record {
-      same = record { count = refl; own = λ p. refl };
+      same = record { sizes = refl; count = refl; own = λ p. refl };
       mapping = λ p. elim (cases_eq p page) [
         | inl e ↦ rw e (sym (cond-true _ _ _ (eq-eqb page page refl) ∙ unflagged (mapping_in t page) (sym (dirty_in-is t page) ∙ clean)))
         | inr n ↦ sym (cond-false _ _ _ (ne_eqb p page n))
@@ -408,25 +406,26 @@ sets_dirty page index w t u dirty sets =
     flagged_already (Some m) h = ap (λ d. Some (with_flag d m)) (sym h)
 
 -- and a page that becomes dirty first has it then
-pub sets_flagged : (t : Table) (page index w : ℕ) (pages : Resident) (maps : MapsTo page (option_map (with_flag true) (mapping_at t.pages page)) t.pages pages) (u : Table) → SetsWord page index w (record { pages = pages; own = t.own; frames = t.frames }) u → Writes page index w t u
+pub sets_flagged : (t : Table) (page index w : ℕ) (pages : Resident) (maps : MapsTo page (option_map (with_flag true) (mapping_at t.pages page)) t.pages pages) (u : Table) → SetsWord page index w (record { sizes = t.sizes; pages = pages; own = t.own; frames = t.frames }) u → Writes page index w t u
 sets_flagged t page index w pages maps u sets =
     record {
-      same = record { count = sets.same.count; own = λ p. sets.same.own p ∙ own_in-is _ p ∙ sym (own_in-is t p) };
+      same = record { sizes = sets.same.sizes; count = sets.same.count; own = λ p. sets.same.own p ∙ own_in-is _ p ∙ sym (own_in-is t p) };
       mapping = λ p. ap (λ (r : Resident). mapping_at r p) sets.pages ∙ mapping_flagged t page true pages maps p;
       word = λ p i. sets.word p i ∙ ap (λ n. if (p == page) && (i == index) then w else n) (word_flagged t page true pages maps p i);
     }
 
 -- a table of empty places
-module _ (t : Table) (frames : ℕ) (count : frames_in t.pages ≡ frames) (none : (p : ℕ) → mapping_at t.pages p ≡ None) (own : (p : ℕ) → rights_of t.own p ≡ None) (places : t.frames ≡ replicate frames None) where
+module _ (t : Table) (frames : ℕ) (z : SizeSet) (sizes : t.sizes ≡ z) (count : frames_in t.pages ≡ frames) (none : (p : ℕ) → mapping_at t.pages p ≡ None) (own : (p : ℕ) → rights_of t.own p ≡ None) (places : t.frames ≡ replicate frames None) where
   none_resident : (p : ℕ) → frame_in t p ≡ None
   none_resident p = frame-absent t p (none p)
 
   place_count : length t.frames ≡ frames
   place_count = ap length places ∙ length-replicate {A = Option Framed} frames None
 
-  pub fresh : IsFresh frames t
+  pub fresh : IsFresh frames z t
   fresh =
       record {
+        sizes = sizes;
         count = place_count;
         none_resident = none;
         none_own = λ p. own_in-is t p ∙ own p;
@@ -444,7 +443,7 @@ module _ (t : Table) (frames : ℕ) (count : frames_in t.pages ≡ frames) (none
 -- the pages of a range get these rights of their own, or none
 module _ (t : Table) (first len : ℕ) (rights : Option Rights) (own : RightsTree) (set : (p : ℕ) → rights_of own p ≡ (if in_range first len p then rights else rights_of t.own p)) where
   abbrev pub owning : Table
-  owning = record { pages = t.pages; own = own; frames = t.frames }
+  owning = record { sizes = t.sizes; pages = t.pages; own = own; frames = t.frames }
 
   frame_owning : (p : ℕ) → frame_in owning p ≡ frame_in t p
   frame_owning p = frame-same t owning p refl
@@ -461,7 +460,7 @@ module _ (t : Table) (first len : ℕ) (rights : Option Rights) (own : RightsTre
 -- no page of the range keeps rights of its own
 pub forgets : (t : Table) (first len : ℕ) (own : RightsTree) (set : (p : ℕ) → rights_of own p ≡ (if in_range first len p then None else rights_of t.own p)) → Forgets first len t (owning t first len None own set)
 forgets t first len own set =
-    record { count = refl; mapping = λ p. refl; word = word_owning t first len None own set; own = own_owning t first len None own set }
+    record { sizes = refl; count = refl; mapping = λ p. refl; word = word_owning t first len None own set; own = own_owning t first len None own set }
 
 -- the pages of the range have rights of their own, and it is said of the resident ones
 module _ (t : Table) (first len : ℕ) (rights : Rights) (own : RightsTree) (set : (p : ℕ) → rights_of own p ≡ (if in_range first len p then Some rights else rights_of t.own p)) (pages : Resident) (protects : ProtectsIn first len rights t.pages pages) where
@@ -469,7 +468,7 @@ module _ (t : Table) (first len : ℕ) (rights : Rights) (own : RightsTree) (set
   mid = owning t first len (Some rights) own set
 
   abbrev pub protected : Table
-  protected = record { pages = pages; own = own; frames = t.frames }
+  protected = record { sizes = t.sizes; pages = pages; own = own; frames = t.frames }
 
   frame_protected : (p : ℕ) → frame_in protected p ≡ frame_in mid p
   frame_protected p =
@@ -478,6 +477,7 @@ module _ (t : Table) (first len : ℕ) (rights : Rights) (own : RightsTree) (set
   pub protects_range : Protects first len rights t protected
   protects_range =
       record {
+        sizes = refl;
         count = refl;
         mapping = protects.at;
         word = λ p i. word-same mid protected p i refl (frame_protected p) ∙ word_owning t first len (Some rights) own set p i;

@@ -1,7 +1,6 @@
 -- What becomes of what a space and a state have in common of translations, as pages change and tiles are used.
 use Rattle.std.proofs.Common.{◌≡◌, ℕ, ◌+◌, ◌<◌, ◌≤◌, Bool, true, false, ◌==◌, not, ◌||◌, nat_lt, min, if◌then◌else◌, List, [], ◌∷◌, filter, map, length, slice_index_or, Option, Some, None, is_some, option_map, refl, sym, ap, subst, inl, inr, ◌∙◌, arith}
-use Rattle.std.specs.List.{list_any}
-use Rattle.std.proofs.lemmas.Bool.{eqb-true, cases_Bool, cases_lt, cond-true, cond-false}
+use Rattle.std.proofs.lemmas.Bool.{cases_Bool, cases_lt, cond-true, cond-false}
 use Rattle.std.proofs.lemmas.Bool.Decides.{nat_tests}
 use Rattle.std.proofs.lemmas.List.{get_or-map, length-map}
 use Rattle.std.proofs.Math.Nat.{min-eq_left, min-eq_right}
@@ -13,18 +12,17 @@ use Rattle.pager_model.specs.declared.tile.Tile.{Tile}
 use Rattle.pager_model.specs.Images.{still_tiles, touched_by, images_with}
 use Rattle.pager_model.specs.Regions.{region_at}
 use Rattle.pager_model.specs.SpaceStates.{SpaceState, last_count, pages_of}
-use Rattle.pager_model.specs.SizeSets.{SizeSet, all_sizes}
-use Rattle.pager_model.specs.Tiles.{mapping_with, same_tile, is_tile, tile_of, tile_in, promotions_between, demotions_between, promotions_in, demotions_in}
+use Rattle.pager_model.specs.SizeSets.{SizeSet}
+use Rattle.pager_model.specs.Tiles.{mapping_with, is_tile_in, tile_in, promotions_in, demotions_in}
 use Rattle.space_core.specs.Keeping.{IsMapped}
 use Rattle.space_core.specs.Standing.{Kept, Translates, image_at, frame_at, dirty_at, rights_at, rights_by}
 use Rattle.space_core.specs.Tables.{Table, mapping_in, own_in}
-use Rattle.space_core.specs.Translating.{Retouches, Touches, counted_up, untouched_tiles, without}
+use Rattle.space_core.specs.Translating.{Retouches, Touches, counted_up, untouched_tiles}
 use Rattle.space_core.proofs.TableLemmas.{frame-absent, frame-mapped, dirty-mapped}
 use Rattle.tiles.specs.declared.moves.Moves.{Moves}
-use Rattle.tiles.specs.Changes.{AreChanges, Came, PageChange, gone_of}
-use Rattle.tiles.specs.Resident.{AreMoves, with_flag}
-use Rattle.tiles.specs.Touched.{KeepsOutside, is_touched}
-use Rattle.tiles.proofs.PageChanges.{stays_where}
+use Rattle.tiles.specs.Resident.{with_flag}
+use Rattle.tiles.specs.Sized.{AreMovesIn, KeepsOutsideIn}
+use Rattle.tiles.specs.Touched.{is_touched}
 use Rattle.tiles.proofs.Cleared.{no_promotions, no_demotions}
 use Rattle.pager_laws.proofs.ImageTiles.{touched_if, still_again, used_at, IsUsed}
 
@@ -60,24 +58,25 @@ pub record Follows (st after : SpaceState) (c : ℕ) (tile : Option Tile) : Type
   pub promotions : after.promotions ≡ st.promotions + promotions_in st.sizes (pages_of st) (pages_of after)
   pub demotions : after.demotions ≡ st.demotions + demotions_in st.sizes (pages_of st) (pages_of after)
 
--- the same where there are all four sizes
-record FollowsAll (st after : SpaceState) (c : ℕ) (tile : Option Tile) : Type 0 where
-  sizes : after.sizes ≡ all_sizes
-  images : after.images ≡ images_with all_sizes (pages_of after) c tile st.images
-  promotions : after.promotions ≡ st.promotions + promotions_between (pages_of st) (pages_of after)
-  demotions : after.demotions ≡ st.demotions + demotions_between (pages_of st) (pages_of after)
+-- the same by these sizes
+record FollowsIn (z : SizeSet) (st after : SpaceState) (c : ℕ) (tile : Option Tile) : Type 0 where
+  sizes : after.sizes ≡ z
+  images : after.images ≡ images_with z (pages_of after) c tile st.images
+  promotions : after.promotions ≡ st.promotions + promotions_in z (pages_of st) (pages_of after)
+  demotions : after.demotions ≡ st.demotions + demotions_in z (pages_of st) (pages_of after)
 
-follows_all : (st after : SpaceState) (c : ℕ) (tile : Option Tile) → st.sizes ≡ all_sizes → Follows st after c tile → FollowsAll st after c tile
-follows_all st after c tile all f =
+follows_in : (z : SizeSet) (st after : SpaceState) (c : ℕ) (tile : Option Tile) → st.sizes ≡ z → Follows st after c tile → FollowsIn z st after c tile
+follows_in z st after c tile same f =
     record {
-      sizes = f.sizes ∙ all;
-      images = f.images ∙ ap (λ (z : SizeSet). images_with z (pages_of after) c tile st.images) all;
-      promotions = f.promotions ∙ ap (λ (z : SizeSet). st.promotions + promotions_in z (pages_of st) (pages_of after)) all;
-      demotions = f.demotions ∙ ap (λ (z : SizeSet). st.demotions + demotions_in z (pages_of st) (pages_of after)) all;
+      sizes = f.sizes ∙ same;
+      images = f.images ∙ ap (λ (y : SizeSet). images_with y (pages_of after) c tile st.images) same;
+      promotions = f.promotions ∙ ap (λ (y : SizeSet). st.promotions + promotions_in y (pages_of st) (pages_of after)) same;
+      demotions = f.demotions ∙ ap (λ (y : SizeSet). st.demotions + demotions_in y (pages_of st) (pages_of after)) same;
     }
 
--- the images and the counts are as before
+-- the page sizes, the images and the counts are as before
 pub record Still (old new : Kept) : Type 0 where
+  pub sizes : new.table.sizes ≡ old.table.sizes
   pub images : new.images ≡ old.images
   pub promotions : new.promotions ≡ old.promotions
   pub demotions : new.demotions ≡ old.demotions
@@ -86,24 +85,28 @@ pub record Still (old new : Kept) : Type 0 where
 pub same_translates : (old new : Kept) (st : SpaceState) → Still old new → Translates old st → Translates new st
 same_translates old new st still s =
     record {
-      sizes = s.sizes;
+      sizes = s.sizes ∙ sym still.sizes;
       images = λ c within. s.images c (omega (arith, ap length still.images)) ∙ ap (λ (is : List (List Tile)). slice_index_or is c []) (sym still.images);
-      tiles = λ c within. s.tiles c (omega (arith, ap length still.images));
+      tiles = λ c within. ap (λ (z : SizeSet). still_tiles z (pages_of st) (st.images c)) still.sizes ∙ s.tiles c (omega (arith, ap length still.images));
       promotions = λ low. still.promotions ∙ s.promotions low;
       demotions = λ low. still.demotions ∙ s.demotions low;
     }
 
 -- the images of a space that a state stands for have tiles alone
-tiles_before : (old : Kept) (st : SpaceState) → Translates old st → ((p : ℕ) → pages_of st p ≡ mapping_in old.table p) → (i : ℕ) → i < length old.images → still_tiles all_sizes (mapping_in old.table) (image_at old i) ≡ image_at old i
+tiles_before : (old : Kept) (st : SpaceState) → Translates old st → ((p : ℕ) → pages_of st p ≡ mapping_in old.table p) → (i : ℕ) → i < length old.images → still_tiles old.table.sizes (mapping_in old.table) (image_at old i) ≡ image_at old i
 tiles_before old st s was i within =
     let pages : pages_of st ≡ mapping_in old.table = λ j p. was p j in
-    ap (λ (ps : ℕ → Option Mapping). still_tiles all_sizes ps (image_at old i)) (sym pages) ∙ ap (still_tiles all_sizes (pages_of st)) (sym (s.images i within)) ∙ s.tiles i within ∙ s.images i within
+    ap (λ (ps : ℕ → Option Mapping). still_tiles old.table.sizes ps (image_at old i)) (sym pages) ∙ ap (still_tiles old.table.sizes (pages_of st)) (sym (s.images i within)) ∙ s.tiles i within ∙ s.images i within
 
 -- The pages of a state become the space's.
-module _ (old new : Kept) (st after : SpaceState) (c : ℕ) (tile : Option Tile) (known : Follows st after c tile) (used : IsUsed all_sizes (pages_of after) tile)
-    (s : Translates old st) (was : (p : ℕ) → pages_of st p ≡ mapping_in old.table p) (is : (p : ℕ) → pages_of after p ≡ mapping_in new.table p) where
-  follows : FollowsAll st after c tile
-  follows = follows_all st after c tile s.sizes known
+module _ (old new : Kept) (st after : SpaceState) (c : ℕ) (tile : Option Tile) (known : Follows st after c tile) (used : IsUsed old.table.sizes (pages_of after) tile)
+    (s : Translates old st) (was : (p : ℕ) → pages_of st p ≡ mapping_in old.table p) (is : (p : ℕ) → pages_of after p ≡ mapping_in new.table p)
+    (same_sizes : new.table.sizes ≡ old.table.sizes) where
+  abbrev z : SizeSet
+  z = old.table.sizes
+
+  follows : FollowsIn z st after c tile
+  follows = follows_in z st after c tile s.sizes known
 
   pages_before : pages_of st ≡ mapping_in old.table
   pages_before i p = was p i
@@ -111,34 +114,34 @@ module _ (old new : Kept) (st after : SpaceState) (c : ℕ) (tile : Option Tile)
   pages_then : pages_of after ≡ mapping_in new.table
   pages_then i p = is p i
 
-  between : promotions_between (pages_of st) (pages_of after) ≡ promotions_between (mapping_in old.table) (mapping_in new.table)
-  between = ap (λ (ps : ℕ → Option Mapping). promotions_between ps (pages_of after)) pages_before ∙ ap (λ (ps : ℕ → Option Mapping). promotions_between (mapping_in old.table) ps) pages_then
+  between : promotions_in z (pages_of st) (pages_of after) ≡ promotions_in z (mapping_in old.table) (mapping_in new.table)
+  between = ap (λ (ps : ℕ → Option Mapping). promotions_in z ps (pages_of after)) pages_before ∙ ap (λ (ps : ℕ → Option Mapping). promotions_in z (mapping_in old.table) ps) pages_then
 
-  broken : demotions_between (pages_of st) (pages_of after) ≡ demotions_between (mapping_in old.table) (mapping_in new.table)
-  broken = ap (λ (ps : ℕ → Option Mapping). demotions_between ps (pages_of after)) pages_before ∙ ap (λ (ps : ℕ → Option Mapping). demotions_between (mapping_in old.table) ps) pages_then
+  broken : demotions_in z (pages_of st) (pages_of after) ≡ demotions_in z (mapping_in old.table) (mapping_in new.table)
+  broken = ap (λ (ps : ℕ → Option Mapping). demotions_in z ps (pages_of after)) pages_before ∙ ap (λ (ps : ℕ → Option Mapping). demotions_in z (mapping_in old.table) ps) pages_then
 
-  image_then : (i : ℕ) → i < length old.images → after.images i ≡ touched_by (if i == c then tile else None) (still_tiles all_sizes (mapping_in new.table) (image_at old i))
+  image_then : (i : ℕ) → i < length old.images → after.images i ≡ touched_by (if i == c then tile else None) (still_tiles z (mapping_in new.table) (image_at old i))
   image_then i within =
       ap (λ (f : ℕ → List Tile). f i) follows.images
-      ∙ ap (λ (ps : ℕ → Option Mapping). touched_by (if i == c then tile else None) (still_tiles all_sizes ps (st.images i))) pages_then
-      ∙ ap (λ (ts : List Tile). touched_by (if i == c then tile else None) (still_tiles all_sizes (mapping_in new.table) ts)) (s.images i within)
+      ∙ ap (λ (ps : ℕ → Option Mapping). touched_by (if i == c then tile else None) (still_tiles z ps (st.images i))) pages_then
+      ∙ ap (λ (ts : List Tile). touched_by (if i == c then tile else None) (still_tiles z (mapping_in new.table) ts)) (s.images i within)
 
-  tiles_then : (i : ℕ) → still_tiles all_sizes (pages_of after) (after.images i) ≡ after.images i
+  tiles_then : (i : ℕ) → still_tiles z (pages_of after) (after.images i) ≡ after.images i
   tiles_then i =
-      let at : after.images i ≡ touched_by (if i == c then tile else None) (still_tiles all_sizes (pages_of after) (st.images i)) = ap (λ (f : ℕ → List Tile). f i) follows.images in
-      rw at (touched_if all_sizes (pages_of after) (i == c) tile (still_tiles all_sizes (pages_of after) (st.images i)) used (still_again all_sizes (pages_of after) (st.images i)))
+      let at : after.images i ≡ touched_by (if i == c then tile else None) (still_tiles z (pages_of after) (st.images i)) = ap (λ (f : ℕ → List Tile). f i) follows.images in
+      rw at (touched_if z (pages_of after) (i == c) tile (still_tiles z (pages_of after) (st.images i)) used (still_again z (pages_of after) (st.images i)))
 
   -- the pages changed, and the moves were counted
   pub translates_moved : length new.images ≡ length old.images
-      → ((i : ℕ) → i < length old.images → image_at new i ≡ touched_by (if i == c then tile else None) (still_tiles all_sizes (mapping_in new.table) (image_at old i)))
-      → new.promotions ≡ counted_up old.promotions (promotions_between (mapping_in old.table) (mapping_in new.table))
-      → new.demotions ≡ counted_up old.demotions (demotions_between (mapping_in old.table) (mapping_in new.table))
+      → ((i : ℕ) → i < length old.images → image_at new i ≡ touched_by (if i == c then tile else None) (still_tiles z (mapping_in new.table) (image_at old i)))
+      → new.promotions ≡ counted_up old.promotions (promotions_in z (mapping_in old.table) (mapping_in new.table))
+      → new.demotions ≡ counted_up old.demotions (demotions_in z (mapping_in old.table) (mapping_in new.table))
       → Translates new after
   translates_moved processors images promotions demotions =
       record {
-        sizes = follows.sizes;
+        sizes = follows.sizes ∙ sym same_sizes;
         images = λ i within. image_then i (omega (arith, processors)) ∙ sym (images i (omega (arith, processors)));
-        tiles = λ i within. tiles_then i;
+        tiles = λ i within. ap (λ (y : SizeSet). still_tiles y (pages_of after) (after.images i)) same_sizes ∙ tiles_then i;
         promotions = λ low. promotions ∙ ap (counted_up old.promotions) (sym between) ∙ counted_to last_count old.promotions st.promotions _ s.promotions (omega (arith, follows.promotions, low)) ∙ sym follows.promotions;
         demotions = λ low. demotions ∙ ap (counted_up old.demotions) (sym broken) ∙ counted_to last_count old.demotions st.demotions _ s.demotions (omega (arith, follows.demotions, low)) ∙ sym follows.demotions;
       }
@@ -150,16 +153,16 @@ module _ (old new : Kept) (st after : SpaceState) (c : ℕ) (tile : Option Tile)
   translates_still processors same images promotions demotions =
       let pages : (p : ℕ) → mapping_in new.table p ≡ pages_of st p = λ p. same p ∙ sym (was p) in
       let whole : mapping_in new.table ≡ pages_of st = λ i p. pages p i in
-      let kept : (i : ℕ) → i < length old.images → still_tiles all_sizes (mapping_in new.table) (image_at old i) ≡ image_at old i = λ i within.
-      ap (λ (ps : ℕ → Option Mapping). still_tiles all_sizes ps (image_at old i)) whole ∙ ap (still_tiles all_sizes (pages_of st)) (sym (s.images i within)) ∙ s.tiles i within ∙ s.images i within in
-      let none : promotions_between (pages_of st) (pages_of after) ≡ 0 = no_promotions (pages_of st) (pages_of after) (λ p. is p ∙ pages p) in
-      let none_broken : demotions_between (pages_of st) (pages_of after) ≡ 0 = no_demotions (pages_of st) (pages_of after) (λ p. is p ∙ pages p) in
+      let kept : (i : ℕ) → i < length old.images → still_tiles z (mapping_in new.table) (image_at old i) ≡ image_at old i = λ i within.
+      ap (λ (ps : ℕ → Option Mapping). still_tiles z ps (image_at old i)) whole ∙ ap (still_tiles z (pages_of st)) (sym (s.images i within)) ∙ s.tiles i within ∙ s.images i within in
+      let none : promotions_in z (pages_of st) (pages_of after) ≡ 0 = no_promotions z (pages_of st) (pages_of after) (λ p. is p ∙ pages p) in
+      let none_broken : demotions_in z (pages_of st) (pages_of after) ≡ 0 = no_demotions z (pages_of st) (pages_of after) (λ p. is p ∙ pages p) in
       record {
-        sizes = follows.sizes;
+        sizes = follows.sizes ∙ sym same_sizes;
         images = λ i within.
             let w : i < length old.images = omega (arith, processors) in
             image_then i w ∙ ap (touched_by (if i == c then tile else None)) (kept i w) ∙ sym (images i w);
-        tiles = λ i within. tiles_then i;
+        tiles = λ i within. ap (λ (y : SizeSet). still_tiles y (pages_of after) (after.images i)) same_sizes ∙ tiles_then i;
         promotions = λ low. promotions ∙ same_count last_count old.promotions st.promotions after.promotions _ none s.promotions follows.promotions low;
         demotions = λ low. demotions ∙ same_count last_count old.demotions st.demotions after.demotions _ none_broken s.demotions follows.demotions low;
       }
@@ -170,32 +173,32 @@ module _ (old new : Kept) (st after : SpaceState) (c : ℕ) (follows : Follows s
   -- no page changed
   pub stays : Still old new → ((p : ℕ) → mapping_in new.table p ≡ mapping_in old.table p) → Translates new after
   stays still same =
-      translates_still old new st after c None follows tt s was is (ap length still.images) same
+      translates_still old new st after c None follows tt s was is still.sizes (ap length still.images) same
       (λ i within. ap (λ (ts : List (List Tile)). slice_index_or ts i []) still.images ∙ sym (untouched (i == c) (image_at old i)))
       still.promotions still.demotions
 
   -- pages changed
   pub retouches : Retouches old new → Translates new after
   retouches retouched =
-      translates_moved old new st after c None follows tt s was is retouched.processors
-      (λ i within. retouched.images i within (tiles_before old st s was i within) ∙ sym (untouched (i == c) (still_tiles all_sizes (mapping_in new.table) (image_at old i))))
+      translates_moved old new st after c None follows tt s was is retouched.sizes retouched.processors
+      (λ i within. retouched.images i within (tiles_before old st s was i within) ∙ sym (untouched (i == c) (still_tiles old.table.sizes (mapping_in new.table) (image_at old i))))
       retouched.promotions retouched.demotions
 
 -- The pages of a range were cleared one after another: the tiles that meet it were counted before, and the images keep what is a tile still.
-pub translates_cleared : (old new : Kept) (st after : SpaceState) (c lost : ℕ) → Follows st after c None → Translates old st → ((p : ℕ) → pages_of after p ≡ mapping_in new.table p)
-    → length new.images ≡ length old.images → ((i : ℕ) → i < length old.images → image_at new i ≡ still_tiles all_sizes (mapping_in new.table) (image_at old i))
-    → promotions_between (pages_of st) (pages_of after) ≡ 0 → demotions_between (pages_of st) (pages_of after) ≡ lost
+pub translates_cleared : (old new : Kept) (st after : SpaceState) (c lost : ℕ) → Follows st after c None → Translates old st → ((p : ℕ) → pages_of after p ≡ mapping_in new.table p) → new.table.sizes ≡ old.table.sizes
+    → length new.images ≡ length old.images → ((i : ℕ) → i < length old.images → image_at new i ≡ still_tiles old.table.sizes (mapping_in new.table) (image_at old i))
+    → promotions_in old.table.sizes (pages_of st) (pages_of after) ≡ 0 → demotions_in old.table.sizes (pages_of st) (pages_of after) ≡ lost
     → new.promotions ≡ old.promotions → new.demotions ≡ counted_up old.demotions lost → Translates new after
-translates_cleared old new st after c lost known s is processors images none broken promotions demotions =
-    let follows : FollowsAll st after c None = follows_all st after c None s.sizes known in
+translates_cleared old new st after c lost known s is same_sizes processors images none broken promotions demotions =
+    let follows : FollowsIn old.table.sizes st after c None = follows_in old.table.sizes st after c None s.sizes known in
     let whole : pages_of after ≡ mapping_in new.table = λ i p. is p i in
-    let at : (i : ℕ) → after.images i ≡ still_tiles all_sizes (pages_of after) (st.images i) = λ i. ap (λ (f : ℕ → List Tile). f i) follows.images ∙ untouched (i == c) (still_tiles all_sizes (pages_of after) (st.images i)) in
+    let at : (i : ℕ) → after.images i ≡ still_tiles old.table.sizes (pages_of after) (st.images i) = λ i. ap (λ (f : ℕ → List Tile). f i) follows.images ∙ untouched (i == c) (still_tiles old.table.sizes (pages_of after) (st.images i)) in
     record {
-      sizes = follows.sizes;
+      sizes = follows.sizes ∙ sym same_sizes;
       images = λ i within.
           let w : i < length old.images = omega (arith, processors) in
-          at i ∙ ap (λ (ps : ℕ → Option Mapping). still_tiles all_sizes ps (st.images i)) whole ∙ ap (still_tiles all_sizes (mapping_in new.table)) (s.images i w) ∙ sym (images i w);
-      tiles = λ i within. rw (at i) (still_again all_sizes (pages_of after) (st.images i));
+          at i ∙ ap (λ (ps : ℕ → Option Mapping). still_tiles old.table.sizes ps (st.images i)) whole ∙ ap (still_tiles old.table.sizes (mapping_in new.table)) (s.images i w) ∙ sym (images i w);
+      tiles = λ i within. ap (λ (z : SizeSet). still_tiles z (pages_of after) (after.images i)) same_sizes ∙ rw (at i) (still_again old.table.sizes (pages_of after) (st.images i));
       promotions = λ low. promotions ∙ same_count last_count old.promotions st.promotions after.promotions _ none s.promotions follows.promotions low;
       demotions = λ low.
           let total : after.demotions ≡ st.demotions + lost = follows.demotions ∙ ap (λ n. st.demotions + n) broken in
@@ -204,36 +207,43 @@ translates_cleared old new st after c lost known s is processors images none bro
 
 -- And where the processor used a page's tile then.
 module _ (old mid new : Kept) (st after : SpaceState) (c page : ℕ) (known : Follows st after c (tile_in st.sizes (pages_of after) page)) (s : Translates old st)
-    (was : (p : ℕ) → pages_of st p ≡ mapping_in old.table p) (is : (p : ℕ) → pages_of after p ≡ mapping_in new.table p) (touches : Touches mid new c (tile_of (mapping_in mid.table) page)) where
-  follows_used : Follows st after c (tile_of (pages_of after) page)
+    (was : (p : ℕ) → pages_of st p ≡ mapping_in old.table p) (is : (p : ℕ) → pages_of after p ≡ mapping_in new.table p) (mid_sizes : mid.table.sizes ≡ old.table.sizes) (touches : Touches mid new c (tile_in mid.table.sizes (mapping_in mid.table) page)) where
+  abbrev used_tile : Option Tile
+  used_tile = tile_in old.table.sizes (pages_of after) page
+
+  follows_used : Follows st after c used_tile
   follows_used = subst (λ (z : SizeSet). Follows st after c (tile_in z (pages_of after) page)) s.sizes known
 
   same_table : new.table ≡ mid.table
   same_table = ap (λ (k : Kept). k.table) touches.same
 
-  used_tile_is : tile_of (mapping_in mid.table) page ≡ tile_of (pages_of after) page
+  new_sizes : new.table.sizes ≡ old.table.sizes
+  new_sizes = ap (λ (t : Table). t.sizes) same_table ∙ mid_sizes
+
+  used_tile_is : tile_in mid.table.sizes (mapping_in mid.table) page ≡ used_tile
   used_tile_is =
-      ap (λ (t : Table). tile_of (mapping_in t) page) (sym same_table) ∙ sym (ap (λ (ps : ℕ → Option Mapping). tile_of ps page) (let whole : pages_of after ≡ mapping_in new.table = λ i p. is p i in whole))
+      ap (λ (z : SizeSet). tile_in z (mapping_in mid.table) page) mid_sizes ∙ ap (λ (t : Table). tile_in old.table.sizes (mapping_in t) page) (sym same_table)
+      ∙ sym (ap (λ (ps : ℕ → Option Mapping). tile_in old.table.sizes ps page) (let whole : pages_of after ≡ mapping_in new.table = λ i p. is p i in whole))
 
-  is_used : IsUsed all_sizes (pages_of after) (tile_of (pages_of after) page)
-  is_used = used_at all_sizes (pages_of after) page (tile_of (pages_of after) page) refl
+  is_used : IsUsed old.table.sizes (pages_of after) used_tile
+  is_used = used_at old.table.sizes (pages_of after) page used_tile refl
 
-  image_used : (i : ℕ) → i < length mid.images → image_at new i ≡ touched_by (if i == c then tile_of (pages_of after) page else None) (image_at mid i)
+  image_used : (i : ℕ) → i < length mid.images → image_at new i ≡ touched_by (if i == c then used_tile else None) (image_at mid i)
   image_used i within = touches.images i within ∙ ap (λ (o : Option Tile). touched_by (if i == c then o else None) (image_at mid i)) used_tile_is
 
   pub stays_used : Still old mid → ((p : ℕ) → mapping_in mid.table p ≡ mapping_in old.table p) → Translates new after
   stays_used still same =
-      translates_still old new st after c (tile_of (pages_of after) page) follows_used is_used s was is (touches.processors ∙ ap length still.images)
+      translates_still old new st after c used_tile follows_used is_used s was is new_sizes (touches.processors ∙ ap length still.images)
       (λ p. ap (λ (t : Table). mapping_in t p) same_table ∙ same p)
-      (λ i within. image_used i (omega (arith, ap length still.images)) ∙ ap (λ (ts : List (List Tile)). touched_by (if i == c then tile_of (pages_of after) page else None) (slice_index_or ts i [])) still.images)
+      (λ i within. image_used i (omega (arith, ap length still.images)) ∙ ap (λ (ts : List (List Tile)). touched_by (if i == c then used_tile else None) (slice_index_or ts i [])) still.images)
       (ap (λ (k : Kept). k.promotions) touches.same ∙ still.promotions) (ap (λ (k : Kept). k.demotions) touches.same ∙ still.demotions)
 
   pub retouches_used : Retouches old mid → Translates new after
   retouches_used retouched =
-      translates_moved old new st after c (tile_of (pages_of after) page) follows_used is_used s was is (touches.processors ∙ retouched.processors)
-      (λ i within. image_used i (omega (arith, retouched.processors)) ∙ ap (touched_by (if i == c then tile_of (pages_of after) page else None)) (retouched.images i within (tiles_before old st s was i within) ∙ ap (λ (t : Table). still_tiles all_sizes (mapping_in t) (image_at old i)) (sym same_table)))
-      (ap (λ (k : Kept). k.promotions) touches.same ∙ retouched.promotions ∙ ap (λ (t : Table). counted_up old.promotions (promotions_between (mapping_in old.table) (mapping_in t))) (sym same_table))
-      (ap (λ (k : Kept). k.demotions) touches.same ∙ retouched.demotions ∙ ap (λ (t : Table). counted_up old.demotions (demotions_between (mapping_in old.table) (mapping_in t))) (sym same_table))
+      translates_moved old new st after c used_tile follows_used is_used s was is new_sizes (touches.processors ∙ retouched.processors)
+      (λ i within. image_used i (omega (arith, retouched.processors)) ∙ ap (touched_by (if i == c then used_tile else None)) (retouched.images i within (tiles_before old st s was i within) ∙ ap (λ (t : Table). still_tiles old.table.sizes (mapping_in t) (image_at old i)) (sym same_table)))
+      (ap (λ (k : Kept). k.promotions) touches.same ∙ retouched.promotions ∙ ap (λ (t : Table). counted_up old.promotions (promotions_in old.table.sizes (mapping_in old.table) (mapping_in t))) (sym same_table))
+      (ap (λ (k : Kept). k.demotions) touches.same ∙ retouched.demotions ∙ ap (λ (t : Table). counted_up old.demotions (demotions_in old.table.sizes (mapping_in old.table) (mapping_in t))) (sym same_table))
 
 -- two tests that answer alike for what a third one passes keep the same of it
 filter_alike : (passes test other : Tile → Bool) (ts : List Tile) → ((t : Tile) → passes t ≡ true → test t ≡ other t) → filter test (filter passes ts) ≡ filter other (filter passes ts)
@@ -248,68 +258,42 @@ filter_alike passes test other (t ∷ ts) alike =
     ]
 
 -- of an image that had tiles alone it is what is a tile still, where no other tile went
-untouched_still : (range : PageRange) (old new : ℕ → Option Mapping) (ts : List Tile) → KeepsOutside range old new → still_tiles all_sizes old ts ≡ ts → untouched_tiles range new ts ≡ still_tiles all_sizes new ts
-untouched_still range old new ts keeps had =
-    ap (untouched_tiles range new) (sym had)
-    ∙ filter_alike (is_tile old) (λ t. not (is_touched range t.extent.first) || is_tile new t) (is_tile new) ts (λ t is. alike (is_touched range t.extent.first) (is_tile new t) (keeps t is))
-    ∙ ap (still_tiles all_sizes new) had
+untouched_still : (z : SizeSet) (range : PageRange) (old new : ℕ → Option Mapping) (ts : List Tile) → KeepsOutsideIn z range old new → still_tiles z old ts ≡ ts → untouched_tiles z range new ts ≡ still_tiles z new ts
+untouched_still z range old new ts keeps had =
+    ap (untouched_tiles z range new) (sym had)
+    ∙ filter_alike (is_tile_in z old) (λ t. not (is_touched range t.extent.first) || is_tile_in z new t) (is_tile_in z new) ts (λ t is. alike (is_touched range t.extent.first) (is_tile_in z new t) (keeps t is))
+    ∙ ap (still_tiles z new) had
   where
     alike : (inside tile : Bool) → (inside ≡ false → tile ≡ true) → (not inside || tile) ≡ tile
     alike true tile keeps = refl
     alike false tile keeps = sym (keeps refl)
 
 -- an empty range leaves all of them alone
-pub untouched_none : (range : PageRange) (pages : ℕ → Option Mapping) (images : List (List Tile)) → range.length ≡ 0 → map (untouched_tiles range pages) images ≡ images
-untouched_none range pages images none = all images
+pub untouched_none : (z : SizeSet) (range : PageRange) (pages : ℕ → Option Mapping) (images : List (List Tile)) → range.length ≡ 0 → map (untouched_tiles z range pages) images ≡ images
+untouched_none z range pages images none = all images
   where
     outside : (q : ℕ) → is_touched range q ≡ false
     outside q = grind (arith, nat_tests)
 
-    one : (ts : List Tile) → untouched_tiles range pages ts ≡ ts
+    one : (ts : List Tile) → untouched_tiles z range pages ts ≡ ts
     one [] = refl
-    one (t ∷ ts) = cond-true _ _ _ (ap (λ b. not b || is_tile pages t) (outside t.extent.first)) ∙ ap (λ us. t ∷ us) (one ts)
+    one (t ∷ ts) = cond-true _ _ _ (ap (λ b. not b || is_tile_in z pages t) (outside t.extent.first)) ∙ ap (λ us. t ∷ us) (one ts)
 
-    all : (is : List (List Tile)) → map (untouched_tiles range pages) is ≡ is
+    all : (is : List (List Tile)) → map (untouched_tiles z range pages) is ≡ is
     all [] = refl
-    all (ts ∷ is) = ap (λ us. us ∷ map (untouched_tiles range pages) is) (one ts) ∙ ap (λ us. ts ∷ us) (all is)
-
--- of an image that had tiles alone it is what is a tile still, without those that went
-without_gone : (gone : List Tile) (old new : ℕ → Option Mapping) (ts : List Tile) → Came new old gone → still_tiles all_sizes old ts ≡ ts → without gone ts ≡ still_tiles all_sizes new ts
-without_gone gone old new ts went had =
-    ap (without gone) (sym had) ∙ filter_alike (is_tile old) (λ t. not (list_any (same_tile t) gone)) (is_tile new) ts (λ t is. stays_where new old gone t went is) ∙ ap (still_tiles all_sizes new) had
-
--- all of it, where none went
-pub without_none : (gone : List Tile) (images : List (List Tile)) → gone ≡ [] → map (without gone) images ≡ images
-without_none gone images none = ap (λ (ts : List Tile). map (without ts) images) none ∙ all images
-  where
-    one : (ts : List Tile) → without [] ts ≡ ts
-    one [] = refl
-    one (t ∷ ts) = ap (λ us. t ∷ us) (one ts)
-
-    all : (is : List (List Tile)) → map (without []) is ≡ is
-    all [] = refl
-    all (ts ∷ is) = ap (λ us. us ∷ map (without []) is) (one ts) ∙ ap (λ us. ts ∷ us) (all is)
-
--- the tiles that went are in no image, and the moves were counted
-pub retouched_one : (old new : Kept) (changes : PageChange) → AreChanges old.table.pages new.table.pages changes → new.images ≡ map (without (gone_of changes)) old.images
-    → new.promotions ≡ counted_up old.promotions changes.moves.promotions → new.demotions ≡ counted_up old.demotions changes.moves.demotions → Retouches old new
-retouched_one old new changes are images promotions demotions =
-    record {
-      processors = ap length images ∙ length-map old.images (without (gone_of changes));
-      images = λ c within had. ap (λ (ts : List (List Tile)). slice_index_or ts c []) images ∙ get_or-map (without (gone_of changes)) old.images c [] [] within
-          ∙ without_gone (gone_of changes) (mapping_in old.table) (mapping_in new.table) (image_at old c) are.gone had;
-      promotions = promotions ∙ ap (counted_up old.promotions) are.moves.promotions;
-      demotions = demotions ∙ ap (counted_up old.demotions) are.moves.demotions;
-    }
+    all (ts ∷ is) = ap (λ us. us ∷ map (untouched_tiles z range pages) is) (one ts) ∙ ap (λ us. ts ∷ us) (all is)
 
 -- the moves were counted, and each image keeps what they left alone and what is a tile still
-pub retouched_by : (old new : Kept) (moves : Moves) → AreMoves old.table.pages new.table.pages moves → new.images ≡ map (untouched_tiles moves.touched (mapping_in new.table)) old.images → new.promotions ≡ counted_up old.promotions moves.promotions → new.demotions ≡ counted_up old.demotions moves.demotions → Retouches old new
-retouched_by old new moves are images promotions demotions =
-    let kept = untouched_tiles moves.touched (mapping_in new.table) in
+pub retouched_by : (old new : Kept) (moves : Moves) → new.table.sizes ≡ old.table.sizes → AreMovesIn old.table.sizes (mapping_in old.table) (mapping_in new.table) moves
+    → new.images ≡ map (untouched_tiles new.table.sizes moves.touched (mapping_in new.table)) old.images → new.promotions ≡ counted_up old.promotions moves.promotions → new.demotions ≡ counted_up old.demotions moves.demotions → Retouches old new
+retouched_by old new moves same_sizes are images promotions demotions =
+    let kept = untouched_tiles old.table.sizes moves.touched (mapping_in new.table) in
+    let images_are : new.images ≡ map kept old.images = images ∙ ap (λ (z : SizeSet). map (untouched_tiles z moves.touched (mapping_in new.table)) old.images) same_sizes in
     record {
-      processors = ap length images ∙ length-map old.images kept;
-      images = λ c within had. ap (λ (ts : List (List Tile)). slice_index_or ts c []) images ∙ get_or-map kept old.images c [] [] within
-          ∙ untouched_still moves.touched (mapping_in old.table) (mapping_in new.table) (image_at old c) are.outside had;
+      sizes = same_sizes;
+      processors = ap length images_are ∙ length-map old.images kept;
+      images = λ c within had. ap (λ (ts : List (List Tile)). slice_index_or ts c []) images_are ∙ get_or-map kept old.images c [] [] within
+          ∙ untouched_still old.table.sizes moves.touched (mapping_in old.table) (mapping_in new.table) (image_at old c) are.outside had;
       promotions = promotions ∙ ap (counted_up old.promotions) are.promotions;
       demotions = demotions ∙ ap (counted_up old.demotions) are.demotions;
     }

@@ -20,6 +20,9 @@ use Rattle.space_core.specs.declared.space.Found.TheVariants.{Refused, Absent, R
 use Rattle.space_core.specs.Standing.{Kept, StandsFor, StandsBut, IsResting, MustWrite, range_of, frame_at, rights_at, dirty_at, is_allowed, is_unwired, copied_page}
 use Rattle.pager_model.specs.CallEntries.{answer_entry, evict_entry, take_entry, give_entry, clear_entry, out_entry, failed_entry}
 use Rattle.pager_model.specs.Stored.{keeps_at}
+use Rattle.pager_model.specs.Tiles.{tile_in}
+use Rattle.space_core.specs.Tables.{mapping_in}
+use Rattle.tiles.specs.declared.base.Translation.{Translation}
 use Rattle.store_core.specs.MemoryState.{one_more}
 use Rattle.pager_model.specs.Bounds.{space_pages}
 
@@ -76,11 +79,16 @@ pub record BeginsNeedingFrame (old new : Kept) (call : Call) (page : ℕ) (want 
 abbrev pub NeedsNoFrame : Kept → Call → Type 0
 NeedsNoFrame kept call = is_allowed kept call ≡ true → IfSome (access_page call) (λ page. frame_at kept page ≢ None)
 
+-- The page is resident, with this mapping and this tile by the space's sizes.
+pub record IsMappedBy (kept : Kept) (page : ℕ) (found : Translation) : Type 0 where
+  pub mapping : mapping_in kept.table page ≡ Some found.mapping
+  pub tile : tile_in kept.table.sizes (mapping_in kept.table) page ≡ Some found.tile
+
 -- What there is at the page of a load or a store: it is refused, its page isn't resident, or its page is.
 abbrev pub Finds : Kept → Call → ℕ → Found → Type 0
 Finds kept call page (Refused reply) = NeedsNoFrame kept call × (IsResting kept → (c : ℕ) → BeginsAnswered kept kept c call (record { reply = reply; hit = false; size = None }))
 Finds kept call page (Absent want) = NeedsItsFrame kept call page want
-Finds kept call page Resident = (is_allowed kept call ≡ true) × IfSome (access_page call) (λ p. frame_at kept p ≢ None)
+Finds kept call page (Resident found) = (is_allowed kept call ≡ true) × IfSome (access_page call) (λ p. IsMappedBy kept p found)
 
 -- the region that the unmap of a page is of, with this range
 pub record IsUnmapping (kept : Kept) (call : Call) (first len : ℕ) : Type 0 where

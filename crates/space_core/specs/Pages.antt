@@ -7,6 +7,7 @@ use Rattle.pager_model.specs.declared.tile.Mapping.{Mapping}
 use Rattle.pager_model.specs.Flat.{can_read, can_write}
 use Rattle.pager_model.specs.Frame.{Framed}
 use Rattle.pager_model.specs.Regions.{in_range}
+use Rattle.pager_model.specs.SizeSets.{SizeSet}
 use Rattle.space_core.specs.Tables.{Table, mapping_in, frame_in, word_in, own_in}
 use Rattle.tiles.specs.Resident.{frames_in, with_rights, with_flag}
 use Rattle.pager_model.specs.Bounds.{most_frames}
@@ -24,13 +25,15 @@ pub record IsPaged (table : Table) : Type 0 where
   pub found : (page number : ℕ) → frame_in table page ≡ Some number → IsFrameAt table number
   pub apart : (p q number : ℕ) → frame_in table p ≡ Some number → frame_in table q ≡ Some number → p ≡ q
 
--- no page is resident, and none has rights of its own
-pub record IsFresh (frames : ℕ) (table : Table) : Type 0 where
+-- its tiles have these sizes, no page is resident, and none has rights of its own
+pub record IsFresh (frames : ℕ) (z : SizeSet) (table : Table) : Type 0 where
+  pub sizes : table.sizes ≡ z
   pub count : length table.frames ≡ frames
   pub none_resident : (p : ℕ) → mapping_in table p ≡ None
   pub none_own : (p : ℕ) → own_in table p ≡ None
 
 pub record SameOwn (old new : Table) : Type 0 where
+  pub sizes : new.sizes ≡ old.sizes
   pub count : length new.frames ≡ length old.frames
   pub own : (p : ℕ) → own_in new p ≡ own_in old p
 
@@ -70,6 +73,7 @@ pub record Cleans (page : ℕ) (old new : Table) : Type 0 where
 
 -- the pages of the range have these rights, and all else is as before
 pub record Protects (first len : ℕ) (rights : Rights) (old new : Table) : Type 0 where
+  pub sizes : new.sizes ≡ old.sizes
   pub count : length new.frames ≡ length old.frames
   pub mapping : (p : ℕ) → mapping_in new p ≡ (if in_range first len p then option_map (with_rights rights) (mapping_in old p) else mapping_in old p)
   pub word : (p i : ℕ) → word_in new p i ≡ word_in old p i
@@ -77,6 +81,7 @@ pub record Protects (first len : ℕ) (rights : Rights) (old new : Table) : Type
 
 -- the pages of the range have no rights of their own, and all else is as before
 pub record Forgets (first len : ℕ) (old new : Table) : Type 0 where
+  pub sizes : new.sizes ≡ old.sizes
   pub count : length new.frames ≡ length old.frames
   pub mapping : (p : ℕ) → mapping_in new p ≡ mapping_in old p
   pub word : (p i : ℕ) → word_in new p i ≡ word_in old p i

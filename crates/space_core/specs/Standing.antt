@@ -11,13 +11,12 @@ use Rattle.pager_model.specs.declared.tile.Tile.{Tile}
 use Rattle.pager_model.specs.Flat.{page_of, can_read, can_write}
 use Rattle.pager_model.specs.Regions.{in_range, region_at, is_wired}
 use Rattle.pager_model.specs.Images.{still_tiles}
-use Rattle.pager_model.specs.SizeSets.{all_sizes}
 use Rattle.pager_model.specs.SpaceStates.{SpaceState, pages_of, last_count}
 use Rattle.pager_model.specs.TraceText.{IsCall}
 use Rattle.pager_model.specs.Stored.{Stored, copy_at}
 use Rattle.pager_model.specs.Stores.{IsCopy}
 use Rattle.space_core.specs.Tables.{Table, mapping_in, frame_in, word_in, own_in, dirty_in}
-use Rattle.tiles.specs.Resident.{large_tiles_meeting}
+use Rattle.tiles.specs.Sized.{large_tiles_meeting_in}
 
 pub record Kept : Type 0 where
   -- the space's number
@@ -125,12 +124,12 @@ pub record StandsBeside (aside : ℕ → Bool) (kept : Kept) (state : SpaceState
   -- no fault that was told is above those that the store had
   pub highest : state.highest ≤ kept.store.faults
 
--- What a space and a state have in common of translations: all four sizes of pages; each processor's image, which has tiles of the
+-- What a space and a state have in common of translations: the page sizes; each processor's image, which has tiles of the
 -- resident pages alone; and the counts of promotions and demotions, up to their type's end.
 pub record Translates (kept : Kept) (state : SpaceState) : Type 0 where
-  pub sizes : state.sizes ≡ all_sizes
+  pub sizes : state.sizes ≡ kept.table.sizes
   pub images : (c : ℕ) → c < length kept.images → state.images c ≡ image_at kept c
-  pub tiles : (c : ℕ) → c < length kept.images → still_tiles all_sizes (pages_of state) (state.images c) ≡ state.images c
+  pub tiles : (c : ℕ) → c < length kept.images → still_tiles kept.table.sizes (pages_of state) (state.images c) ≡ state.images c
   pub promotions : state.promotions ≤ last_count → kept.promotions ≡ state.promotions
   pub demotions : state.demotions ≤ last_count → kept.demotions ≡ state.demotions
 
@@ -155,7 +154,7 @@ pub record StandsBut (first len : ℕ) (kept : Kept) (state : SpaceState) : Type
   pub pages : (page : ℕ) → in_range first len page ≡ false → pages_of state page ≡ mapping_in kept.table page
   pub translates : Translates kept state
   pub not_begun : is_clearing kept.clearing first len ≡ false → (page : ℕ) → pages_of state page ≡ mapping_in kept.table page
-  pub counted : is_clearing kept.clearing first len ≡ true → kept.broken ≡ large_tiles_meeting first len (pages_of state)
+  pub counted : is_clearing kept.clearing first len ≡ true → kept.broken ≡ large_tiles_meeting_in kept.table.sizes first len (pages_of state)
 
 -- Calls.
 

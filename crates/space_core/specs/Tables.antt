@@ -6,9 +6,12 @@ use Rattle.pager_model.specs.declared.region.Rights.{Rights}
 use Rattle.pager_model.specs.declared.tile.Mapping.{Mapping}
 use Rattle.page_rights.specs.Rights.{RightsTree, rights_of}
 use Rattle.pager_model.specs.Frame.{Framed}
+use Rattle.pager_model.specs.SizeSets.{SizeSet}
 use Rattle.tiles.specs.Resident.{Resident, mapping_at, frame_of_page}
 
 pub record Table : Type 0 where
+  -- which page sizes its tiles have
+  pub sizes : SizeSet
   -- the resident pages, and the tiles that they make
   pub pages : Resident
   -- of each page its own rights, where a protect gave it any

@@ -1,37 +1,33 @@
 -- What becomes of a space's translations as its pages change and are used.
 use Rattle.std.specs.Prelude.{ℕ, ◌≡◌, ◌+◌, ◌<◌, ◌==◌, true, false, not, ◌||◌, nat_lt, if◌then◌else◌, List, filter, length, Option, Some, None}
-use Rattle.std.specs.List.{list_any}
 use Rattle.pager_model.specs.declared.page_range.PageRange.{PageRange}
 use Rattle.pager_model.specs.declared.tile.Mapping.{Mapping}
 use Rattle.pager_model.specs.declared.tile.Tile.{Tile}
 use Rattle.pager_model.specs.Images.{still_tiles, touched_by}
 use Rattle.pager_model.specs.SpaceStates.{last_count}
-use Rattle.pager_model.specs.SizeSets.{all_sizes}
-use Rattle.pager_model.specs.Tiles.{same_tile, is_tile, promotions_between, demotions_between}
+use Rattle.pager_model.specs.SizeSets.{SizeSet}
+use Rattle.pager_model.specs.Tiles.{is_tile_in, promotions_in, demotions_in}
 use Rattle.space_core.specs.Pages.{Cleans}
 use Rattle.space_core.specs.Standing.{Kept, range_of, image_at, dirty_at, is_clearing}
 use Rattle.space_core.specs.Tables.{mapping_in}
-use Rattle.tiles.specs.Resident.{large_tiles_meeting}
+use Rattle.tiles.specs.Sized.{large_tiles_meeting_in}
 use Rattle.tiles.specs.Touched.{is_touched}
 
 -- a count that stands still at its type's end
 abbrev pub counted_up : ℕ → ℕ → ℕ
 counted_up count by = if nat_lt (count + by) last_count then count + by else last_count
 
--- what begins outside of the range, or is a tile of these pages
-abbrev pub untouched_tiles : PageRange → (ℕ → Option Mapping) → List Tile → List Tile
-untouched_tiles range pages image = filter (λ t. not (is_touched range t.extent.first) || is_tile pages t) image
+-- what begins outside of the range, or is a tile of these pages by these sizes
+abbrev pub untouched_tiles : SizeSet → PageRange → (ℕ → Option Mapping) → List Tile → List Tile
+untouched_tiles z range pages image = filter (λ t. not (is_touched range t.extent.first) || is_tile_in z pages t) image
 
--- the image without the tiles that went
-abbrev pub without : List Tile → List Tile → List Tile
-without gone image = filter (λ t. not (list_any (same_tile t) gone)) image
-
--- The pages changed: each image that had tiles alone keeps what is a tile still, and the moves are counted.
+-- The pages changed, and the page sizes didn't: each image that had tiles alone keeps what is a tile still, and the moves are counted.
 pub record Retouches (old new : Kept) : Type 0 where
+  pub sizes : new.table.sizes ≡ old.table.sizes
   pub processors : length new.images ≡ length old.images
-  pub images : (c : ℕ) → c < length old.images → still_tiles all_sizes (mapping_in old.table) (image_at old c) ≡ image_at old c → image_at new c ≡ still_tiles all_sizes (mapping_in new.table) (image_at old c)
-  pub promotions : new.promotions ≡ counted_up old.promotions (promotions_between (mapping_in old.table) (mapping_in new.table))
-  pub demotions : new.demotions ≡ counted_up old.demotions (demotions_between (mapping_in old.table) (mapping_in new.table))
+  pub images : (c : ℕ) → c < length old.images → still_tiles old.table.sizes (mapping_in old.table) (image_at old c) ≡ image_at old c → image_at new c ≡ still_tiles old.table.sizes (mapping_in new.table) (image_at old c)
+  pub promotions : new.promotions ≡ counted_up old.promotions (promotions_in old.table.sizes (mapping_in old.table) (mapping_in new.table))
+  pub demotions : new.demotions ≡ counted_up old.demotions (demotions_in old.table.sizes (mapping_in old.table) (mapping_in new.table))
 
 -- nothing but the table of pages, the images and the counts of moves is changed
 abbrev pub ChangesPages : Kept → Kept → Type 0
@@ -55,4 +51,4 @@ pub record BeginsClear (old new : Kept) (first len : ℕ) : Type 0 where
   pub same : new ≡ record old { clearing = new.clearing; broken = new.broken }
   pub begun : new.clearing ≡ Some (range_of first len)
   pub went_on : is_clearing old.clearing first len ≡ true → new.broken ≡ old.broken
-  pub counted : is_clearing old.clearing first len ≡ false → new.broken ≡ large_tiles_meeting first len (mapping_in old.table)
+  pub counted : is_clearing old.clearing first len ≡ false → new.broken ≡ large_tiles_meeting_in old.table.sizes first len (mapping_in old.table)

@@ -1,8 +1,10 @@
 //! The words of one frame.
 
 ghost use Rattle.std.specs.Prelude.{◌≡◌, ◌<◌, true, length, replicate, slice_index_or, slice_set};
+ghost use Rattle.store_core.specs.CopiedWords.{copied_words};
 
 use pager_model::Frame;
+use store_core::Copied;
 
 /// A word of a frame.
 pub fn word(frame: &Frame, index: usize) -> u64
@@ -24,8 +26,19 @@ pub fn set_word(frame: &mut Frame, index: usize, word: u64)
     frame.words_mut()[index] = word;
 }
 
+/// Makes the copy that a read told of the frame's words.
+pub fn set_copied(frame: &mut Frame, copied: Copied, words: &[u64])
+    requires { length words.now ≡ 1024 }
+    ensures { frame.new ≡ record { number = frame.old.number; words = copied_words copied words.now } }
+{
+    match copied {
+        Copied::Words => set_words(frame, words),
+        Copied::Zeros => frame.clear(),
+    }
+}
+
 /// Makes these words the frame's. Where they are zero nothing is written, so that a page never written uses no memory.
-pub fn set_words(frame: &mut Frame, words: &[u64])
+fn set_words(frame: &mut Frame, words: &[u64])
     requires { length words.now ≡ 1024 }
     ensures { frame.new ≡ record { number = frame.old.number; words = words.now } }
 {

@@ -5,7 +5,7 @@ ghost use Rattle.space_core.specs.Pages.{IsFresh};
 ghost use Rattle.pager_model.specs.Bounds.{most_frames};
 
 use crate::table::PageTable;
-use pager_model::NoMemory;
+use pager_model::{NoMemory, Sizes};
 use std::alloc::Global;
 use std::marker::Model;
 use tlb_images::Image;
@@ -26,18 +26,23 @@ impl Model for SpaceRoom {
 
     ghost Value = { Capacity };
 
-    ghost view = { λ r. record { frames = length r.table.frames; processors = length r.images.items } };
+    ghost view = { λ r. record { frames = length r.table.frames; processors = length r.images.items; sizes = r.table.sizes } };
 
-    ghost invariant = { λ r. IsFresh (length r.table.frames) r.table × (r.images.items ≡ replicate (length r.images.items) []) };
+    ghost invariant = { λ r. IsFresh (length r.table.frames) r.table.sizes r.table × (r.images.items ≡ replicate (length r.images.items) []) };
 }
 
 impl SpaceRoom {
-    /// Room for a space whose pages have so many frames, with an image for each of so many processors.
-    pub fn create(alloc: Global, frames: u32, processors: u32) -> Result<SpaceRoom, NoMemory>
+    /// Room for a space whose pages have so many frames, with an image for each of so many processors, and whose tiles have these sizes.
+    pub fn create(
+        alloc: Global,
+        frames: u32,
+        processors: u32,
+        sizes: Sizes,
+    ) -> Result<SpaceRoom, NoMemory>
         requires { frames ≤ most_frames }
-        ensures { IfOk result (λ room. room ≡ record { frames = frames; processors = processors }) }
+        ensures { IfOk result (λ room. room ≡ record { frames = frames; processors = processors; sizes = sizes }) }
     {
-        let table = PageTable::create(alloc, frames)?;
+        let table = PageTable::create(alloc, frames, sizes)?;
         let mut images = Vec::with_capacity(alloc, processors as usize)?;
         for _ in 0..processors {
             images.push(Image::create())?;
@@ -47,7 +52,7 @@ impl SpaceRoom {
 
     /// The table of its pages, and the images.
     pub fn into_parts(self) -> (PageTable, Vec<Image>)
-        ensures table { IsFresh self.frames result.0 }
+        ensures table { IsFresh self.frames self.sizes result.0 }
         ensures images { result.1.items ≡ replicate self.processors [] }
     {
         (self.table, self.images)

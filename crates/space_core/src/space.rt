@@ -4,19 +4,17 @@ ghost use Rattle.pager_model.specs.Flat.{page_of, space_of_call};
 ghost use Rattle.pager_model.specs.Order.{is_access};
 ghost use Rattle.pager_model.specs.Images.{is_in_image, still_tiles, touched};
 ghost use Rattle.pager_model.specs.Regions.{region_at};
-ghost use Rattle.pager_model.specs.SizeSets.{all_sizes};
-ghost use Rattle.pager_model.specs.Tiles.{tile_of, tiles_of_size};
+ghost use Rattle.pager_model.specs.Tiles.{tile_count_in};
 ghost use Rattle.pager_model.specs.SpaceStates.{empty_state, access_page};
 ghost use Rattle.pager_model.specs.Stored.{TellsZero};
-ghost use Rattle.space_core.specs.Beginning.{Begins, Finds, NeedsItsFrame, NeedsNoFrame, Places, ReadsIn, FailsToRead, Finishes, WritesOut, FailsToWrite, LeavesUnwritten, Removes, IsEvicting, Evicts, copied_reply};
+ghost use Rattle.space_core.specs.Beginning.{Begins, Finds, IsMappedBy, NeedsItsFrame, NeedsNoFrame, Places, ReadsIn, FailsToRead, Finishes, WritesOut, FailsToWrite, LeavesUnwritten, Removes, IsEvicting, Evicts, copied_reply};
 ghost use Rattle.space_core.specs.Beginning.{NoneResident, ClearsOne, ClearsNone, Unmapped};
 ghost use Rattle.space_core.specs.Pages.{Maps};
 ghost use Rattle.space_core.specs.Saving.{Saves, FailsToSave, LacksRoom, unwritten_by};
 ghost use Rattle.space_core.specs.Standing.{StandsFor, IsResting, range_of, frame_at, dirty_at, image_at, rights_by, is_allowed, CanBegin};
 ghost use Rattle.space_core.specs.Tables.{mapping_in, own_in};
-ghost use Rattle.tiles.specs.Changes.{gone_of};
 ghost use Rattle.tiles.specs.Touched.{is_touched};
-ghost use Rattle.space_core.specs.Translating.{counted_up, untouched_tiles, without, Retouches, ChangesPages, CleansPage, Touches, BeginsClear};
+ghost use Rattle.space_core.specs.Translating.{counted_up, untouched_tiles, Retouches, ChangesPages, CleansPage, Touches, BeginsClear};
 ghost use Rattle.pager_model.specs.Bounds.{space_bytes, space_pages};
 
 use crate::access::{accessed_page, answered, page_of, permits, want_in, word_of};
@@ -26,7 +24,7 @@ use pager_model::{Answered, Call, Frame, Kind, PageRange, Region, Reply, Rights,
 use region_table::Regions;
 use std::marker::Model;
 use store_core::{Store, StoreFailed, WriteRefused};
-use tiles::{Changes, Moves};
+use tiles::{Moves, Translation};
 use tlb_images::Image;
 
 /// What a call needs first.
@@ -51,8 +49,8 @@ pub(crate) enum Found {
     Refused(Reply),
     /// The access is allowed, and the page isn't resident; its region wants this of a frame for it.
     Absent(Want),
-    /// The access is allowed, and the page is resident.
-    Resident,
+    /// The access is allowed, and the page is resident and mapped by this.
+    Resident(Translation),
 }
 
 /// Why a page was not paged out: it stays resident and dirty.
@@ -115,12 +113,12 @@ impl<S: Store + Send + Drop> Model for Space<S> {
 }
 
 impl<S: Store + Send + Drop> Space<S> {
-    /// A space without regions, in this room and over this store. It takes no memory.
+    /// A space without regions, in this room, with its page sizes, and over this store. It takes no memory.
     pub fn over(number: u32, room: SpaceRoom, store: S) -> Space<S>
         requires few { number < 16 }
         ensures made { (result.number ≡ number) × (result.frames ≡ room.frames) × (length result.images ≡ room.processors) × (result.store ≡ S.seen store) × IsResting result }
         ensures unread { result.reads ≡ S.reads store }
-        ensures stands { (told : Bool) → (told ≡ true → TellsZero result.store) → StandsFor result (empty_state all_sizes told result.store.faults) }
+        ensures stands { (told : Bool) → (told ≡ true → TellsZero result.store) → StandsFor result (empty_state room.sizes told result.store.faults) }
     {
         let (table, images) = room.into_parts();
         Space {
@@ -189,7 +187,7 @@ impl<S: Store + Send + Drop> Space<S> {
         let page = accessed_page(call)?;
         match self.look(page, call) {
             Found::Absent(want) => Some((page, want)),
-            Found::Refused(_) | Found::Resident => None,
+            Found::Refused(_) | Found::Resident(_) => None,
         }
     }
 
@@ -207,9 +205,9 @@ impl<S: Store + Send + Drop> Space<S> {
             unreachable!()
         };
         let rights = self.rights(page, region);
-        let changes = self.table.put(page, frame, region.first, rights);
+        let moves = self.table.put(page, frame, region.first, rights);
         self.pending = Some(page);
-        self.follow(&changes);
+        self.follow(moves);
     }
 
     /// Reads the copy of the pending page in. Where the store's read fails, the error is its count of faults, and the page stays pending.
@@ -238,11 +236,13 @@ impl<S: Store + Send + Drop> Space<S> {
         requires resident { IfSome (access_page call.now) (λ page. frame_at self.old page ≢ None) }
         ensures { Finishes self.old self.new processor call.now result }
     {
-        match *call {
-            Call::Load { address, .. } => self.load(processor, address),
-            Call::Store { address, word, .. } => self.store(processor, address, word),
-            _ => unreachable!(),
-        }
+        let Some(page) = accessed_page(call) else {
+            unreachable!()
+        };
+        let Some(found) = self.table.translate(page) else {
+            unreachable!()
+        };
+        self.finish_by(processor, call, found)
     }
 
     /// Makes a resident page equal to its copy, and tells whether it was dirty and its copy was written.
@@ -319,8 +319,8 @@ impl<S: Store + Send + Drop> Space<S> {
         answered(Reply::Done)
     }
 
-    /// Goes on with the clearing of a range, or begins it, where the large tiles that meet it are counted first. None of its pages before the
-    /// result is resident.
+    /// Goes on with the clearing of a range, or begins it, where the large tiles that meet it are counted first, which is none where no page of it
+    /// is resident. None of its pages before the result is resident.
     fn begin_clearing(&mut self, range: PageRange) -> u32
         requires in_space { range.first + range.length ≤ space_pages }
         requires none_pending { self.old.pending ≡ None }
@@ -331,10 +331,16 @@ impl<S: Store + Send + Drop> Space<S> {
         if self.clearing == Some(range) {
             return self.scan;
         }
-        self.broken = self.table.tiles_meeting(range.first, range.length);
+        let end = range.first + range.length;
         self.clearing = Some(range);
-        self.scan = range.first;
-        range.first
+        let Some(page) = self.table.first_resident(range.first, end) else {
+            self.broken = 0;
+            self.scan = end;
+            return end;
+        };
+        self.broken = self.table.tiles_meeting(range.first, range.length);
+        self.scan = page;
+        page
     }
 
     /// Maps a region, or refuses to.
@@ -389,7 +395,7 @@ impl<S: Store + Send + Drop> Space<S> {
             return Begun::Answered(answered(Reply::Unmapped));
         }
         let moves = self.table.protect(page, length, rights);
-        self.retouch(moves);
+        self.follow(moves);
         Begun::Answered(answered(Reply::Done))
     }
 
@@ -408,16 +414,32 @@ impl<S: Store + Send + Drop> Space<S> {
         match self.look(page, call) {
             Found::Refused(refusal) => Begun::Answered(answered(refusal)),
             Found::Absent(want) => Begun::NeedsFrame { page, want },
-            Found::Resident => Begun::Answered(self.finish(processor, call)),
+            Found::Resident(found) => Begun::Answered(self.finish_by(processor, call, found)),
         }
     }
 
-    /// What there is at the page of a load or a store.
+    /// What there is at the page of a load or a store. A resident page is mapped with its rights, so its region isn't looked for.
     fn look(&self, page: u32, call: &Call) -> Found
         requires space { space_of_call call.now ≡ self.now.number }
         requires can { CanBegin call.now }
         requires page { access_page call.now ≡ Some page }
         requires in_space { page < space_pages }
+        ensures { Finds self.now call.now page result }
+    {
+        match self.table.translate(page) {
+            Some(found) if permits(found.mapping.rights, call) => Found::Resident(found),
+            Some(_) => Found::Refused(Reply::Denied),
+            None => self.look_at_region(page, call),
+        }
+    }
+
+    /// The same for a page that isn't resident, by its region.
+    fn look_at_region(&self, page: u32, call: &Call) -> Found
+        requires space { space_of_call call.now ≡ self.now.number }
+        requires can { CanBegin call.now }
+        requires page { access_page call.now ≡ Some page }
+        requires in_space { page < space_pages }
+        requires absent { frame_at self.now page ≡ None }
         ensures { Finds self.now call.now page result }
     {
         let Some(region) = self.regions.find(page) else {
@@ -426,10 +448,24 @@ impl<S: Store + Send + Drop> Space<S> {
         if !permits(self.rights(page, region), call) {
             return Found::Refused(Reply::Denied);
         }
-        if self.table.number(page).is_some() {
-            return Found::Resident;
-        }
         Found::Absent(want_in(&region, page, self.regions.next_start(page)))
+    }
+
+    /// Ends a load or a store that is allowed and whose page is mapped by this.
+    fn finish_by(&mut self, processor: u32, call: &Call, found: Translation) -> Answered
+        requires processor { processor < length self.old.images }
+        requires space { space_of_call call.now ≡ self.old.number }
+        requires resting { IsResting self.old }
+        requires can { CanBegin call.now }
+        requires allowed { is_allowed self.old call.now ≡ true }
+        requires found { IfSome (access_page call.now) (λ page. IsMappedBy self.old page found) }
+        ensures { Finishes self.old self.new processor call.now result }
+    {
+        match *call {
+            Call::Load { address, .. } => self.load(processor, address, found),
+            Call::Store { address, word, .. } => self.store(processor, address, word, found),
+            _ => unreachable!(),
+        }
     }
 
     /// Writes the copy of a page where it is dirty, and answers.
@@ -500,69 +536,67 @@ impl<S: Store + Send + Drop> Space<S> {
         self.table.own(page).unwrap_or(region.rights)
     }
 
-    /// The word of a resident page.
-    fn load(&mut self, processor: u32, address: u64) -> Answered
+    /// The word of a page that is mapped by this.
+    fn load(&mut self, processor: u32, address: u64, found: Translation) -> Answered
         requires processor { processor < length self.old.images }
         requires resting { IsResting self.old }
-        requires in_space { address < space_bytes }
         requires allowed { is_allowed self.old (Call.Load self.old.number address) ≡ true }
-        requires resident { frame_at self.old (page_of address) ≢ None }
+        requires found { IsMappedBy self.old (page_of address) found }
         ensures { Finishes self.old self.new processor (Call.Load self.old.number address) result }
     {
-        let page = page_of(address);
-        let word = self.table.word(page, word_of(address));
-        self.touch(processor, page, Reply::Value(word))
+        let word = self.table.word_by(found.mapping.frame, word_of(address));
+        self.touch(processor, found.tile, Reply::Value(word))
     }
 
-    /// Writes the word of a resident page, whose tiles change where it was clean.
-    fn store(&mut self, processor: u32, address: u64, word: u64) -> Answered
+    /// Writes the word of a page that is mapped by this, and whose tiles change where it was clean.
+    fn store(&mut self, processor: u32, address: u64, word: u64, found: Translation) -> Answered
         requires processor { processor < length self.old.images }
         requires resting { IsResting self.old }
         requires in_space { address < space_bytes }
         requires allowed { is_allowed self.old (Call.Store self.old.number address word) ≡ true }
-        requires resident { frame_at self.old (page_of address) ≢ None }
+        requires found { IsMappedBy self.old (page_of address) found }
         ensures { Finishes self.old self.new processor (Call.Store self.old.number address word) result }
     {
-        let page = page_of(address);
-        if self.table.is_dirty(page) {
-            self.table.write_word(page, word_of(address), word);
-            return self.touch(processor, page, Reply::Done);
+        let number = found.mapping.frame;
+        let index = word_of(address);
+        if found.mapping.dirty {
+            self.table.write_word_by(number, index, word);
+            return self.touch(processor, found.tile, Reply::Done);
         }
-        let hit = self.has_translation(processor, page);
-        let changes = self.table.set_word(page, word_of(address), word);
-        self.follow(&changes);
-        let answered = self.touch(processor, page, Reply::Done);
+        let page = page_of(address);
+        let hit = self.has_translation(processor, found.tile);
+        let moves = self.table.set_word(page, number, index, word);
+        self.follow(moves);
+        let Some(then) = self.table.translate(page) else {
+            unreachable!()
+        };
+        let answered = self.touch(processor, then.tile, Reply::Done);
         Answered { hit, ..answered }
     }
 
-    /// Whether the processor's image has the tile of the page.
-    fn has_translation(&self, processor: u32, page: u32) -> bool
+    /// Whether the processor's image has the tile.
+    fn has_translation(&self, processor: u32, tile: Tile) -> bool
         requires { processor < length self.now.images }
-        ensures { result ≡ is_in_image (image_at self.now processor) (tile_of (mapping_in self.now.table) page) }
+        ensures { result ≡ is_in_image (image_at self.now processor) (Some tile) }
     {
-        self.images[processor as usize].has(self.table.tile_of(page))
+        self.images[processor as usize].has(Some(tile))
     }
 
-    /// The processor used the tile of the page, which comes to the front of its image; the whole answer, a hit where the tile stood there.
-    fn touch(&mut self, processor: u32, page: u32, reply: Reply) -> Answered
-        requires processor { processor < length self.old.images }
-        requires resident { frame_at self.old page ≢ None }
-        ensures touched { Touches self.old self.new processor (tile_of (mapping_in self.old.table) page) }
+    /// The processor used the tile, which comes to the front of its image; the whole answer, a hit where the tile stood there.
+    fn touch(&mut self, processor: u32, tile: Tile, reply: Reply) -> Answered
+        requires { processor < length self.old.images }
+        ensures touched { Touches self.old self.new processor (Some tile) }
         ensures answered { result ≡ record {
           reply = reply;
-          hit = is_in_image (image_at self.old processor) (tile_of (mapping_in self.old.table) page);
-          size = option_map (λ t. t.extent.size) (tile_of (mapping_in self.old.table) page);
+          hit = is_in_image (image_at self.old processor) (Some tile);
+          size = Some tile.extent.size;
         } }
     {
-        let tile = self.table.tile_of(page);
-        let hit = match &tile {
-            Some(tile) => use_tile(self.images.as_mut_slice(), processor, tile),
-            None => false,
-        };
+        let hit = use_tile(self.images.as_mut_slice(), processor, &tile);
         Answered {
             reply,
             hit,
-            size: tile.map(|tile| tile.extent.size),
+            size: Some(tile.extent.size),
         }
     }
 
@@ -571,8 +605,8 @@ impl<S: Store + Send + Drop> Space<S> {
         ensures { CleansPage self.old self.new page }
     {
         if self.table.is_dirty(page) {
-            let changes = self.table.set_clean(page);
-            self.follow(&changes);
+            let moves = self.table.set_clean(page);
+            self.follow(moves);
         }
     }
 
@@ -584,29 +618,17 @@ impl<S: Store + Send + Drop> Space<S> {
         ensures retouched { Retouches self.old self.new }
         ensures same { ChangesPages self.old self.new }
     {
-        let Some((frame, changes)) = self.table.take(page) else {
+        let Some((frame, moves)) = self.table.take(page) else {
             unreachable!()
         };
-        self.follow(&changes);
+        self.follow(moves);
         frame
     }
 
-    /// Counts the moves of a change of one page, after which no image has a tile that went.
-    fn follow(&mut self, changes: &Changes)
+    /// Counts the moves of a change of pages, after which each image keeps what they didn't touch, and what is a tile still.
+    fn follow(&mut self, moves: Moves)
         ensures { self.new ≡ record self.old {
-          images = map (without (gone_of changes.now)) self.old.images;
-          promotions = counted_up self.old.promotions changes.now.moves.promotions;
-          demotions = counted_up self.old.demotions changes.now.moves.demotions;
-        } }
-    {
-        self.count(changes.moves());
-        drop_gone(self.images.as_mut_slice(), changes);
-    }
-
-    /// Counts the moves of a change of rights, after which each image keeps what they didn't touch, and what is a tile still.
-    fn retouch(&mut self, moves: Moves)
-        ensures { self.new ≡ record self.old {
-          images = map (untouched_tiles moves.touched (mapping_in self.old.table)) self.old.images;
+          images = map (untouched_tiles self.old.table.sizes moves.touched (mapping_in self.old.table)) self.old.images;
           promotions = counted_up self.old.promotions moves.promotions;
           demotions = counted_up self.old.demotions moves.demotions;
         } }
@@ -628,14 +650,14 @@ impl<S: Store + Send + Drop> Space<S> {
 
     /// Each image keeps what is a tile still.
     fn keep_tiles(&mut self)
-        ensures { self.new ≡ record self.old { images = map (still_tiles all_sizes (mapping_in self.old.table)) self.old.images } }
+        ensures { self.new ≡ record self.old { images = map (still_tiles self.old.table.sizes (mapping_in self.old.table)) self.old.images } }
     {
         keep_tiles(self.images.as_mut_slice(), &self.table);
     }
 
     /// How many tiles there are of each size.
     pub fn tile_counts(&self) -> [u32; 4]
-        ensures { result ≡ tiles_of_size (mapping_in self.now.table) 0 ∷ tiles_of_size (mapping_in self.now.table) 1 ∷ tiles_of_size (mapping_in self.now.table) 2 ∷ tiles_of_size (mapping_in self.now.table) 3 ∷ [] }
+        ensures { result ≡ tile_count_in self.now.table.sizes (mapping_in self.now.table) 0 ∷ tile_count_in self.now.table.sizes (mapping_in self.now.table) 1 ∷ tile_count_in self.now.table.sizes (mapping_in self.now.table) 2 ∷ tile_count_in self.now.table.sizes (mapping_in self.now.table) 3 ∷ [] }
     {
         self.table.tile_counts()
     }
@@ -673,29 +695,16 @@ fn use_tile(images: &mut [Image], processor: u32, tile: &Tile) -> bool
 
 /// Each image keeps what is a tile still.
 fn keep_tiles(images: &mut [Image], table: &PageTable)
-    ensures { images.new ≡ map (still_tiles all_sizes (mapping_in table.now)) images.old }
+    ensures { images.new ≡ map (still_tiles table.now.sizes (mapping_in table.now)) images.old }
 {
     for image in images.iter_mut() {
         image.retain(|tile| table.is_tile(tile));
     }
 }
 
-/// No image has a tile that went.
-fn drop_gone(images: &mut [Image], changes: &Changes)
-    ensures { images.new ≡ map (without (gone_of changes.now)) images.old }
-{
-    if !changes.takes_any() {
-        return;
-    }
-    let gone = changes.gone();
-    for image in images.iter_mut() {
-        image.retain(|tile| !gone.has(tile));
-    }
-}
-
 /// Each image keeps what begins outside of the range, which isn't asked about, and what is a tile still.
 fn keep_untouched(images: &mut [Image], table: &PageTable, range: PageRange)
-    ensures { images.new ≡ map (untouched_tiles range (mapping_in table.now)) images.old }
+    ensures { images.new ≡ map (untouched_tiles table.now.sizes range (mapping_in table.now)) images.old }
 {
     if range.length == 0 {
         return;

@@ -1,33 +1,38 @@
 //! What a space keeps of its pages: which are resident, in which frames and tiles, which are dirty, and which rights a protect gave them.
 
-ghost use Rattle.std.specs.Prelude.{◌≡◌, ◌≢◌, ◌∷◌, [], ◌+◌, ◌-◌, ◌^◌, ◌<◌, ◌≤◌, ℕ, List, true, false, length, replicate, None, Some, IfOk, IfSome, IfNone, OnErr};
+ghost use Rattle.std.specs.Prelude.{◌≡◌, ◌≢◌, ◌∷◌, [], ◌+◌, ◌<◌, ◌≤◌, ℕ, List, true, false, length, replicate, None, Some, IfOk, IfSome, IfNone, OnErr, option_map};
 ghost use Rattle.pager_model.specs.SpaceStates.{Rises};
-ghost use Rattle.pager_model.specs.Tiles.{tile_of, is_tile, tiles_of_size};
+ghost use Rattle.pager_model.specs.Tiles.{tile_in, is_tile_in, tile_count_in};
 ghost use Rattle.pager_model.specs.Stored.{copy_at, keeps_at, SameCopies, SetsCopy};
 ghost use Rattle.store_core.specs.MemoryState.{one_more};
-ghost use Rattle.tiles.specs.Changes.{AreChanges};
-ghost use Rattle.tiles.specs.Resident.{AreMoves, large_tiles_meeting};
+ghost use Rattle.tiles.specs.Sized.{AreMovesIn, large_tiles_meeting_in};
 ghost use Rattle.space_core.specs.Tables.{mapping_in, frame_in, word_in, own_in, dirty_in};
 ghost use Rattle.space_core.specs.Pages.{IsFresh, Maps, Refills, HasWords, SetsWord, Writes, Cleans, Protects, Forgets, IsFirstResident, NoneFrom};
 ghost use Rattle.pager_model.specs.Bounds.{most_frames, space_pages};
 
-use crate::frames::{set_word, set_words, word};
+use crate::frames::{set_copied, set_word, word};
 use page_rights::PageRights;
-use pager_model::{Frame, Mapping, NoMemory, Rights, Tile, WORDS};
+use pager_model::{Frame, Mapping, NoMemory, Rights, Sizes, Tile, WORDS};
 use std::alloc::Global;
-use std::marker::Model;
+use std::marker::{Brand, Model};
+use std::sync::ledger::Blank;
 use store_core::{Store, StoreFailed, WriteRefused};
-use tiles::{Base, Changes, Moves};
+use tiles::counted::{after_dirty, after_fill, after_remove};
+use tiles::{Base, Moves, Translation};
 
 /// The pages of a space. A resident page is found by its number, and its frame by the frame's.
 #[derive(Drop)]
 pub struct PageTable {
+    /// Which page sizes its tiles have.
+    sizes: Sizes,
     /// The resident pages, and the tiles that they make.
     pages: Base,
     /// The rights that a protect gave pages.
     own: PageRights,
     /// For each number the frame, where a page has it.
     frames: Vec<Option<Frame>>,
+    /// Words for a store to read a copy into, kept so that no read has to make them. What they are means nothing.
+    copy: Box<[u64; WORDS]>,
 }
 
 impl Model for PageTable {
@@ -37,12 +42,14 @@ impl Model for PageTable {
     ghost Value = { Table };
 
     ghost view = { λ t. record {
+      sizes = t.sizes;
       pages = t.pages;
       own = t.own;
       frames = t.frames.items;
     } };
 
     ghost invariant = { λ t. IsPaged (record {
+      sizes = t.sizes;
       pages = t.pages;
       own = t.own;
       frames = t.frames.items;
@@ -50,15 +57,17 @@ impl Model for PageTable {
 }
 
 impl PageTable {
-    /// Room for the pages of a space and for so many frames: no page is resident, and none has rights of its own.
-    pub fn create(alloc: Global, frames: u32) -> Result<PageTable, NoMemory>
+    /// Room for the pages of a space, with tiles of these sizes, and for so many frames: no page is resident, and none has rights of its own.
+    pub fn create(alloc: Global, frames: u32, sizes: Sizes) -> Result<PageTable, NoMemory>
         requires { frames ≤ most_frames }
-        ensures { IfOk result (IsFresh frames) }
+        ensures { IfOk result (IsFresh frames sizes) }
     {
         Ok(PageTable {
+            sizes,
             pages: Base::create(alloc, frames)?,
             own: PageRights::create(alloc)?,
             frames: empty_places(alloc, frames)?,
+            copy: Box::new(alloc, [0; WORDS])?,
         })
     }
 
@@ -70,33 +79,35 @@ impl PageTable {
         Some(self.pages.mapping(page)?.frame)
     }
 
-    /// The tile of a page, where it is resident.
-    pub fn tile_of(&self, page: u32) -> Option<Tile>
-        ensures { result ≡ tile_of (mapping_in self.now) page }
+    /// What a page is mapped by, where it is resident: its mapping and its tile.
+    pub fn translate(&self, page: u32) -> Option<Translation>
+        ensures mapping { option_map (λ t. t.mapping) result ≡ mapping_in self.now page }
+        ensures tile { option_map (λ t. t.tile) result ≡ tile_in self.now.sizes (mapping_in self.now) page }
+        ensures in_space { IfSome result (λ t. (page < space_pages) × (t.mapping.frame < length self.now.frames)) }
     {
-        self.pages.tile_of(page)
+        self.pages.translate(page, self.sizes)
     }
 
     /// Whether it is a tile of the pages as they are.
     pub fn is_tile(&self, tile: &Tile) -> bool
-        ensures { result ≡ is_tile (mapping_in self.now) tile.now }
+        ensures { result ≡ is_tile_in self.now.sizes (mapping_in self.now) tile.now }
     {
-        self.pages.is_tile(tile)
+        self.pages.is_tile(tile, self.sizes)
     }
 
     /// How many tiles of size 1 or more have a page of the range.
     pub fn tiles_meeting(&self, first: u32, length: u32) -> u32
         requires { first + length ≤ space_pages }
-        ensures { result ≡ large_tiles_meeting first length (mapping_in self.now) }
+        ensures { result ≡ large_tiles_meeting_in self.now.sizes first length (mapping_in self.now) }
     {
-        self.pages.tiles_meeting(first, length)
+        self.pages.tiles_meeting(first, length, self.sizes)
     }
 
     /// How many tiles there are of each size.
     pub fn tile_counts(&self) -> [u32; 4]
-        ensures { result ≡ tiles_of_size (mapping_in self.now) 0 ∷ tiles_of_size (mapping_in self.now) 1 ∷ tiles_of_size (mapping_in self.now) 2 ∷ tiles_of_size (mapping_in self.now) 3 ∷ [] }
+        ensures { result ≡ tile_count_in self.now.sizes (mapping_in self.now) 0 ∷ tile_count_in self.now.sizes (mapping_in self.now) 1 ∷ tile_count_in self.now.sizes (mapping_in self.now) 2 ∷ tile_count_in self.now.sizes (mapping_in self.now) 3 ∷ [] }
     {
-        self.pages.counts()
+        self.pages.counts(self.sizes)
     }
 
     /// The rights that a protect gave a page.
@@ -107,19 +118,16 @@ impl PageTable {
         self.own.get(page)
     }
 
-    /// A word of a page, which is zero where the page isn't resident.
-    pub fn word(&self, page: u32, index: usize) -> u64
-        requires page { page < space_pages }
+    /// A word of the page that has the frame of this number.
+    pub fn word_by(&self, number: u32, index: usize) -> u64
+        requires resident { (page : ℕ) × (frame_in self.now page ≡ Some number) }
         requires index { index < 1024 }
-        ensures { result ≡ word_in self.now page index }
+        ensures { (page : ℕ) → frame_in self.now page ≡ Some number → result ≡ word_in self.now page index }
     {
-        let Some(number) = self.number(page) else {
-            return 0;
+        let Some(frame) = &self.frames[number as usize] else {
+            unreachable!()
         };
-        match &self.frames[number as usize] {
-            Some(frame) => word(frame, index),
-            None => 0,
-        }
+        word(frame, index)
     }
 
     /// The lowest resident page from `from` on and before `end`.
@@ -131,38 +139,37 @@ impl PageTable {
         self.pages.next_resident(from, end)
     }
 
-    /// Puts a frame under a page that isn't resident, of the region that begins at this page and with these rights.
-    pub fn put(&mut self, page: u32, frame: Frame, region: u32, rights: Rights) -> Changes
+    /// Puts a frame under a page that isn't resident, of the region that begins at this page and with these rights. The moves of its tiles.
+    pub fn put(&mut self, page: u32, frame: Frame, region: u32, rights: Rights) -> Moves
         requires page { page < space_pages }
         requires absent { frame_in self.old page ≡ None }
         requires known { frame.number < length self.old.frames }
         requires other { (p : ℕ) → frame_in self.old p ≢ Some frame.number }
         ensures maps { Maps page (Some (record { frame = frame.number; region = region; rights = rights; dirty = false })) self.old self.new }
-        ensures changes { AreChanges self.old.pages self.new.pages result }
+        ensures moves { AreMovesIn self.old.sizes (mapping_in self.old) (mapping_in self.new) result }
     {
         let number = frame.number();
         self.frames[number as usize] = Some(frame);
-        self.pages.after_fill(
-            page,
-            Mapping {
-                frame: number,
-                region,
-                rights,
-                dirty: false,
-            },
-        )
+        let mapping = Mapping {
+            frame: number,
+            region,
+            rights,
+            dirty: false,
+        };
+        let changes = after_fill::<Brand>(&mut self.pages, page, mapping, Blank::new(1));
+        changes.moves(self.sizes)
     }
 
-    /// Takes the frame of a page away, where it is resident.
-    pub fn take(&mut self, page: u32) -> Option<(Frame, Changes)>
-        ensures some { IfSome result (λ taken. (frame_in self.old page ≡ Some taken.0.number) × AreChanges self.old.pages self.new.pages taken.1) }
+    /// Takes the frame of a page away, where it is resident. The moves of its tiles.
+    pub fn take(&mut self, page: u32) -> Option<(Frame, Moves)>
+        ensures some { IfSome result (λ taken. (frame_in self.old page ≡ Some taken.0.number) × AreMovesIn self.old.sizes (mapping_in self.old) (mapping_in self.new) taken.1) }
         ensures none { IfNone result (frame_in self.old page ≡ None) }
         ensures after { Maps page None self.old self.new }
     {
         let number = self.number(page)?;
-        let changes = self.pages.after_remove(page);
+        let changes = after_remove::<Brand>(&mut self.pages, page, Blank::new(1));
         let frame = self.frames[number as usize].take()?;
-        Some((frame, changes))
+        Some((frame, changes.moves(self.sizes)))
     }
 
     /// Reads the copy of a resident page from the store, once.
@@ -182,9 +189,8 @@ impl PageTable {
         let Some(frame) = &mut self.frames[number as usize] else {
             unreachable!()
         };
-        let mut copy = [0; WORDS];
-        store.read(page, &mut copy)?;
-        set_words(frame, &copy);
+        let copied = store.read(page, &mut *self.copy)?;
+        set_copied(frame, copied, &*self.copy);
         Ok(())
     }
 
@@ -220,51 +226,48 @@ impl PageTable {
         }
     }
 
-    /// A page is equal to its copy.
-    pub fn set_clean(&mut self, page: u32) -> Changes
+    /// A page is equal to its copy. The moves of its tiles.
+    pub fn set_clean(&mut self, page: u32) -> Moves
         ensures cleans { Cleans page self.old self.new }
-        ensures changes { AreChanges self.old.pages self.new.pages result }
+        ensures moves { AreMovesIn self.old.sizes (mapping_in self.old) (mapping_in self.new) result }
     {
-        self.pages.after_dirty(page, false)
+        let changes = after_dirty::<Brand>(&mut self.pages, page, false, Blank::new(1));
+        changes.moves(self.sizes)
     }
 
-    /// Writes a word of a resident page, which is dirty then.
-    pub fn set_word(&mut self, page: u32, index: usize, word: u64) -> Changes
-        requires page { page < space_pages }
+    /// Writes a word of the page that has the frame of this number, and that is dirty then. The moves of its tiles.
+    pub fn set_word(&mut self, page: u32, number: u32, index: usize, word: u64) -> Moves
+        requires resident { frame_in self.old page ≡ Some number }
         requires index { index < 1024 }
-        requires resident { frame_in self.old page ≢ None }
         ensures writes { Writes page index word self.old self.new }
-        ensures changes { AreChanges self.old.pages self.new.pages result }
+        ensures moves { AreMovesIn self.old.sizes (mapping_in self.old) (mapping_in self.new) result }
     {
-        let changes = self.pages.after_dirty(page, true);
-        self.write_word(page, index, word);
-        changes
+        let changes = after_dirty::<Brand>(&mut self.pages, page, true, Blank::new(1));
+        let moves = changes.moves(self.sizes);
+        self.write_word_by(number, index, word);
+        moves
     }
 
-    /// Writes a word of a resident page, whose dirty flag stays.
-    pub fn write_word(&mut self, page: u32, index: usize, word: u64)
-        requires page { page < space_pages }
+    /// Writes a word of the page that has the frame of this number, and whose dirty flag stays.
+    pub fn write_word_by(&mut self, number: u32, index: usize, word: u64)
+        requires resident { (page : ℕ) × (frame_in self.old page ≡ Some number) }
         requires index { index < 1024 }
-        requires resident { frame_in self.old page ≢ None }
-        ensures { SetsWord page index word self.old self.new }
+        ensures { (page : ℕ) → frame_in self.old page ≡ Some number → SetsWord page index word self.old self.new }
     {
-        let Some(number) = self.number(page) else {
-            unreachable!()
-        };
         let Some(frame) = &mut self.frames[number as usize] else {
             unreachable!()
         };
         set_word(frame, index, word);
     }
 
-    /// Gives the pages of a range these rights of their own.
+    /// Gives the pages of a range these rights of their own. The moves of their tiles.
     pub fn protect(&mut self, first: u32, length: u32, rights: Rights) -> Moves
         requires { first + length ≤ space_pages }
         ensures protects { Protects first length rights self.old self.new }
-        ensures moves { AreMoves self.old.pages self.new.pages result }
+        ensures moves { AreMovesIn self.old.sizes (mapping_in self.old) (mapping_in self.new) result }
     {
         self.own.set(first, length, Some(rights));
-        self.pages.after_rights(first, length, rights)
+        self.pages.after_rights(first, length, rights, self.sizes)
     }
 
     /// Takes the rights of their own from the pages of a range, none of which is resident.

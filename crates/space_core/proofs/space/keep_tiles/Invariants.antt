@@ -1,14 +1,13 @@
 use Rattle.std.proofs.Common.{◌≡◌, ℕ, ◌<◌, ◌≤◌, List, [], length, get_or}
 use Rattle.pager_model.specs.declared.tile.Tile.{Tile}
 use Rattle.pager_model.specs.Images.{still_tiles}
-use Rattle.pager_model.specs.SizeSets.{all_sizes}
 use Rattle.space_core.specs.Tables.{mapping_in}
 use Rattle.space_core.proofs.space.keep_tiles.Given as goal
 
 abbrev pub invariant-loop-image : goal.invariant-loop-image
 invariant-loop-image l =
     record {
-      done : (k : ℕ) (d : List Tile) → k < l.image-index → get_or l.images k d ≡ still_tiles all_sizes (mapping_in l.table) (get_or l.fn.images k []);
+      done : (k : ℕ) (d : List Tile) → k < l.image-index → get_or l.images k d ≡ still_tiles l.table.sizes (mapping_in l.table) (get_or l.fn.images k []);
       rest : (k : ℕ) (d : List Tile) → l.image-index ≤ k → get_or l.images k d ≡ get_or l.fn.images k d;
       whole : length l.images ≡ length l.fn.images;
     }

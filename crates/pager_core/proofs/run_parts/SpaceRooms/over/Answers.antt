@@ -1,8 +1,10 @@
-use Rattle.std.proofs.Common.{◌≡◌, ◌+◌, ◌++◌, length, map, reverse, Some, ap, sym, ◌∙◌, arith}
+use Rattle.std.proofs.Common.{◌≡◌, ◌+◌, ◌++◌, length, map, reverse, Some, ap, sym, subst, ◌∙◌, arith}
 use Rattle.std.proofs.lemmas.List.{length_push}
 use Rattle.std.proofs.lemmas.List.Elements.{All-pop}
+use Rattle.pager_model.specs.SizeSets.{SizeSet}
+use Rattle.pager_model.specs.SpaceStates.{empty_state}
 use Rattle.space_core.specs.Rooms.{Capacity}
-use Rattle.space_core.specs.Standing.{Kept}
+use Rattle.space_core.specs.Standing.{Kept, StandsFor}
 use Rattle.pager_core.proofs.Stores.{in_order, in_order-more, left_over, are_new, AreNew-push}
 use Rattle.pager_core.proofs.run_parts.SpaceRooms.over.Given.{Over}
 use Rattle.pager_core.proofs.run_parts.SpaceRooms.over.Goals as goal
@@ -20,13 +22,13 @@ loop-room-preserved g c =
           let own = before.alike room all in
           let left = All-pop (λ r. r ≡ room) c.loop-room.rooms.items c.pop.new.self.items (Some c.in-Some.room) c.in-Some.ensures.items own.0 in (
             left.0,
-            AreNew-push room.frames room.processors c.loop-room.spaces.items c.push_reserved.new.self.items c.over.result own.1 c.push_reserved.ensures.items
+            AreNew-push room c.loop-room.spaces.items c.push_reserved.new.self.items c.over.result own.1 c.push_reserved.ensures.items
                 (λ told zeros. record {
                   number_is = omega (arith, made.0, c.len-number.ensures, c.loop-room.spaces.ok.0);
                   frames_are = made.1 ∙ ap (λ (r : Capacity). r.frames) left.1;
                   processors_are = made.2 ∙ ap (λ (r : Capacity). r.processors) left.1;
                   resting = made.4;
-                  stands = c.over.ensures.stands told zeros;
+                  stands = subst (λ (z : SizeSet). StandsFor c.over.result (empty_state z told c.over.result.store.faults)) (ap (λ (r : Capacity). r.sizes) left.1) (c.over.ensures.stands told zeros);
                 }),
           );
       stores = in_order-more g.S.Store.seen c.args.stores.now.items c.loop-room.stores.items c.pop-in-Some.new.self.items c.in-Some-pop.store c.loop-room.spaces.items c.push_reserved.new.self.items c.over.result

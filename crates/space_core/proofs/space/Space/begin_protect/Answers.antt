@@ -42,6 +42,6 @@ pub returns : goal.returns
 returns g c =
     let rest = rw (← c.self.view_is) at c.requires.resting in
     let found = sym c.in-Some.ensures.value in
-    rw (c.retouch.ensures, c.answered-2.ensures, ← c.self.view_is, rest.none_pending, rest.none_clearing, rest.none_paged)
+    rw (c.follow.ensures, c.answered-2.ensures, ← c.self.view_is, rest.none_pending, rest.none_clearing, rest.none_paged)
     (λ processor. begins_protected c.self.inside.regions _ _ _ _ _ c.self.invariant.ordered c.in-Some.region found (omega arith) c.protect-moves.ensures.protects c.self.invariant.mapped _ _ _ _ _ _ _ _ _ _ processor
-    (retouched_by _ _ c.protect-moves.result c.protect-moves.ensures.moves refl refl refl))
+    (retouched_by _ _ c.protect-moves.result c.protect-moves.ensures.protects.sizes c.protect-moves.ensures.moves refl refl refl))

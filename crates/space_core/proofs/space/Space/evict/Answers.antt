@@ -18,5 +18,5 @@ returns g c =
       none_paged = ap (λ (k : Kept). k.paged) e.same;
     })
     (ap (λ (k : Kept). k.store) e.same) (ap (λ (k : Kept). k.reads) e.same) e.taken e.maps
-    (record { processors = e.retouched.processors; images = e.retouched.images; promotions = e.retouched.promotions; demotions = e.retouched.demotions })
+    (record { sizes = e.retouched.sizes; processors = e.retouched.processors; images = e.retouched.images; promotions = e.retouched.promotions; demotions = e.retouched.demotions })
     (evicting_unbehind _ c.args.page r) c.is_dirty.result (sym c.is_dirty.ensures.dirty) r.unwired)

@@ -1,37 +1,25 @@
-use Rattle.std.proofs.Common.{◌≡◌, ◌∙◌, ap, sym, Some, None, arith}
-use Rattle.pager_model.specs.Regions.{region_at}
+use Rattle.std.proofs.Common.{◌∙◌, sym, subst}
+use Rattle.space_core.specs.Beginning.{IsMappedBy}
 use Rattle.space_core.specs.Standing.{Kept}
-use Rattle.space_core.proofs.Refusals.{begins_denied, begins_unmapped, denied_needs_none, unmapped_needs_none}
-use Rattle.region_table.proofs.RegionSearch.{found_page}
-use Rattle.space_core.proofs.RegionSearch.{next_above}
+use Rattle.space_core.proofs.MappedAccesses.{mapping_allows, mapping_denies}
+use Rattle.space_core.proofs.ServedPages.{AreMapped}
+use Rattle.space_core.proofs.TableLemmas.{frame-absent}
 use Rattle.space_core.proofs.space.Space.look.Goals as goal
 
-pub want_in-requires-clause-has_first : goal.want_in-requires-clause-has_first
-want_in-requires-clause-has_first g c = omega (arith, found_page c.self.inside.regions c.self.invariant.ordered.in_order c.args.page c.in-Some.region (sym c.in-Some.ensures.value))
+pub look_at_region-requires-clause-absent : goal.look_at_region-requires-clause-absent
+look_at_region-requires-clause-absent g c κs within =
+    rw (← c.self.view_is) (frame-absent c.self.inside.table c.args.page (sym (rw c.in-None.is at c.translate.ensures.mapping)))
 
-pub want_in-requires-clause-has_last : goal.want_in-requires-clause-has_last
-want_in-requires-clause-has_last g c = omega (arith, found_page c.self.inside.regions c.self.invariant.ordered.in_order c.args.page c.in-Some.region (sym c.in-Some.ensures.value))
-
-pub want_in-requires-clause-in_space : goal.want_in-requires-clause-in_space
-want_in-requires-clause-in_space g c = omega (arith, found_page c.self.inside.regions c.self.invariant.ordered.in_order c.args.page c.in-Some.region (sym c.in-Some.ensures.value))
-
-pub want_in-requires-clause-above : goal.want_in-requires-clause-above
-want_in-requires-clause-above g c = omega (arith, c.next_start.ensures.value, (next_above 0 c.self.inside.regions c.self.invariant.ordered.in_order c.args.page c.requires.in_space).0)
-
-pub want_in-requires-clause-next_in_space : goal.want_in-requires-clause-next_in_space
-want_in-requires-clause-next_in_space g c = omega (arith, c.next_start.ensures.value, (next_above 0 c.self.inside.regions c.self.invariant.ordered.in_order c.args.page c.requires.in_space).1)
-
-pub returns-in_default : goal.returns-in_default
-returns-in_default g c =
-    let none : region_at c.args.self.now.regions c.args.page ≡ None = ap (λ (k : Kept). region_at k.regions c.args.page) (sym c.self.view_is) ∙ sym c.find.ensures.value ∙ c.in_default.is in (
-      unmapped_needs_none c.args.self.now c.args.call.now c.args.page c.requires.page none,
-      λ resting processor. begins_unmapped c.args.self.now processor c.args.call.now c.args.page c.requires.can resting c.requires.page none,
+pub returns-in-Some : goal.returns-in-Some
+returns-in-Some g c =
+    let mapped = subst (λ (k : Kept). AreMapped k.regions k.table) c.self.view_is c.self.invariant.mapped in
+    let by : IsMappedBy c.args.self.now c.args.page c.in-Some.found = rw (← c.self.view_is) (record { mapping = sym c.in-Some.ensures.mapping; tile = sym c.in-Some.ensures.tile }) in (
+      mapping_allows c.args.self.now c.args.call.now c.args.page c.in-Some.found.mapping c.requires.page mapped by.mapping (sym c.permits.ensures ∙ c.if-permits.true),
+      rw c.requires.page by,
     )
 
-pub returns-then-not-permits : goal.returns-then-not-permits
-returns-then-not-permits g c =
-    let found : region_at c.args.self.now.regions c.args.page ≡ Some c.in-Some.region = ap (λ (k : Kept). region_at k.regions c.args.page) (sym c.self.view_is) ∙ sym c.in-Some.ensures.value in
-    let refused = rw c.rights.ensures at (sym c.permits.ensures ∙ c.if-not-permits.true) in (
-      denied_needs_none c.args.self.now c.args.call.now c.args.page c.in-Some.region c.requires.page found refused,
-      λ resting processor. begins_denied c.args.self.now processor c.args.call.now c.args.page c.in-Some.region c.requires.can resting c.requires.page found refused,
-    )
+pub returns-in-Some-2 : goal.returns-in-Some-2
+returns-in-Some-2 g c =
+    let mapped = subst (λ (k : Kept). AreMapped k.regions k.table) c.self.view_is c.self.invariant.mapped in
+    let by : IsMappedBy c.args.self.now c.args.page c.in-Some.found = rw (← c.self.view_is) (record { mapping = sym c.in-Some.ensures.mapping; tile = sym c.in-Some.ensures.tile }) in
+    mapping_denies c.args.self.now c.args.call.now c.args.page c.in-Some.found.mapping c.requires.page mapped by.mapping c.requires.can (sym c.permits.ensures ∙ c.if-permits.false)

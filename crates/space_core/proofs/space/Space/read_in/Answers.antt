@@ -22,7 +22,7 @@ returns-in-Ok-clause-read g c =
     let pending : c.self.inside.pending ≡ Some c.args.page = ap (λ (k : Kept). k.pending) c.self.view_is ∙ c.requires.pending in
     let e = c.read_copy.ensures in
     rw (← c.self.view_is)
-    (reads_in _ _ c.args.page (same_regions _ _ refl e.table.same.count refl refl e.table.same.own) refl refl (record { images = refl; promotions = refl; demotions = refl }) pending (rw (← c.self.view_is) at c.requires.resident)
+    (reads_in _ _ c.args.page (same_regions _ _ refl e.table.same.count refl refl e.table.same.own) refl refl (record { sizes = e.table.same.sizes; images = refl; promotions = refl; demotions = refl }) pending (rw (← c.self.view_is) at c.requires.resident)
     (c.self.invariant.pending_clean c.args.page pending) e.table e.same e.never_falls e.counted refl c.in-Ok.ensures.read)
 
 pub returns-in-Err-clause-failed : goal.returns-in-Err-clause-failed
@@ -30,5 +30,5 @@ returns-in-Err-clause-failed g c =
     let pending : c.self.inside.pending ≡ Some c.args.page = ap (λ (k : Kept). k.pending) c.self.view_is ∙ c.requires.pending in
     let e = c.read_copy.ensures in
     rw (← c.self.view_is)
-    (fails_to_read _ _ c.args.page (same_regions _ _ refl e.table.same.count refl refl e.table.same.own) refl refl (record { images = refl; promotions = refl; demotions = refl }) pending (rw (← c.self.view_is) at c.requires.resident)
+    (fails_to_read _ _ c.args.page (same_regions _ _ refl e.table.same.count refl refl e.table.same.own) refl refl (record { sizes = e.table.same.sizes; images = refl; promotions = refl; demotions = refl }) pending (rw (← c.self.view_is) at c.requires.resident)
     (c.self.invariant.pending_clean c.args.page pending) e.table e.same e.never_falls e.counted (c.self.invariant.pending_alone c.args.page pending) c.faults.result refl c.in-Err.ensures.rose c.faults.ensures.faults)

@@ -21,5 +21,5 @@ returns g c =
       none_paged = ap (λ (k : Kept). k.paged) e.same ∙ none_paged;
     })
     (ap (λ (k : Kept). k.store) e.same) (ap (λ (k : Kept). k.reads) e.same) e.taken e.maps
-    (record { processors = e.retouched.processors; images = e.retouched.images; promotions = e.retouched.promotions; demotions = e.retouched.demotions })
+    (record { sizes = e.retouched.sizes; processors = e.retouched.processors; images = e.retouched.images; promotions = e.retouched.promotions; demotions = e.retouched.demotions })
     (ap (λ d. d && not (is_that c.args.page c.self.inside.paged)) clean) clean none_paged)

@@ -1,6 +1,6 @@
 use Rattle.std.proofs.Common.{refl}
 use Rattle.space_core.proofs.ServedPages.{gone_kept}
-use Rattle.space_core.proofs.Translations.{retouched_one}
+use Rattle.space_core.proofs.Translations.{retouched_by}
 use Rattle.space_core.proofs.space.Space.take.Goals as goal
 
 pub invariant_of-self : goal.invariant_of-self
@@ -9,4 +9,4 @@ invariant_of-self g c = gone_kept c.self.inside.regions c.self.inside.table c.ta
 pub returns-clause-retouched : goal.returns-clause-retouched
 returns-clause-retouched g c =
     rw (c.follow.ensures, ← c.self.view_is)
-    (retouched_one _ _ c.in-Some.changes c.in-Some.ensures.some.1 refl refl refl)
+    (retouched_by _ _ c.in-Some.moves c.take.ensures.after.same.sizes c.in-Some.ensures.some.1 refl refl refl)

@@ -9,3 +9,6 @@ invariant_of-self c =
 pub returns-clause-protects : goal.returns-clause-protects
 returns-clause-protects c =
     rw (← c.self.view_is) (protects_range (the_view c.self.inside) c.args.first c.args.length c.args.rights c.set.new.self c.set.ensures c.after_rights.new.self c.after_rights.ensures.protects)
+
+pub returns-clause-moves : goal.returns-clause-moves
+returns-clause-moves c = rw (← c.self.view_is) c.after_rights.ensures.moves

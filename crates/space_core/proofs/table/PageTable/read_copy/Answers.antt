@@ -26,19 +26,19 @@ invariant_of-self-2 g c =
     let t = the_view c.self.inside in
     let has = sym (rw (← c.self.view_is) at c.number.ensures.number) ∙ c.in-Some.is in
     let is = frame-read t _ _ (found_within _ c.self.invariant _ _ has) c.index_mut.ensures.value ∙ c.in-Some-index_mut.is in
-    rw c.set_words.ensures (rewritten_paged t c.self.invariant _ _ _ has (frame-number t c.self.invariant _ _ _ has is))
+    rw c.set_copied.ensures (rewritten_paged t c.self.invariant _ _ _ has (frame-number t c.self.invariant _ _ _ has is))
 
 pub returns-clause-table : goal.returns-clause-table
 returns-clause-table g c =
     let t = the_view c.self.inside in
     let has = sym (rw (← c.self.view_is) at c.number.ensures.number) ∙ c.in-Some.is in
     let is = frame-read t _ _ (found_within _ c.self.invariant _ _ has) c.index_mut.ensures.value ∙ c.in-Some-index_mut.is in
-    rw (← c.self.view_is, c.set_words.ensures) (refills t c.self.invariant _ _ _ has (frame-number t c.self.invariant _ _ _ has is))
+    rw (← c.self.view_is, c.set_copied.ensures) (refills t c.self.invariant _ _ _ has (frame-number t c.self.invariant _ _ _ has is))
 
 pub returns-clause-read : goal.returns-clause-read
 returns-clause-read g c = λ words tells known i.
     let t = the_view c.self.inside in
     let has = sym (rw (← c.self.view_is) at c.number.ensures.number) ∙ c.in-Some.is in
     let is = frame-read t _ _ (found_within _ c.self.invariant _ _ has) c.index_mut.ensures.value ∙ c.in-Some-index_mut.is in
-    let copied = rw known at (c.in_ok-read.ensures.read tells) in
-    rw c.set_words.ensures (rewritten_has t c.self.invariant _ _ _ has (frame-number t c.self.invariant _ _ _ has is) i ∙ ap (λ (ws : List ℕ). slice_index_or ws i 0) copied)
+    let copied = rw (known, ← c.deref.ensures) at (c.in_ok-copied.ensures.read tells) in
+    rw c.set_copied.ensures (rewritten_has t c.self.invariant _ _ _ has (frame-number t c.self.invariant _ _ _ has is) i ∙ ap (λ (ws : List ℕ). slice_index_or ws i 0) copied)

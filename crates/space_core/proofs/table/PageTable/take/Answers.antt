@@ -42,7 +42,7 @@ returns-clause-some c =
     let has = sym (rw (← c.self.view_is) at c.number.ensures.number) ∙ c.in_ok-number.was in
     let at = c.self.invariant.found _ _ has in
     let is = sym at.is ∙ frame-read t _ _ (found_within _ c.self.invariant _ _ has) c.index_mut.ensures.value ∙ sym c.take.ensures.value in
-    rw (← c.self.view_is) (has ∙ ap Some (sym at.number_is) ∙ ap (λ (f : Framed). Some f.number) (same_Some _ _ (is ∙ c.in_ok-frame.was)), c.after_remove-changes.ensures.changes)
+    rw (← c.self.view_is) (has ∙ ap Some (sym at.number_is) ∙ ap (λ (f : Framed). Some f.number) (same_Some _ _ (is ∙ c.in_ok-frame.was)), rw c.moves.ensures (c.after_remove-changes.ensures.changes.moves_in c.self.inside.sizes))
 
 pub returns-clause-after : goal.returns-clause-after
 returns-clause-after c =
