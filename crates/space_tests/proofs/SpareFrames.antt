@@ -9,7 +9,7 @@ use Rattle.pager_model.specs.Frame.{Framed, zero_frame}
 use Rattle.pager_model.specs.declared.region.Region.{Region}
 use Rattle.pager_model.specs.declared.reply.Answered.{Answered}
 use Rattle.pager_model.specs.Regions.{in_range, region_at}
-use Rattle.pager_model.specs.SizeSets.{all_sizes}
+use Rattle.pager_model.specs.SizeSets.{SizeSet}
 use Rattle.pager_model.specs.SpaceStates.{SpaceState, empty_state}
 use Rattle.space_core.specs.Beginning.{SameRegions, GaveUp, NoneResident, ClearsOne, ClearsNone, Unmapped}
 use Rattle.space_tests.specs.Ranges.{IsRange}
@@ -35,13 +35,13 @@ popped spare rest frame lowest ends =
     }
 
 -- the lowest frames are spare for a space that has begun
-pub lowest_spare : (s : Kept) (spare : List Framed) (n : ℕ) → spare ≡ map zero_frame (range_with_len 0 n) → n ≤ s.frames → 0 < length s.images → IsResting s → StandsFor s (empty_state all_sizes false s.store.faults) → HasSpare s spare
-lowest_spare s spare n lowest count processor resting stands =
+pub lowest_spare : (z : SizeSet) (s : Kept) (spare : List Framed) (n : ℕ) → spare ≡ map zero_frame (range_with_len 0 n) → n ≤ s.frames → length s.images ≡ 2 → IsResting s → StandsFor s (empty_state z false s.store.faults) → HasSpare s spare
+lowest_spare z s spare n lowest count processors resting stands =
     let few : length spare ≡ n = ap length lowest ∙ length-map-range_with_len zero_frame 0 n in
     record {
       resting = resting;
-      processor = processor;
-      state = empty_state all_sizes false s.store.faults;
+      processors = processors;
+      state = empty_state z false s.store.faults;
       stands = stands;
       lowest = lowest ∙ ap (λ (k : ℕ). map zero_frame (range_with_len 0 k)) (sym few);
       few = omega (arith, few, count);
@@ -51,12 +51,12 @@ lowest_spare s spare n lowest count processor resting stands =
 -- the frames that are left are spare
 pub rest_spare : (kept : Kept) (spare rest : List Framed) (frame : Framed) → IsPopped spare rest frame → HasSpare kept spare → HasSpare kept rest
 rest_spare kept spare rest frame last had =
-    record { resting = had.resting; processor = had.processor; state = had.state; stands = had.stands; lowest = last.lowest; few = omega (arith, last, had.few); apart = λ p number has. omega (arith, last, had.apart p number has) }
+    record { resting = had.resting; processors = had.processors; state = had.state; stands = had.stands; lowest = last.lowest; few = omega (arith, last, had.few); apart = λ p number has. omega (arith, last, had.apart p number has) }
 
 -- frames are still spare where no page has another
 pub still_spare : (old new : Kept) (spare : List Framed) (state : SpaceState) → IsResting new → StandsFor new state → new.frames ≡ old.frames → length new.images ≡ length old.images → ((p number : ℕ) → frame_at new p ≡ Some number → frame_at old p ≡ Some number) → HasSpare old spare → HasSpare new spare
 still_spare old new spare state resting stands count processors kept had =
-    record { resting = resting; processor = omega (arith, processors, had.processor); state = state; stands = stands; lowest = had.lowest; few = omega (arith, had.few, count); apart = λ p number has. had.apart p number (kept p number has) }
+    record { resting = resting; processors = processors ∙ had.processors; state = state; stands = stands; lowest = had.lowest; few = omega (arith, had.few, count); apart = λ p number has. had.apart p number (kept p number has) }
 
 -- a page that gives its frame up has none of them
 pub kept_others : (old new : Kept) (page frame : ℕ) → GaveUp old new page frame → (p number : ℕ) → frame_at new p ≡ Some number → frame_at old p ≡ Some number

@@ -6,7 +6,7 @@ ghost use Rattle.space_tests.specs.Ranges.{IsRange};
 ghost use Rattle.space_tests.specs.Spares.{HasSpare};
 ghost use Rattle.space_core.specs.Standing.{IsResting, CanBegin};
 
-use pager_model::{Call, Frame, Kind, PageRange, Reply, Rights, frames_of};
+use pager_model::{Answered, Call, Frame, Kind, PageRange, Reply, Rights, Sizes, frames_of};
 use space_core::{Begun, Space, SpaceRoom};
 use std::alloc::Global;
 use std::process::Abort;
@@ -87,61 +87,82 @@ macro_rules! fault {
 /// A call, what it is answered, the frame that its page gives up, and the frame of page 17 behind it.
 type Step = (Call, Reply, Option<u32>, Option<u32>);
 
-/// A space and spare frames for it, over a store in memory that fails at these reads and writes.
+/// A space with images for two processors and so many spare frames for it, over a store.
 fn begun(
     alloc: Global,
     number: u32,
     frames: u32,
-    reads: &[u64],
-    writes: &[u64],
+    spare: u32,
+    sizes: Sizes,
+    store: MemoryStore,
 ) -> Result<(Space<MemoryStore>, Vec<Frame>), Fail>
     requires number { number < 16 }
-    requires frames { (SPARE ≤ frames) × (frames ≤ 32768) }
+    requires frames { (spare ≤ frames) × (frames ≤ 32768) }
     ensures number { IfOk result (λ made. made.0.number ≡ number) }
     ensures spare { IfOk result (λ made. HasSpare made.0 made.1.items) }
 {
-    let spare = frames_of(alloc, SPARE)?;
-    let room = SpaceRoom::create(alloc, frames, 1)?;
-    let store = MemoryStore::of(alloc, reads.to_vec(alloc)?, writes.to_vec(alloc)?);
+    let spare = frames_of(alloc, spare)?;
+    let room = SpaceRoom::create(alloc, frames, 2, sizes)?;
     Ok((Space::over(number, room, store), spare))
 }
 
-/// The reply to a call, where a page that needs a frame gets the last of the spare ones, with the frame that its page gave up, if the
-/// call evicts it or its copy can't be read. It fails where no frame is left.
+/// All four page sizes.
+fn all_sizes() -> Sizes {
+    Sizes::of(true, true, true)
+}
+
+/// A store in memory that fails at these reads and writes.
+fn failing(alloc: Global, reads: &[u64], writes: &[u64]) -> Result<MemoryStore, Fail> {
+    Ok(MemoryStore::of(alloc, reads.to_vec(alloc)?, writes.to_vec(alloc)?))
+}
+
+/// An answer of no tile.
+fn answered(reply: Reply) -> Answered {
+    Answered {
+        reply,
+        hit: false,
+        size: None,
+    }
+}
+
+/// The answer to a processor's call, where a page that needs a frame gets the last of the spare ones, with the frame that its page gave up, if
+/// the call evicts it or its copy can't be read. It fails where no frame is left.
 fn serve(
     space: &mut Space<MemoryStore>,
     spare: &mut Vec<Frame>,
+    processor: u32,
     call: &Call,
-) -> Result<(Reply, Option<u32>), Fail>
+) -> Result<(Answered, Option<u32>), Fail>
+    requires processor { processor < 2 }
     requires space { space_of_call call.now ≡ space.old.number }
     requires can { CanBegin call.now }
     requires spare { HasSpare space.old spare.old.items }
     ensures number { OnOk result (space.new.number ≡ space.old.number) }
     ensures spare { OnOk result (HasSpare space.new spare.new.items) }
 {
-    match space.begin(0, call) {
-        Begun::Answered(answered) => Ok((answered.reply, None)),
+    match space.begin(processor, call) {
+        Begun::Answered(answered) => Ok((answered, None)),
         Begun::NeedsFrame { page, .. } => {
             let Some(frame) = spare.pop() else {
                 return Err(Fail::from("no frame is left"));
             };
             space.place(page, frame);
             match space.read_in(page) {
-                Ok(()) => Ok((space.finish(0, call).reply, None)),
-                Err(count) => Ok((fault!(count), Some(space.remove(page).number()))),
+                Ok(()) => Ok((space.finish(processor, call), None)),
+                Err(count) => Ok((answered(fault!(count)), Some(space.remove(page).number()))),
             }
         }
         Begun::NeedsClear { first, length } => Ok((clear(space, first, length)?, None)),
         Begun::NeedsEvict { page, .. } => {
             let (frame, answered) = space.evict(page);
-            Ok((answered.reply, Some(frame.number())))
+            Ok((answered, Some(frame.number())))
         }
-        Begun::Failed { count, .. } => Ok((fault!(count), None)),
+        Begun::Failed { count, .. } => Ok((answered(fault!(count)), None)),
     }
 }
 
 /// Unmaps the region of this range, whose pages give their frames up, ascending.
-fn clear(space: &mut Space<MemoryStore>, first: u32, length: u32) -> Result<Reply, Fail>
+fn clear(space: &mut Space<MemoryStore>, first: u32, length: u32) -> Result<Answered, Fail>
     requires resting { IsResting space.old }
     requires range { IsRange space.old first length }
     ensures number { OnOk result (space.new.number ≡ space.old.number) }
@@ -151,7 +172,7 @@ fn clear(space: &mut Space<MemoryStore>, first: u32, length: u32) -> Result<Repl
     let mut next = first;
     for _ in 0..=length {
         let Some((page, _)) = space.clear_next(range) else {
-            return Ok(space.unmap(first).reply);
+            return Ok(space.unmap(first));
         };
         if page < next {
             return Err(Fail::from("a page came after a later one"));
@@ -205,12 +226,14 @@ fn serves(
 ) -> Result<(), Fail>
     requires space { space.old.number ≡ SPACE }
     requires spare { HasSpare space.old spare.old.items }
+    ensures number { OnOk result (space.new.number ≡ SPACE) }
+    ensures spare { OnOk result (HasSpare space.new spare.new.items) }
 {
     for (call, reply, gave, resident) in steps {
         assert!(rt; is_ours(call));
-        let served = serve(space, spare, call)?;
+        let (answered, given) = serve(space, spare, 0, call)?;
         assert_eq!(rt;
-            (served, space.resident(17)),
+            ((answered.reply, given), space.resident(17)),
             ((*reply, *gave), *resident),
             "{call:?}"
         );
@@ -226,27 +249,32 @@ fn answers(
     writes: &[u64],
     steps: &[Step],
 ) -> Result<(), Fail> {
-    let (mut space, mut spare) = begun(alloc, SPACE, SPARE, reads, writes)?;
+    let store = failing(alloc, reads, writes)?;
+    let (mut space, mut spare) = begun(alloc, SPACE, SPARE, SPARE, all_sizes(), store)?;
     serves(rt, &mut space, &mut spare, steps)
 }
 
-/// What a space answers to its first call, which is a load. No region has its page.
-fn first_reply(alloc: Global, number: u32) -> Result<(Reply, Option<u32>), Fail>
+/// What a space replies to its first call, which is a load. No region has its page.
+fn first_reply(alloc: Global, number: u32) -> Result<Reply, Fail>
     requires { number < 16 }
 {
-    let (mut space, mut spare) = begun(alloc, number, 32_768, &[], &[])?;
+    let store = failing(alloc, &[], &[])?;
+    let (mut space, _spare) = begun(alloc, number, 32_768, SPARE, all_sizes(), store)?;
     let call = Call::Load {
         space: number,
         address: 0,
     };
-    serve(&mut space, &mut spare, &call)
+    match space.begin(0, &call) {
+        Begun::Answered(answered) => Ok(answered.reply),
+        _ => Err(Fail::from("the call needs more")),
+    }
 }
 
 #[test]
 fn sixteen_spaces_are_made_at_once(rt: HostRuntime) -> Result<(), Fail> {
     for number in 0..16 {
-        let served = first_reply(rt.alloc(), number)?;
-        assert_eq!(rt; served, (Reply::Unmapped, None));
+        let reply = first_reply(rt.alloc(), number)?;
+        assert_eq!(rt; reply, Reply::Unmapped);
     }
     Ok(())
 }
@@ -440,4 +468,110 @@ static DROPPED: [Step; 10] = [
 #[test]
 fn an_unmap_drops_the_copies_of_its_pages(rt: HostRuntime) -> Result<(), Fail> {
     answers(&rt, rt.alloc(), &[], &[], &DROPPED)
+}
+
+/// Loads of a processor, or stores of a word, at each page from one down to another; whether the last of them is a hit, and the level of its
+/// tile; and how many tiles of each size there are then, and how many were promoted and broken.
+type Row = (
+    u32,
+    (u32, u32),
+    Option<u64>,
+    (bool, u8),
+    [u32; 4],
+    (u64, u64),
+);
+
+/// A load of a page's first word, or a store of it.
+fn access(page: u32, word: Option<u64>) -> Call {
+    let address = u64::from(page) * 8192;
+    match word {
+        Some(word) => Call::Store {
+            space: SPACE,
+            address,
+            word,
+        },
+        None => Call::Load {
+            space: SPACE,
+            address,
+        },
+    }
+}
+
+/// The level of the tile that an answer tells, and 4 where it tells none.
+fn level_of(answered: &Answered) -> u8 {
+    match answered.size {
+        Some(size) => size.level(),
+        None => 4,
+    }
+}
+
+/// The answer to the last access of a row.
+fn last_answer(
+    rt: &impl Abort,
+    space: &mut Space<MemoryStore>,
+    spare: &mut Vec<Frame>,
+    row: &Row,
+) -> Result<Answered, Fail>
+    requires space { space.old.number ≡ SPACE }
+    requires spare { HasSpare space.old spare.old.items }
+    ensures number { OnOk result (space.new.number ≡ SPACE) }
+    ensures spare { OnOk result (HasSpare space.new spare.new.items) }
+{
+    let (processor, (from, to), word, ..) = *row;
+    let mut last = answered(Reply::Unmapped);
+    for page in (to..=from).rev() {
+        let call = access(page, word);
+        assert!(rt; processor < 2);
+        assert!(rt; is_ours(&call));
+        last = serve(space, spare, processor, &call)?.0;
+    }
+    Ok(last)
+}
+
+/// Asserts that the accesses of the rows, one row after another, use and leave such tiles.
+fn uses(
+    rt: &impl Abort,
+    space: &mut Space<MemoryStore>,
+    spare: &mut Vec<Frame>,
+    rows: &[Row],
+) -> Result<(), Fail>
+    requires space { space.old.number ≡ SPACE }
+    requires spare { HasSpare space.old spare.old.items }
+{
+    for row in rows {
+        let (.., used, tiles, moves) = *row;
+        let last = last_answer(rt, space, spare, row)?;
+        assert_eq!(rt; (last.hit, level_of(&last)), used, "{row:?}");
+        assert_eq!(rt;
+            (space.tile_counts(), space.moves()),
+            (tiles, moves),
+            "{row:?}"
+        );
+    }
+    Ok(())
+}
+
+static REGION: [Step; 1] = [(map!(0, 1024, Fixed, Write), Reply::Done, None, None)];
+
+/// Page 512 gets frame 512, and then each page below it the frame of its own number.
+static TWO_SIZES: [Row; 9] = [
+    (1, (512, 512), None, (false, 0), [1, 0, 0, 0], (0, 0)),
+    (0, (511, 504), None, (false, 0), [9, 0, 0, 0], (0, 0)),
+    (0, (503, 0), None, (false, 3), [1, 0, 0, 1], (1, 0)),
+    (1, (7, 7), None, (false, 3), [1, 0, 0, 1], (1, 0)),
+    (1, (300, 300), None, (true, 3), [1, 0, 0, 1], (1, 0)),
+    (0, (5, 5), Some(9), (true, 0), [513, 0, 0, 0], (1, 1)),
+    (0, (6, 6), None, (false, 0), [513, 0, 0, 0], (1, 1)),
+    (1, (7, 7), None, (false, 0), [513, 0, 0, 0], (1, 1)),
+    (1, (512, 512), None, (true, 0), [513, 0, 0, 0], (1, 1)),
+];
+
+#[test]
+fn a_space_with_two_sizes_has_no_tile_between_them(rt: HostRuntime) -> Result<(), Fail> {
+    let alloc = rt.alloc();
+    let two_sizes = Sizes::of(false, false, true);
+    let store = failing(alloc, &[], &[])?;
+    let (mut space, mut spare) = begun(alloc, SPACE, 1024, 513, two_sizes, store)?;
+    serves(&rt, &mut space, &mut spare, &REGION)?;
+    uses(&rt, &mut space, &mut spare, &TWO_SIZES)
 }

@@ -7,7 +7,7 @@ use std::os::unix::fs::FileExt;
 use std::process::Abort;
 use std::rt::Files;
 use std::test::Fail;
-use store_core::Store;
+use store_core::{Copied, Store, StoreFailed};
 use store_file::FileStore;
 
 /// The words of a page: each another one, and other pages' words others. Those of number 0 are zero.
@@ -34,14 +34,22 @@ enum Step {
     FailsToRead(u32, u64),
 }
 
+/// Whether a read of a page gives the words of a number.
+fn gives<S: Store>(store: &mut S, page: u32, number: u64) -> bool {
+    let mut words = [1; WORDS];
+    match store.read(page, &mut words) {
+        Ok(Copied::Words) => words == words_of(number),
+        Ok(Copied::Zeros) => number == 0,
+        Err(StoreFailed) => false,
+    }
+}
+
 /// Whether the store does this.
 fn does<S: Store>(store: &mut S, step: Step) -> bool {
     let mut words = [0; WORDS];
     match step {
         Step::Writes(page, number) => store.write(page, &words_of(number)).is_ok(),
-        Step::Reads(page, number) => {
-            store.read(page, &mut words).is_ok() && words == words_of(number)
-        }
+        Step::Reads(page, number) => gives(store, page, number),
         Step::Drops(first, length) => {
             store.drop_pages(first, length);
             true

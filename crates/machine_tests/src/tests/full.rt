@@ -2,7 +2,7 @@
 
 ghost use Rattle.std.specs.Prelude.{true, List, [], Some};
 
-use store_core::{Store, StoreFailed, WriteRefused};
+use store_core::{Copied, Store, StoreFailed, WriteRefused};
 
 /// Refuses each write, so its copies stay zero.
 #[derive(Drop)]
@@ -22,10 +22,9 @@ impl Store for Full {
     ghost reads = { λ s. s.reads };
 
     #[tactic(auto, unfolding(pager_model::specs::Stored::copy_at))]
-    fn read(&mut self, _page: u32, words: &mut [u64]) -> Result<(), StoreFailed> {
+    fn read(&mut self, _page: u32, _words: &mut [u64]) -> Result<Copied, StoreFailed> {
         self.reads = self.reads.saturating_add(1);
-        words.fill(0);
-        Ok(())
+        Ok(Copied::Zeros)
     }
 
     #[tactic(auto, unfolding(pager_model::specs::Stored::keeps_at))]

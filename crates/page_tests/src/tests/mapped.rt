@@ -1,13 +1,12 @@
-//! The tiles that map pages beside a plain list of them.
-ghost use Rattle.std.specs.Prelude.{◌≡◌, ◌*◌, ◌/◌, ◌<◌, ◌≤◌, ◌^◌, ℕ, true, Some, None, IfSome};
-ghost use Rattle.pager_model.specs.Extents.{IsExtent};
-ghost use Rattle.pager_model.specs.Bounds.{space_pages};
-ghost use Rattle.page_map.specs.Tiles.{tile_at, frames_in, pages_in, is_in, part_of, AreParts};
+//! The entries that map pages beside a plain list of each page's entry.
+ghost use Rattle.std.specs.Prelude.{◌≡◌, ◌<◌, ◌≤◌, IfSome};
+ghost use Rattle.pager_model.specs.Extents.{extent_start};
+ghost use Rattle.page_map.specs.Entries.{entry_at, frames_in, pages_in};
 
 use super::{NO_MEMORY, size};
-use page_map::Mixed;
-use pager_model::{Extent, Generator, NoMemory, Rights, Steps, Tile};
-use std::alloc::{AllocError, Global};
+use page_map::{Entry, Mixed};
+use pager_model::{Extent, Generator, Mapping, NoMemory, Rights, Size, Steps};
+use std::alloc::Global;
 use std::marker::Brand;
 use std::process::Abort;
 use std::sync::ledger::{Blank, Ledger};
@@ -15,175 +14,197 @@ use std::sync::ledger::{Blank, Ledger};
 /// How many frames there is room for.
 const FRAMES: u32 = 1024;
 
-/// A map beside a plain list of its tiles, and how many pages these have.
+/// How many pages the list has.
+const PAGES: usize = 2048;
+
+/// The last of the ways to map a page, the plain one.
+const PLAIN: u32 = 5;
+
+/// A map beside a plain list of each page's entry, and how many pages are mapped.
 #[derive(Drop)]
 struct Beside {
     map: Mixed,
-    tiles: Vec<Tile>,
+    list: Vec<Option<Entry>>,
     mapped: u32,
     ghost frames: { frames_in map ≡ 1024 },
     ghost pages: { pages_in map ≡ mapped },
     ghost few: { mapped ≤ 1024 },
 }
 
-/// The extent of a level round a page.
-fn extent(level: u8, page: u32) -> Extent
-    ensures aligned { IsExtent result.size result.first }
-    ensures first { result.first ≤ page }
+/// The first number of the extent of a size round a page or a frame.
+#[tactic(auto, using(pager_model::proofs::ExtentLemmas::eight_pos))]
+fn start(size: Size, number: u32) -> u32
+    ensures { result ≡ extent_start size number }
 {
-    let size = size(level);
     let pages = size.pages();
-    Extent {
-        size,
-        first: page / pages * pages,
-    }
+    number / pages * pages
 }
 
-/// Whether a tile has a page.
-fn has(tile: &Tile, page: u32) -> bool {
-    extent(tile.extent.size.level(), page) == tile.extent
-}
-
-/// The part of a tile of more than a page that has one of its pages.
-fn part(whole: &Tile, page: u32) -> Tile
-    requires large { 0 < whole.now.extent.size }
-    requires small { whole.now.extent.size ≤ 3 }
-    requires frame { whole.now.frame < 32768 }
-    ensures { result ≡ part_of whole.now page }
-{
-    let size = whole.extent.size.smaller();
-    let pages = size.pages();
-    Tile {
-        extent: Extent {
-            size,
-            first: page / pages * pages,
+/// What a page is mapped to, in one of six ways: neighbours of the plain one can form an entry, and each other one differs from it in one thing.
+fn mapping(kind: u32, page: u32) -> Mapping {
+    let further = match kind {
+        0 => 512,
+        1 => 1,
+        _ => 0,
+    };
+    Mapping {
+        frame: page.wrapping_add(further),
+        region: if kind == 2 { 8 } else { 0 },
+        rights: if kind == 3 {
+            Rights::Read
+        } else {
+            Rights::Write
         },
-        frame: whole.frame + page / pages % 8 * pages,
-        ..*whole
+        dirty: kind == 4,
     }
 }
 
-/// Whether no page of an extent has a tile.
-fn is_free<L: Ledger>(map: &Mixed, extent: &Extent, steps: &mut Steps<L>) -> bool
-    requires aligned { IsExtent extent.now.size extent.now.first }
-    requires inside { extent.now.first < space_pages }
-    ensures { result ≡ true → (page : ℕ) → is_in extent.now page ≡ true → tile_at map.now page ≡ None }
+/// The part of an entry of more than a page that has one of its pages.
+fn part(whole: &Entry, page: u32) -> Entry
+    requires { 0 < whole.now.extent.size }
 {
-    for page in extent.first..extent.first + extent.size.pages() {
-        if map.lookup(page, steps).is_some() {
-            return false;
-        }
-    }
-    true
-}
-
-/// Whether the parts of a tile are there in its place.
-fn are_parts<L: Ledger>(map: &Mixed, whole: &Tile, steps: &mut Steps<L>) -> bool
-    requires large { 0 < whole.now.extent.size }
-    requires aligned { IsExtent whole.now.extent.size whole.now.extent.first }
-    requires inside { whole.now.extent.first < space_pages }
-    requires frame { whole.now.frame < 32768 }
-    ensures { result ≡ true → AreParts whole.now.extent whole.now map.now }
-{
-    let first = whole.extent.first;
-    for page in first..first + whole.extent.size.pages() {
-        if map.lookup(page, steps) != Some(part(whole, page)) {
-            return false;
-        }
-    }
-    true
+    let part = Entry::round(whole.extent.size.smaller(), page, whole.mapping);
+    let frames = part.extent.first.wrapping_sub(whole.extent.first);
+    let mapping = Mapping {
+        frame: whole.mapping.frame.wrapping_add(frames),
+        ..whole.mapping
+    };
+    Entry { mapping, ..part }
 }
 
 impl Beside {
     fn create(alloc: Global) -> Result<Beside, NoMemory> {
+        let mut list = Vec::new(alloc);
+        list.resize(PAGES, None)?;
         Ok(Beside {
             map: Mixed::create(alloc, FRAMES)?,
-            tiles: Vec::new(alloc),
+            list,
             mapped: 0,
         })
     }
 
-    /// Puts a tile in both, where its pages are free and fit.
-    fn put<L: Ledger>(&mut self, tile: Tile, steps: &mut Steps<L>) -> Result<(), AllocError>
-        requires aligned { IsExtent tile.extent.size tile.extent.first }
-        requires inside { tile.extent.first < space_pages }
+    /// A page's entry in the list.
+    fn at(&self, page: u32) -> Option<Entry> {
+        *self.list.get(page as usize)?
+    }
+
+    /// Gives an extent's pages these entries in the list.
+    fn note<F: Fn(u32) -> Option<Entry>>(&mut self, extent: &Extent, given: F)
+        requires { F.IsAlwaysCallable given }
     {
-        let pages = tile.extent.size.pages();
-        if pages <= FRAMES - self.mapped && is_free(&self.map, &tile.extent, steps) {
-            self.map.put(tile, steps);
-            self.mapped += pages;
-            self.tiles.push(tile)?;
-        }
-        Ok(())
-    }
-
-    /// A page's tile, where it is the one of its first page.
-    fn tile<L: Ledger>(&self, page: u32, steps: &mut Steps<L>) -> Option<Tile>
-        ensures { IfSome result (λ tile. tile_at self.now.map tile.extent.first ≡ Some tile) }
-    {
-        let tile = self.map.lookup(page, steps)?;
-        let whole = self.map.lookup(tile.extent.first, steps)?;
-        (whole == tile).then_some(tile)
-    }
-
-    /// Takes a page's tile out of both.
-    fn remove<L: Ledger>(&mut self, page: u32, steps: &mut Steps<L>) {
-        if let Some(tile) = self.tile(page, steps) {
-            self.map.remove(&tile, steps);
-            self.mapped -= tile.extent.size.pages();
-            self.tiles.retain(|other| *other != tile);
-        }
-    }
-
-    /// Breaks a page's tile in both, where it has more than a page.
-    fn split<L: Ledger>(&mut self, page: u32, steps: &mut Steps<L>) -> Result<(), AllocError> {
-        let Some(tile) = self.tile(page, steps) else {
-            return Ok(());
-        };
-        if tile.extent.size.level() > 0 && tile.frame < 32_768 {
-            self.map.split(&tile, steps);
-            self.tiles.retain(|other| *other != tile);
-            let pages = tile.extent.size.smaller().pages();
-            for i in 0..8_u32 {
-                let page = tile.extent.first.wrapping_add(i.wrapping_mul(pages));
-                self.tiles.push(part(&tile, page))?;
+        for page in extent.first..extent.first.wrapping_add(extent.size.pages()) {
+            if let Some(at) = self.list.get_mut(page as usize) {
+                *at = given(page);
             }
         }
-        Ok(())
     }
 
-    /// Joins the parts of an extent in both, where they are those of one tile.
-    fn join<L: Ledger>(&mut self, extent: Extent, steps: &mut Steps<L>) -> Result<(), AllocError>
-        requires aligned { IsExtent extent.size extent.first }
-        requires inside { extent.first < space_pages }
+    /// Maps the extent of a size round a page in both, where its pages are free and fit.
+    #[tactic(auto, using(page_map::proofs::Mappings::start_aligned, pager_model::proofs::ExtentLemmas::of_extent))]
+    fn put<L: Ledger>(&mut self, kind: u32, size: Size, page: u32, steps: &mut Steps<L>)
+        requires { page < 2048 }
     {
-        let Some(first) = self.tile(extent.first, steps) else {
-            return Ok(());
-        };
-        let whole = Tile { extent, ..first };
-        if extent.size.level() > 0 && whole.frame < 32_768 && are_parts(&self.map, &whole, steps) {
-            self.map.join(extent, steps);
-            self.tiles.retain(|other| !has(&whole, other.extent.first));
-            self.tiles.push(whole)?;
+        let first = start(size, page);
+        let pages = size.pages();
+        let entry = Entry::round(size, page, mapping(kind, first));
+        if pages <= FRAMES - self.mapped && self.map.next(first, first + pages, steps).is_none() {
+            self.map.put(&entry, steps);
+            self.mapped += pages;
+            self.note(&entry.extent, |_| Some(entry));
         }
-        Ok(())
     }
 
-    /// How many tiles the list has of each size.
+    /// A page's entry in the map, where it is the one of its first page.
+    fn entry<L: Ledger>(&self, page: u32, steps: &mut Steps<L>) -> Option<Entry>
+        ensures { IfSome result (λ entry. entry_at self.now.map entry.extent.first ≡ Some entry) }
+    {
+        let entry = self.map.lookup(page, steps)?;
+        let first = self.map.lookup(entry.extent.first, steps)?;
+        (first == entry).then_some(entry)
+    }
+
+    /// Maps a page's entry in another way in both.
+    fn replace<L: Ledger>(&mut self, page: u32, kind: u32, steps: &mut Steps<L>) {
+        if let Some(before) = self.entry(page, steps) {
+            let mapping = mapping(kind, before.extent.first);
+            let entry = Entry { mapping, ..before };
+            self.map.replace(&entry, steps);
+            self.note(&entry.extent, |_| Some(entry));
+        }
+    }
+
+    /// Takes a page's entry out of both.
+    fn remove<L: Ledger>(&mut self, page: u32, steps: &mut Steps<L>) {
+        if let Some(entry) = self.entry(page, steps) {
+            self.map.remove(&entry, steps);
+            self.mapped -= entry.extent.size.pages();
+            self.note(&entry.extent, |_| None);
+        }
+    }
+
+    /// Breaks a page's entry in both, where it has more than a page.
+    #[tactic(auto, using(pager_model::proofs::ExtentLemmas::eight_small))]
+    fn split<L: Ledger>(&mut self, page: u32, steps: &mut Steps<L>) {
+        let Some(whole) = self.entry(page, steps) else {
+            return;
+        };
+        if whole.extent.size.level() > 0 && whole.mapping.frame < 32_768 {
+            self.map.split(&whole, steps);
+            self.note(&whole.extent, |page| Some(part(&whole, page)));
+        }
+    }
+
+    /// Joins the parts of the extents round a page in both, from the smallest extent up, where they form entries.
+    #[tactic(auto, using(page_map::proofs::Mappings::start_aligned))]
+    fn join<L: Ledger>(&mut self, page: u32, steps: &mut Steps<L>) {
+        for level in 1..4 {
+            if let Some(whole) = self.map.whole(size(level), page, steps) {
+                self.map.join(&whole, steps);
+                self.note(&whole.extent, |_| Some(whole));
+            }
+        }
+    }
+
+    /// The entry of the extent of a size round a page that its parts form in the list, where they do.
+    fn whole(&self, size: Size, page: u32) -> Option<Entry>
+        requires { 0 < size }
+    {
+        let first = start(size, page);
+        let whole = Entry::round(size, page, self.at(first)?.mapping);
+        let end = first.wrapping_add(size.pages());
+        let are_parts = (first..end).all(|page| self.at(page) == Some(part(&whole, page)));
+        let frame = whole.mapping.frame;
+        (are_parts && start(size, frame) == frame).then_some(whole)
+    }
+
+    /// How many entries the list has of each size.
     fn counts(&self) -> [u32; 4] {
         let mut counts: [u32; 4] = [0; 4];
-        for tile in &self.tiles {
-            let level = tile.extent.size.level() as usize;
-            counts[level] = counts[level].wrapping_add(1);
+        for (page, entry) in self.list.iter().enumerate() {
+            if let Some(entry) = entry
+                && entry.extent.first as usize == page
+            {
+                let level = entry.extent.size.level() as usize;
+                counts[level] = counts[level].wrapping_add(1);
+            }
         }
         counts
     }
 
-    /// The map and the list say the same of a page, and of the counts.
+    /// The map and the list say the same of a page, of the extents round it and of the counts.
     fn compares<L: Ledger>(&self, rt: &impl Abort, page: u32, steps: &mut Steps<L>) {
-        let found = self.tiles.iter().find(|tile| has(tile, page)).copied();
-        assert!(rt; self.map.lookup(page, steps) == found, "page {page}");
+        assert!(rt;
+            self.map.lookup(page, steps) == self.at(page),
+            "page {page}"
+        );
         assert!(rt; self.map.counts() == self.counts(), "counts at page {page}");
+        for level in 1..4 {
+            let size = size(level);
+            assert!(rt;
+                self.map.whole(size, page, steps) == self.whole(size, page),
+                "level {level} at page {page}"
+            );
+        }
     }
 }
 
@@ -198,94 +219,70 @@ fn near(random: &mut Generator) -> u32
     }
 }
 
-/// A tile round a page; most are over the frames of their pages' numbers, so that they can join.
-fn drawn(level: u8, page: u32, random: &mut Generator) -> Tile
-    requires { page < 2048 }
-    ensures aligned { IsExtent result.extent.size result.extent.first }
-    ensures inside { result.extent.first < space_pages }
-{
-    let extent = extent(level, page);
-    let odd = random.draw(30);
-    Tile {
-        extent,
-        frame: extent.first + if odd == 0 { 512 } else { 0 },
-        rights: if odd == 1 {
-            Rights::Read
-        } else {
-            Rights::Write
-        },
-        dirty: odd == 2,
-    }
-}
-
 /// One drawn change of both.
-fn change<L: Ledger>(
-    both: &mut Beside,
-    page: u32,
-    random: &mut Generator,
-    steps: &mut Steps<L>,
-) -> Result<(), AllocError>
+fn change<L: Ledger>(both: &mut Beside, page: u32, random: &mut Generator, steps: &mut Steps<L>)
     requires { page < 2048 }
 {
-    let level = random.draw(4) as u8;
-    match random.draw(8) {
-        0..=3 => both.put(drawn(level, page, random), steps),
-        4 => both.split(page, steps),
-        5..=6 => both.join(extent(level, page), steps),
-        _ => {
-            both.remove(page, steps);
-            Ok(())
-        }
+    let (level, kind) = (random.draw(4) as u8, random.draw(10));
+    match random.draw(16) {
+        0..=4 => both.put(kind, size(level), page, steps),
+        5..=8 => both.split(page, steps),
+        9..=11 => both.join(page, steps),
+        12..=14 => both.replace(page, kind, steps),
+        _ => both.remove(page, steps),
     }
 }
 
-/// Fills an extent of 512 pages by single ones, and joins them up.
-fn fills<L: Ledger>(
-    rt: &impl Abort,
-    both: &mut Beside,
-    steps: &mut Steps<L>,
-) -> Result<(), AllocError> {
+/// Breaks an entry of each kind into its parts, and then maps one of these in the plain way.
+fn breaks<L: Ledger>(rt: &impl Abort, both: &mut Beside, steps: &mut Steps<L>) {
+    for kind in 0..=PLAIN {
+        let page = 512 + 8 * kind;
+        both.put(kind, size(1), page, steps);
+        both.split(page, steps);
+        both.compares(rt, page, steps);
+        both.replace(page + 3, PLAIN, steps);
+        both.compares(rt, page, steps);
+    }
+}
+
+/// Breaks an entry of 512 pages down to single pages, and joins these up to it again.
+fn comes_back<L: Ledger>(rt: &impl Abort, both: &mut Beside, steps: &mut Steps<L>) {
+    both.put(PLAIN, size(3), 0, steps);
+    let whole = both.map.lookup(0, steps);
     for page in 0..512 {
-        let tile = Tile {
-            extent: extent(0, page),
-            frame: page,
-            rights: Rights::Read,
-            dirty: false,
-        };
-        both.put(tile, steps)?;
+        both.split(page, steps);
     }
-    for level in 1..4 {
-        for page in 0..512 {
-            both.join(extent(level, page), steps)?;
-        }
+    assert!(rt; both.map.counts() == [512, 0, 0, 0]);
+    for page in 0..512 {
+        both.join(page, steps);
     }
-    assert!(rt; both.map.counts() == [0, 0, 0, 1]);
-    Ok(())
+    assert!(rt; both.map.lookup(0, steps) == whole);
 }
 
-fn goes_through<L: Ledger>(
-    rt: &impl Abort,
-    both: &mut Beside,
-    blank: Blank,
-) -> Result<(), AllocError>
+fn goes_through<L: Ledger>(rt: &impl Abort, both: &mut Beside, blank: Blank)
     requires name { blank.name ≡ L.name }
     requires parts { blank.parts ≡ L.parts }
     requires share { 0 < blank.parts }
 {
     let (book, share) = blank.open::<L>();
     let steps = &mut Steps::begin(book, share);
-    fills(rt, both, steps)?;
+    comes_back(rt, both, steps);
+    breaks(rt, both, steps);
     let mut random = Generator::of(11);
     for _ in 0..4_000 {
         let page = near(&mut random);
-        change(both, page, &mut random, steps)?;
+        change(both, page, &mut random, steps);
         both.compares(rt, page, steps);
+        let end = near(&mut random);
+        assert!(rt;
+            both.map.next(page, end, steps) == (page..end).find_map(|page| both.at(page)),
+            "from {page} to {end}"
+        );
     }
-    Ok(())
 }
 
 #[test]
-fn maps_as_a_list_of_tiles_does(rt: HostRuntime) {
+fn maps_as_a_list_of_entries_does(rt: HostRuntime) {
     let mut both = Beside::create(rt.alloc()).expect(&rt, NO_MEMORY);
-    assert!(rt; goes_through::<Brand>(&rt, &mut both, Blank::new(1)).is_ok());
+    goes_through::<Brand>(&rt, &mut both, Blank::new(1));
 }

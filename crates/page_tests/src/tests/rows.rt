@@ -147,16 +147,29 @@ impl Beside {
         spot.value() == self.value(&extent) && spot.is_split() == self.is_split(&extent)
     }
 
-    /// The lowest page from one on and before an end that has a row of its own in the list.
-    fn next(&self, from: u32, end: u32) -> Option<u32> {
-        let rows = self.rows.iter().filter(|row| row.extent.size.level() == 0);
-        let pages = rows.map(|row| row.extent.first);
-        pages.filter(|page| from <= *page && *page < end).min()
+    /// The largest row of the list round a page: its size and its value.
+    fn largest(&self, page: u32) -> Option<(Size, u32)> {
+        (0..4).rev().find_map(|level| {
+            let size = size(level);
+            Some((size, self.value(&extent(size, page))?))
+        })
     }
 
-    /// Whether the next page that has a row is the same in the tree and the list.
+    /// The lowest page from one on and before an end that has a row of the list round it, and the largest such row.
+    fn next(&self, from: u32, end: u32) -> Option<(u32, Size, u32)> {
+        (from..end).find_map(|page| {
+            let (size, value) = self.largest(page)?;
+            Some((page, size, value))
+        })
+    }
+
+    /// Whether the next row is the same in the tree and the list, with its page and its value.
     fn goes_on_alike<L: Ledger>(&self, from: u32, end: u32, steps: &mut Steps<L>) -> bool {
-        end > PAGES || self.tree.next(from, end, steps) == self.next(from, end)
+        if end > PAGES {
+            return true;
+        }
+        let found = self.tree.next(from, end, steps);
+        found.map(|row| (row.page, row.size, row.value)) == self.next(from, end)
     }
 
     /// The tree and the list say the same of the extents round a page.

@@ -4,15 +4,21 @@ ghost use Rattle.std.specs.Prelude.{◌≡◌, ◌≢◌, ◌<◌, ◌≤◌, �
 ghost use Rattle.tiles.specs.Resident.{mapping_at, frames_in, frame_of_page};
 
 use super::{NO_MEMORY, size};
-use pager_model::{Extent, Generator, Mapping, NoMemory, PageRange, Rights, Size, Tile};
+use pager_model::{Extent, Generator, Mapping, NoMemory, PageRange, Rights, Size, Sizes, Tile};
 use std::alloc::Global;
+use std::marker::Brand;
 use std::process::Abort;
+use std::sync::ledger::Blank;
+use tiles::counted::{after_dirty, after_fill, after_remove};
 use tiles::{Base, Changes, Moves, TileList};
 
 /// The pages that the tests use, and the frames.
 const PAGES: u32 = 1024;
 
 const FRAMES: u32 = 1536;
+
+/// How many changes are drawn.
+const CHANGES: u32 = 350;
 
 const NO_MOVES: Moves = Moves {
     promotions: 0,
@@ -23,6 +29,11 @@ const NO_MOVES: Moves = Moves {
     },
 };
 
+/// All four page sizes.
+fn all_sizes() -> Sizes {
+    Sizes::of(true, true, true)
+}
+
 /// What the base told of a drawn change.
 #[derive(Drop)]
 enum Told {
@@ -32,9 +43,10 @@ enum Told {
     OfRange(Moves),
 }
 
-/// The base beside a plain list of mappings.
+/// The base beside a plain list of mappings, and the sizes by which their tiles are compared.
 #[derive(Drop)]
 struct Beside {
+    sizes: Sizes,
     base: Base,
     pages: Vec<Option<Mapping>>,
     ghost frames: { frames_in base ≡ 1536 },
@@ -56,18 +68,17 @@ fn is_free(base: &Base, frame: u32) -> bool
     true
 }
 
-/// The extent of a size round a page as a tile, where it is eligible.
+/// The extent of a size from a page on as a tile, where it is eligible.
 fn eligible(pages: &[Option<Mapping>], size: Size, page: u32) -> Option<Tile> {
     let length = size.pages().max(1);
-    let first = page / length * length;
-    let head = (*pages.get(first as usize)?)?;
-    if head.frame % length != 0 {
+    let head = (*pages.get(page as usize)?)?;
+    if page % length != 0 || head.frame % length != 0 {
         return None;
     }
-    let continues = |i: u32| pages.get(first.wrapping_add(i) as usize)
+    let continues = |i: u32| pages.get(page.wrapping_add(i) as usize)
         == Some(&Some(after(head, i)));
     (0..length).all(continues).then_some(Tile {
-        extent: Extent { size, first },
+        extent: Extent { size, first: page },
         frame: head.frame,
         rights: head.rights,
         dirty: head.dirty,
@@ -82,31 +93,42 @@ fn after(head: Mapping, pages: u32) -> Mapping {
     }
 }
 
-/// The tile of a page by a scan.
-fn tile_of(pages: &[Option<Mapping>], page: u32) -> Option<Tile> {
+/// The largest tile of these sizes that can begin at a page.
+fn tile_from(pages: &[Option<Mapping>], sizes: Sizes, page: u32) -> Option<Tile> {
     (0..4u8)
         .rev()
-        .find_map(|level| eligible(pages, size(level), page))
+        .map(size)
+        .filter(|size| sizes.has(*size))
+        .find_map(|size| eligible(pages, size, page))
 }
 
-/// The tiles of all pages by a scan, which skips the pages of a tile that was found.
-fn tiles(alloc: Global, pages: &[Option<Mapping>]) -> Result<Vec<Option<Tile>>, NoMemory> {
+/// The tiles of all pages by these sizes by a scan, which skips the pages of a tile that was found.
+fn tiles(
+    alloc: Global,
+    pages: &[Option<Mapping>],
+    sizes: Sizes,
+) -> Result<Vec<Option<Tile>>, NoMemory> {
     let mut tiles = Vec::new(alloc);
     for page in 0..PAGES {
-        let tile = tile_after(pages, &tiles, page);
+        let tile = tile_after(pages, sizes, &tiles, page);
         tiles.push(tile)?;
     }
     Ok(tiles)
 }
 
-/// The tile of a page after those of the pages before it.
-fn tile_after(pages: &[Option<Mapping>], tiles: &[Option<Tile>], page: u32) -> Option<Tile> {
+/// The tile of a page after those of the pages before it: where it isn't in the last one, it begins its own.
+fn tile_after(
+    pages: &[Option<Mapping>],
+    sizes: Sizes,
+    tiles: &[Option<Tile>],
+    page: u32,
+) -> Option<Tile> {
     if let Some(Some(tile)) = tiles.last() {
         if page.wrapping_sub(tile.extent.first) < tile.extent.size.pages() {
             return Some(*tile);
         }
     }
-    tile_of(pages, page)
+    tile_from(pages, sizes, page)
 }
 
 /// The level of a tile, and 0 for none.
@@ -127,8 +149,9 @@ fn came(before: &[Option<Tile>], after: &[Option<Tile>]) -> usize {
 }
 
 impl Beside {
-    fn create(alloc: Global) -> Result<Beside, NoMemory> {
+    fn create(alloc: Global, sizes: Sizes) -> Result<Beside, NoMemory> {
         Ok(Beside {
+            sizes,
             base: Base::create(alloc, FRAMES)?,
             pages: vec![in alloc; None; PAGES as usize]?,
         })
@@ -145,21 +168,21 @@ impl Beside {
         if let Some(at) = self.pages.get_mut(page as usize) {
             *at = Some(mapping);
         }
-        Told::OfPage(self.base.after_fill(page, mapping))
+        Told::OfPage(after_fill::<Brand>(&mut self.base, page, mapping, Blank::new(1)))
     }
 
     fn remove(&mut self, page: u32) -> Told {
         if let Some(at) = self.pages.get_mut(page as usize) {
             *at = None;
         }
-        Told::OfPage(self.base.after_remove(page))
+        Told::OfPage(after_remove::<Brand>(&mut self.base, page, Blank::new(1)))
     }
 
     fn set_dirty(&mut self, page: u32, dirty: bool) -> Told {
         if let Some(Some(mapping)) = self.pages.get_mut(page as usize) {
             mapping.dirty = dirty;
         }
-        Told::OfPage(self.base.after_dirty(page, dirty))
+        Told::OfPage(after_dirty::<Brand>(&mut self.base, page, dirty, Blank::new(1)))
     }
 
     fn protect(&mut self, first: u32, length: u32, rights: Rights) -> Told {
@@ -171,7 +194,7 @@ impl Beside {
                 mapping.rights = rights;
             }
         }
-        Told::OfRange(self.base.after_rights(first, length, rights))
+        Told::OfRange(self.base.after_rights(first, length, rights, self.sizes))
     }
 
     /// Sets rights in a block of 64 pages and behind it.
@@ -195,9 +218,11 @@ impl Beside {
         }
     }
 
-    /// Whether a page has this tile in the base.
+    /// Whether a page has this tile in the base, which tells of one that begins at the page that it is a tile.
     fn has(&self, page: u32, tile: Option<Tile>) -> bool {
-        self.base.tile_of(page) == tile && tile.is_none_or(|tile| self.base.is_tile(&tile))
+        self.base.tile_of(page, self.sizes) == tile
+            && tile.is_none_or(|tile| tile.extent.first != page
+                || self.base.is_tile(&tile, self.sizes))
     }
 
     /// Whether the base and the list have the same tiles.
@@ -242,26 +267,31 @@ fn mapping(page: u32) -> Mapping {
     }
 }
 
-/// The base with all pages filled.
-fn filled(alloc: Global) -> Result<Beside, NoMemory> {
-    let mut both = Beside::create(alloc)?;
+/// The base with all pages filled, to be compared by these sizes.
+fn filled(alloc: Global, sizes: Sizes) -> Result<Beside, NoMemory> {
+    let mut both = Beside::create(alloc, sizes)?;
     for page in 0..PAGES {
         both.fill(page, mapping(page));
     }
     Ok(both)
 }
 
-/// Whether this is what became of the first tiles, where there are the second ones then.
-fn is_told(told: &Told, before: &[Option<Tile>], after: &[Option<Tile>]) -> bool {
+/// Whether this is what became of the first tiles by these sizes, where there are the second ones then. The tiles that a change of a page lists are
+/// those of all sizes.
+fn is_told(told: &Told, sizes: Sizes, before: &[Option<Tile>], after: &[Option<Tile>]) -> bool {
     match told {
         Told::Nothing => true,
         Told::OfRange(moves) => are_moves(moves, before, after),
         Told::OfPage(changes) => {
-            are_moves(&changes.moves(), before, after)
-                && are_new(&changes.gone(), after, before)
-                && are_new(&changes.came(), before, after)
+            are_moves(&changes.moves(sizes), before, after)
+                && (sizes != all_sizes() || are_listed(changes, before, after))
         }
     }
+}
+
+/// Whether a change lists the tiles that went and those that came.
+fn are_listed(changes: &Changes, before: &[Option<Tile>], after: &[Option<Tile>]) -> bool {
+    are_new(&changes.gone(), after, before) && are_new(&changes.came(), before, after)
 }
 
 /// Whether these are the moves from the first tiles to the second, and each tile that begins outside of what they touched is one still.
@@ -297,49 +327,69 @@ fn begins_in(range: PageRange, tile: &Tile) -> bool {
     tile.extent.first.wrapping_sub(range.first) < range.length
 }
 
-/// Makes a drawn change. Answers whether the tiles after it and what was told of it are those of a scan.
-fn goes_alike(both: &mut Beside, alloc: Global, random: &mut Generator) -> Result<bool, NoMemory> {
-    let before = tiles(alloc, &both.pages)?;
+/// Makes a drawn change. Answers whether the tiles after it, which take the place of those before it, and what was told of it are those of a scan.
+fn goes_alike(
+    both: &mut Beside,
+    alloc: Global,
+    random: &mut Generator,
+    before: &mut Vec<Option<Tile>>,
+) -> Result<bool, NoMemory> {
     let told = both.change(random);
-    let after = tiles(alloc, &both.pages)?;
-    Ok(both.is_alike(&after) && is_told(&told, &before, &after))
+    let after = tiles(alloc, &both.pages, both.sizes)?;
+    let is_alike = both.is_alike(&after) && is_told(&told, both.sizes, before, &after);
+    *before = after;
+    Ok(is_alike)
 }
 
 /// Whether the base has as many tiles as a scan finds, of each size and below page 900.
 fn counts_alike(both: &Beside, alloc: Global) -> Result<bool, NoMemory> {
-    let tiles = tiles(alloc, &both.pages)?;
-    let told = both.base.counts().map(|count| count as usize);
-    let large = both.base.tiles_meeting(100, 600) as usize;
+    let tiles = tiles(alloc, &both.pages, both.sizes)?;
+    let told = both.base.counts(both.sizes).map(|count| count as usize);
+    let large = both.base.tiles_meeting(100, 600, both.sizes) as usize;
     Ok(told == counts(&tiles) && large == large_meeting(&tiles, 100, 700))
 }
 
 /// Whether the base has the tiles that a scan finds.
 fn has_tiles(both: &Beside, alloc: Global) -> Result<bool, NoMemory> {
-    Ok(both.is_alike(&tiles(alloc, &both.pages)?))
+    Ok(both.is_alike(&tiles(alloc, &both.pages, both.sizes)?))
 }
 
-/// Makes drawn changes, and asserts that the tiles and what was told are those of a scan.
-fn go_alike(rt: &impl Abort, alloc: Global, both: &mut Beside) {
+/// Makes so many drawn changes, and asserts that the tiles and what was told are those of a scan.
+fn go_alike(rt: &impl Abort, alloc: Global, both: &mut Beside, changes: u32) {
     let mut random = Generator::of(7);
-    for change in 0..100 {
-        let alike = goes_alike(both, alloc, &mut random);
+    let mut tiles = tiles(alloc, &both.pages, both.sizes).expect(rt, NO_MEMORY);
+    for change in 0..changes {
+        let alike = goes_alike(both, alloc, &mut random, &mut tiles);
         assert!(rt; alike.expect(rt, NO_MEMORY), "change {change}");
     }
 }
 
+/// Compares so many drawn changes of pages that are all filled at first, by these sizes.
+fn compare(rt: &impl Abort, alloc: Global, sizes: Sizes, changes: u32) {
+    let mut both = filled(alloc, sizes).expect(rt, NO_MEMORY);
+    assert!(rt; has_tiles(&both, alloc).expect(rt, NO_MEMORY));
+    go_alike(rt, alloc, &mut both, changes);
+    assert!(rt; counts_alike(&both, alloc).expect(rt, NO_MEMORY));
+}
+
 #[test]
 fn drawn_changes_leave_the_tiles_of_a_scan(rt: HostRuntime) {
-    let mut both = filled(rt.alloc()).expect(&rt, NO_MEMORY);
-    assert!(rt; has_tiles(&both, rt.alloc()).expect(&rt, NO_MEMORY));
-    go_alike(&rt, rt.alloc(), &mut both);
-    assert!(rt; counts_alike(&both, rt.alloc()).expect(&rt, NO_MEMORY));
+    compare(&rt, rt.alloc(), all_sizes(), CHANGES);
+}
+
+#[test]
+fn drawn_changes_leave_the_tiles_by_each_set_of_sizes(rt: HostRuntime) {
+    for set in 0..7 {
+        let sizes = Sizes::of(set & 1 != 0, set & 2 != 0, set & 4 != 0);
+        compare(&rt, rt.alloc(), sizes, CHANGES / 7);
+    }
 }
 
 /// The moves that were told of a change.
 fn moves_of(told: &Told) -> Moves {
     match told {
         Told::Nothing => NO_MOVES,
-        Told::OfPage(changes) => changes.moves(),
+        Told::OfPage(changes) => changes.moves(all_sizes()),
         Told::OfRange(moves) => *moves,
     }
 }
@@ -360,18 +410,18 @@ fn fill_half(rt: &impl Abort, both: &mut Beside) {
 
 /// How many tiles there are of each size before a page is dirty and then, and the demotions between.
 fn make_dirty(both: &mut Beside) -> ([u32; 4], u32, [u32; 4]) {
-    let before = both.base.counts();
+    let before = both.base.counts(all_sizes());
     let demotions = moves_of(&both.set_dirty(100, true)).demotions;
-    (before, demotions, both.base.counts())
+    (before, demotions, both.base.counts(all_sizes()))
 }
 
 /// How many tiles above size 0 have one of these pages: all 512, eight, one and none.
 fn meeting(base: &Base) -> [u32; 4] {
     [
-        base.tiles_meeting(0, 512),
-        base.tiles_meeting(60, 8),
-        base.tiles_meeting(300, 1),
-        base.tiles_meeting(300, 0),
+        base.tiles_meeting(0, 512, all_sizes()),
+        base.tiles_meeting(60, 8, all_sizes()),
+        base.tiles_meeting(300, 1, all_sizes()),
+        base.tiles_meeting(300, 0, all_sizes()),
     ]
 }
 
@@ -387,14 +437,14 @@ fn make_read_only(both: &mut Beside) -> (u32, u32) {
 
 #[test]
 fn a_change_touches_the_larger_of_its_tiles(rt: HostRuntime) {
-    let mut both = Beside::create(rt.alloc()).expect(&rt, NO_MEMORY);
+    let mut both = Beside::create(rt.alloc(), all_sizes()).expect(&rt, NO_MEMORY);
     fill_half(&rt, &mut both);
-    assert!(rt; touched_by_one(&mut both) == [(600, 1), (600, 1), (0, 512), (101, 1), (64, 8)]);
+    assert!(rt; touched_by_one(&mut both) == [(0, 0), (600, 1), (0, 512), (101, 1), (64, 8)]);
     assert!(rt; touched_by_rights(&mut both) == [(0, 0), (0, 0), (0, 512)]);
 }
 
-/// The range that each of some changes of one page touches: a page that comes, it goes again, a flag changes in a tile of 512 pages and then in
-/// one of one page, and a page of a tile of eight goes.
+/// The range that each of some changes of one page touches: a page comes and joins no other, which touches none; it goes again; a flag changes in a
+/// tile of 512 pages, and then in one of one page; and a page of a tile of eight goes.
 fn touched_by_one(both: &mut Beside) -> [(u32, u32); 5] {
     [
         range_of(&both.fill(600, mapping(600))),
@@ -444,14 +494,14 @@ fn told_of_one(both: &mut Beside) -> [(usize, usize); 5] {
 
 #[test]
 fn a_large_tile_comes_apart_and_together(rt: HostRuntime) {
-    let mut both = Beside::create(rt.alloc()).expect(&rt, NO_MEMORY);
+    let mut both = Beside::create(rt.alloc(), all_sizes()).expect(&rt, NO_MEMORY);
     fill_half(&rt, &mut both);
     assert!(rt; told_of_one(&mut both) == [(1, 22), (0, 0), (22, 1), (1, 21), (21, 1)]);
 }
 
 #[test]
 fn the_last_page_of_an_extent_makes_it_a_tile(rt: HostRuntime) {
-    let mut both = Beside::create(rt.alloc()).expect(&rt, NO_MEMORY);
+    let mut both = Beside::create(rt.alloc(), all_sizes()).expect(&rt, NO_MEMORY);
     fill_half(&rt, &mut both);
     assert!(rt; make_dirty(&mut both) == ([0, 0, 0, 1], 1, [8, 7, 7, 0]));
     assert!(rt; meeting(&both.base) == [14, 2, 1, 0]);

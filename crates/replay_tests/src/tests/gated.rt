@@ -6,7 +6,7 @@ use std::alloc::{AllocError, Global};
 use std::sync::Arc;
 use std::sync::atomic::{AtomicBool, Ordering};
 use std::thread;
-use store_core::{Store, StoreFailed, WriteRefused};
+use store_core::{Copied, Store, StoreFailed, WriteRefused};
 
 /// How often a call that waits lets other threads run.
 const ROUNDS: u32 = 5_000;
@@ -107,13 +107,13 @@ impl Store for Gated {
     ghost reads = { λ s. s.reads };
 
     #[tactic(auto, unfolding(pager_model::specs::Stored::keeps_at))]
-    fn read(&mut self, _page: u32, _words: &mut [u64]) -> Result<(), StoreFailed> {
+    fn read(&mut self, _page: u32, _words: &mut [u64]) -> Result<Copied, StoreFailed> {
         self.reads = self.reads.saturating_add(1);
         if !self.goes_on(Shown::Reads) {
             self.faults = self.faults.saturating_add(1);
             return Err(StoreFailed);
         }
-        Ok(())
+        Ok(Copied::Zeros)
     }
 
     #[tactic(auto, unfolding(pager_model::specs::Stored::keeps_at))]

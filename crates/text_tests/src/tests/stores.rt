@@ -10,8 +10,17 @@ use pager_model::Generator;
 use silent::Silent;
 use std::alloc::{AllocError, Global};
 use std::process::Abort;
-use store_core::{MemoryStore, Store, StoreFailed, WriteRefused};
+use store_core::{Copied, MemoryStore, Store, StoreFailed, WriteRefused};
 use table::{PAGES, Table, image};
+
+/// The words that a read of a page gives.
+fn words_read<S: Store>(store: &mut S, page: u32) -> Result<[u64; 1024], StoreFailed> {
+    let mut words = [5; 1024];
+    match store.read(page, &mut words)? {
+        Copied::Words => Ok(words),
+        Copied::Zeros => Ok([0; 1024]),
+    }
+}
 
 /// Whether a read of a page answers as wanted, and gives the words of this image, where they are wanted.
 fn reads_alike<S: Store>(
@@ -19,10 +28,9 @@ fn reads_alike<S: Store>(
     page: u32,
     wanted: Result<Option<u64>, StoreFailed>,
 ) -> bool {
-    let mut words = [5; 1024];
-    let read = store.read(page, &mut words);
+    let read = words_read(store, page);
     match wanted {
-        Ok(Some(seed)) => read.is_ok() && words == image(seed),
+        Ok(Some(seed)) => read == Ok(image(seed)),
         Ok(None) => read.is_ok(),
         Err(StoreFailed) => read.is_err(),
     }

@@ -2,7 +2,7 @@
 
 ghost use Rattle.std.specs.Prelude.{false, [], None};
 
-use store_core::{Store, StoreFailed, WriteRefused};
+use store_core::{Copied, Store, StoreFailed, WriteRefused};
 
 /// Forgets what is written, and never fails.
 #[derive(Drop)]
@@ -21,9 +21,9 @@ impl Store for Silent {
 
     ghost reads = { λ s. s.reads };
 
-    fn read(&mut self, _page: u32, _words: &mut [u64]) -> Result<(), StoreFailed> {
+    fn read(&mut self, _page: u32, _words: &mut [u64]) -> Result<Copied, StoreFailed> {
         self.reads = self.reads.saturating_add(1);
-        Ok(())
+        Ok(Copied::Zeros)
     }
 
     #[tactic(auto, unfolding(pager_model::specs::Stored::keeps_at))]

@@ -35,7 +35,7 @@ returns-in-Ok-clause-spare c =
     let same : (p : ℕ) → frame_at c.finish.new.self p ≡ frame_at c.place.new.self p = λ p. c.finish.ensures.same.frame p ∙ read.same.frame p in
     record {
       resting = c.finish.ensures.resting;
-      processor = omega (arith, spare.processor, c.finish.ensures.same.same.processors, read.same.same.processors, c.place.ensures.same.processors, ap (λ (k : Kept). length k.images) begun);
+      processors = omega (arith, spare.processors, c.finish.ensures.same.same.processors, read.same.same.processors, c.place.ensures.same.processors, ap (λ (k : Kept). length k.images) begun);
       state = _;
       stands = c.finish.ensures.answers.stands _ (read.stands _ placed) 0;
       lowest = last.lowest;

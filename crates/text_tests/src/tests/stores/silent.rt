@@ -2,7 +2,7 @@
 
 ghost use Rattle.std.specs.Prelude.{◌-◌, ◌^◌, ◌≤◌, false, List, [], None};
 
-use store_core::{Store, StoreFailed, WriteRefused};
+use store_core::{Copied, Store, StoreFailed, WriteRefused};
 
 /// Forgets what is written, and fails always or never. It keeps every page, as a store of files does, and tells nothing.
 #[derive(Drop)]
@@ -29,13 +29,13 @@ impl Store for Silent {
     ghost reads = { λ s. s.reads };
 
     #[tactic(auto, unfolding(pager_model::specs::Stored::keeps_at))]
-    fn read(&mut self, _page: u32, _words: &mut [u64]) -> Result<(), StoreFailed> {
+    fn read(&mut self, _page: u32, _words: &mut [u64]) -> Result<Copied, StoreFailed> {
         self.reads = self.reads.saturating_add(1);
         if self.fails {
             self.faults = self.faults.saturating_add(1);
             return Err(StoreFailed);
         }
-        Ok(())
+        Ok(Copied::Zeros)
     }
 
     #[tactic(auto, unfolding(pager_model::specs::Stored::keeps_at))]

@@ -2,6 +2,7 @@
 
 use super::super::NO_MEMORY;
 use super::table::image;
+use super::words_read;
 use std::alloc::Global;
 use std::process::Abort;
 use store_core::{Store, StoreFailed, WriteRefused};
@@ -57,11 +58,10 @@ fn put(store: &mut Slots, page: u32, seed: u64) -> &'static str {
 }
 
 fn read(store: &mut Slots, page: u32, seed: u64) -> &'static str {
-    let mut words = [5; 1024];
-    match store.read(page, &mut words) {
+    match words_read(store, page) {
         Err(StoreFailed) => "failed",
-        Ok(()) if words == image(seed) => "ok",
-        Ok(()) => "other words",
+        Ok(words) if words == image(seed) => "ok",
+        Ok(_) => "other words",
     }
 }
 

@@ -17,7 +17,7 @@ pub(super) fn image(seed: u64) -> [u64; 1024] {
 
 /// The copy of a page: the image of a seed, where it is known.
 #[derive(Clone, Copy, Debug, PartialEq, Eq)]
-enum Copied {
+enum PageCopy {
     /// None of its own.
     Zero,
     Image(u64),
@@ -27,7 +27,7 @@ enum Copied {
 /// A plain table of copies, which fails at the reads and writes of these numbers.
 #[derive(Drop)]
 pub(super) struct Table {
-    copies: [Copied; PAGES as usize],
+    copies: [PageCopy; PAGES as usize],
     failing_reads: Vec<u64>,
     failing_writes: Vec<u64>,
     reads: u64,
@@ -38,7 +38,7 @@ pub(super) struct Table {
 impl Table {
     pub(super) fn of(failing_reads: Vec<u64>, failing_writes: Vec<u64>) -> Table {
         Table {
-            copies: [Copied::Zero; PAGES as usize],
+            copies: [PageCopy::Zero; PAGES as usize],
             failing_reads,
             failing_writes,
             reads: 0,
@@ -55,15 +55,15 @@ impl Table {
             return Err(StoreFailed);
         }
         match self.copies.get(page as usize) {
-            Some(Copied::Zero) => Ok(Some(0)),
-            Some(Copied::Image(seed)) => Ok(Some(*seed)),
+            Some(PageCopy::Zero) => Ok(Some(0)),
+            Some(PageCopy::Image(seed)) => Ok(Some(*seed)),
             _ => Ok(None),
         }
     }
 
-    fn set(&mut self, page: u32, copied: Copied) {
+    fn set(&mut self, page: u32, copy: PageCopy) {
         if let Some(at) = self.copies.get_mut(page as usize) {
-            *at = copied;
+            *at = copy;
         }
     }
 
@@ -71,20 +71,20 @@ impl Table {
         self.writes = self.writes.saturating_add(1);
         if self.failing_writes.contains(&self.writes) {
             self.faults = self.faults.saturating_add(1);
-            self.set(page, Copied::Unknown);
+            self.set(page, PageCopy::Unknown);
             return Err(WriteRefused::Failed);
         }
-        self.set(page, Copied::Image(seed));
+        self.set(page, PageCopy::Image(seed));
         Ok(())
     }
 
     pub(super) fn drop_pages(&mut self, first: u32, length: u32) {
         for page in first..first.saturating_add(length) {
-            self.set(page, Copied::Zero);
+            self.set(page, PageCopy::Zero);
         }
     }
 
     pub(super) fn told(&self) -> bool {
-        self.copies.iter().all(|copy| *copy == Copied::Zero)
+        self.copies.iter().all(|copy| *copy == PageCopy::Zero)
     }
 }
