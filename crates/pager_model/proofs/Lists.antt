@@ -1,7 +1,8 @@
 -- Lists whose elements are all alike or all pass a test, and lists of places that may be empty.
-use Rattle.std.proofs.Common.{◌≡◌, ◌<◌, ◌⊎◌, ℕ, zero, suc, Option, None, Some, List, length, get_or, replicate, inl, inr, refl, sym, ◌∙◌, ◌≢◌, set, ap, Bool, true, [], ◌∷◌, filter}
+use Rattle.std.proofs.Common.{◌≡◌, ◌<◌, ◌≤◌, ◌-◌, ◌&&◌, ◌⊎◌, ℕ, arith, nat_le, nat_lt, if◌then◌else◌, ◌++◌, take, drop, zero, suc, Option, None, Some, List, length, get_or, replicate, inl, inr, refl, sym, ◌∙◌, ◌≢◌, set, ap, Bool, true, [], ◌∷◌, filter}
 use Rattle.std.proofs.lemmas.Bool.{cases_lt, cases_eq, and_parts, cond-true}
-use Rattle.std.proofs.lemmas.List.{get_or_past, get_or-set_same, get_or-set_other, set_past}
+use Rattle.std.proofs.lemmas.Bool.Decides.{nat_tests}
+use Rattle.std.proofs.lemmas.List.{get_or_append_left, get_or-append_right, get_or-take, get_or-drop, get_or-replicate, length-replicate, length-take, get_or_past, get_or-set_same, get_or-set_other, set_past}
 use Rattle.std.proofs.lemmas.Option.{none-some}
 use Rattle.std.specs.List.{list_all}
 
@@ -50,3 +51,27 @@ filter-all test [] all = refl
 filter-all test (x ∷ xs) all =
     let parts = and_parts (test x) (list_all test xs) all in
     cond-true (test x) (x ∷ filter test xs) (filter test xs) parts.0 ∙ ap (λ rest. x ∷ rest) (filter-all test xs parts.1)
+
+-- a part of a list is filled: within it each place has the value, and elsewhere it is as before
+pub filled_at : {X : Type 0} (xs part : List X) (from end : ℕ) (v d : X) (i : ℕ) → from ≤ end → end ≤ length xs → part ≡ replicate (end - from) v → get_or (take from xs ++ (part ++ drop (end - from) (drop from xs))) i d ≡ (if nat_le from i && nat_lt i end then v else get_or xs i d)
+filled_at xs part from end v d i order within is =
+    let front : length (take from xs) ≡ from = omega (arith, length-take from xs) in
+    let long : length part ≡ end - from = ap length is ∙ length-replicate (end - from) v in
+    elim (cases_lt i from) [
+      | inl below ↦ get_or_append_left (take from xs) _ d i (omega arith) ∙ get_or-take from xs i d below ∙ grind (arith, nat_tests)
+      | inr on ↦ elim (cases_lt i end) [
+        | inl inside ↦
+            get_or-append_right (take from xs) _ from i d front on
+            ∙ get_or_append_left part _ d (i - from) (omega arith)
+            ∙ ap (λ ys. get_or ys (i - from) d) is
+            ∙ get_or-replicate (end - from) (i - from) v d (omega arith)
+            ∙ grind (arith, nat_tests)
+        | inr past ↦
+            get_or-append_right (take from xs) _ from i d front on
+            ∙ get_or-append_right part _ (end - from) (i - from) d long (omega arith)
+            ∙ get_or-drop (end - from) (drop from xs) _ d
+            ∙ get_or-drop from xs _ d
+            ∙ ap (λ j. get_or xs j d) {y = i} (omega arith)
+            ∙ grind (arith, nat_tests)
+      ]
+    ]

@@ -1,5 +1,5 @@
 -- A text is short: each of its lines is, and there are at most 262,144 calls.
-use Rattle.std.proofs.Common.{ℕ, ◌*◌, ◌^◌, ◌<◌, ◌≤◌, List, [], ◌∷◌, ◌++◌, length, flat_map, decimal, codes, Option, Some, None, ap, arith, length-append, lit≤}
+use Rattle.std.proofs.Common.{ℕ, ◌*◌, ◌^◌, ◌<◌, ◌≤◌, ◌==◌, if◌then◌else◌, List, [], ◌∷◌, ◌++◌, length, flat_map, decimal, codes, Option, Some, None, Bool, true, false, inl, inr, ap, arith, length-append, lit≤}
 use Rattle.std.specs.List.{join_with_byte, AllByRecursion}
 use Rattle.std.proofs.lemmas.Fmt.{length-decimal-le}
 use Rattle.std.proofs.lemmas.List.Concat.{flat_map-cons}
@@ -13,7 +13,8 @@ use Rattle.pager_model.specs.declared.region.Rights.{Rights}
 use Rattle.pager_model.specs.declared.region.Rights.TheVariants.{NoAccess, Read, Write}
 use Rattle.pager_model.specs.declared.trace.Daemon.{Daemon}
 use Rattle.pager_model.specs.Plans.{Plan}
-use Rattle.pager_model.specs.TraceText.{HasText, IsCall, IsDaemon, IsLine, text_of, first_line, call_line, call_words, daemon_line, line_of_words, kind_word, rights_word}
+use Rattle.pager_model.specs.SizeSets.{SizeSet}
+use Rattle.pager_model.specs.TraceText.{HasText, IsCall, IsDaemon, IsLine, text_of, first_line, call_line, call_words, daemon_line, line_of_words, kind_word, rights_word, sizes_word, IsVersion}
 
 -- a number below ten million has at most seven digits, and so on
 small : (n : ℕ) → n < 10000000 → length (decimal n) ≤ 7
@@ -64,9 +65,28 @@ calls_are_short processors spaces [] some few are = omega arith
 calls_are_short processors spaces (line ∷ lines) some few are =
     omega (arith, ap length (flat_map-cons call_line line lines), length-append (call_line line) (flat_map call_line lines), line_is_short processors spaces line some few are.0, calls_are_short processors spaces lines some few are.1)
 
-first_is_short : (plan : Plan) → HasText plan → length (first_line plan) ≤ 40
+sizes_are_short : (one two three : Bool) → length (sizes_word (record { one = one; two = two; three = three })) ≤ 4
+sizes_are_short false false false = lit≤ tt
+sizes_are_short false false true = lit≤ tt
+sizes_are_short false true false = lit≤ tt
+sizes_are_short false true true = lit≤ tt
+sizes_are_short true false false = lit≤ tt
+sizes_are_short true false true = lit≤ tt
+sizes_are_short true true false = lit≤ tt
+sizes_are_short true true true = lit≤ tt
+
+first_words_short : (version frames processors spaces : ℕ) → version < 10000000 → frames < 10000000 → processors < 10000000 → spaces < 10000000 → (word : List ℕ) → length word ≤ 4
+    → (unnamed : Bool) → length (line_of_words (codes "trace" ∷ decimal version ∷ decimal frames ∷ decimal processors ∷ decimal spaces ∷ (if unnamed then [] else word ∷ []))) ≤ 43
+first_words_short version frames processors spaces v f p s word short true = simp length-append (omega (arith, small version v, small frames f, small processors p, small spaces s))
+first_words_short version frames processors spaces v f p s word short false = simp length-append (omega (arith, small version v, small frames f, small processors p, small spaces s, short))
+
+version_is_small : (version : ℕ) (z : SizeSet) → IsVersion version z → version < 10000000
+version_is_small version z is = elim is [ inl one ↦ omega (arith, one.0) | inr two ↦ omega (arith, two) ]
+
+first_is_short : (plan : Plan) → HasText plan → length (first_line plan) ≤ 43
 first_is_short plan has =
-    simp length-append (omega (arith, small plan.frames (omega (arith, has.frames_in)), small plan.processors (omega (arith, has.processors_in)), small plan.spaces (omega (arith, has.spaces_in))))
+    first_words_short plan.version plan.frames plan.processors plan.spaces (version_is_small plan.version plan.sizes has.version_in) (omega (arith, has.frames_in)) (omega (arith, has.processors_in))
+    (omega (arith, has.spaces_in)) (sizes_word plan.sizes) (sizes_are_short plan.sizes.one plan.sizes.two plan.sizes.three) (plan.version == 1)
 
 daemon_is_short : (daemon : Option Daemon) → IsDaemon daemon → length (daemon_line daemon) ≤ 40
 daemon_is_short None is = omega arith

@@ -99,6 +99,8 @@ exchanged_history = answer 0 map_eight Done âˆ· missed 1 (Store 0 8192 5) Done â
 abbrev pub small_plan : Plan
 small_plan =
     record {
+      version = 1;
+      sizes = all_sizes;
       frames = 512;
       processors = 1;
       spaces = 1;

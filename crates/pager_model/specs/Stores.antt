@@ -5,26 +5,26 @@ use Rattle.pager_model.specs.Legal.{space_at, entries_in}
 use Rattle.pager_model.specs.Plans.{Plan}
 use Rattle.pager_model.specs.Settings.{Given, is_told}
 use Rattle.pager_model.specs.Showing.{marks_of}
-use Rattle.pager_model.specs.SizeSets.{all_sizes}
+use Rattle.pager_model.specs.SizeSets.{SizeSet}
 use Rattle.pager_model.specs.SpaceStates.{last_count}
 use Rattle.pager_model.specs.Stored.{Stored, copy_at}
 
--- The setting of a run over stores, one for each space: so many frames, all four page sizes, these marks, and what each store said at the
+-- The setting of a run over stores, one for each space: so many frames, these page sizes, these marks, and what each store said at the
 -- start of its copies and its faults.
-abbrev pub given_over : ℕ → List ℕ → List Stored → Given
-given_over frames marks stores =
+abbrev pub given_over : ℕ → SizeSet → List ℕ → List Stored → Given
+given_over frames z marks stores =
     record {
-      sizes = all_sizes;
+      sizes = z;
       frames = frames;
       marks = marks;
       told = map (λ (s : Stored). s.told) stores;
       faults = map (λ (s : Stored). s.faults) stores;
     }
 
--- The setting of a trace over the stores that are handed in, of which each space uses the one of its number: its frames, all four page sizes, a mark of 0
+-- The setting of a trace over the stores that are handed in, of which each space uses the one of its number: its frames and page sizes, a mark of 0
 -- for each processor and the daemon's low mark for one more, and what each store said at the start of its copies and its faults.
 abbrev pub setting_over : Plan → List Stored → Given
-setting_over plan stores = given_over plan.frames (marks_of plan) (take plan.spaces stores)
+setting_over plan stores = given_over plan.frames plan.sizes (marks_of plan) (take plan.spaces stores)
 
 -- the copy of flat memory is that of the store: both are unknown, or their words are the same
 abbrev pub IsCopy : Option (ℕ → ℕ) → Option (List ℕ) → Type 0

@@ -1,5 +1,5 @@
 -- The text of a trace, and which traces have one. Lines end with a line feed, and their words are apart by one space.
-use Rattle.std.specs.Prelude.{ℕ, ◌≡◌, ◌%◌, ◌^◌, ◌<◌, ◌≤◌, List, [], ◌∷◌, ◌++◌, length, codes, decimal, flat_map, All, Option, Some, None}
+use Rattle.std.specs.Prelude.{ℕ, ◌≡◌, ◌%◌, ◌^◌, ◌<◌, ◌≤◌, ◌==◌, ◌⊎◌, Bool, if◌then◌else◌, List, [], ◌∷◌, ◌++◌, length, codes, decimal, flat_map, All, Option, Some, None}
 use Rattle.std.specs.List.{join_with_byte}
 use Rattle.pager_model.specs.declared.call.Call.{Call}
 use Rattle.pager_model.specs.declared.call.Call.TheVariants.{Map, Grow, Unmap, Protect, Load, Store, Sync, Evict}
@@ -10,6 +10,7 @@ use Rattle.pager_model.specs.declared.region.Kind.TheVariants.{Fixed, Growing, W
 use Rattle.pager_model.specs.declared.region.Rights.{Rights}
 use Rattle.pager_model.specs.declared.region.Rights.TheVariants.{NoAccess, Read, Write}
 use Rattle.pager_model.specs.Plans.{Plan}
+use Rattle.pager_model.specs.SizeSets.{SizeSet, all_sizes}
 use Rattle.pager_model.specs.Bounds.{most_calls, most_frames, space_bytes, space_pages}
 
 abbrev pub kind_word : Kind → List ℕ
@@ -45,12 +46,21 @@ line_words line = decimal line.processor ∷ call_words line.call
 abbrev pub call_line : Line → List ℕ
 call_line line = line_of_words (line_words line)
 
--- the words of a first line, of version 1, for so many frames, processors and spaces
-abbrev pub first_words : ℕ → ℕ → ℕ → List (List ℕ)
-first_words frames processors spaces = codes "trace" ∷ codes "1" ∷ decimal frames ∷ decimal processors ∷ decimal spaces ∷ []
+-- the digit of a size's level, where there is the size
+abbrev pub level_digit : Bool → List ℕ → List ℕ
+level_digit there digit = if there then digit else []
+
+-- the word of page sizes: the digits of their levels, ascending
+abbrev pub sizes_word : SizeSet → List ℕ
+sizes_word z = codes "0" ++ level_digit z.one (codes "1") ++ level_digit z.two (codes "2") ++ level_digit z.three (codes "3")
+
+-- the words of a first line of this version, for so many frames, processors and spaces and these page sizes, which version 1 doesn't name
+abbrev pub first_words : (version frames processors spaces : ℕ) → SizeSet → List (List ℕ)
+first_words version frames processors spaces z =
+    codes "trace" ∷ decimal version ∷ decimal frames ∷ decimal processors ∷ decimal spaces ∷ (if version == 1 then [] else sizes_word z ∷ [])
 
 abbrev pub first_line : Plan → List ℕ
-first_line plan = line_of_words (first_words plan.frames plan.processors plan.spaces)
+first_line plan = line_of_words (first_words plan.version plan.frames plan.processors plan.spaces plan.sizes)
 
 -- the words of a daemon's line
 abbrev pub daemon_words : Daemon → List (List ℕ)
@@ -86,9 +96,14 @@ abbrev pub IsDaemon : Option Daemon → Type 0
 IsDaemon None = Unit {0}
 IsDaemon (Some d) = ((1 ≤ d.low) × (d.low ≤ 64)) × ((1 ≤ d.turns) × (d.turns ≤ 4096))
 
--- the traces that have a text: a multiple of 512 frames from 512 to 32,768, one to sixteen processors and spaces, maybe a daemon, and at
--- most 262,144 calls in their ranges
+-- version 1 is of all four page sizes, and version 2 of any
+abbrev pub IsVersion : ℕ → SizeSet → Type 0
+IsVersion version z = ((version ≡ 1) × (z ≡ all_sizes)) ⊎ (version ≡ 2)
+
+-- the traces that have a text: of version 1 or 2, a multiple of 512 frames from 512 to 32,768, one to sixteen processors and spaces, maybe a daemon,
+-- and at most 262,144 calls in their ranges
 pub record HasText (plan : Plan) : Type 0 where
+  pub version_in : IsVersion plan.version plan.sizes
   pub frames_in : (512 ≤ plan.frames) × (plan.frames ≤ most_frames)
   pub frames_whole : plan.frames % 512 ≡ 0
   pub processors_in : (1 ≤ plan.processors) × (plan.processors ≤ 16)

@@ -18,7 +18,7 @@ ghost use Rattle.pager_model.specs.Layouts.{oldest_of};
 ghost use Rattle.pager_model.specs.PreferredSize.{preferred_size, preferred_among};
 ghost use Rattle.pager_model.specs.PrintedText.{answers_text, history_line};
 ghost use Rattle.pager_model.specs.Records.{is_used, yield_of, kept_part, part_at, goes_on_at};
-ghost use Rattle.pager_model.specs.TraceText.{call_line, line_words, text_of};
+ghost use Rattle.pager_model.specs.TraceText.{first_line, call_line, line_words, text_of};
 ghost use Rattle.pager_model.specs.Legal.{IsLegal, MayFollow, space_at};
 ghost use Rattle.pager_model.specs.Settings.{Given};
 ghost use Rattle.pager_model.specs.SizeSets.{all_sizes, size_within, size_below};
@@ -144,9 +144,10 @@ pub fn a_store_waits_for_its_frame()
     ensures exchanged { IsLegal small_setting exchanged_history → ⊥ }
 {}
 
-/// A trace of two calls has this text, a call of each other kind has this line, and a legal history prints these answers.
+/// A trace of two calls has this text, one of base pages and superpages of 512 this first line, a call of each other kind this line, and a legal history prints these answers.
 pub fn small_texts()
     ensures trace { text_of small_plan ≡ codes "trace 1 512 1 1\n0 map 0 0 8 fixed write\n0 store 0 8192 5\nend\n" }
+    ensures sizes { first_line (record small_plan { version = 2; sizes = base_and_512 }) ≡ codes "trace 2 512 1 1 03\n" }
     ensures grow { call_line (record { processor = 1; call = Grow 2 1048575 1048576 }) ≡ codes "1 grow 2 1048575 1048576\n" }
     ensures unmap { call_line (record { processor = 15; call = Unmap 15 0 }) ≡ codes "15 unmap 15 0\n" }
     ensures protect { call_line (record { processor = 0; call = Protect 0 300 1 NoAccess }) ≡ codes "0 protect 0 300 1 none\n" }

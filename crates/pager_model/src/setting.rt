@@ -33,7 +33,7 @@ impl Setting {
     {
         Setting {
             frames,
-            sizes: Sizes::of(true, true, true),
+            sizes: Sizes::all(),
             marks,
             told,
             faults,

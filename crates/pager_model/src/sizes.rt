@@ -1,5 +1,5 @@
 ghost use Rattle.std.specs.Prelude.{◌≡◌, true};
-ghost use Rattle.pager_model.specs.SizeSets.{has_size, size_within, size_below};
+ghost use Rattle.pager_model.specs.SizeSets.{all_sizes, has_size, size_within, size_below};
 
 use crate::size::Size;
 use std::marker::Model;
@@ -28,6 +28,13 @@ impl Sizes {
         ensures { result ≡ record { one = one; two = two; three = three } }
     {
         Sizes { one, two, three }
+    }
+
+    /// All four.
+    pub fn all() -> Sizes
+        ensures { result ≡ all_sizes }
+    {
+        Sizes::of(true, true, true)
     }
 
     /// Whether there is this size.

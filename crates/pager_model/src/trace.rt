@@ -4,6 +4,7 @@ ghost use Rattle.pager_model.specs.TraceText.{HasText, IsLine};
 ghost use Rattle.pager_model.specs.Bounds.{most_calls};
 
 use crate::call::{Call, Line};
+use crate::sizes::Sizes;
 use std::marker::Model;
 
 /// What a paging daemon keeps free, and how many turns it makes.
@@ -20,14 +21,17 @@ pub enum Job {
     Turn { mark: u32 },
 }
 
-/// A trace: the frames, processors and spaces of a run, its daemon where it has one, and the calls in the order of their lines.
+/// A trace: the version of its text, the frames, processors, spaces and page sizes of a run, its daemon where it has one, and the calls in the order of
+/// their lines.
 ///
 /// Every trace has a text of the grammar, so what it holds is within the grammar's ranges.
 #[derive(Debug, Drop)]
 pub struct Trace {
+    version: u32,
     frames: u32,
     processors: u32,
     spaces: u32,
+    sizes: Sizes,
     daemon: Option<Daemon>,
     calls: Vec<Line>,
 }
@@ -39,30 +43,42 @@ impl Model for Trace {
 
     ghost use Rattle.pager_model.specs.TraceText.{HasText};
 
-    ghost view = { λ t. record { frames = t.frames; processors = t.processors; spaces = t.spaces; daemon = t.daemon; calls = t.calls.items } };
+    ghost view = { λ t. record { version = t.version; frames = t.frames; processors = t.processors; spaces = t.spaces; sizes = t.sizes; daemon = t.daemon; calls = t.calls.items } };
 
-    ghost invariant = { λ t. HasText (record { frames = t.frames; processors = t.processors; spaces = t.spaces; daemon = t.daemon; calls = t.calls.items }) };
+    ghost invariant = { λ t. HasText (record { version = t.version; frames = t.frames; processors = t.processors; spaces = t.spaces; sizes = t.sizes; daemon = t.daemon; calls = t.calls.items }) };
 }
 
 impl Trace {
     /// A trace of what has a text of the grammar.
     pub fn of(
+        version: u32,
         frames: u32,
         processors: u32,
         spaces: u32,
+        sizes: Sizes,
         daemon: Option<Daemon>,
         calls: Vec<Line>,
     ) -> Trace
-        requires { HasText (record { frames = frames; processors = processors; spaces = spaces; daemon = daemon; calls = calls.items }) }
-        ensures { result ≡ record { frames = frames; processors = processors; spaces = spaces; daemon = daemon; calls = calls.items } }
+        requires { HasText (record { version = version; frames = frames; processors = processors; spaces = spaces; sizes = sizes; daemon = daemon; calls = calls.items }) }
+        ensures { result ≡ record { version = version; frames = frames; processors = processors; spaces = spaces; sizes = sizes; daemon = daemon; calls = calls.items } }
     {
         Trace {
+            version,
             frames,
             processors,
             spaces,
+            sizes,
             daemon,
             calls,
         }
+    }
+
+    /// The version of its text: 1, which has all four page sizes, or 2, which names them.
+    pub fn version(&self) -> u32
+        ensures version { result ≡ self.now.version }
+        ensures text { HasText self.now }
+    {
+        self.version
     }
 
     /// How many frames there are.
@@ -87,6 +103,14 @@ impl Trace {
         ensures text { HasText self.now }
     {
         self.spaces
+    }
+
+    /// Which page sizes there are.
+    pub fn sizes(&self) -> Sizes
+        ensures sizes { result ≡ self.now.sizes }
+        ensures text { HasText self.now }
+    {
+        self.sizes
     }
 
     /// The daemon's line, where there is one.

@@ -6,6 +6,10 @@ pub returns-clause-trace : goal.returns-clause-trace
 unfolding digits
 returns-clause-trace c = refl
 
+pub returns-clause-sizes : goal.returns-clause-sizes
+unfolding digits
+returns-clause-sizes c = refl
+
 pub returns-clause-answers : goal.returns-clause-answers
 unfolding digits
 returns-clause-answers c = refl
