@@ -1,5 +1,5 @@
 -- How many entries of each size there are after a change of an extent.
-use Rattle.std.proofs.Common.{◌≡◌, ◌≢◌, ℕ, zero, suc, ◌+◌, ◌-◌, ◌*◌, ◌/◌, ◌%◌, ◌^◌, ◌<◌, ◌≤◌, Bool, true, false, ◌&&◌, ◌==◌, eqb, Option, Some, None, refl, sym, ap, ◌∙◌, arith}
+use Rattle.std.proofs.Common.{◌≡◌, ◌≢◌, ℕ, zero, suc, ◌+◌, ◌-◌, ◌*◌, ◌/◌, ◌%◌, ◌^◌, ◌<◌, ◌≤◌, Bool, true, false, ◌&&◌, ◌==◌, eqb, List, slice_index, Option, Some, None, refl, sym, ap, ◌∙◌, arith}
 use Rattle.std.specs.List.{range_with_len, count_by}
 use Rattle.std.proofs.Math.Nat.{add-mod_right}
 use Rattle.std.proofs.lemmas.List.FromFn.{length-range_with_len}
@@ -8,13 +8,16 @@ use Rattle.std.proofs.lemmas.Bool.{eq-eqb, ne_eqb}
 use Rattle.std.proofs.lemmas.Bool.Decides.{nat_tests}
 use Rattle.pager_model.specs.declared.extent.Extent.{Extent}
 use Rattle.pager_model.specs.declared.tile.Mapping.{Mapping}
+use Rattle.pager_model.specs.Bounds.{space_pages}
 use Rattle.pager_model.specs.Extents.{IsExtent, extent_start}
 use Rattle.pager_model.specs.Tiles.{count_pages}
 use Rattle.pager_model.proofs.CountLemmas.{weight, block_change, count-suc, count-apart, count-agree, count-none}
 use Rattle.pager_model.proofs.ExtentLemmas.{eight_pos, eight_split, aligned_part, in_extent, of_extent}
 use Rattle.extent_tree.specs.Rows.{Arena}
 use Rattle.page_map.specs.declared.entry.Entry.{Entry}
-use Rattle.page_map.specs.Entries.{entry_at, entry_count, is_first_of, Maps}
+use Rattle.extent_tree.proofs.Counting.{count_some}
+use Rattle.page_map.specs.Entries.{entry_at, entry_count, is_first_of, AreEntries, Maps}
+use Rattle.page_map.specs.Kept.{AreCounts}
 use Rattle.page_map.proofs.Mappings.{maps_outside}
 use Rattle.page_map.proofs.PageCounts.{ends_within}
 
@@ -180,3 +183,21 @@ count_none m size none = over 1048576 refl
   where
     over : (pages : ℕ) → pages ≡ 1048576 → entry_count m size ≡ 0
     over pages e = entry_count-is m size pages e ∙ counted_none m size pages none
+
+-- a page of the space that passes a test is counted
+is_counted : (test : ℕ → Bool) (page : ℕ) → page < space_pages → test page ≡ true → 1 ≤ count_pages test
+unfolding count_pages
+is_counted test page known is = count_some test 0 space_pages page (omega arith) known is
+
+-- where no entry of any size is counted there is none
+pub none_counted : (m : Arena Mapping) (counts : List ℕ) → AreEntries m → AreCounts counts m → ((size : ℕ) → size ≤ 3 → slice_index counts size ≡ 0) → (page : ℕ) → entry_at m page ≡ None
+none_counted m counts entries are zeros page = elim (entry_at m page) as (λ o. entry_at m page ≡ o → o ≡ None) [
+  | None ↦ λ at. refl
+  | Some entry ↦ λ at.
+      let size = entry.extent.size in
+      let first = entry.extent.first in
+      let low = entries.low page entry at in
+      let here : entry_at m first ≡ Some entry = entries.one page first entry at (eq-eqb (first / 8 ^ size) (first / 8 ^ size) refl) in
+      let found : is_first_of size first (entry_at m first) ≡ true = ap (is_first_of size first) here ∙ ap (λ b. b && (size == size)) (eq-eqb first first refl) ∙ eq-eqb size size refl in
+      absurd (omega (arith, are.each size low, zeros size low, is_counted (begins_entry m size) first (entries.in_space first entry here) found))
+] refl

@@ -79,7 +79,8 @@ impl Mixed {
         Some(Entry::round(size, page, spot.value()?))
     }
 
-    /// The entry of the lowest page from `from` on and before `end` that is mapped. Pages that no entry maps are passed over by extents.
+    /// The entry of the lowest page from `from` on and before `end` that is mapped. Pages that no entry maps are passed over by extents, and all at once
+    /// where nothing is mapped.
     pub fn next<L: Ledger>(&self, from: u32, end: u32, steps: &mut Steps<L>) -> Option<Entry>
         requires { end ≤ space_pages }
         ensures some { IfSome result (IsNextEntry self.now from end) }
@@ -87,6 +88,9 @@ impl Mixed {
         ensures cost { MatchOption result (steps.new ≤ steps.old + 4 * (end - from)) (λ entry. steps.new + 4 * from ≤ steps.old + 4 * (max from entry.extent.first + 1)) }
         ensures empty { from ≤ end → NoneMapped self.now (from / 512 * 512) ((end + 511) / 512 * 512) → steps.new + from / 512 ≤ steps.old + (end + 511) / 512 }
     {
+        if self.is_empty() {
+            return None;
+        }
         let row = self.tree.next(from, end, steps)?;
         Some(Entry::round(row.size, row.page, row.value))
     }
@@ -175,6 +179,14 @@ impl Mixed {
         self.tree.join(size, first, whole.mapping, steps);
         counts::subtract(&mut self.counts, size.smaller(), 8);
         counts::add(&mut self.counts, size, 1);
+    }
+
+    /// Whether nothing is mapped.
+    fn is_empty(&self) -> bool
+        ensures { result ≡ true → (page : ℕ) → entry_at self.now page ≡ None }
+    {
+        let _ = &self.tree;
+        self.counts == [0; 4]
     }
 
     /// How many entries there are of each size.

@@ -1,0 +1,20 @@
+use Rattle.std.proofs.Common.{◌≡◌, ◌∷◌, [], ℕ, zero, suc, ◌≤◌, slice_index, None, subst, sym, ap, ◌∙◌, refl, arith}
+use Rattle.std.proofs.lemmas.Slice.Eq.{bytes_eq-Decides}
+use Rattle.page_map.specs.Entries.{entry_at}
+use Rattle.page_map.proofs.Changes.{kept_entries}
+use Rattle.page_map.proofs.EntryCounts.{none_counted}
+use Rattle.page_map.proofs.Mixed.is_empty.Goals as goal
+
+zeros : (size : ℕ) → size ≤ 3 → slice_index (0 ∷ 0 ∷ 0 ∷ 0 ∷ []) size ≡ 0
+zeros zero low = refl
+zeros (suc zero) low = refl
+zeros (suc (suc zero)) low = refl
+zeros (suc (suc (suc zero))) low = refl
+zeros (suc (suc (suc (suc size)))) low = absurd (omega arith)
+
+pub returns : goal.returns
+returns c empty =
+    let none = 0 ∷ 0 ∷ 0 ∷ 0 ∷ [] in
+    let is : c.self.inside.counts ≡ none = (bytes_eq-Decides c.self.inside.counts none).0 (sym c.eq.ensures ∙ empty) in
+    subst (λ m. (page : ℕ) → entry_at m page ≡ None) c.self.view_is
+    (none_counted c.self.inside.tree c.self.inside.counts (kept_entries c.self.inside.tree c.self.invariant.0) c.self.invariant.1 (λ size low. ap (λ l. slice_index l size) is ∙ zeros size low))
