@@ -1,9 +1,8 @@
 -- What becomes of the rights of pages as a block gets one value, a leaf, or other rights in a part of its leaf.
-use Rattle.std.proofs.Common.{◌≡◌, ◌≢◌, ℕ, zero, suc, ◌+◌, ◌/◌, ◌%◌, ◌<◌, ◌≤◌, ◌==◌, cond, if◌then◌else◌, List, [], ◌∷◌, ◌++◌, Option, Some, None, length, replicate, slice_index_or, slice_set, is_some, nat_le, nat_lt, ◌&&◌, ◌-◌, take, drop, refl, sym, ap, inl, inr, ◌∙◌, arith, unwrap_or, IfSome, IfNone}
+use Rattle.std.proofs.Common.{◌≡◌, ◌≢◌, ℕ, zero, suc, ◌+◌, ◌/◌, ◌%◌, ◌<◌, ◌≤◌, ◌==◌, cond, if◌then◌else◌, List, [], ◌∷◌, Option, Some, None, length, replicate, slice_index_or, slice_set, is_some, nat_le, nat_lt, ◌&&◌, refl, sym, ap, inl, inr, ◌∙◌, arith, unwrap_or, IfSome, IfNone}
 use Rattle.std.specs.List.{count_by}
-use Rattle.std.proofs.lemmas.Bool.{cases_eq, cases_lt, cond-true, cond-false, eq-eqb, ne_eqb}
-use Rattle.std.proofs.lemmas.Bool.Decides.{nat_tests}
-use Rattle.std.proofs.lemmas.List.{get_or-set_other, get_or-set_same, length-set, get_or-replicate, length-replicate, length-take, get_or_append_left, get_or-append_right, get_or-take, get_or-drop, length-append}
+use Rattle.std.proofs.lemmas.Bool.{cases_eq, cond-true, cond-false, eq-eqb, ne_eqb}
+use Rattle.std.proofs.lemmas.List.{get_or-set_other, get_or-set_same, length-set, get_or-replicate, length-replicate, get_or_append_left, length-append}
 use Rattle.std.proofs.lemmas.List.Sums.{sum_by-set, count_by-le-length}
 use Rattle.std.proofs.lemmas.Option.{none-some, same_Some}
 use Rattle.std.proofs.Math.Seq.{get_or-append_seam}
@@ -198,27 +197,3 @@ module _ (t : RightsTree) (tree : IsTree t) (block n : ℕ) (is : block_at t blo
             cond-false _ (slice_index_or written (p % 512) None) (rights_of t p) (ne_eqb (p / 512) block other)
             ∙ ap (λ b. if b && inside then rights else rights_of t p) (sym (ne_eqb (p / 512) block other))
       ]
-
--- a part of a list is filled: within it each place has the value, and elsewhere it is as before
-pub filled_at : {X : Type 0} (xs part : List X) (from end : ℕ) (v d : X) (i : ℕ) → from ≤ end → end ≤ length xs → part ≡ replicate (end - from) v → slice_index_or (take from xs ++ (part ++ drop (end - from) (drop from xs))) i d ≡ (if nat_le from i && nat_lt i end then v else slice_index_or xs i d)
-filled_at xs part from end v d i order within is =
-    let front : length (take from xs) ≡ from = omega (arith, length-take from xs) in
-    let long : length part ≡ end - from = ap length is ∙ length-replicate (end - from) v in
-    elim (cases_lt i from) [
-      | inl below ↦ get_or_append_left (take from xs) _ d i (omega arith) ∙ get_or-take from xs i d below ∙ grind (arith, nat_tests)
-      | inr on ↦ elim (cases_lt i end) [
-        | inl inside ↦
-            get_or-append_right (take from xs) _ from i d front on
-            ∙ get_or_append_left part _ d (i - from) (omega arith)
-            ∙ ap (λ ys. slice_index_or ys (i - from) d) is
-            ∙ get_or-replicate (end - from) (i - from) v d (omega arith)
-            ∙ grind (arith, nat_tests)
-        | inr past ↦
-            get_or-append_right (take from xs) _ from i d front on
-            ∙ get_or-append_right part _ (end - from) (i - from) d long (omega arith)
-            ∙ get_or-drop (end - from) (drop from xs) _ d
-            ∙ get_or-drop from xs _ d
-            ∙ ap (λ j. slice_index_or xs j d) {y = i} (omega arith)
-            ∙ grind (arith, nat_tests)
-      ]
-    ]

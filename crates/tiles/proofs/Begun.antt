@@ -64,16 +64,19 @@ module _ (z : SizeSet) (pages : ℕ → Option Mapping) where
     abbrev size : ℕ
     size = size_within z t.extent.size
 
-    -- a page of the tile begins one where it is a multiple
-    begins_there : (p : ℕ) → page ≤ p → p < page + (end - page) → begins p ≡ (nat_lt 0 size && is_multiple size p)
-    begins_there p low high =
+    -- each page of the tile has its size
+    pub size_there : (p : ℕ) → page ≤ p → p < end → size_by z pages p ≡ size
+    size_there p low high =
         let k = size_at pages page in
         let own : k ≡ t.extent.size = ap size_in is in
         let first : extent_start k page ≡ t.extent.first = ap (λ n. extent_start n page) own ∙ (tile_largest pages page t is).1 in
         let starts = starts_below k page (size_small pages page) in
-        let joined : p / 8 ^ k ≡ page / 8 ^ k = extent_of_frame (page / 8 ^ k) (8 ^ k) p (omega (arith, starts.first)) (omega (arith, first, within, on, high, ap (λ n. 8 ^ n) own)) in
-        let same : size_by z pages p ≡ size = ap (size_within z) (size_alike pages page p joined ∙ own) in
-        large_test z pages p ∙ ap (λ n. nat_lt 0 n && eqb (p % 8 ^ n) 0) same
+        let joined : p / 8 ^ k ≡ page / 8 ^ k = extent_of_frame (page / 8 ^ k) (8 ^ k) p (omega (arith, starts.first)) (omega (arith, first, within, high, ap (λ n. 8 ^ n) own)) in
+        ap (size_within z) (size_alike pages page p joined ∙ own)
+
+    -- and begins one where it is a multiple
+    begins_there : (p : ℕ) → page ≤ p → p < page + (end - page) → begins p ≡ (nat_lt 0 size && is_multiple size p)
+    begins_there p low high = large_test z pages p ∙ ap (λ n. nat_lt 0 n && eqb (p % 8 ^ n) 0) (size_there p low (omega arith))
 
     small_begun : size ≡ 0 → count begins page (end - page) ≡ 0
     small_begun none = count-none begins page (end - page) (λ p low high. begins_there p low high ∙ ap (λ n. nat_lt 0 n && eqb (p % 8 ^ n) 0) none)

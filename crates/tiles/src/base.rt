@@ -1,7 +1,7 @@
 //! The resident pages of a space, and what each change does to their tiles.
 
 ghost use Rattle.std.specs.Int.{div_ceil};
-ghost use Rattle.std.specs.Prelude.{◌≡◌, ◌≢◌, ◌∷◌, [], ℕ, ◌+◌, ◌*◌, ◌%◌, ◌^◌, ◌<◌, ◌≤◌, true, false, Option, None, Some, IfOk, IfNone, IfSome, option_map, slice_index};
+ghost use Rattle.std.specs.Prelude.{◌≡◌, ◌≢◌, ◌∷◌, [], ℕ, ◌+◌, ◌*◌, ◌%◌, ◌^◌, ◌<◌, ◌≤◌, true, false, Option, None, Some, IfOk, IfNone, IfSome, option_map, slice_index, nat_le, nat_lt, ◌&&◌, if◌then◌else◌};
 ghost use Rattle.pager_model.specs.Tiles.{tile_in, is_tile_in, tile_count_in, cut_to};
 ghost use Rattle.pager_model.specs.declared.tile.Mapping.{Mapping};
 ghost use Rattle.tiles.specs.Resident.{mapping_at, frames_in, frame_of_page, Maps, Protects, IsNextResident, NoneResident, with_flag, with_rights};
@@ -89,6 +89,15 @@ fn large_begun(size: Size, from: u32, end: u32) -> u32
         return 0;
     }
     end.div_ceil(size.pages()) - from.div_ceil(size.pages())
+}
+
+/// Writes this level at the places from one on and before an end.
+fn set_places(levels: &mut [u8; 64], from: u32, end: u32, level: u8)
+    requires range { from ≤ end }
+    requires within { end ≤ 64 }
+    ensures { (i : ℕ) → i < 64 → slice_index levels.new i ≡ (if nat_le from i && nat_lt i end then level else slice_index levels.old i) }
+{
+    levels[from as usize..end as usize].fill(level);
 }
 
 /// Whether a mapping has other rights.
@@ -268,14 +277,27 @@ impl Base {
     }
 
     /// The sizes of the tiles by some sizes at the first of each eight pages of a block: each tile of size 1 or more begins at such a page.
+    ///
+    /// It goes from entry to entry: an entry is at the places whose first page it has, and where none is resident the place keeps its 0.
     fn sizes_of_block(&self, block: u32, sizes: Sizes) -> [u8; 64]
         requires { block < 2048 }
         ensures sizes { AreSizesOfBlock sizes block result (mapping_at self.now) }
         ensures small { (i : ℕ) → i < 64 → slice_index result i ≤ 3 }
     {
+        let first = block * BLOCK;
+        let end = first + BLOCK;
         let mut levels = [0; 64];
-        for i in 0..64 {
-            levels[i] = self.size(block * BLOCK + 8 * i as u32, sizes).level();
+        let mut from = first;
+        while let Some(entry) = self.pages.next(from, end) {
+            let begun = (from.max(entry.extent.first) - first).div_ceil(8);
+            let past = (behind(&entry).min(end) - first).div_ceil(8);
+            set_places(
+                &mut levels,
+                begun,
+                past,
+                sizes.within(entry.extent.size).level(),
+            );
+            from = first + 8 * past;
         }
         levels
     }

@@ -3,6 +3,7 @@
 ghost use Rattle.std.specs.Prelude.{◌≡◌, ◌≢◌, ◌+◌, ◌-◌, ◌^◌, ◌<◌, ◌≤◌, ◌++◌, ◌∷◌, [], ◌==◌, IfSome, length};
 ghost use Rattle.std.specs.List.{list_any};
 ghost use Rattle.pager_model.specs.Bounds.{space_pages};
+ghost use Rattle.pager_model.specs.Extents.{extent_start};
 ghost use Rattle.pager_model.specs.Tiles.{same_tile, size_in};
 ghost use Rattle.tiles.specs.Changes.{IsRound, HasPieces, part_from, beside, cut_round};
 
@@ -51,6 +52,14 @@ fn is_same(one: &Tile, other: &Tile) -> bool
     ensures { result ≡ same_tile one.now other.now }
 {
     one == other
+}
+
+/// Whether a page is one of the tile's.
+fn has_page(tile: &Tile, page: u32) -> bool
+    ensures { result ≡ (extent_start tile.now.extent.size page == tile.now.extent.first) }
+{
+    let pages = tile.extent.size.pages();
+    page / pages * pages == tile.extent.first
 }
 
 /// The part of a size of a tile from a page on.
@@ -169,6 +178,13 @@ impl TileList {
         ensures { result ≡ list_any (same_tile tile.now) self.now }
     {
         self.places.iter().any(|place| is_same(tile, &place.tile))
+    }
+
+    /// Whether a page is one of a tile's.
+    pub fn has_page(&self, page: u32) -> bool
+        ensures { result ≡ list_any (λ t. extent_start t.extent.size page == t.extent.first) self.now }
+    {
+        self.places.iter().any(|place| has_page(&place.tile, page))
     }
 }
 

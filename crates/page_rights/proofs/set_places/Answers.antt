@@ -1,6 +1,6 @@
 use Rattle.std.proofs.Common.{◌≡◌, ◌-◌, ◌∙◌, None, length, replicate, take, drop, ap, rules, arith}
 use Rattle.std.proofs.lemmas.List.{length-take, length-drop}
-use Rattle.page_rights.proofs.BlockChanges.{filled_at}
+use Rattle.pager_model.proofs.Lists.{filled_at}
 use Rattle.page_rights.proofs.set_places.Goals as goal
 
 pub returns : goal.returns

@@ -1,8 +1,78 @@
-use Rattle.std.proofs.Common.{◌+◌, ◌*◌, arith}
-use Rattle.tiles.specs.Resident.{mapping_at}
-use Rattle.tiles.proofs.SizedTiles.{by_small}
+use Rattle.std.proofs.Common.{◌≡◌, ◌+◌, ◌-◌, ◌*◌, ◌<◌, ◌≤◌, ◌&&◌, ◌∙◌, Some, ap, inl, inr, nat_le, nat_lt, if◌then◌else◌, slice_index, ℕ, refl, subst, sym, arith}
+use Rattle.std.specs.Int.{div_ceil}
+use Rattle.std.proofs.lemmas.Bool.{cases_lt}
+use Rattle.std.proofs.lemmas.Bool.Decides.{nat_tests}
+use Rattle.pager_model.proofs.Lists.{get_or-alike}
+use Rattle.page_map.specs.Entries.{tile_of_entry}
+use Rattle.pager_model.specs.Tiles.{tile_of}
+use Rattle.tiles.specs.Kept.{IsNextTile}
+use Rattle.tiles.specs.Resident.{mapping_at, NoneResident}
+use Rattle.tiles.specs.Sized.{size_by}
+use Rattle.tiles.proofs.Begun.{size_there}
+use Rattle.tiles.proofs.SizedTiles.{by_absent, by_small}
 use Rattle.tiles.proofs.base.Base.sizes_of_block.Goals as goal
+
+pub loop-entry-init : goal.loop-entry-init
+loop-entry-init c = record {
+  from_on = omega arith;
+  within = omega arith;
+  at = λ i low. get_or-alike 64 i 0 ∙ grind (arith, nat_tests);
+}
+
+-- the entry in hand, by what is resident
+found : (c : goal.After-set_places) → IsNextTile c.args.self.now c.loop-entry.from (c.args.block * 512 + 512) c.in-Some.entry
+found c = subst (λ r. IsNextTile r c.loop-entry.from (c.args.block * 512 + 512) c.in-Some.entry) c.self.view_is c.in-Some.ensures.some
+
+-- what stands at a place whose first page is q: the size there, or 0 where it isn't before the end of the places that were filled
+place : (first q i from page end begun past level size before after : ℕ) → q ≡ first + 8 * i → first ≤ from → from ≤ page → page ≤ end → begun ≡ div_ceil (page - first) 8 → past ≡ div_ceil (end - first) 8
+    → before ≡ (if nat_lt q from then size else 0) → after ≡ (if nat_le begun i && nat_lt i past then level else before) → (from ≤ q → q < page → size ≡ 0) → (page ≤ q → q < end → size ≡ level)
+    → after ≡ (if nat_lt q (first + 8 * past) then size else 0)
+place first q i from page end begun past level size before after is low on more begins ends old new bare there = elim (cases_lt q from) [
+  | inl known ↦ grind (arith, nat_tests)
+  | inr next ↦ elim (cases_lt q page) [
+    | inl absent ↦ let none = bare next absent in grind (arith, nat_tests)
+    | inr in_it ↦ elim (cases_lt q end) [
+      | inl within ↦ let same = there in_it within in grind (arith, nat_tests)
+      | inr behind ↦ grind (arith, nat_tests)
+    ]
+  ]
+]
+
+pub loop-entry-preserved : goal.loop-entry-preserved
+loop-entry-preserved c =
+    let z = c.args.sizes in
+    let pages = mapping_at c.args.self.now in
+    let so_far = c.loop-entry.invariant in
+    let next = found c in
+    let page = c.max.result in
+    let end = c.min.result in
+    let begins = c.max.ensures in
+    let tile : tile_of pages page ≡ Some (tile_of_entry c.in-Some.entry) = ap (tile_of pages) begins ∙ next.tile in
+    let on : page ≤ end = omega (arith, begins, c.min.ensures, c.behind.ensures, next.next.before_end, next.fits.to) in
+    record {
+      from_on = omega arith;
+      within = omega (arith, c.div_ceil-past.ensures, c.min.ensures);
+      at = λ i low.
+          let q = c.args.block * 512 + 8 * i in
+          place (c.args.block * 512) q i c.loop-entry.from page end c.div_ceil-begun.result c.div_ceil-past.result c.level.result (size_by z pages q) (slice_index c.loop-entry.levels i) (slice_index c.set_places.new.levels i)
+          refl so_far.from_on (omega (arith, begins)) on c.div_ceil-begun.ensures c.div_ceil-past.ensures (so_far.at i low) (c.set_places.ensures i low)
+          (λ past before. by_absent z pages q (next.lowest q past (omega (arith, begins, before))))
+          (λ past before. size_there z pages page end (tile_of_entry c.in-Some.entry) tile on (omega (arith, c.min.ensures, c.behind.ensures)) q past before ∙ sym (c.level.ensures.level ∙ c.within.ensures));
+    }
+
+pub returns-clause-sizes : goal.returns-clause-sizes
+returns-clause-sizes c i low =
+    let pages = mapping_at c.args.self.now in
+    let q = c.args.block * 512 + 8 * i in
+    let none = subst (λ r. NoneResident (mapping_at r) c.loop-entry.from (c.args.block * 512 + 512)) c.self.view_is c.in_default.ensures.none in
+    c.loop-entry.invariant.at i low ∙ elim (cases_lt q c.loop-entry.from) [
+      | inl before ↦ grind (arith, nat_tests)
+      | inr on ↦ grind (arith, nat_tests, by_absent c.args.sizes pages q (none q on (omega arith)))
+    ]
 
 pub returns-clause-small : goal.returns-clause-small
 returns-clause-small c i low =
-    omega (arith, c.loop-i.invariant.at i (omega (arith, c.loop-i.auto.i-end, c.loop-i-test.false)), by_small c.args.sizes (mapping_at c.args.self.now) (c.args.block * 512 + 8 * i))
+    let q = c.args.block * 512 + 8 * i in
+    let is = c.loop-entry.invariant.at i low in
+    let small = by_small c.args.sizes (mapping_at c.args.self.now) q in
+    grind (arith, nat_tests)
