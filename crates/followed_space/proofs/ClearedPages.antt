@@ -22,8 +22,7 @@ use Rattle.region_table.proofs.RegionSearch.{found_from}
 use Rattle.tiles.specs.Cleared.{Clears}
 use Rattle.tiles.specs.Resident.{Maps, Resident, IsNextResident, NoneResident, mapping_at}
 use Rattle.tiles.specs.Touched.{is_touched}
-use Rattle.tiles.proofs.SizedTiles.{size_local}
-use Rattle.tiles.proofs.TouchedTiles.{tile_same}
+use Rattle.tiles.proofs.SizedTiles.{local_by, tile_in_same}
 
 -- Each page of a block of a page of the range is one of the blocks.
 abbrev pub IsRound : ℕ → ℕ → PageRange → Type 0
@@ -34,10 +33,10 @@ pub changes_blocks : (first len : ℕ) (blocks : PageRange) (old new : Resident)
     → IsChange old new (Range blocks)
 changes_blocks first len blocks old new round others = (
   λ p out. beside p out p refl,
-  λ t tile out.
+  λ z t tile out.
       let q = t.extent.first in
       let same : (p : ℕ) → p / 512 ≡ q / 512 → mapping_at new p ≡ mapping_at old p = beside q out in
-      ap (is_that_tile t) (tile_same (mapping_at old) (mapping_at new) q (same q refl) (size_local (mapping_at old) (mapping_at new) q same)) ∙ tile,
+      ap (is_that_tile t) (tile_in_same z (mapping_at old) (mapping_at new) q (same q refl) (local_by z (mapping_at old) (mapping_at new) q same)) ∙ tile,
 )
   where
     beside : (q : ℕ) → is_touched blocks q ≡ false → (p : ℕ) → p / 512 ≡ q / 512 → mapping_at new p ≡ mapping_at old p

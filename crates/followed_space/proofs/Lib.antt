@@ -5,5 +5,4 @@ pub mod RegionCalls
 pub mod IdleEntries
 pub mod LegalEntries
 pub mod ClearedPages
-pub mod BaseTiles
 pub mod AnsweredLines

@@ -7,8 +7,8 @@ use tiles::Changes;
 #[derive(Debug, Drop)]
 pub enum Changed {
     Nothing,
-    /// One page, and these tiles with it.
+    /// One page, with the tiles by all four sizes that went and came.
     Page { page: u32, changes: Changes },
-    /// Pages of the range. A tile that begins outside of it is a tile still.
+    /// Pages of the range. A tile by any sizes that begins outside of it is one still.
     Range(PageRange),
 }

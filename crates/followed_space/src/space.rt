@@ -6,9 +6,9 @@ ghost use Rattle.pager_model.specs.declared.entry.Entry.{Entry as Item};
 ghost use Rattle.pager_model.specs.declared.entry.What.TheVariants.{Out, Give, Clear};
 ghost use Rattle.pager_model.specs.Bounds.{most_frames, space_bytes, space_pages};
 ghost use Rattle.pager_model.specs.Regions.{in_range};
-ghost use Rattle.pager_model.specs.SizeSets.{SizeSet, all_sizes};
+ghost use Rattle.pager_model.specs.SizeSets.{SizeSet};
 ghost use Rattle.pager_model.specs.SpaceStates.{SpaceState, empty_state, space_after};
-ghost use Rattle.pager_model.specs.Tiles.{tile_of, is_tile, eligible_at, is_that_tile};
+ghost use Rattle.pager_model.specs.Tiles.{tile_in, is_tile_in};
 ghost use Rattle.page_rights.specs.Rights.{rights_of};
 ghost use Rattle.tiles.specs.Cleared.{Clears};
 ghost use Rattle.tiles.specs.Resident.{Maps, frames_in, mapping_at, with_flag};
@@ -31,20 +31,6 @@ use tiles::counted::{after_dirty, after_fill, after_remove};
 
 /// The pages of the largest extent.
 const BLOCK: u32 = 512;
-
-/// All four page sizes.
-fn all_sizes() -> Sizes
-    ensures { result ≡ all_sizes }
-{
-    Sizes::of(true, true, true)
-}
-
-/// Base pages alone.
-fn base_alone() -> Sizes
-    ensures { result ≡ record { one = false; two = false; three = false } }
-{
-    Sizes::of(false, false, false)
-}
 
 /// The regions of a space, the rights of its pages and its resident pages with their tiles.
 #[derive(Drop)]
@@ -79,32 +65,18 @@ impl FollowedSpace {
         })
     }
 
-    /// The tile of a page, where it is resident.
-    pub fn tile_of(&self, page: u32) -> Option<Tile>
-        ensures { result ≡ tile_of (mapping_at self.now.pages) page }
+    /// The tile of a page by some sizes, where it is resident.
+    pub fn tile_of(&self, page: u32, sizes: Sizes) -> Option<Tile>
+        ensures { result ≡ tile_in sizes (mapping_at self.now.pages) page }
     {
-        self.pages.tile_of(page, all_sizes())
+        self.pages.tile_of(page, sizes)
     }
 
-    /// Whether it is a tile of the pages as they are.
-    pub fn is_tile(&self, tile: &Tile) -> bool
-        ensures { result ≡ is_tile (mapping_at self.now.pages) tile.now }
+    /// Whether it is a tile of the pages as they are, by some sizes.
+    pub fn is_tile(&self, tile: &Tile, sizes: Sizes) -> bool
+        ensures { result ≡ is_tile_in sizes (mapping_at self.now.pages) tile.now }
     {
-        self.pages.is_tile(tile, all_sizes())
-    }
-
-    /// The tile of a page by base pages alone, where it is resident.
-    pub fn base_tile_of(&self, page: u32) -> Option<Tile>
-        ensures { result ≡ eligible_at (mapping_at self.now.pages) 0 page }
-    {
-        self.pages.tile_of(page, base_alone())
-    }
-
-    /// Whether it is a tile of the pages as they are, by base pages alone.
-    pub fn is_base_tile(&self, tile: &Tile) -> bool
-        ensures { result ≡ is_that_tile tile.now (eligible_at (mapping_at self.now.pages) 0 tile.now.extent.first) }
-    {
-        self.pages.is_tile(tile, base_alone())
+        self.pages.is_tile(tile, sizes)
     }
 
     /// A page got this frame, which no other page has.
@@ -260,7 +232,7 @@ impl FollowedSpace {
         ensures changed { IsChange self.old.pages self.new.pages result }
     {
         self.own.set(page, length, Some(rights));
-        self.pages.after_rights(page, length, rights, all_sizes());
+        self.pages.after_rights(page, length, rights, Sizes::all());
         Changed::Range(blocks_round(page, length))
     }
 

@@ -16,19 +16,18 @@ use Rattle.pager_model.specs.Options.{is_that}
 use Rattle.pager_model.specs.Plans.{Plan}
 use Rattle.pager_model.specs.Settings.{Given, is_told, faults_at_entry}
 use Rattle.pager_model.specs.Showing.{Shows}
-use Rattle.pager_model.specs.SizeSets.{SizeSet, all_sizes}
+use Rattle.pager_model.specs.SizeSets.{SizeSet}
 use Rattle.pager_model.specs.SpaceStates.{SpaceState, WhatAllowed, pages_after, served_page, space_after, tile_at}
-use Rattle.pager_model.specs.Tiles.{tile_in, tile_of, tile_with}
+use Rattle.pager_model.specs.Tiles.{cut_to, tile_in, tile_of}
 use Rattle.pager_model.specs.TraceText.{HasText}
 use Rattle.pager_model.proofs.Histories.{IsLegal-push, space_at-named, space_at-other}
 use Rattle.pager_model.proofs.Options.{in_some}
 use Rattle.pager_laws.proofs.LegalPrefixes.{IsLegal-at}
 use Rattle.followed_space.specs.Follows.{Followed, Follows, IsNext}
 use Rattle.followed_space.proofs.AnsweredLines.{AnswersLine-run, processor-run}
-use Rattle.followed_space.proofs.BaseTiles.{base_tile}
 use Rattle.followed_space.proofs.LegalEntries.{IsNext-legal}
 use Rattle.tiles.specs.Resident.{frames_in, mapping_at}
-use Rattle.tiles.proofs.Largest.{tile_absent}
+use Rattle.tiles.proofs.CutTiles.{tile_in-cut}
 use Rattle.miss_curves.specs.declared.stack.Use.{Use}
 use Rattle.miss_curves.specs.Curves.{AnswersAlone, base_alone, is_answer, page_used}
 use Rattle.miss_curves.specs.Histories.{Comes, EachComes, FollowEach, IsNew, IsRunOf, KeepsUp, Told, use_of}
@@ -58,12 +57,12 @@ has_tile st b c (Answer number call answered) p used allowed =
     served_tile (c == 0) (served_page call answered.reply) answered.size st.sizes (pages_after st b (Answer number call answered)) p allowed.size used
 has_tile st b c what p used allowed = cc
 
--- a page with a tile has one by base pages alone
-base_has : (pages : ℕ → Option Mapping) (p : ℕ) (t : Tile) → tile_of pages p ≡ Some t → (b : Tile) × (tile_in base_alone pages p ≡ Some b)
-base_has pages p t is =
-    elim (pages p) as (λ o. pages p ≡ o → (b : Tile) × (tile_in base_alone pages p ≡ Some b)) [
-      | None ↦ λ none. absurd (none-some t (sym (tile_absent pages p none) ∙ is))
-      | Some m ↦ λ at. (tile_with 0 p m, base_tile pages p m at)
+-- a page with a tile by some sizes has one by any others
+has_other : (y z : SizeSet) (pages : ℕ → Option Mapping) (p : ℕ) (t : Tile) → tile_in y pages p ≡ Some t → (u : Tile) × (tile_in z pages p ≡ Some u)
+has_other y z pages p t is =
+    elim (tile_of pages p) as (λ o. tile_of pages p ≡ o → (u : Tile) × (tile_in z pages p ≡ Some u)) [
+      | None ↦ λ none. absurd (none-some t (sym (tile_in-cut y pages p ∙ ap (option_map (cut_to y p)) none) ∙ is))
+      | Some whole ↦ λ at. (cut_to z p whole, tile_in-cut z pages p ∙ ap (option_map (cut_to z p)) at)
     ] refl
 
 is_use : (z : SizeSet) (before after : ℕ → Option Mapping) (page : Option ℕ) → ((p : ℕ) → page ≡ Some p → (t : Tile) × (tile_in z after p ≡ Some t))
@@ -79,28 +78,28 @@ use_is z before after page own used same is has =
     subst (IsUse z before after page) (sym (is ∙ ap (λ q. use_of (tile_at z before q) (tile_at z after q)) same)) (is_use z before after page has)
 
 -- what follows a space tells of an entry what it did to the pages, and which page it used
-pub Told-followed : (g : Given) (history : List Entry) (e : Entry) (old new : Followed) (page : Option ℕ) (used used_base : Option Use) → g.sizes ≡ all_sizes
+pub Told-followed : (z : SizeSet) (g : Given) (history : List Entry) (e : Entry) (old new : Followed) (page : Option ℕ) (used used_base : Option Use) → g.sizes ≡ z
     → ((s : ℕ) → e.space ≡ Some s → IsNext old (space_at g history s) e)
     → ((st : SpaceState) → IsNext old st e → Follows new (space_after st e))
     → page ≡ page_used e.processor e.what
-    → used ≡ use_of (tile_at all_sizes (mapping_at old.pages) page) (tile_at all_sizes (mapping_at new.pages) page)
+    → used ≡ use_of (tile_at z (mapping_at old.pages) page) (tile_at z (mapping_at new.pages) page)
     → used_base ≡ use_of (tile_at base_alone (mapping_at old.pages) page) (tile_at base_alone (mapping_at new.pages) page)
-    → Told g history e old.pages new.pages used used_base
-Told-followed g history e old new page used used_base sizes next follows page_is used_is base_is = record {
+    → Told z g history e old.pages new.pages used used_base
+Told-followed z g history e old new page used used_base sizes next follows page_is used_is base_is = record {
   sizes = sizes;
   on = λ s named.
       let st = space_at g history s in
       let on = next s named in
       let after : pages_after st e.frames e.what ≡ mapping_at new.pages = λ i p. (follows st on).pages p i in
       let used_page = page_used e.processor e.what in
-      let tile : (p : ℕ) → used_page ≡ Some p → (t : Tile) × (tile_in all_sizes (mapping_at new.pages) p ≡ Some t) =
-      λ p is. subst (λ (f : ℕ → Option Mapping). (t : Tile) × (tile_in all_sizes f p ≡ Some t)) after
-      (subst (λ z. (t : Tile) × (tile_in z (pages_after st e.frames e.what) p ≡ Some t)) (sizes-of g history s ∙ sizes) (has_tile st e.frames e.processor e.what p is on.allowed.1)) in
+      let tile : (p : ℕ) → used_page ≡ Some p → (t : Tile) × (tile_in z (mapping_at new.pages) p ≡ Some t) =
+      λ p is. subst (λ (f : ℕ → Option Mapping). (t : Tile) × (tile_in z f p ≡ Some t)) after
+      (subst (λ y. (t : Tile) × (tile_in y (pages_after st e.frames e.what) p ≡ Some t)) (sizes-of g history s ∙ sizes) (has_tile st e.frames e.processor e.what p is on.allowed.1)) in
       record {
         before = λ i p. on.follows.pages p i;
         after = after;
-        tile = use_is all_sizes (mapping_at old.pages) (mapping_at new.pages) used_page page used page_is used_is tile;
-        base = use_is base_alone (mapping_at old.pages) (mapping_at new.pages) used_page page used_base page_is base_is (λ p is. base_has (mapping_at new.pages) p (tile p is).0 (tile p is).1);
+        tile = use_is z (mapping_at old.pages) (mapping_at new.pages) used_page page used page_is used_is tile;
+        base = use_is base_alone (mapping_at old.pages) (mapping_at new.pages) used_page page used_base page_is base_is (λ p is. has_other z base_alone (mapping_at new.pages) p (tile p is).0 (tile p is).1);
       };
 }
 
@@ -112,9 +111,9 @@ pub record Named (rows : Rows) (spaces : List Followed) (e : Entry) (s : ℕ) (s
   pub stack : s < length rows.tiles
   pub next : (d : Followed) → IsNext (get_or spaces s d) st e
 
-pub named_next : (g : Given) (history : List Entry) (rows : Rows) (spaces : List Followed) (e : Entry) (s : ℕ) → e.space ≡ Some s
-    → KeepsUp g rows spaces history → Comes g history e → Named rows spaces e s (space_at g history s)
-named_next g history rows spaces e s named keeps comes =
+pub named_next : (z : SizeSet) (g : Given) (history : List Entry) (rows : Rows) (spaces : List Followed) (e : Entry) (s : ℕ) → e.space ≡ Some s
+    → KeepsUp z g rows spaces history → Comes g history e → Named rows spaces e s (space_at g history s)
+named_next z g history rows spaces e s named keeps comes =
     let parts = IsLegal-at g history [] e comes.legal in
     let told : s < length g.told = in_some (λ n. n < length g.told) e.space s named parts.1.space in
     let within : s < length spaces = omega (arith, told, keeps.follow.spaces_are) in
@@ -166,13 +165,13 @@ FollowEach-new g spaces same new = record {
 }
 
 -- and so the stacks and the spaces of a run begin
-pub KeepsUp-new : (plan : Plan) (g : Given) (history : List Entry) (frames spaces : ℕ) (rows : Rows) (all : List Followed) → IsRunOf plan g history
-    → frames ≡ plan.frames → spaces ≡ plan.spaces → (length g.told ≡ spaces → StandAfter g rows []) → length all ≡ spaces → All (IsNew frames) all
-    → KeepsUp g rows all []
-KeepsUp-new plan g history frames spaces rows all run frames_are spaces_are stands same new =
+pub KeepsUp-new : (plan : Plan) (g : Given) (history : List Entry) (frames spaces : ℕ) (z : SizeSet) (rows : Rows) (all : List Followed) → IsRunOf plan g history
+    → frames ≡ plan.frames → spaces ≡ plan.spaces → z ≡ plan.sizes → (length g.told ≡ spaces → StandAfter g rows []) → length all ≡ spaces → All (IsNew frames) all
+    → KeepsUp z g rows all []
+KeepsUp-new plan g history frames spaces z rows all run frames_are spaces_are sizes_are stands same new =
     let told : length g.told ≡ spaces = run.spaces ∙ sym spaces_are in
     record {
-      sizes = run.sizes;
+      sizes = run.sizes ∙ sym sizes_are;
       stands = stands told;
       follow = FollowEach-new g all (same ∙ sym told) (subst (λ n. All (IsNew n) all) (frames_are ∙ sym run.frames) new);
     }

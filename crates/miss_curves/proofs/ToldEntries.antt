@@ -1,18 +1,18 @@
 -- What is told of an entry from the pages that are followed.
-use Rattle.std.proofs.Common.{◌≡◌, ℕ, ◌%◌, ◌^◌, Bool, true, false, ◌==◌, ◌||◌, not, List, [], Option, Some, None, refl, sym, ap, ◌∙◌, subst, arith}
+use Rattle.std.proofs.Common.{◌≡◌, ℕ, zero, suc, Bool, true, false, ◌==◌, ◌||◌, not, List, [], ◌∷◌, Option, Some, None, option_map, inl, inr, refl, sym, ap, ◌∙◌, subst}
 use Rattle.std.specs.List.{list_any}
 use Rattle.std.specs.Option.{IfSome}
-use Rattle.std.proofs.lemmas.Bool.{eq-eqb, true≢false}
-use Rattle.std.proofs.lemmas.Option.{none-some, same_Some}
+use Rattle.std.proofs.lemmas.Bool.{cases_Bool, eq-eqb, false_from_ne_true, true≢false}
 use Rattle.pager_model.specs.declared.entry.Entry.{Entry}
 use Rattle.pager_model.specs.declared.page_range.PageRange.{PageRange}
 use Rattle.pager_model.specs.declared.tile.Mapping.{Mapping}
 use Rattle.pager_model.specs.declared.tile.Tile.{Tile}
+use Rattle.pager_model.specs.Extents.{extent_start}
 use Rattle.pager_model.specs.Legal.{space_at}
 use Rattle.pager_model.specs.Settings.{Given}
-use Rattle.pager_model.specs.SizeSets.{SizeSet, all_sizes}
+use Rattle.pager_model.specs.SizeSets.{SizeSet, all_sizes, size_within}
 use Rattle.pager_model.specs.SpaceStates.{SpaceState, pages_of, pages_after}
-use Rattle.pager_model.specs.Tiles.{eligible_at, is_that_tile, is_tile, is_tile_in, same_tile, size_at, tile_of, tile_with}
+use Rattle.pager_model.specs.Tiles.{cut_to, is_that_tile, is_tile, is_tile_in, same_tile, size_at, tile_in, tile_of}
 use Rattle.pager_model.proofs.Options.{IfSome-from}
 use Rattle.pager_model.proofs.TileParts.{same_tile-true}
 use Rattle.pager_laws.proofs.ImageTiles.{tile_in-is_tile}
@@ -20,14 +20,14 @@ use Rattle.miss_curves.specs.declared.stack.Use.{Use}
 use Rattle.miss_curves.specs.Curves.{base_alone, page_used}
 use Rattle.miss_curves.specs.Histories.{Told}
 use Rattle.miss_curves.specs.Stacks.{AnswersFor, IsUse, Tells, TellsSame}
-use Rattle.followed_space.proofs.BaseTiles.{base_none, base_tile}
 use Rattle.tiles.specs.Beside.{OthersSame}
-use Rattle.tiles.specs.Changes.{AreChanges, PageChange, gone_of}
+use Rattle.tiles.specs.Changes.{AreChanges, Came, PageChange, gone_of}
 use Rattle.tiles.specs.Resident.{Resident, mapping_at}
 use Rattle.tiles.specs.Sized.{KeepsOutsideIn}
 use Rattle.tiles.specs.Touched.{is_touched}
-use Rattle.tiles.proofs.Largest.{tile_absent, tile_by, tile_by_own}
+use Rattle.tiles.proofs.CutTiles.{tile_in-cut}
 use Rattle.tiles.proofs.PageChanges.{stays_where}
+use Rattle.tiles.proofs.SizedTiles.{tile_in_same}
 use Rattle.tiles.proofs.TileLaws.{largest_tile, tile_largest}
 
 -- what holds of the pages that these are equal to
@@ -57,110 +57,119 @@ same_by z st e old new used was is stay use' = record {
   used_page = of_pages (λ f f'. IsUse z f f' (page_used e.processor e.what) used) _ _ old new was is use';
 }
 
-pub tells_all : (left left_base : Tile → Bool → Type 0) (g : Given) (history : List Entry) (e : Entry) (old new : Resident) (used used_base : Option Use)
-    → Told g history e old new used used_base
-    → AnswersFor left (is_tile (mapping_at old)) (is_tile (mapping_at new))
+pub tells_all : (z : SizeSet) (left left_base : Tile → Bool → Type 0) (g : Given) (history : List Entry) (e : Entry) (old new : Resident) (used used_base : Option Use)
+    → Told z g history e old new used used_base
+    → AnswersFor left (is_tile_in z (mapping_at old)) (is_tile_in z (mapping_at new))
     → AnswersFor left_base (is_tile_in base_alone (mapping_at old)) (is_tile_in base_alone (mapping_at new))
     → IfSome e.space (λ s. Tells left g.sizes (space_at g history s) e used × Tells left_base base_alone (space_at g history s) e used_base)
-tells_all left left_base g history e old new used used_base told tests base_tests =
+tells_all z left left_base g history e old new used used_base told tests base_tests =
     IfSome-from e.space (λ s. Tells left g.sizes (space_at g history s) e used × Tells left_base base_alone (space_at g history s) e used_base) (λ s is.
     let st = space_at g history s in
     let on = told.on s is in (
-      subst (λ z. Tells left z st e used) (sym told.sizes) (tells_by left all_sizes st e (mapping_at old) (mapping_at new) used on.before on.after on.tile tests),
+      subst (λ y. Tells left y st e used) (sym told.sizes) (tells_by left z st e (mapping_at old) (mapping_at new) used on.before on.after on.tile tests),
       tells_by left_base base_alone st e (mapping_at old) (mapping_at new) used_base on.before on.after on.base base_tests,
     ))
 
--- Where each tile is one still, so is each base page.
+-- Where the tile by all sizes that it is cut from is one still, so is a tile by any.
 
 that_tile : (t : Tile) (o : Option Tile) → is_that_tile t o ≡ true → o ≡ Some t
 that_tile t None is = absurd (true≢false (sym is))
 that_tile t (Some u) is = ap Some (sym (same_tile-true t u is))
 
-base_alike : (old new : ℕ → Option Mapping) (page : ℕ) (m : Mapping) → old page ≡ Some m → StayIn all_sizes old new → eligible_at new 0 page ≡ eligible_at old 0 page
-base_alike old new page m at stay =
-    let by = tile_by_own old page m at in
-    let t : Tile = tile_by (size_at old page) page m in
-    let was = tile_largest old page t by.is in
-    let still : tile_of new t.extent.first ≡ Some t = that_tile t (tile_of new t.extent.first) (stay t (tile_in-is_tile all_sizes old page t by.is)) in
-    let here : tile_of new page ≡ Some t = largest_tile new page t (tile_largest new t.extent.first t still).0 was.1 in
-    elim (new page) as (λ o. new page ≡ o → eligible_at new 0 page ≡ eligible_at old 0 page) [
-      | None ↦ λ none. absurd (none-some t (sym (tile_absent new page none) ∙ here))
-      | Some n ↦ λ now.
-          let own = tile_by_own new page n now in
-          let same : tile_by (size_at new page) page n ≡ t = same_Some _ t (sym own.is ∙ here) in
-          let rest : page % 8 ^ size_at new page ≡ page % 8 ^ size_at old page = ap (λ (u : Tile). page % 8 ^ u.extent.size) same in
-          let frame : n.frame ≡ m.frame = omega (arith, rest, ap (λ (u : Tile). u.frame) same, own.from_frame, by.from_frame) in
-          let rights : n.rights ≡ m.rights = ap (λ (u : Tile). u.rights) same in
-          let dirty : n.dirty ≡ m.dirty = ap (λ (u : Tile). u.dirty) same in
-          let alone : tile_with 0 page n ≡ tile_with 0 page m = cc in
-          base_tile new page n now ∙ ap Some alone ∙ sym (base_tile old page m at)
-    ] refl
-
-base_still : (old new : ℕ → Option Mapping) → StayIn all_sizes old new → StayIn base_alone old new
-base_still old new stay t was =
+cut_still : (z : SizeSet) (old new : ℕ → Option Mapping) (t : Tile) → is_tile_in z old t ≡ true
+    → ((u : Tile) → is_tile old u ≡ true → extent_start u.extent.size t.extent.first ≡ u.extent.first → is_tile new u ≡ true) → is_tile_in z new t ≡ true
+cut_still z old new t was stays =
     let first = t.extent.first in
-    elim (old first) as (λ o. old first ≡ o → is_tile_in base_alone new t ≡ true) [
-      | None ↦ λ none. absurd (true≢false (sym was ∙ ap (is_that_tile t) (base_none old first none)))
-      | Some m ↦ λ at. ap (is_that_tile t) (base_alike old new first m at stay) ∙ was
+    elim (tile_of old first) as (λ o. tile_of old first ≡ o → is_tile_in z new t ≡ true) [
+      | None ↦ λ none. absurd (true≢false (sym was ∙ ap (is_that_tile t) (tile_in-cut z old first ∙ ap (option_map (cut_to z first)) none)))
+      | Some u ↦ λ at.
+          let has = (tile_largest old first u at).1 in
+          let still = that_tile u (tile_of new u.extent.first) (stays u (tile_in-is_tile all_sizes old first u at) has) in
+          let here : tile_of new first ≡ Some u = largest_tile new first u (tile_largest new u.extent.first u still).0 has in
+          let cut : tile_in z new first ≡ tile_in z old first = tile_in-cut z new first ∙ ap (option_map (cut_to z first)) (here ∙ sym at) ∙ sym (tile_in-cut z old first) in
+          ap (is_that_tile t) cut ∙ was
     ] refl
 
-pub tells_still : (g : Given) (history : List Entry) (e : Entry) (old new : Resident) (used used_base : Option Use)
-    → ((t : Tile) → is_tile (mapping_at old) t ≡ true → is_tile (mapping_at new) t ≡ true) → Told g history e old new used used_base
+still_in : (z : SizeSet) (old new : ℕ → Option Mapping) → StayIn all_sizes old new → StayIn z old new
+still_in z old new stay t was = cut_still z old new t was (λ u is has. stay u is)
+
+pub tells_still : (z : SizeSet) (g : Given) (history : List Entry) (e : Entry) (old new : Resident) (used used_base : Option Use)
+    → ((t : Tile) → is_tile (mapping_at old) t ≡ true → is_tile (mapping_at new) t ≡ true) → Told z g history e old new used used_base
     → IfSome e.space (λ s. TellsSame g.sizes (space_at g history s) e used × TellsSame base_alone (space_at g history s) e used_base)
-tells_still g history e old new used used_base stay told =
+tells_still z g history e old new used used_base stay told =
     IfSome-from e.space (λ s. TellsSame g.sizes (space_at g history s) e used × TellsSame base_alone (space_at g history s) e used_base) (λ s is.
     let st = space_at g history s in
     let on = told.on s is in (
-      subst (λ z. TellsSame z st e used) (sym told.sizes) (same_by all_sizes st e (mapping_at old) (mapping_at new) used on.before on.after stay on.tile),
-      same_by base_alone st e (mapping_at old) (mapping_at new) used_base on.before on.after (base_still (mapping_at old) (mapping_at new) stay) on.base,
+      subst (λ y. TellsSame y st e used) (sym told.sizes)
+          (same_by z st e (mapping_at old) (mapping_at new) used on.before on.after (still_in z (mapping_at old) (mapping_at new) stay) on.tile),
+      same_by base_alone st e (mapping_at old) (mapping_at new) used_base on.before on.after (still_in base_alone (mapping_at old) (mapping_at new) stay) on.base,
     ))
 
 -- so where no page changed
-pub tells_same : (g : Given) (history : List Entry) (e : Entry) (old new : Resident) (used used_base : Option Use) → ((p : ℕ) → mapping_at new p ≡ mapping_at old p)
-    → Told g history e old new used used_base
+pub tells_same : (z : SizeSet) (g : Given) (history : List Entry) (e : Entry) (old new : Resident) (used used_base : Option Use)
+    → ((p : ℕ) → mapping_at new p ≡ mapping_at old p) → Told z g history e old new used used_base
     → IfSome e.space (λ s. TellsSame g.sizes (space_at g history s) e used × TellsSame base_alone (space_at g history s) e used_base)
-tells_same g history e old new used used_base same told =
+tells_same z g history e old new used used_base same told =
     let stay : mapping_at new ≡ mapping_at old = λ i p. same p i in
-    tells_still g history e old new used used_base (λ t was. ap (λ (f : ℕ → Option Mapping). is_tile f t) stay ∙ was) told
+    tells_still z g history e old new used used_base (λ t was. ap (λ (f : ℕ → Option Mapping). is_tile f t) stay ∙ was) told
+
+-- A tile of which it isn't asked is one still.
+left : (z : SizeSet) (new : ℕ → Option Mapping) (t : Tile) (asked b : Bool) → (asked ≡ false → is_tile_in z new t ≡ true)
+    → b ≡ (not asked || is_tile_in z new t) → b ≡ is_tile_in z new t
+left z new t true b still is = is
+left z new t false b still is = is ∙ sym (still refl)
 
 -- One page changed.
 
-pub tile_at_page : (old new : Resident) (changes : PageChange) → AreChanges old new changes → (t : Tile) (b : Bool) → is_tile (mapping_at old) t ≡ true → b ≡ not (list_any (same_tile t) (gone_of changes)) → b ≡ is_tile (mapping_at new) t
-tile_at_page old new changes are t b was is = is ∙ stays_where (mapping_at new) (mapping_at old) (gone_of changes) t are.gone was
-
 -- where none went each is one still
 pub none_went : (old new : Resident) (changes : PageChange) → AreChanges old new changes → gone_of changes ≡ [] → (t : Tile) → is_tile (mapping_at old) t ≡ true → is_tile (mapping_at new) t ≡ true
-none_went old new changes are none t was = sym (tile_at_page old new changes are t true was (sym (ap (λ gone. not (list_any (same_tile t) gone)) none)))
+none_went old new changes are none t was =
+    sym (stays_where (mapping_at new) (mapping_at old) (gone_of changes) t are.gone was) ∙ ap (λ gone. not (list_any (same_tile t) gone)) none
+
+-- what passes a test is none of those of which none does
+none_among : (test : Tile → Bool) (t : Tile) (tiles : List Tile) → test t ≡ true → list_any test tiles ≡ false → list_any (same_tile t) tiles ≡ false
+none_among test t [] passes none = refl
+none_among test t (u ∷ us) passes none = elim (cases_Bool (test u)) [
+  | inl is ↦ absurd (true≢false (sym (ap (λ b. b || list_any test us) is) ∙ none))
+  | inr isnt ↦
+      let other = false_from_ne_true (same_tile t u) (λ same. true≢false (sym (ap test (sym (same_tile-true t u same)) ∙ passes) ∙ isnt)) in
+      ap (λ b. b || list_any (same_tile t) us) other ∙ none_among test t us passes (sym (ap (λ b. b || list_any test us) isnt) ∙ none)
+]
+
+-- what is answered of a tile where these went: it is one still, unless one of them had its first page
+abbrev has_first : Tile → Tile → Bool
+has_first t u = extent_start u.extent.size t.extent.first == u.extent.first
+
+abbrev pub answer_at : SizeSet → (ℕ → Option Mapping) → List Tile → Tile → Bool
+answer_at z new gone t = not (list_any (has_first t) gone) || is_tile_in z new t
+
+pub tile_at_page : (z : SizeSet) (old new : ℕ → Option Mapping) (gone : List Tile) → Came new old gone → (t : Tile) (b : Bool) → is_tile_in z old t ≡ true
+    → b ≡ answer_at z new gone t → b ≡ is_tile_in z new t
+tile_at_page z old new gone went t b was is =
+    left z new t (list_any (has_first t) gone) b
+    (λ none. cut_still z old new t was (λ u tile here.
+    sym (stays_where new old gone u went tile) ∙ ap not (none_among (has_first t) u gone (eq-eqb (extent_start u.extent.size t.extent.first) u.extent.first here) none)))
+    is
 
 -- a base page whose mapping stays has its tile still
-base_stays : (old new : ℕ → Option Mapping) (t : Tile) → new t.extent.first ≡ old t.extent.first → is_tile_in base_alone old t ≡ true → is_tile_in base_alone new t ≡ true
-base_stays old new t same was =
-    let first = t.extent.first in
-    elim (new first) as (λ o. new first ≡ o → is_tile_in base_alone new t ≡ true) [
-      | None ↦ λ none. absurd (true≢false (sym was ∙ ap (is_that_tile t) (base_none old first (sym same ∙ none))))
-      | Some m ↦ λ at. ap (is_that_tile t) (base_tile new first m at ∙ sym (base_tile old first m (sym same ∙ at))) ∙ was
-    ] refl
-
-base_left : (old new : ℕ → Option Mapping) (t : Tile) (asked b : Bool) → is_tile_in base_alone old t ≡ true → (asked ≡ false → new t.extent.first ≡ old t.extent.first)
-    → b ≡ (not asked || is_that_tile t (eligible_at new 0 t.extent.first)) → b ≡ is_tile_in base_alone new t
-base_left old new t true b was same is = is
-base_left old new t false b was same is = is ∙ sym (base_stays old new t (same refl) was)
+within_base : (k : ℕ) → size_within base_alone k ≡ 0
+within_base zero = refl
+within_base (suc zero) = refl
+within_base (suc (suc zero)) = refl
+within_base (suc (suc (suc zero))) = refl
+within_base (suc (suc (suc (suc k)))) = within_base (suc (suc (suc k)))
 
 pub base_at_page : (page : ℕ) (old new : Resident) → OthersSame page (mapping_at old) (mapping_at new) → (t : Tile) (b : Bool) → is_tile_in base_alone (mapping_at old) t ≡ true
-    → b ≡ (not (t.extent.first == page) || is_that_tile t (eligible_at (mapping_at new) 0 t.extent.first)) → b ≡ is_tile_in base_alone (mapping_at new) t
+    → b ≡ (not (t.extent.first == page) || is_tile_in base_alone (mapping_at new) t) → b ≡ is_tile_in base_alone (mapping_at new) t
 base_at_page page old new others t b was is =
-    base_left (mapping_at old) (mapping_at new) t (t.extent.first == page) b was
-    (λ apart. others t.extent.first (λ here. true≢false (sym (eq-eqb t.extent.first page here) ∙ apart))) is
+    let first = t.extent.first in
+    left base_alone (mapping_at new) t (first == page) b
+    (λ apart.
+    let same = others first (λ here. true≢false (sym (eq-eqb first page here) ∙ apart)) in
+    ap (is_that_tile t) (tile_in_same base_alone (mapping_at old) (mapping_at new) first same (within_base (size_at (mapping_at new) first) ∙ sym (within_base (size_at (mapping_at old) first)))) ∙ was)
+    is
 
 -- Pages of a range changed.
-pub tile_in_range : (old new : ℕ → Option Mapping) (range : PageRange) → KeepsOutsideIn all_sizes range old new → (t : Tile) (b : Bool) → is_tile old t ≡ true
-    → b ≡ (not (is_touched range t.extent.first) || is_tile new t) → b ≡ is_tile new t
-tile_in_range old new range keeps t b was is = is ∙ by (is_touched range t.extent.first) refl
-  where
-    by : (inside : Bool) → is_touched range t.extent.first ≡ inside → (not inside || is_tile new t) ≡ is_tile new t
-    by true at = refl
-    by false at = sym (keeps t was at)
-
-pub base_in_range : (range : PageRange) (old new : ℕ → Option Mapping) → ((p : ℕ) → is_touched range p ≡ false → new p ≡ old p) → (t : Tile) (b : Bool) → is_tile_in base_alone old t ≡ true
-    → b ≡ (not (is_touched range t.extent.first) || is_that_tile t (eligible_at new 0 t.extent.first)) → b ≡ is_tile_in base_alone new t
-base_in_range range old new others t b was is = base_left old new t (is_touched range t.extent.first) b was (others t.extent.first) is
+pub tile_in_range : (z : SizeSet) (old new : ℕ → Option Mapping) (range : PageRange) → KeepsOutsideIn z range old new → (t : Tile) (b : Bool) → is_tile_in z old t ≡ true
+    → b ≡ (not (is_touched range t.extent.first) || is_tile_in z new t) → b ≡ is_tile_in z new t
+tile_in_range z old new range keeps t b was is = left z new t (is_touched range t.extent.first) b (keeps t was) is

@@ -7,7 +7,7 @@ use Rattle.pager_model.specs.Legal.{IsLegal, space_at}
 use Rattle.pager_model.specs.Plans.{Plan}
 use Rattle.pager_model.specs.Settings.{Given}
 use Rattle.pager_model.specs.Showing.{Shows, marks_of}
-use Rattle.pager_model.specs.SizeSets.{SizeSet, all_sizes}
+use Rattle.pager_model.specs.SizeSets.{SizeSet}
 use Rattle.pager_model.specs.SpaceStates.{SpaceState, empty_state, pages_of, pages_after}
 use Rattle.miss_curves.specs.declared.stack.Use.{Use}
 use Rattle.miss_curves.specs.Curves.{base_alone, page_used}
@@ -15,17 +15,17 @@ use Rattle.miss_curves.specs.Rows.{Rows, StandAfter}
 use Rattle.miss_curves.specs.Stacks.{IsUse}
 use Rattle.tiles.specs.Resident.{Resident, frames_in, mapping_at}
 
--- an entry takes the resident pages from these to those, and used a page so: by all sizes, and by base pages alone
-pub record OnPages (st : SpaceState) (e : Entry) (old new : Resident) (used used_base : Option Use) : Type 0 where
+-- an entry takes the resident pages from these to those, and used a page so: by sizes z, and by base pages alone
+pub record OnPages (z : SizeSet) (st : SpaceState) (e : Entry) (old new : Resident) (used used_base : Option Use) : Type 0 where
   pub before : pages_of st ≡ mapping_at old
   pub after : pages_after st e.frames e.what ≡ mapping_at new
-  pub tile : IsUse all_sizes (mapping_at old) (mapping_at new) (page_used e.processor e.what) used
+  pub tile : IsUse z (mapping_at old) (mapping_at new) (page_used e.processor e.what) used
   pub base : IsUse base_alone (mapping_at old) (mapping_at new) (page_used e.processor e.what) used_base
 
--- it does so in the space that it names, after a history
-pub record Told (g : Given) (history : List Entry) (e : Entry) (old new : Resident) (used used_base : Option Use) : Type 0 where
-  pub sizes : g.sizes ≡ all_sizes
-  pub on : (s : ℕ) → e.space ≡ Some s → OnPages (space_at g history s) e old new used used_base
+-- it does so in the space that it names, after a history with sizes z
+pub record Told (z : SizeSet) (g : Given) (history : List Entry) (e : Entry) (old new : Resident) (used used_base : Option Use) : Type 0 where
+  pub sizes : g.sizes ≡ z
+  pub on : (s : ℕ) → e.space ≡ Some s → OnPages z (space_at g history s) e old new used used_base
 
 -- what a use was of a page with this tile before it and that one after it
 abbrev pub use_of : Option Tile → Option Tile → Option Use
@@ -43,9 +43,9 @@ pub record FollowEach (g : Given) (spaces : List Followed) (history : List Entry
   pub frames : (s : ℕ) (d : Followed) → s < length spaces → frames_in (slice_index_or spaces s d).pages ≡ g.frames
   pub each : (s : ℕ) (d : Followed) → s < length spaces → Follows (slice_index_or spaces s d) (space_at g history s)
 
--- the stacks stand for the history too
-pub record KeepsUp (g : Given) (rows : Rows) (spaces : List Followed) (history : List Entry) : Type 0 where
-  pub sizes : g.sizes ≡ all_sizes
+-- the stacks stand for the history too, which is one with sizes z
+pub record KeepsUp (z : SizeSet) (g : Given) (rows : Rows) (spaces : List Followed) (history : List Entry) : Type 0 where
+  pub sizes : g.sizes ≡ z
   pub stands : StandAfter g rows history
   pub follow : FollowEach g spaces history
 
@@ -57,10 +57,10 @@ pub record Comes (g : Given) (history : List Entry) (e : Entry) : Type 0 where
 abbrev pub EachComes : Given → List Entry → Type 0
 EachComes g history = (before after : List Entry) (e : Entry) → history ≡ before ++ e ∷ after → Comes g before e
 
--- a history of a run of a trace with all four page sizes, whatever its stores tell and however often they had failed
+-- a history of a run of a trace, whatever its stores tell and however often they had failed
 pub record IsRunOf (plan : Plan) (g : Given) (history : List Entry) : Type 0 where
   pub frames : g.frames ≡ plan.frames
-  pub sizes : g.sizes ≡ all_sizes
+  pub sizes : g.sizes ≡ plan.sizes
   pub spaces : length g.told ≡ plan.spaces
   pub marks : g.marks ≡ marks_of plan
   pub legal : IsLegal g history

@@ -1,15 +1,16 @@
 //! The misses of a whole history at each capacity.
 
-ghost use Rattle.std.specs.Prelude.{◌≡◌, ℕ, ◌+◌, ◌-◌, ◌<◌, ◌≤◌, ◌^◌, [], ◌∷◌, ◌++◌, ◌==◌, ◌||◌, not, List, Some, false, length, slice_index, IfOk, IfSome};
+ghost use Rattle.std.specs.Prelude.{◌≡◌, ℕ, ◌+◌, ◌-◌, ◌<◌, ◌≤◌, ◌^◌, [], ◌∷◌, ◌++◌, ◌==◌, ◌||◌, not, List, Some, length, slice_index, IfOk, IfSome};
 ghost use Rattle.std.specs.List.{All, list_any};
 ghost use Rattle.pager_model.specs.declared.entry.Entry.{Entry as Item};
 ghost use Rattle.pager_model.specs.Bounds.{most_frames};
 ghost use Rattle.pager_model.specs.Counts.{counts};
+ghost use Rattle.pager_model.specs.Extents.{extent_start};
 ghost use Rattle.pager_model.specs.Legal.{entries_in, space_at};
 ghost use Rattle.pager_model.specs.Settings.{Given};
-ghost use Rattle.pager_model.specs.SizeSets.{all_sizes};
+ghost use Rattle.pager_model.specs.SizeSets.{SizeSet};
 ghost use Rattle.pager_model.specs.SpaceStates.{SpaceState, space_after, tile_at};
-ghost use Rattle.pager_model.specs.Tiles.{eligible_at, is_that_tile, is_tile, same_tile};
+ghost use Rattle.pager_model.specs.Tiles.{is_tile_in};
 ghost use Rattle.pager_model.specs.TraceText.{HasText};
 ghost use Rattle.followed_space.specs.Changed.{IsChange};
 ghost use Rattle.followed_space.specs.Follows.{AnswersLine, Follows, IsNext};
@@ -25,12 +26,19 @@ ghost use Rattle.tiles.specs.Touched.{is_touched};
 use crate::stack::Use;
 use crate::stacks::{Curves, Stacks};
 use followed_space::{Changed, FollowedSpace};
-use pager_model::{Call, Entry, NoMemory, Numbered, PageRange, Reply, Tile, Trace, What};
+use pager_model::{Call, Entry, NoMemory, Numbered, PageRange, Reply, Sizes, Tile, Trace, What};
 use std::alloc::Global;
 use tiles::{Changes, TileList};
 
 /// The bytes of a base page.
 const PAGE_BYTES: u64 = 8192;
+
+/// Base pages alone.
+fn base_alone() -> Sizes
+    ensures { result ≡ base_alone }
+{
+    Sizes::of(false, false, false)
+}
 
 /// The page that an entry used, if it is an answer of processor 0 with a size.
 fn used_page(entry: &Entry) -> Option<u32>
@@ -58,38 +66,30 @@ fn begins_in(tile: &Tile, range: PageRange) -> bool
     range.first <= first && first - range.first < range.length
 }
 
-/// Whether a tile is none of those that went.
-fn stays(gone: &TileList, tile: &Tile) -> bool
-    ensures { result ≡ not (list_any (same_tile tile.now) gone.now) }
+/// Whether a tile is one still where these, by all sizes, went. It is where none of them had its first page, and else it is asked about.
+fn stays_at(space: &FollowedSpace, gone: &TileList, tile: &Tile, sizes: Sizes) -> bool
+    ensures { result ≡ (not (list_any (λ t. extent_start t.extent.size tile.now.extent.first == t.extent.first) gone.now)
+        || is_tile_in sizes (mapping_at space.now.pages) tile.now) }
 {
-    !gone.has(tile)
+    !gone.has_page(tile.extent.first) || space.is_tile(tile, sizes)
 }
 
 /// Whether a base page is one still where this page alone changed.
 fn base_stays_at(space: &FollowedSpace, page: u32, tile: &Tile) -> bool
-    ensures { result ≡ (not (tile.now.extent.first == page)
-        || is_that_tile tile.now (eligible_at (mapping_at space.now.pages) 0 tile.now.extent.first)) }
+    ensures { result ≡ (not (tile.now.extent.first == page) || is_tile_in base_alone (mapping_at space.now.pages) tile.now) }
 {
-    tile.extent.first != page || space.is_base_tile(tile)
+    tile.extent.first != page || space.is_tile(tile, base_alone())
 }
 
 /// Whether a tile is one still where pages of a range alone changed.
-fn stays_in(space: &FollowedSpace, range: PageRange, tile: &Tile) -> bool
-    ensures { result ≡ (not (is_touched range tile.now.extent.first) || is_tile (mapping_at space.now.pages) tile.now) }
+fn stays_in(space: &FollowedSpace, range: PageRange, tile: &Tile, sizes: Sizes) -> bool
+    ensures { result ≡ (not (is_touched range tile.now.extent.first) || is_tile_in sizes (mapping_at space.now.pages) tile.now) }
 {
-    !begins_in(tile, range) || space.is_tile(tile)
+    !begins_in(tile, range) || space.is_tile(tile, sizes)
 }
 
-/// Whether a base page is one still where pages of a range alone changed.
-fn base_stays_in(space: &FollowedSpace, range: PageRange, tile: &Tile) -> bool
-    ensures { result ≡ (not (is_touched range tile.now.extent.first)
-        || is_that_tile tile.now (eligible_at (mapping_at space.now.pages) 0 tile.now.extent.first)) }
-{
-    !begins_in(tile, range) || space.is_base_tile(tile)
-}
-
-/// Tells of an entry that changed one page. Where no tile went, nothing is asked about; else only a tile that went is none, and only that page's
-/// base page is asked about.
+/// Tells of an entry that changed one page. Where no tile by all sizes went, nothing is asked about; else only the tiles that begin in one that
+/// went are, and that page's base page.
 fn tell_page(
     stacks: &mut Stacks,
     space: &FollowedSpace,
@@ -98,13 +98,14 @@ fn tell_page(
     changes: &Changes,
     used: Option<Use>,
     used_base: Option<Use>,
+    sizes: Sizes,
 )
     requires known { IfSome entry.now.space (λ s. s < length stacks.old.tiles) }
     requires room { stacks.old.entries < 2 ^ 64 - 1 }
     ensures spaces { length stacks.new.tiles ≡ length stacks.old.tiles }
     ensures entries { stacks.new.entries ≤ stacks.old.entries + 1 }
     ensures stands { (g : Given) (history : List Item) (old : Resident) → OthersSame page (mapping_at old) (mapping_at space.now.pages)
-        → AreChanges old space.now.pages changes.now → Told g history entry.now old space.now.pages used used_base
+        → AreChanges old space.now.pages changes.now → Told sizes g history entry.now old space.now.pages used used_base
         → StandAfter g stacks.old history → StandAfter g stacks.new (history ++ entry.now ∷ []) }
 {
     if !changes.takes_any() {
@@ -114,7 +115,7 @@ fn tell_page(
     let gone = changes.gone();
     stacks.follow(
         entry,
-        &|tile: &Tile| stays(&gone, tile),
+        &|tile: &Tile| stays_at(space, &gone, tile, sizes),
         used,
         &|tile: &Tile| base_stays_at(space, page, tile),
         used_base,
@@ -129,21 +130,22 @@ fn tell_range(
     range: PageRange,
     used: Option<Use>,
     used_base: Option<Use>,
+    sizes: Sizes,
 )
     requires known { IfSome entry.now.space (λ s. s < length stacks.old.tiles) }
     requires room { stacks.old.entries < 2 ^ 64 - 1 }
     ensures spaces { length stacks.new.tiles ≡ length stacks.old.tiles }
     ensures entries { stacks.new.entries ≤ stacks.old.entries + 1 }
     ensures stands { (g : Given) (history : List Item) (old : Resident)
-        → ((p : ℕ) → is_touched range p ≡ false → mapping_at space.now.pages p ≡ mapping_at old p)
-        → KeepsOutsideIn all_sizes range (mapping_at old) (mapping_at space.now.pages) → Told g history entry.now old space.now.pages used used_base
+        → ((z : SizeSet) → KeepsOutsideIn z range (mapping_at old) (mapping_at space.now.pages))
+        → Told sizes g history entry.now old space.now.pages used used_base
         → StandAfter g stacks.old history → StandAfter g stacks.new (history ++ entry.now ∷ []) }
 {
     stacks.follow(
         entry,
-        &|tile: &Tile| stays_in(space, range, tile),
+        &|tile: &Tile| stays_in(space, range, tile, sizes),
         used,
-        &|tile: &Tile| base_stays_in(space, range, tile),
+        &|tile: &Tile| stays_in(space, range, tile, base_alone()),
         used_base,
     );
 }
@@ -156,21 +158,22 @@ fn tell(
     changed: &Changed,
     used: Option<Use>,
     used_base: Option<Use>,
+    sizes: Sizes,
 )
     requires known { IfSome entry.now.space (λ s. s < length stacks.old.tiles) }
     requires room { stacks.old.entries < 2 ^ 64 - 1 }
     ensures spaces { length stacks.new.tiles ≡ length stacks.old.tiles }
     ensures entries { stacks.new.entries ≤ stacks.old.entries + 1 }
     ensures stands { (g : Given) (history : List Item) (old : Resident) → IsChange old space.now.pages changed.now
-        → Told g history entry.now old space.now.pages used used_base
+        → Told sizes g history entry.now old space.now.pages used used_base
         → StandAfter g stacks.old history → StandAfter g stacks.new (history ++ entry.now ∷ []) }
 {
     match changed {
         Changed::Nothing => stacks.follow_same(entry, used, used_base),
         Changed::Page { page, changes } => {
-            tell_page(stacks, space, entry, *page, changes, used, used_base)
+            tell_page(stacks, space, entry, *page, changes, used, used_base, sizes)
         }
-        Changed::Range(range) => tell_range(stacks, space, entry, *range, used, used_base),
+        Changed::Range(range) => tell_range(stacks, space, entry, *range, used, used_base, sizes),
     }
 }
 
@@ -184,28 +187,18 @@ fn use_of(before: Option<Tile>, after: Option<Tile>) -> Option<Use>
     }
 }
 
-/// The tile of a page, if one was used.
-fn tile_at(space: &FollowedSpace, page: Option<u32>) -> Option<Tile>
-    ensures { result ≡ tile_at all_sizes (mapping_at space.now.pages) page }
+/// The tile of a page by some sizes, if one was used.
+fn tile_at(space: &FollowedSpace, page: Option<u32>, sizes: Sizes) -> Option<Tile>
+    ensures { result ≡ tile_at sizes (mapping_at space.now.pages) page }
 {
     match page {
-        Some(page) => space.tile_of(page),
-        None => None,
-    }
-}
-
-/// The tile of a page by base pages alone, if one was used.
-fn base_tile_at(space: &FollowedSpace, page: Option<u32>) -> Option<Tile>
-    ensures { result ≡ tile_at base_alone (mapping_at space.now.pages) page }
-{
-    match page {
-        Some(page) => space.base_tile_of(page),
+        Some(page) => space.tile_of(page, sizes),
         None => None,
     }
 }
 
 /// Follows an entry of a space, and tells the stacks of it.
-fn follow_entry(stacks: &mut Stacks, space: &mut FollowedSpace, entry: &Entry)
+fn follow_entry(stacks: &mut Stacks, space: &mut FollowedSpace, entry: &Entry, sizes: Sizes)
     requires next { (st : SpaceState) × IsNext space.old st entry.now }
     requires known { IfSome entry.now.space (λ s. s < length stacks.old.tiles) }
     requires room { stacks.old.entries < 2 ^ 64 - 1 }
@@ -213,47 +206,53 @@ fn follow_entry(stacks: &mut Stacks, space: &mut FollowedSpace, entry: &Entry)
     ensures entries { stacks.new.entries ≤ stacks.old.entries + 1 }
     ensures frames { frames_in space.new.pages ≡ frames_in space.old.pages }
     ensures follows { (st : SpaceState) → IsNext space.old st entry.now → Follows space.new (space_after st entry.now) }
-    ensures stands { (g : Given) (history : List Item) → g.sizes ≡ all_sizes
+    ensures stands { (g : Given) (history : List Item) → g.sizes ≡ sizes
         → ((s : ℕ) → entry.now.space ≡ Some s → IsNext space.old (space_at g history s) entry.now)
         → StandAfter g stacks.old history → StandAfter g stacks.new (history ++ entry.now ∷ []) }
 {
+    let base = base_alone();
     let page = used_page(entry);
-    let before = tile_at(space, page);
-    let base_before = base_tile_at(space, page);
+    let before = tile_at(space, page, sizes);
+    let base_before = tile_at(space, page, base);
     let changed = space.follow(entry);
-    let after = tile_at(space, page);
-    let base_after = base_tile_at(space, page);
+    let after = tile_at(space, page, sizes);
+    let base_after = tile_at(space, page, base);
     let used = use_of(before, after);
     let used_base = use_of(base_before, base_after);
-    tell(stacks, space, entry, &changed, used, used_base);
+    tell(stacks, space, entry, &changed, used, used_base, sizes);
 }
 
 /// Follows an entry in its space, if it has one.
-fn follow_next(stacks: &mut Stacks, spaces: &mut [FollowedSpace], entry: &Entry)
-    requires next { (g : Given) × (history : List Item) × KeepsUp g stacks.old spaces.old history × Comes g history entry.now }
+fn follow_next(stacks: &mut Stacks, spaces: &mut [FollowedSpace], entry: &Entry, sizes: Sizes)
+    requires next { (g : Given) × (history : List Item) × KeepsUp sizes g stacks.old spaces.old history × Comes g history entry.now }
     requires room { stacks.old.entries < 2 ^ 64 - 1 }
     ensures entries { stacks.new.entries ≤ stacks.old.entries + 1 }
-    ensures keeps { (g : Given) (history : List Item) → KeepsUp g stacks.old spaces.old history → Comes g history entry.now
-        → KeepsUp g stacks.new spaces.new (history ++ entry.now ∷ []) }
+    ensures keeps { (g : Given) (history : List Item) → KeepsUp sizes g stacks.old spaces.old history → Comes g history entry.now
+        → KeepsUp sizes g stacks.new spaces.new (history ++ entry.now ∷ []) }
 {
     match entry.space {
         Some(space) => {
             let space = space as usize;
-            follow_entry(stacks, &mut spaces[space], entry)
+            follow_entry(stacks, &mut spaces[space], entry, sizes)
         }
         None => stacks.follow_same(entry, None, None),
     }
 }
 
 /// Follows a history from its beginning on.
-fn follow_history(stacks: &mut Stacks, spaces: &mut [FollowedSpace], history: &[Numbered])
-    requires start { (g : Given) × KeepsUp g stacks.old spaces.old [] × EachComes g (entries_in history.now) }
+fn follow_history(
+    stacks: &mut Stacks,
+    spaces: &mut [FollowedSpace],
+    history: &[Numbered],
+    sizes: Sizes,
+)
+    requires start { (g : Given) × KeepsUp sizes g stacks.old spaces.old [] × EachComes g (entries_in history.now) }
     requires unused { stacks.old.entries ≡ 0 }
-    ensures keeps { (g : Given) → KeepsUp g stacks.old spaces.old [] → EachComes g (entries_in history.now)
-        → KeepsUp g stacks.new spaces.new (entries_in history.now) }
+    ensures keeps { (g : Given) → KeepsUp sizes g stacks.old spaces.old [] → EachComes g (entries_in history.now)
+        → KeepsUp sizes g stacks.new spaces.new (entries_in history.now) }
 {
     for numbered in history {
-        follow_next(stacks, spaces, &numbered.entry);
+        follow_next(stacks, spaces, &numbered.entry, sizes);
     }
 }
 
@@ -279,9 +278,10 @@ fn stacks_after(alloc: Global, trace: &Trace, history: &[Numbered]) -> Result<St
 {
     let frames = trace.frames();
     let spaces = trace.spaces();
+    let sizes = trace.sizes();
     let mut followed = new_spaces(alloc, spaces, frames)?;
     let mut stacks = Stacks::create(alloc, spaces as usize)?;
-    follow_history(&mut stacks, &mut followed, history);
+    follow_history(&mut stacks, &mut followed, history, sizes);
     Ok(stacks)
 }
 

@@ -23,6 +23,6 @@ loop-numbered-preserved c =
     record {
       entries = omega (arith, c.follow_next.ensures.entries, c.loop-numbered.invariant.entries);
       keeps = λ g start each.
-          subst (KeepsUp g c.follow_next.new.stacks c.follow_next.new.spaces) (sym (entries-more history i x (omega arith) c.numbered-item.is))
+          subst (KeepsUp c.args.sizes g c.follow_next.new.stacks c.follow_next.new.spaces) (sym (entries-more history i x (omega arith) c.numbered-item.is))
           (c.follow_next.ensures.keeps g (entries_in (take i history)) (c.loop-numbered.invariant.keeps g start each) (comes-at g history i x (omega arith) c.numbered-item.is each));
     }

@@ -7,6 +7,6 @@ use Rattle.miss_curves.proofs.history.follow_history.Given as goal
 abbrev pub invariant-loop-numbered : goal.invariant-loop-numbered
 invariant-loop-numbered l = record {
   entries : l.stacks.entries ≤ l.numbered-index;
-  keeps : (g : Given) → KeepsUp g l.fn.stacks l.fn.spaces [] → EachComes g (entries_in l.history)
-      → KeepsUp g l.stacks l.spaces (entries_in (take l.numbered-index l.history));
+  keeps : (g : Given) → KeepsUp l.sizes g l.fn.stacks l.fn.spaces [] → EachComes g (entries_in l.history)
+      → KeepsUp l.sizes g l.stacks l.spaces (entries_in (take l.numbered-index l.history));
 }

@@ -8,26 +8,26 @@ use Rattle.miss_curves.proofs.history.follow_next.Goals as goal
 pub bounds-spaces-space : goal.bounds-spaces-space
 bounds-spaces-space c =
     let n = c.requires.next in
-    (named_next n.0 n.1 c.args.stacks.now c.args.spaces.now c.args.entry.now c.in-Some.space c.in-Some.is n.2 n.3).within
+    (named_next c.args.sizes n.0 n.1 c.args.stacks.now c.args.spaces.now c.args.entry.now c.in-Some.space c.in-Some.is n.2 n.3).within
 
 pub follow_entry-requires-clause-next : goal.follow_entry-requires-clause-next
 follow_entry-requires-clause-next c =
     let n = c.requires.next in
     let s = c.in-Some.space in
-    let named = named_next n.0 n.1 c.args.stacks.now c.args.spaces.now c.args.entry.now s c.in-Some.is n.2 n.3 in
+    let named = named_next c.args.sizes n.0 n.1 c.args.stacks.now c.args.spaces.now c.args.entry.now s c.in-Some.is n.2 n.3 in
     (space_at n.0 n.1 s, named.next c.index-spaces-space.result)
 
 pub follow_entry-requires-clause-known : goal.follow_entry-requires-clause-known
 follow_entry-requires-clause-known c =
     let n = c.requires.next in
-    rw c.in-Some.is (named_next n.0 n.1 c.args.stacks.now c.args.spaces.now c.args.entry.now c.in-Some.space c.in-Some.is n.2 n.3).stack
+    rw c.in-Some.is (named_next c.args.sizes n.0 n.1 c.args.stacks.now c.args.spaces.now c.args.entry.now c.in-Some.space c.in-Some.is n.2 n.3).stack
 
 pub returns-in-Some-clause-keeps : goal.returns-in-Some-clause-keeps
 returns-in-Some-clause-keeps c = λ g history keeps comes.
     let e = c.args.entry.now in
     let s = c.in-Some.space in
     let old = c.index-spaces-space.result in
-    let named = named_next g history c.args.stacks.now c.args.spaces.now e s c.in-Some.is keeps comes in
+    let named = named_next c.args.sizes g history c.args.stacks.now c.args.spaces.now e s c.in-Some.is keeps comes in
     let next = named.next old in
     record {
       sizes = keeps.sizes;

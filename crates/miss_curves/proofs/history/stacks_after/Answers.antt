@@ -11,7 +11,7 @@ follow_history-requires-clause-start c =
     let stacks = c.in_ok-stacks in (
       run.0,
       rw c.deref_mut.ensures.value
-          (KeepsUp-new plan run.0 history c.frames-frames.result c.spaces-spaces.result stacks.stacks followed.followed.items run.1 c.frames-frames.ensures.frames c.spaces-spaces.ensures.spaces
+          (KeepsUp-new plan run.0 history c.frames-frames.result c.spaces-spaces.result c.sizes-sizes.result stacks.stacks followed.followed.items run.1 c.frames-frames.ensures.frames c.spaces-spaces.ensures.spaces c.sizes-sizes.ensures.sizes
           (stacks.ensures.stands run.0) followed.ensures.spaces followed.ensures.new),
       EachComes-run plan run.0 history c.spaces-spaces.ensures.text run.1,
     )
@@ -25,7 +25,7 @@ returns-clause-stands c = λ g run.
     let keeps =
     c.follow_history.ensures.keeps g
     (rw c.deref_mut.ensures.value
-    (KeepsUp-new plan g history c.frames-frames.result c.spaces-spaces.result stacks.stacks followed.followed.items run c.frames-frames.ensures.frames c.spaces-spaces.ensures.spaces
+    (KeepsUp-new plan g history c.frames-frames.result c.spaces-spaces.result c.sizes-sizes.result stacks.stacks followed.followed.items run c.frames-frames.ensures.frames c.spaces-spaces.ensures.spaces c.sizes-sizes.ensures.sizes
     (stacks.ensures.stands g) followed.ensures.spaces followed.ensures.new))
     (EachComes-run plan g history c.spaces-spaces.ensures.text run) in
     keeps.stands

@@ -7,7 +7,7 @@ pub returns-in-Nothing-clause-stands : goal.returns-in-Nothing-clause-stands
 returns-in-Nothing-clause-stands c = λ g history old changed told stands.
     let new = c.args.space.now.pages in
     let same = subst (IsChange old new) c.in-Nothing.is changed in
-    c.follow_same.ensures.stands g history (tells_same g history c.args.entry.now old new c.args.used c.args.used_base same told) stands
+    c.follow_same.ensures.stands g history (tells_same c.args.sizes g history c.args.entry.now old new c.args.used c.args.used_base same told) stands
 
 pub returns-in-Page-clause-stands : goal.returns-in-Page-clause-stands
 returns-in-Page-clause-stands c = λ g history old changed told stands.
@@ -17,4 +17,4 @@ returns-in-Page-clause-stands c = λ g history old changed told stands.
 pub returns-in-Range-clause-stands : goal.returns-in-Range-clause-stands
 returns-in-Range-clause-stands c = λ g history old changed told stands.
     let range = subst (IsChange old c.args.space.now.pages) c.in-Range.is changed in
-    c.tell_range.ensures.stands g history old range.0 range.1 told stands
+    c.tell_range.ensures.stands g history old range.1 told stands
