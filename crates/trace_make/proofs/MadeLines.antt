@@ -1,5 +1,5 @@
 -- Drawn lines, one after another, and that all that are made are lines of a trace.
-use Rattle.std.proofs.Common.{ℕ, zero, suc, ◌≡◌, ◌+◌, ◌-◌, ◌*◌, ◌/◌, ◌%◌, ◌^◌, ◌<◌, Bool, true, false, cond, ltb, eqb, List, [], ◌∷◌, ◌++◌, length, map, ap, arith, append_assoc, length-append, ◌∙◌, refl, sym, subst}
+use Rattle.std.proofs.Common.{ℕ, zero, suc, ◌≡◌, ◌+◌, ◌-◌, ◌*◌, ◌/◌, ◌%◌, ◌^◌, ◌<◌, Bool, true, false, cond, ltb, eqb, List, [], ◌∷◌, ◌++◌, length, map, ap, arith, append_assoc, length-append, ◌∙◌, refl, sym, subst, inl}
 use Rattle.std.specs.List.{AllByRecursion, range_with_len}
 use Rattle.std.proofs.lemmas.List.Elements.{All-append, All-from_get_or, All-from_recursion}
 use Rattle.std.proofs.lemmas.List.FromFn.{length-map-range_with_len, get_or-map-range_with_len}
@@ -81,6 +81,7 @@ HasText-made number calls processors spaces frames can =
     let lines = drawn_lines processors spaces (calls - spaces) number in
     let long : length maps ≡ spaces = length-map-range_with_len (map_line processors) 0 spaces in
     record {
+      version_in = inl (refl, refl);
       frames_in = can.frames_in;
       frames_whole = can.frames_whole;
       processors_in = can.processors_in;

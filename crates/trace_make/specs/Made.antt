@@ -1,4 +1,4 @@
--- The trace that is made from a number. Each space gets a region of 4,096 pages, and then calls are drawn, most of them at the first 512
+-- The trace that is made from a number, of version 1, so with all four page sizes. Each space gets a region of 4,096 pages, and then calls are drawn, most of them at the first 512
 -- pages: in 64 draws 40 loads, 18 stores, two syncs, two evicts and two protects of eight pages. A draw leads to the next state, from which
 -- the one after it is made.
 use Rattle.std.specs.Prelude.{ℕ, zero, suc, ◌≡◌, ◌+◌, ◌-◌, ◌*◌, ◌%◌, ◌==◌, ◌≤◌, nat_lt, if◌then◌else◌, List, [], ◌∷◌, ◌++◌, map, None}
@@ -11,6 +11,7 @@ use Rattle.pager_model.specs.declared.region.Rights.{Rights}
 use Rattle.pager_model.specs.declared.region.Rights.TheVariants.{Read, Write}
 use Rattle.pager_model.specs.Bounds.{most_calls, most_frames}
 use Rattle.pager_model.specs.Plans.{Plan}
+use Rattle.pager_model.specs.SizeSets.{all_sizes}
 use Rattle.pager_model.specs.TurnOrders.{next_state, drawn}
 
 -- what a trace can be made of: a multiple of 512 frames from 512 to 32,768, one to sixteen processors and spaces, and at least as many calls as
@@ -89,4 +90,4 @@ made_calls number calls processors spaces =
 -- the trace that is made from this number, of so many calls
 abbrev pub made : (number calls processors spaces frames : ℕ) → Plan
 made number calls processors spaces frames =
-    record { frames = frames; processors = processors; spaces = spaces; daemon = None; calls = made_calls number calls processors spaces }
+    record { version = 1; frames = frames; processors = processors; spaces = spaces; sizes = all_sizes; daemon = None; calls = made_calls number calls processors spaces }

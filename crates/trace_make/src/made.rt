@@ -5,7 +5,7 @@ ghost use Rattle.std.specs.List.{range_with_len};
 ghost use Rattle.pager_model.specs.TurnOrders.{next_state};
 ghost use Rattle.trace_make.specs.Made.{CanMake, after_call, after_line, drawn_address, drawn_call, drawn_line, drawn_lines, drawn_page, drawn_rights, made, map_line};
 
-use pager_model::{Call, Generator, Kind, Line, NoMemory, Rights, Trace};
+use pager_model::{Call, Generator, Kind, Line, NoMemory, Rights, Sizes, Trace};
 use std::alloc::Global;
 
 /// How many pages the region of each space has.
@@ -48,7 +48,7 @@ pub fn make(
         spaces,
         calls - spaces,
     )?;
-    Ok(Trace::of(frames, processors, spaces, None, lines))
+    Ok(Trace::of(1, frames, processors, spaces, Sizes::all(), None, lines))
 }
 
 /// Adds a map of a region of each space.

@@ -1,18 +1,15 @@
 //! The text of a trace.
 
-ghost use Rattle.std.specs.Prelude.{◌≡◌, ◌≤◌, [], ◌∷◌, OnOk, OnErr, codes, flat_map, length};
+ghost use Rattle.std.specs.Prelude.{◌≡◌, ◌≤◌, ◌==◌, if◌then◌else◌, [], ◌∷◌, OnOk, OnErr, codes, flat_map, length};
 ghost use Rattle.io_core.specs.Faults.{Rose};
-ghost use Rattle.pager_model.specs.TraceText.{call_line, call_words, daemon_line, daemon_words, first_line, kind_word, line_of_words, rights_word, text_of};
+ghost use Rattle.pager_model.specs.TraceText.{call_line, call_words, daemon_line, daemon_words, first_line, kind_word, line_of_words, rights_word, sizes_word, text_of};
 ghost use Rattle.report_text.specs.Lines.{Adds, GrowsBy, HasRoom, line_text};
 ghost use Rattle.report_text.specs.Writing.{Puts, outgoing};
 ghost use Rattle.report_text.specs.Written.{WroteAll, WrotePart};
 
 use io_core::{Sink, WriteFailed};
-use pager_model::{Call, Daemon, Kind, Line, Rights, Trace};
+use pager_model::{Call, Daemon, Kind, Line, Rights, Size, Sizes, Trace};
 use report_text::{Line as TextLine, Room};
-
-/// The version of the text.
-const VERSION: &str = "1";
 
 /// Writes the text of a trace: its first line, the daemon's where it has one, a line for each call, and the line `end`. After a failed write the sink has taken a beginning
 /// of it.
@@ -76,13 +73,41 @@ fn put_calls<K: Sink>(room: &mut Room, sink: &mut K, calls: &[Line]) -> Result<(
 fn line_of_first(trace: &Trace) -> TextLine
     ensures { line_text result ≡ first_line trace.now }
 {
+    let version = trace.version();
     let mut line = TextLine::named("trace");
-    line.add(
-        VERSION,
-        &[trace.frames(), trace.processors(), trace.spaces()],
-    );
+    line.add_counts(&[version, trace.frames(), trace.processors(), trace.spaces()]);
+    add_sizes(&mut line, version, trace.sizes());
     line.end();
     line
+}
+
+/// Adds the word of the page sizes, which the first line of version 1 doesn't name.
+fn add_sizes(line: &mut TextLine, version: u32, sizes: Sizes)
+    requires { HasRoom 5 line.old }
+    ensures text { Adds (if version == 1 then [] else sizes_word sizes ∷ []) line.old line.new }
+    ensures short { GrowsBy 5 line.old line.new }
+{
+    if version != 1 {
+        line.add_name(sizes_name(sizes));
+    }
+}
+
+/// The word of page sizes.
+fn sizes_name(sizes: Sizes) -> &'static str
+    ensures word { result.now ≡ sizes_word sizes }
+    ensures short { length result.now ≤ 4 }
+{
+    let has = |level| sizes.has(Size::at_level(level));
+    match (has(1), has(2), has(3)) {
+        (false, false, false) => "0",
+        (true, false, false) => "01",
+        (false, true, false) => "02",
+        (false, false, true) => "03",
+        (true, true, false) => "012",
+        (true, false, true) => "013",
+        (false, true, true) => "023",
+        (true, true, true) => "0123",
+    }
 }
 
 /// The line of a daemon.

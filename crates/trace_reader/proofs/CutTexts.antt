@@ -1,5 +1,5 @@
 -- A trace's text is cut into the lines and words that it was made of, and has no refusal.
-use Rattle.std.proofs.Common.{◌≡◌, ℕ, ◌+◌, ◌^◌, ◌<◌, ◌≤◌, true, false, eqb, ltb, List, [], ◌∷◌, ◌++◌, length, flat_map, Option, Some, None, decimal, codes, refl, sym, ap, ◌∙◌, append_assoc, arith, lit≤, inl, inr}
+use Rattle.std.proofs.Common.{◌≡◌, ℕ, ◌+◌, ◌^◌, ◌<◌, ◌≤◌, ◌==◌, if◌then◌else◌, Bool, true, false, eqb, ltb, List, [], ◌∷◌, ◌++◌, length, flat_map, Option, Some, None, decimal, codes, refl, sym, ap, ◌∙◌, append_assoc, arith, lit≤, inl, inr}
 use Rattle.std.specs.List.{join_with_byte, All, AllByRecursion, list_all}
 use Rattle.std.specs.Str.{bytes_eq}
 use Rattle.std.specs.Str.Parse.{AllDigits}
@@ -17,8 +17,9 @@ use Rattle.pager_model.specs.declared.region.Kind.TheVariants.{Fixed, Growing, W
 use Rattle.pager_model.specs.declared.region.Rights.{Rights}
 use Rattle.pager_model.specs.declared.region.Rights.TheVariants.{NoAccess, Read, Write}
 use Rattle.pager_model.specs.Plans.{Plan}
+use Rattle.pager_model.specs.SizeSets.{SizeSet}
 use Rattle.pager_model.specs.declared.trace.Daemon.{Daemon}
-use Rattle.pager_model.specs.TraceText.{kind_word, rights_word, call_words, line_words, line_of_words, call_line, daemon_line, daemon_words, first_words, first_line, text_of, IsCall, IsDaemon, IsLine, HasText}
+use Rattle.pager_model.specs.TraceText.{kind_word, rights_word, sizes_word, call_words, line_words, line_of_words, call_line, daemon_line, daemon_words, first_words, first_line, text_of, IsCall, IsDaemon, IsLine, IsVersion, HasText}
 use Rattle.pager_model.proofs.Texts.{text_is_short}
 use Rattle.trace_reader.specs.declared.line.Head.{Head}
 use Rattle.trace_reader.specs.Forms.{call_forms, daemon_form, fits, line_fault}
@@ -59,6 +60,21 @@ rights_are NoAccess = is_word (codes "none") refl
 rights_are Read = is_word (codes "read") refl
 rights_are Write = is_word (codes "write") refl
 
+sizes_are : (one two three : Bool) → IsWord (sizes_word (record { one = one; two = two; three = three }))
+sizes_are false false false = is_word (codes "0") refl
+sizes_are false false true = is_word (codes "03") refl
+sizes_are false true false = is_word (codes "02") refl
+sizes_are false true true = is_word (codes "023") refl
+sizes_are true false false = is_word (codes "01") refl
+sizes_are true false true = is_word (codes "013") refl
+sizes_are true true false = is_word (codes "012") refl
+sizes_are true true true = is_word (codes "0123") refl
+
+-- a word, where it is named
+unnamed_or : (unnamed : Bool) (word : List ℕ) → IsWord word → AllByRecursion IsWord (if unnamed then [] else word ∷ [])
+unnamed_or true word is = tt
+unnamed_or false word is = (is, tt)
+
 call_words_are : (spaces : ℕ) (call : Call) → spaces ≤ 2 ^ 64 → IsCall spaces call → AllByRecursion IsWord (call_words call)
 call_words_are spaces (Map space page len kind rights) few is =
     (is_word (codes "map") refl, (decimal_is space (omega arith), (decimal_is page (omega arith), (decimal_is len (omega arith), (kind_is kind, (rights_are rights, tt))))))
@@ -80,9 +96,14 @@ call_words_are spaces (Evict space page) few is =
 line_words_are : (processors spaces : ℕ) (line : Line) → processors ≤ 2 ^ 64 → spaces ≤ 2 ^ 64 → IsLine processors spaces line → AllByRecursion IsWord (line_words line)
 line_words_are processors spaces line some few is = (decimal_is line.processor (omega (arith, is.0)), call_words_are spaces line.call few is.1)
 
-first_words_are : (plan : Plan) → HasText plan → AllByRecursion IsWord (first_words plan.frames plan.processors plan.spaces)
+pub version_is_small : (version : ℕ) (z : SizeSet) → IsVersion version z → version ≤ 2
+version_is_small version z is = elim is [ inl one ↦ omega (arith, one.0) | inr two ↦ omega (arith, two) ]
+
+first_words_are : (plan : Plan) → HasText plan → AllByRecursion IsWord (first_words plan.version plan.frames plan.processors plan.spaces plan.sizes)
 first_words_are plan has =
-    (is_word (codes "trace") refl, (is_word (codes "1") refl, (decimal_is plan.frames (omega (arith, has.frames_in)), (decimal_is plan.processors (omega (arith, has.processors_in)), (decimal_is plan.spaces (omega (arith, has.spaces_in)), tt)))))
+    let version = version_is_small plan.version plan.sizes has.version_in in
+    let sizes = sizes_are plan.sizes.one plan.sizes.two plan.sizes.three in
+    (is_word (codes "trace") refl, (decimal_is plan.version (omega (arith, version)), (decimal_is plan.frames (omega (arith, has.frames_in)), (decimal_is plan.processors (omega (arith, has.processors_in)), (decimal_is plan.spaces (omega (arith, has.spaces_in)), unnamed_or (plan.version == 1) (sizes_word plan.sizes) sizes)))))
 
 -- ---- what was joined is cut again
 
@@ -196,22 +217,22 @@ daemon_is_lawful processors spaces (Some d) calls some few is are =
 -- ---- the whole text
 
 abbrev pub head_of : Plan → Head
-head_of plan = record { frames = plan.frames; processors = plan.processors; spaces = plan.spaces }
+head_of plan = record { version = plan.version; frames = plan.frames; processors = plan.processors; spaces = plan.spaces; sizes = plan.sizes }
 
 pub text_is : (plan : Plan) → text_of plan ≡ first_line plan ++ behind_text plan.daemon plan.calls
 text_is plan =
     append_assoc (first_line plan ++ daemon_line plan.daemon) (flat_map call_line plan.calls) end_line ∙ append_assoc (first_line plan) (daemon_line plan.daemon) (calls_text plan.calls)
 
-pub first_again : (plan : Plan) → HasText plan → lines_of (text_of plan) ≡ join_with_byte 32 (first_words plan.frames plan.processors plan.spaces) ∷ lines_of (behind_text plan.daemon plan.calls)
-first_again plan has = ap lines_of (text_is plan) ∙ line_again (first_words plan.frames plan.processors plan.spaces) (behind_text plan.daemon plan.calls) (first_words_are plan has)
+pub first_again : (plan : Plan) → HasText plan → lines_of (text_of plan) ≡ join_with_byte 32 (first_words plan.version plan.frames plan.processors plan.spaces plan.sizes) ∷ lines_of (behind_text plan.daemon plan.calls)
+first_again plan has = ap lines_of (text_is plan) ∙ line_again (first_words plan.version plan.frames plan.processors plan.spaces plan.sizes) (behind_text plan.daemon plan.calls) (first_words_are plan has)
 
-pub first_words_again : (plan : Plan) → HasText plan → words_of (join_with_byte 32 (first_words plan.frames plan.processors plan.spaces)) ≡ first_words plan.frames plan.processors plan.spaces
-first_words_again plan has = words_again (codes "trace") (codes "1" ∷ decimal plan.frames ∷ decimal plan.processors ∷ decimal plan.spaces ∷ []) (first_words_are plan has)
+pub first_words_again : (plan : Plan) → HasText plan → words_of (join_with_byte 32 (first_words plan.version plan.frames plan.processors plan.spaces plan.sizes)) ≡ first_words plan.version plan.frames plan.processors plan.spaces plan.sizes
+first_words_again plan has = words_again (codes "trace") (decimal plan.version ∷ decimal plan.frames ∷ decimal plan.processors ∷ decimal plan.spaces ∷ (if plan.version == 1 then [] else sizes_word plan.sizes ∷ [])) (first_words_are plan has)
 
 pub not_refused : (plan : Plan) → HasText plan → refusal_of (text_of plan) ≡ None
 not_refused plan has =
-    let is : IsInRange (head_of plan) = (has.frames_in, has.frames_whole, has.processors_in, has.spaces_in) in
+    let is : IsInRange (head_of plan) = (has.version_in, has.frames_in, has.frames_whole, has.processors_in, has.spaces_in) in
     let lines = recursion_from_All _ plan.calls has.lines in
-    let behind = behind_first_line (text_of plan) (join_with_byte 32 (first_words plan.frames plan.processors plan.spaces)) (behind_text plan.daemon plan.calls) (head_of plan) (text_is_short plan has) (first_again plan has) (first_words_again plan has) is in
+    let behind = behind_first_line (text_of plan) (join_with_byte 32 (first_words plan.version plan.frames plan.processors plan.spaces plan.sizes)) (behind_text plan.daemon plan.calls) (head_of plan) (text_is_short plan has) (first_again plan has) (first_words_again plan has) is in
     let second = daemon_is_lawful plan.processors plan.spaces plan.daemon plan.calls (omega (arith, has.processors_in)) (omega (arith, has.spaces_in)) has.daemon_in lines in
     behind ∙ second ∙ calls_are_lawful plan.processors plan.spaces (first_call plan.daemon) 0 plan.calls (omega (arith, has.processors_in)) (omega (arith, has.spaces_in)) lines (omega (arith, has.few))

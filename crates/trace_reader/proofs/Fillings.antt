@@ -1,10 +1,10 @@
 -- A line without a fault is filled with numbers and words of its form, and so is a line of a trace. A text without a refusal is a trace's.
-use Rattle.std.proofs.Common.{◌≡◌, ◌≢◌, ℕ, ◌+◌, ◌%◌, ◌^◌, ◌<◌, ◌≤◌, ◌⊎◌, true, cond, eqb, List, [], ◌∷◌, ◌++◌, length, Option, Some, None, Result, Ok, Err, decimal, codes, refl, sym, ap, subst, ◌∙◌, arith, inl, inr}
+use Rattle.std.proofs.Common.{◌≡◌, ◌≢◌, ℕ, ◌+◌, ◌%◌, ◌^◌, ◌<◌, ◌≤◌, ◌⊎◌, Bool, true, false, map, cond, eqb, List, [], ◌∷◌, ◌++◌, length, Option, Some, None, Result, Ok, Err, decimal, codes, refl, sym, ap, subst, ◌∙◌, arith, inl, inr}
 use Rattle.std.specs.List.{join_with_byte, list_any, AllByRecursion}
 use Rattle.std.specs.Option.{option_or}
 use Rattle.std.specs.Result.{result_err}
 use Rattle.std.specs.Str.{bytes_eq}
-use Rattle.std.proofs.lemmas.Bool.{and_parts, or_cases, cases_Bool, cases_lt, eq-eqb}
+use Rattle.std.proofs.lemmas.Bool.{and_parts, or_cases, cases_Bool, cases_lt, eq-eqb, ne_eqb}
 use Rattle.std.proofs.lemmas.List.Elements.{All-from_recursion}
 use Rattle.std.proofs.lemmas.List.Splits.{join_with_byte-slice_split}
 use Rattle.std.proofs.lemmas.Slice.Eq.{bytes_eq-Decides}
@@ -15,16 +15,17 @@ use Rattle.pager_model.specs.declared.region.Kind.TheVariants.{Fixed, Growing, W
 use Rattle.pager_model.specs.declared.region.Rights.{Rights}
 use Rattle.pager_model.specs.declared.region.Rights.TheVariants.{NoAccess, Read, Write}
 use Rattle.pager_model.specs.Plans.{Plan}
+use Rattle.pager_model.specs.SizeSets.{SizeSet, all_sizes}
 use Rattle.pager_model.specs.declared.trace.Daemon.{Daemon}
-use Rattle.pager_model.specs.TraceText.{kind_word, rights_word, line_words, line_of_words, call_line, daemon_words, first_words, IsDaemon, IsLine, IsTextOf}
+use Rattle.pager_model.specs.TraceText.{kind_word, rights_word, sizes_word, line_words, line_of_words, call_line, daemon_words, first_words, IsDaemon, IsLine, IsTextOf}
 use Rattle.trace_reader.specs.declared.fault.LineCause.{LineCause}
 use Rattle.trace_reader.specs.declared.fault.TraceFault.TheVariants.{TooManyCalls}
 use Rattle.trace_reader.specs.declared.line.Head.{Head}
-use Rattle.trace_reader.specs.Forms.{Place, Word, OneOf, Number, number_in, fits, leftmost, line_fault, first_form, daemon_form, map_form, grow_form, unmap_form, protect_form, load_form, store_form, sync_form, evict_form, call_forms}
+use Rattle.trace_reader.specs.Forms.{Place, Word, OneOf, Number, number_in, fits, leftmost, line_fault, first_form, sized_form, first_forms, daemon_form, map_form, grow_form, unmap_form, protect_form, load_form, store_form, sync_form, evict_form, call_forms}
 use Rattle.trace_reader.specs.Heads.{IsInRange}
 use Rattle.trace_reader.specs.Refusals.{lines_of, words_of, end_refusal, at_line, calls_refusal, second_refusal, forms_behind, refusal_of_lines, refusal_of}
 use Rattle.trace_reader.proofs.CutTexts.{behind_text, calls_text, calls_text-cons}
-use Rattle.trace_reader.proofs.Numbers.{number_in_takes, version_text}
+use Rattle.trace_reader.proofs.Numbers.{number_in_takes}
 use Rattle.trace_reader.proofs.Refusals.{short_enough, too_long, forms_again, is_text, line_is}
 
 -- ---- what fills a form
@@ -118,25 +119,28 @@ fills_one (form ∷ forms) words none =
 abbrev Says : ℕ → ℕ → List (List ℕ) → Type 0
 Says processors spaces words = (line : Line) × IsLine processors spaces line × (words ≡ line_words line)
 
+-- which one of the things it is whose word is chosen
+named : {A : Type 0} (word_of : A → List ℕ) (all : List A) (word : List ℕ) → IsOneOf (map word_of all) word → (x : A) × (word ≡ word_of x)
+named word_of [] word is = absurd is
+named word_of (x ∷ all) word is = elim is [ inl here ↦ (x, here) | inr later ↦ named word_of all word later ]
+
 kind_of : (chosen : Chosen (kind_word Fixed ∷ kind_word Growing ∷ kind_word Wired ∷ [])) → (kind : Kind) × (chosen.0 ≡ kind_word kind)
-kind_of chosen =
-    elim chosen.1 [
-      | inl fixed ↦ (Fixed, fixed)
-      | inr others ↦ elim others [
-        | inl growing ↦ (Growing, growing)
-        | inr last ↦ elim last [ inl wired ↦ (Wired, wired) | inr none ↦ absurd none ]
-      ]
-    ]
+kind_of chosen = named kind_word (Fixed ∷ Growing ∷ Wired ∷ []) chosen.0 chosen.1
 
 rights_of : (chosen : Chosen (rights_word NoAccess ∷ rights_word Read ∷ rights_word Write ∷ [])) → (rights : Rights) × (chosen.0 ≡ rights_word rights)
-rights_of chosen =
-    elim chosen.1 [
-      | inl none ↦ (NoAccess, none)
-      | inr others ↦ elim others [
-        | inl read ↦ (Read, read)
-        | inr last ↦ elim last [ inl write ↦ (Write, write) | inr more ↦ absurd more ]
-      ]
-    ]
+rights_of chosen = named rights_word (NoAccess ∷ Read ∷ Write ∷ []) chosen.0 chosen.1
+
+-- every set of page sizes, in the order of the words that may name one
+abbrev sizes : Bool → Bool → Bool → SizeSet
+sizes one two three = record { one = one; two = two; three = three }
+
+abbrev size_sets : List SizeSet
+size_sets =
+    sizes false false false ∷ sizes true false false ∷ sizes false true false ∷ sizes false false true
+    ∷ sizes true true false ∷ sizes true false true ∷ sizes false true true ∷ sizes true true true ∷ []
+
+sizes_of : (chosen : Chosen (map sizes_word size_sets)) → (z : SizeSet) × (chosen.0 ≡ sizes_word z)
+sizes_of chosen = named sizes_word size_sets chosen.0 chosen.1
 
 map_says : (processors spaces : ℕ) (words : List (List ℕ)) → Fills (map_form processors spaces) words → Says processors spaces words
 map_says processors spaces words (f, e) =
@@ -212,17 +216,33 @@ line_says processors spaces words none =
       ]
     ]
 
-first_says : (words : List (List ℕ)) → line_fault (first_form ∷ []) words ≡ None → (head : Head) × IsInRange head × (words ≡ first_words head.frames head.processors head.spaces)
+-- the words are those of a first line that may stand
+abbrev SaysFirst : List (List ℕ) → Type 0
+SaysFirst words = (head : Head) × IsInRange head × (words ≡ first_words head.version head.frames head.processors head.spaces head.sizes)
+
+one_says : (words : List (List ℕ)) → Fills first_form words → SaysFirst words
+one_says words (f, e) =
+    let one : f.0.n ≡ 1 = omega (arith, f.0.low_in, f.0.end_in) in (
+      record { version = f.0.n; frames = f.1.0.n; processors = f.1.1.0.n; spaces = f.1.1.1.0.n; sizes = all_sizes },
+      (inl (one, refl), (f.1.0.low_in, omega (arith, f.1.0.end_in)), f.1.0.step_in, (f.1.1.0.low_in, omega (arith, f.1.1.0.end_in)), (f.1.1.1.0.low_in, omega (arith, f.1.1.1.0.end_in))),
+      rw (eq-eqb f.0.n 1 one) e,
+    )
+
+two_says : (words : List (List ℕ)) → Fills sized_form words → SaysFirst words
+two_says words (f, e) =
+    let two : f.0.n ≡ 2 = omega (arith, f.0.low_in, f.0.end_in) in
+    let z = sizes_of f.1.1.1.1.0 in (
+      record { version = f.0.n; frames = f.1.0.n; processors = f.1.1.0.n; spaces = f.1.1.1.0.n; sizes = z.0 },
+      (inr two, (f.1.0.low_in, omega (arith, f.1.0.end_in)), f.1.0.step_in, (f.1.1.0.low_in, omega (arith, f.1.1.0.end_in)), (f.1.1.1.0.low_in, omega (arith, f.1.1.1.0.end_in))),
+      rw (ne_eqb f.0.n 1 (λ one. omega (arith, two, one)))
+          (e ∙ ap (λ (w : List ℕ). codes "trace" ∷ decimal f.0.n ∷ decimal f.1.0.n ∷ decimal f.1.1.0.n ∷ decimal f.1.1.1.0.n ∷ w ∷ []) z.1),
+    )
+
+first_says : (words : List (List ℕ)) → line_fault first_forms words ≡ None → SaysFirst words
 first_says words none =
-    elim (fills_one (first_form ∷ []) words none) [
-      | inl first ↦
-          let f = first.0 in
-          let version = version_text (decimal f.0.n) f.0.n refl f.0.low_in f.0.end_in in (
-            record { frames = f.1.0.n; processors = f.1.1.0.n; spaces = f.1.1.1.0.n },
-            ((f.1.0.low_in, omega (arith, f.1.0.end_in)), f.1.0.step_in, (f.1.1.0.low_in, omega (arith, f.1.1.0.end_in)), (f.1.1.1.0.low_in, omega (arith, f.1.1.1.0.end_in))),
-            first.1 ∙ rw version refl,
-          )
-      | inr none_left ↦ absurd none_left
+    elim (fills_one first_forms words none) [
+      | inl one ↦ one_says words one
+      | inr others ↦ elim others [ inl two ↦ two_says words two | inr none_left ↦ absurd none_left ]
     ]
 
 daemon_says : (words : List (List ℕ)) → fits daemon_form words ≡ true → leftmost daemon_form words ≡ None → (d : Daemon) × IsDaemon (Some d) × (words ≡ daemon_words d)
@@ -299,15 +319,15 @@ text_says : (text : List ℕ) (lines : List (List ℕ)) → lines_of text ≡ li
 text_says text [] is none = absurd cc
 text_says text (first ∷ []) is none = absurd cc
 text_says text (first ∷ next ∷ lines) is none =
-    let both = neither (at_line 1 (line_fault (first_form ∷ []) (words_of first))) (second_refusal (forms_behind (words_of first)) (next ∷ lines)) none in
-    let says = first_says (words_of first) (no_fault 1 (line_fault (first_form ∷ []) (words_of first)) both.0) in
+    let both = neither (at_line 1 (line_fault first_forms (words_of first))) (second_refusal (forms_behind (words_of first)) (next ∷ lines)) none in
+    let says = first_says (words_of first) (no_fault 1 (line_fault first_forms (words_of first)) both.0) in
     let head = says.0 in
     let forms : forms_behind (words_of first) ≡ call_forms head.processors head.spaces = ap forms_behind says.2 ∙ forms_again head says.1 in
     let behind = behind_says head.processors head.spaces (next ∷ lines) (subst (λ (fs : List (List Place)). second_refusal fs (next ∷ lines) ≡ None) forms both.1) in
     let daemon = behind.0 in
     let calls = behind.2 in
     let cut : text ≡ first ++ 10 ∷ join_with_byte 10 (next ∷ lines) = sym (join_with_byte-slice_split 10 text) ∙ ap (join_with_byte 10) is in (
-      record { frames = head.frames; processors = head.processors; spaces = head.spaces; daemon = daemon; calls = calls },
+      record { version = head.version; frames = head.frames; processors = head.processors; spaces = head.spaces; sizes = head.sizes; daemon = daemon; calls = calls },
       is_text text first (join_with_byte 10 (next ∷ lines)) (calls_text calls) head daemon calls cut says.2 says.1 behind.5 behind.1 (All-from_recursion _ calls behind.3) behind.4 refl,
     )
 

@@ -1,6 +1,6 @@
 -- A line that a trace may hold has no fault.
-use Rattle.std.proofs.Common.{◌≡◌, ℕ, ◌^◌, ◌<◌, ◌≤◌, ◌%◌, true, [], ◌∷◌, Some, None, Ok, decimal, codes, refl, arith, lit≤}
-use Rattle.std.specs.Fmt.{digits}
+use Rattle.std.proofs.Common.{◌≡◌, ℕ, ◌^◌, ◌<◌, ◌≤◌, ◌%◌, Bool, true, false, ◌∷◌, Some, None, Ok, decimal, refl, arith, lit≤, inl, inr}
+use Rattle.std.proofs.lemmas.Bool.{eq-eqb, ne_eqb}
 use Rattle.pager_model.specs.declared.call.Call.{Call}
 use Rattle.pager_model.specs.declared.call.Call.TheVariants.{Map, Grow, Unmap, Protect, Load, Store, Sync, Evict}
 use Rattle.pager_model.specs.declared.call.Line.{Line}
@@ -9,9 +9,9 @@ use Rattle.pager_model.specs.declared.region.Kind.TheVariants.{Fixed, Growing, W
 use Rattle.pager_model.specs.declared.region.Rights.{Rights}
 use Rattle.pager_model.specs.declared.region.Rights.TheVariants.{NoAccess, Read, Write}
 use Rattle.pager_model.specs.declared.trace.Daemon.{Daemon}
-use Rattle.pager_model.specs.TraceText.{kind_word, rights_word, call_words, daemon_words, line_words, first_words, IsCall, IsDaemon, IsLine}
+use Rattle.pager_model.specs.TraceText.{kind_word, rights_word, sizes_word, call_words, daemon_words, line_words, first_words, IsCall, IsDaemon, IsLine}
 use Rattle.trace_reader.specs.declared.line.Head.{Head}
-use Rattle.trace_reader.specs.Forms.{may_stand, any_kind, any_rights, number_in, number_of, leftmost, line_fault, first_form, daemon_form, call_forms}
+use Rattle.trace_reader.specs.Forms.{may_stand, any_kind, any_rights, any_sizes, number_in, leftmost, line_fault, first_forms, daemon_form, call_forms}
 use Rattle.trace_reader.specs.Heads.{IsInRange}
 use Rattle.trace_reader.proofs.Numbers.{number_in_again}
 
@@ -56,16 +56,29 @@ call_is_lawful processors spaces processor (Evict space page) few small of is =
 pub line_is_lawful : (processors spaces : ℕ) (line : Line) → processors ≤ 2 ^ 64 → spaces ≤ 2 ^ 64 → IsLine processors spaces line → line_fault (call_forms processors spaces) (line_words line) ≡ None
 line_is_lawful processors spaces line few small is = call_is_lawful processors spaces line.processor line.call few small is.0 is.1
 
-version_one : number_in 1 1 2 (codes "1") ≡ Ok 1
-unfolding number_in number_of digits
-version_one = refl
+sizes_stand : (one two three : Bool) → may_stand any_sizes (sizes_word (record { one = one; two = two; three = three })) ≡ true
+sizes_stand false false false = refl
+sizes_stand false false true = refl
+sizes_stand false true false = refl
+sizes_stand false true true = refl
+sizes_stand true false false = refl
+sizes_stand true false true = refl
+sizes_stand true true false = refl
+sizes_stand true true true = refl
 
-pub first_is_lawful : (head : Head) → IsInRange head → line_fault (first_form ∷ []) (first_words head.frames head.processors head.spaces) ≡ None
+pub first_is_lawful : (head : Head) → IsInRange head → line_fault first_forms (first_words head.version head.frames head.processors head.spaces head.sizes) ≡ None
 first_is_lawful head is =
-    let frames : number_in 512 512 32769 (decimal head.frames) ≡ Ok head.frames = number_in_again 512 512 32769 head.frames is.1 is.0.0 (omega (arith, is.0.1)) (omega (arith, is.0.1)) in
-    let processors : number_in 1 1 17 (decimal head.processors) ≡ Ok head.processors = number_in_again 1 1 17 head.processors (omega arith) is.2.0 (omega (arith, is.2.1)) (omega (arith, is.2.1)) in
-    let spaces : number_in 1 1 17 (decimal head.spaces) ≡ Ok head.spaces = number_in_again 1 1 17 head.spaces (omega arith) is.3.0 (omega (arith, is.3.1)) (omega (arith, is.3.1)) in
-    rw (version_one, frames, processors, spaces) refl
+    let frames : number_in 512 512 32769 (decimal head.frames) ≡ Ok head.frames = number_in_again 512 512 32769 head.frames is.2 is.1.0 (omega (arith, is.1.1)) (omega (arith, is.1.1)) in
+    let processors : number_in 1 1 17 (decimal head.processors) ≡ Ok head.processors = number_in_again 1 1 17 head.processors (omega arith) is.3.0 (omega (arith, is.3.1)) (omega (arith, is.3.1)) in
+    let spaces : number_in 1 1 17 (decimal head.spaces) ≡ Ok head.spaces = number_in_again 1 1 17 head.spaces (omega arith) is.4.0 (omega (arith, is.4.1)) (omega (arith, is.4.1)) in
+    elim is.0 [
+      | inl one ↦
+          let version : number_in 1 1 2 (decimal head.version) ≡ Ok head.version = number_in_again 1 1 2 head.version (omega arith) (omega (arith, one.0)) (omega (arith, one.0)) (omega (arith, one.0)) in
+          rw (eq-eqb head.version 1 one.0, version, frames, processors, spaces) refl
+      | inr two ↦
+          let version : number_in 1 2 3 (decimal head.version) ≡ Ok head.version = number_in_again 1 2 3 head.version (omega arith) (omega (arith, two)) (omega (arith, two)) (omega (arith, two)) in
+          rw (ne_eqb head.version 1 (λ e. omega (arith, two, e)), sizes_stand head.sizes.one head.sizes.two head.sizes.three, version, frames, processors, spaces) refl
+    ]
 
 pub daemon_is_lawful : (d : Daemon) → IsDaemon (Some d) → leftmost daemon_form (daemon_words d) ≡ None
 daemon_is_lawful d is =

@@ -1,5 +1,5 @@
 -- Words that are decimals.
-use Rattle.std.proofs.Common.{◌∙◌, ap, codes, false, cond, leb, eqb, ◌+◌, ◌-◌, ◌*◌, ◌%◌, ◌≡◌, ℕ, ◌^◌, ◌<◌, ◌≤◌, Bool, true, ltb, ◌&&◌, List, length, take, get_or, Ok, Err, Option, Some, None, decimal, refl, sym, subst, arith, inl, inr}
+use Rattle.std.proofs.Common.{◌∙◌, ap, false, cond, leb, eqb, ◌+◌, ◌-◌, ◌*◌, ◌%◌, ◌≡◌, ℕ, ◌^◌, ◌<◌, ◌≤◌, Bool, true, ltb, ◌&&◌, List, length, take, get_or, Ok, Err, Option, Some, None, decimal, refl, sym, subst, arith, inl, inr}
 use Rattle.std.specs.Fmt.{digits}
 use Rattle.std.specs.Int.{IsInRange}
 use Rattle.std.specs.Str.{bytes_eq}
@@ -169,11 +169,6 @@ number_text word n e = (number_takes word n e).1
 pub ruleset any_numbers = (number_in_none, number_in_any, number_text)
 
 pub ruleset numbers = (number_in_none, number_in_some, number_in_out, number_text)
-
--- the one number of a version
-pub version_text : (word : List ℕ) (n : ℕ) → word ≡ decimal n → 1 ≤ n → n < 2 → word ≡ codes "1"
-unfolding digits
-version_text word n e low high = let one : n ≡ 1 = omega arith in e ∙ ap decimal one
 
 pub decimal_value : (n : ℕ) → n < 2 ^ 64 → digits_value 10 (decimal n) ≡ n
 decimal_value n small = digits_value-decimal own n small

@@ -14,7 +14,7 @@ use Rattle.pager_model.specs.TraceText.{call_line, daemon_line, daemon_words, li
 use Rattle.trace_reader.specs.declared.fault.LineCause.{LineCause}
 use Rattle.trace_reader.specs.declared.fault.LineCause.TheVariants as causes
 use Rattle.trace_reader.specs.declared.fault.TraceFault.TheVariants.{TooLong, Line, NoEnd, TooManyCalls}
-use Rattle.trace_reader.specs.Forms.{Place, fits, leftmost, line_fault, first_form, daemon_form, call_forms}
+use Rattle.trace_reader.specs.Forms.{Place, fits, leftmost, line_fault, first_forms, daemon_form, call_forms}
 use Rattle.trace_reader.specs.declared.line.Head.{Head}
 use Rattle.trace_reader.specs.Heads.{IsInRange}
 use Rattle.trace_reader.proofs.Lines.{daemon_is_lawful, first_is_lawful}
@@ -78,28 +78,28 @@ short_enough text few = rw (le-ltb 16777216 (length text) few) refl
 pub no_first_line : (text : List ℕ) → length text ≤ 16777216 → lines_of text ≡ text ∷ [] → refusal_of text ≡ Some NoEnd
 no_first_line text few last = short_enough text few ∙ ap refusal_of_lines last
 
-pub faulty_first_line : (text line rest : List ℕ) (cause : LineCause) → length text ≤ 16777216 → lines_of text ≡ line ∷ lines_of rest → line_fault (first_form ∷ []) (words_of line) ≡ Some cause → refusal_of text ≡ Some (Line 1 cause)
+pub faulty_first_line : (text line rest : List ℕ) (cause : LineCause) → length text ≤ 16777216 → lines_of text ≡ line ∷ lines_of rest → line_fault first_forms (words_of line) ≡ Some cause → refusal_of text ≡ Some (Line 1 cause)
 faulty_first_line text line rest cause few first fault = let p = some_piece 10 rest in rw (short_enough text few, first, p.2, fault) refl
 
-pub forms_again : (head : Head) → IsInRange head → forms_behind (first_words head.frames head.processors head.spaces) ≡ call_forms head.processors head.spaces
+pub forms_again : (head : Head) → IsInRange head → forms_behind (first_words head.version head.frames head.processors head.spaces head.sizes) ≡ call_forms head.processors head.spaces
 forms_again head is =
-    let processors : digits_value 10 (decimal head.processors) ≡ head.processors = decimal_value head.processors (omega (arith, is.2)) in
-    let spaces : digits_value 10 (decimal head.spaces) ≡ head.spaces = decimal_value head.spaces (omega (arith, is.3)) in
+    let processors : digits_value 10 (decimal head.processors) ≡ head.processors = decimal_value head.processors (omega (arith, is.3)) in
+    let spaces : digits_value 10 (decimal head.spaces) ≡ head.spaces = decimal_value head.spaces (omega (arith, is.4)) in
     rw (processors, spaces) refl
 
-pub behind_first_line : (text line rest : List ℕ) (head : Head) → length text ≤ 16777216 → lines_of text ≡ line ∷ lines_of rest → words_of line ≡ first_words head.frames head.processors head.spaces → IsInRange head → refusal_of text ≡ second_refusal (call_forms head.processors head.spaces) (lines_of rest)
+pub behind_first_line : (text line rest : List ℕ) (head : Head) → length text ≤ 16777216 → lines_of text ≡ line ∷ lines_of rest → words_of line ≡ first_words head.version head.frames head.processors head.spaces head.sizes → IsInRange head → refusal_of text ≡ second_refusal (call_forms head.processors head.spaces) (lines_of rest)
 behind_first_line text line rest head few first words is =
     let p = some_piece 10 rest in
     rw (short_enough text few, first, p.2, words, first_is_lawful head is, forms_again head is) refl
 
 -- the trace of what was read
-pub is_text : (text line behind rest : List ℕ) (head : Head) (daemon : Option Daemon) (calls : List Call) → text ≡ line ++ 10 ∷ behind → words_of line ≡ first_words head.frames head.processors head.spaces → IsInRange head → behind ≡ daemon_line daemon ++ rest → IsDaemon daemon → All (IsLine head.processors head.spaces) calls → length calls ≤ 262144 → rest ≡ flat_map call_line calls ++ line_of_words (codes "end" ∷ [])
-    → IsTextOf text (record { frames = head.frames; processors = head.processors; spaces = head.spaces; daemon = daemon; calls = calls })
+pub is_text : (text line behind rest : List ℕ) (head : Head) (daemon : Option Daemon) (calls : List Call) → text ≡ line ++ 10 ∷ behind → words_of line ≡ first_words head.version head.frames head.processors head.spaces head.sizes → IsInRange head → behind ≡ daemon_line daemon ++ rest → IsDaemon daemon → All (IsLine head.processors head.spaces) calls → length calls ≤ 262144 → rest ≡ flat_map call_line calls ++ line_of_words (codes "end" ∷ [])
+    → IsTextOf text (record { version = head.version; frames = head.frames; processors = head.processors; spaces = head.spaces; sizes = head.sizes; daemon = daemon; calls = calls })
 is_text text line behind rest head daemon calls cut words is second told are few lines =
-    let first : List ℕ = line_of_words (first_words head.frames head.processors head.spaces) in
-    let front : text ≡ first ++ behind = line_is text line behind (first_words head.frames head.processors head.spaces) cut words in
+    let first : List ℕ = line_of_words (first_words head.version head.frames head.processors head.spaces head.sizes) in
+    let front : text ≡ first ++ behind = line_is text line behind (first_words head.version head.frames head.processors head.spaces head.sizes) cut words in
     let end : List ℕ = line_of_words (codes "end" ∷ []) in
     let all : text ≡ ((first ++ daemon_line daemon) ++ flat_map call_line calls) ++ end =
     front ∙ ap (λ (x : List ℕ). first ++ x) (second ∙ ap (λ (x : List ℕ). daemon_line daemon ++ x) lines)
     ∙ sym (append_assoc first (daemon_line daemon) (flat_map call_line calls ++ end)) ∙ sym (append_assoc (first ++ daemon_line daemon) (flat_map call_line calls) end) in
-    (record { frames_in = is.0; frames_whole = is.1; processors_in = is.2; spaces_in = is.3; daemon_in = told; lines = are; few = few }, all)
+    (record { version_in = is.0; frames_in = is.1; frames_whole = is.2; processors_in = is.3; spaces_in = is.4; daemon_in = told; lines = are; few = few }, all)

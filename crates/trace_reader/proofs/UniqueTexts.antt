@@ -1,8 +1,9 @@
 -- A trace is read back from its text, so that no two have one.
-use Rattle.std.proofs.Common.{◌≡◌, ℕ, ◌^◌, ◌<◌, ◌≤◌, cond, List, [], ◌∷◌, get_or, drop, Option, Some, None, decimal, codes, refl, sym, ap, ◌∙◌, arith}
-use Rattle.std.specs.List.{join_with_byte, AllByRecursion}
+use Rattle.std.proofs.Common.{◌≡◌, ℕ, ◌^◌, ◌<◌, ◌≤◌, Bool, true, false, cond, eqb, List, [], ◌∷◌, get_or, drop, Option, Some, None, decimal, codes, refl, sym, ap, ◌∙◌, arith, inl, inr}
+use Rattle.std.specs.List.{join_with_byte, list_any, AllByRecursion}
 use Rattle.std.specs.Str.{bytes_eq}
 use Rattle.std.specs.Str.Parse.{digits_value}
+use Rattle.std.proofs.lemmas.Bool.{eq-eqb, ne_eqb}
 use Rattle.std.proofs.lemmas.List.Elements.{recursion_from_All}
 use Rattle.pager_model.specs.declared.call.Call.{Call}
 use Rattle.pager_model.specs.declared.call.Call.TheVariants.{Map, Grow, Unmap, Protect, Load, Store, Sync, Evict}
@@ -12,11 +13,12 @@ use Rattle.pager_model.specs.declared.region.Kind.TheVariants.{Fixed, Growing, W
 use Rattle.pager_model.specs.declared.region.Rights.{Rights}
 use Rattle.pager_model.specs.declared.region.Rights.TheVariants.{NoAccess, Read, Write}
 use Rattle.pager_model.specs.Plans.{Plan}
+use Rattle.pager_model.specs.SizeSets.{SizeSet, all_sizes}
 use Rattle.pager_model.specs.declared.trace.Daemon.{Daemon}
-use Rattle.pager_model.specs.TraceText.{kind_word, rights_word, call_words, daemon_words, line_words, text_of, IsCall, IsDaemon, IsLine, HasText}
+use Rattle.pager_model.specs.TraceText.{kind_word, rights_word, sizes_word, call_words, daemon_words, first_words, line_words, text_of, IsCall, IsDaemon, IsLine, IsVersion, HasText}
 use Rattle.trace_reader.specs.Forms.{daemon_form, fits}
 use Rattle.trace_reader.specs.Refusals.{lines_of, words_of}
-use Rattle.trace_reader.proofs.CutTexts.{behind_text, calls_text, call_again, call_words_again, call_is_no_daemons, call_is_not_end, daemon_again, daemon_words_again, first_again, first_words_again}
+use Rattle.trace_reader.proofs.CutTexts.{behind_text, calls_text, call_again, call_words_again, call_is_no_daemons, call_is_not_end, daemon_again, daemon_words_again, first_again, first_words_again, version_is_small}
 use Rattle.trace_reader.proofs.Numbers.{decimal_value}
 
 -- the number at a place, the kind and the rights
@@ -114,19 +116,45 @@ behind_is_back processors spaces (Some d) calls some few is are =
     let told : daemon_by (daemon_words d) ≡ Some d = rw (low, turns) refl in
     (ap daemon_by words ∙ told, ap (λ (ls : List (List ℕ)). calls_by (next_words (lines_of (behind_text (Some d) calls))) ls) again ∙ ap (λ (ws : List (List ℕ)). calls_by ws (join_with_byte 32 (daemon_words d) ∷ lines_of (calls_text calls))) words ∙ calls_are_back processors spaces calls some few are)
 
+-- the page sizes of a word of digits, and those of a first line of this version
+abbrev sizes_back : List ℕ → SizeSet
+sizes_back word = record { one = list_any (λ b. eqb b 49) word; two = list_any (λ b. eqb b 50) word; three = list_any (λ b. eqb b 51) word }
+
+abbrev sizes_by : ℕ → List (List ℕ) → SizeSet
+sizes_by version words = cond (eqb version 1) all_sizes (sizes_back (get_or words 5 []))
+
+sizes_again : (one two three : Bool) → sizes_back (sizes_word (record { one = one; two = two; three = three })) ≡ record { one = one; two = two; three = three }
+sizes_again false false false = refl
+sizes_again false false true = refl
+sizes_again false true false = refl
+sizes_again false true true = refl
+sizes_again true false false = refl
+sizes_again true false true = refl
+sizes_again true true false = refl
+sizes_again true true true = refl
+
+sizes_are_back : (version frames processors spaces : ℕ) (z : SizeSet) → IsVersion version z → sizes_by version (first_words version frames processors spaces z) ≡ z
+sizes_are_back version frames processors spaces z is =
+    elim is [
+      | inl one ↦ rw (eq-eqb version 1 one.0) (sym one.1)
+      | inr two ↦ rw (ne_eqb version 1 (λ one. omega (arith, two, one))) (sizes_again z.one z.two z.three)
+    ]
+
 abbrev plan_of : List (List ℕ) → List (List ℕ) → Plan
-plan_of words lines = record { frames = number_back words 2; processors = number_back words 3; spaces = number_back words 4; daemon = daemon_back lines; calls = calls_behind lines }
+plan_of words lines = record { version = number_back words 1; frames = number_back words 2; processors = number_back words 3; spaces = number_back words 4; sizes = sizes_by (number_back words 1) words; daemon = daemon_back lines; calls = calls_behind lines }
 
 abbrev plan_back : List ℕ → Plan
 plan_back text = plan_of (words_of (get_or (lines_of text) 0 [])) (drop 1 (lines_of text))
 
 plan_is_back : (plan : Plan) → HasText plan → plan_back (text_of plan) ≡ plan
 plan_is_back plan has =
+    let version = decimal_value plan.version (let small = version_is_small plan.version plan.sizes has.version_in in omega (arith, small)) in
     let frames = decimal_value plan.frames (omega (arith, has.frames_in)) in
     let processors = decimal_value plan.processors (omega (arith, has.processors_in)) in
     let spaces = decimal_value plan.spaces (omega (arith, has.spaces_in)) in
     let behind = behind_is_back plan.processors plan.spaces plan.daemon plan.calls (omega (arith, has.processors_in)) (omega (arith, has.spaces_in)) has.daemon_in (recursion_from_All _ plan.calls has.lines) in
-    rw (first_again plan has, first_words_again plan has, frames, processors, spaces, behind.0, behind.1) refl
+    let sizes = sizes_are_back plan.version plan.frames plan.processors plan.spaces plan.sizes has.version_in in
+    rw (first_again plan has, first_words_again plan has, version, frames, processors, spaces, sizes, behind.0, behind.1) refl
 
 pub one_plan : (a b : Plan) → HasText a → HasText b → text_of a ≡ text_of b → a ≡ b
 one_plan a b p q same = sym (plan_is_back a p) ∙ ap plan_back same ∙ plan_is_back b q

@@ -54,10 +54,25 @@ abbrev pub line_fault : List (List Place) → List (List ℕ) → Option LineCau
 line_fault [] words = Some causes.Form
 line_fault (form ∷ forms) words = if fits form words then leftmost form words else line_fault forms words
 
--- ---- the forms of version 1
+-- ---- the forms
 
+-- the places of a first line behind its version: those of the frames, processors and spaces, and more
+abbrev pub first_places : List Place → List Place
+first_places more = Number 512 512 32769 ∷ Number 1 1 17 ∷ Number 1 1 17 ∷ more
+
+-- the first line of version 1, which has all four page sizes
 abbrev pub first_form : List Place
-first_form = Word (codes "trace") ∷ Number 1 1 2 ∷ Number 512 512 32769 ∷ Number 1 1 17 ∷ Number 1 1 17 ∷ []
+first_form = Word (codes "trace") ∷ Number 1 1 2 ∷ first_places []
+
+abbrev pub any_sizes : Place
+any_sizes = OneOf (codes "0" ∷ codes "01" ∷ codes "02" ∷ codes "03" ∷ codes "012" ∷ codes "013" ∷ codes "023" ∷ codes "0123" ∷ [])
+
+-- the first line of version 2, which names its page sizes
+abbrev pub sized_form : List Place
+sized_form = Word (codes "trace") ∷ Number 1 2 3 ∷ first_places (any_sizes ∷ [])
+
+abbrev pub first_forms : List (List Place)
+first_forms = first_form ∷ sized_form ∷ []
 
 abbrev pub daemon_form : List Place
 daemon_form = Word (codes "daemon") ∷ Number 1 1 65 ∷ Number 1 1 4097 ∷ []

@@ -8,7 +8,7 @@ use Rattle.trace_reader.specs.declared.fault.LineCause.{LineCause}
 use Rattle.trace_reader.specs.declared.fault.LineCause.TheVariants as causes
 use Rattle.trace_reader.specs.declared.fault.TraceFault.{TraceFault}
 use Rattle.trace_reader.specs.declared.fault.TraceFault.TheVariants.{ReadFault, TooLong, Line, NoEnd, TooManyCalls, TooFewStores, OneProcessor, NoMemory}
-use Rattle.trace_reader.specs.Forms.{Place, first_form, daemon_form, call_forms, fits, leftmost, line_fault}
+use Rattle.trace_reader.specs.Forms.{Place, first_forms, daemon_form, call_forms, fits, leftmost, line_fault}
 use Rattle.pager_model.specs.Bounds.{most_calls}
 
 -- the lines of a text, and at the end what stands behind the last line feed
@@ -50,7 +50,7 @@ forms_behind words = call_forms (digits_value 10 (slice_index_or words 3 [])) (d
 
 abbrev pub refusal_of_lines : List (List ℕ) → Option TraceFault
 refusal_of_lines (first ∷ next ∷ lines) =
-    option_or (at_line 1 (line_fault (first_form ∷ []) (words_of first))) (second_refusal (forms_behind (words_of first)) (next ∷ lines))
+    option_or (at_line 1 (line_fault first_forms (words_of first))) (second_refusal (forms_behind (words_of first)) (next ∷ lines))
 refusal_of_lines lines = Some NoEnd
 
 -- the refusal of a text, where it is refused. Too many bytes are looked at before all else.

@@ -1,16 +1,16 @@
 //! Lines: the first one, a daemon's, and those of calls.
 ghost use Rattle.std.specs.Prelude.{◌≡◌, ◌<◌, ◌≤◌, ◌%◌, ◌∷◌, [], true, false, Some, IfSome, IfNone, IfOk, IfErr, OnOk, codes, decimal};
 ghost use Rattle.std.specs.Str.{bytes_eq};
-ghost use Rattle.pager_model.specs.TraceText.{IsDaemon, IsLine, line_words, first_words, daemon_words};
-ghost use Rattle.trace_reader.specs.Forms.{Number, number_in, fits, leftmost, line_fault, first_form, daemon_form, page, map_form, grow_form, protect_form, load_form, store_form, call_forms};
+ghost use Rattle.pager_model.specs.TraceText.{IsDaemon, IsLine, IsVersion, line_words, first_words, daemon_words};
+ghost use Rattle.trace_reader.specs.Forms.{Number, number_in, fits, leftmost, line_fault, first_forms, first_places, daemon_form, page, map_form, grow_form, protect_form, load_form, store_form, call_forms};
 ghost use Rattle.trace_reader.specs.declared.line.Name.{Name};
 ghost use Rattle.trace_reader.specs.Heads.{IsInRange, IsRead, word_of_name};
 ghost use Rattle.trace_reader.specs.Refusals.{words_of};
 ghost use Rattle.trace_reader.specs.Words.{seen};
 
 use crate::fault::LineCause;
-use crate::word::{any_number, kind, number, rights, small, words};
-use pager_model::{Call, Daemon, Line, PAGES};
+use crate::word::{any_number, kind, number, page_sizes, rights, small, words};
+use pager_model::{Call, Daemon, Line, PAGES, Sizes};
 
 /// The first word of a trace.
 const TRACE: &[u8] = b"trace";
@@ -22,70 +22,92 @@ const DAEMON: &[u8] = b"daemon";
 const ADDRESSES: u64 = 8_589_934_592;
 
 /// What a trace's first line says.
-#[derive(Clone, Copy)]
+#[derive(Drop)]
 pub struct Head {
+    pub version: u32,
     pub frames: u32,
     pub processors: u32,
     pub spaces: u32,
+    pub sizes: Sizes,
 }
 
 /// What the first line says.
 pub fn first_line(line: &[u8]) -> Result<Head, LineCause>
     ensures range { IfOk result (λ head. IsInRange head) }
     ensures text { IfOk result
-        (λ head. words_of line.now ≡ first_words head.frames head.processors head.spaces) }
+        (λ head. words_of line.now ≡ first_words head.version head.frames head.processors head.spaces head.sizes) }
     ensures err { IfErr result
-        (λ cause. line_fault (first_form ∷ []) (words_of line.now) ≡ Some cause) }
+        (λ cause. line_fault first_forms (words_of line.now) ≡ Some cause) }
 {
     let Some(words) = words(line) else {
         return Err(LineCause::Form);
     };
-    let [name, numbers @ ..] = words.as_slice() else {
+    let [name, others @ ..] = words.as_slice() else {
         return Err(LineCause::Form);
     };
-    first_of(name, numbers)
+    first_of(name, others)
 }
 
 /// What the first line says whose first word is this, with the others behind it.
-fn first_of(name: &[u8], numbers: &[&[u8]]) -> Result<Head, LineCause>
+fn first_of(name: &[u8], others: &[&[u8]]) -> Result<Head, LineCause>
     ensures range { IfOk result (λ head. IsInRange head) }
-    ensures text { IfOk result (λ head. name.now ∷ seen numbers.now
-        ≡ first_words head.frames head.processors head.spaces) }
-    ensures err { IfErr result (λ cause. line_fault (first_form ∷ []) (name.now ∷ seen numbers.now) ≡ Some cause) }
+    ensures text { IfOk result (λ head. name.now ∷ seen others.now
+        ≡ first_words head.version head.frames head.processors head.spaces head.sizes) }
+    ensures err { IfErr result (λ cause. line_fault first_forms (name.now ∷ seen others.now) ≡ Some cause) }
 {
     if name == TRACE {
-        first_numbers(numbers)
+        first_words(others)
     } else {
         Err(LineCause::Form)
     }
 }
 
-/// What the first line of a trace says by the words behind its first one.
-fn first_numbers(numbers: &[&[u8]]) -> Result<Head, LineCause>
+/// What the first line of a trace says by the words behind its first one: four numbers in version 1, which has all four page sizes, and in
+/// version 2 the word of the sizes behind them.
+fn first_words(words: &[&[u8]]) -> Result<Head, LineCause>
     ensures range { IfOk result (λ head. IsInRange head) }
-    ensures text { IfOk result (λ head. codes "trace" ∷ seen numbers.now
-        ≡ first_words head.frames head.processors head.spaces) }
-    ensures err { IfErr result (λ cause. line_fault (first_form ∷ [])
-        (codes "trace" ∷ seen numbers.now) ≡ Some cause) }
+    ensures text { IfOk result (λ head. codes "trace" ∷ seen words.now
+        ≡ first_words head.version head.frames head.processors head.spaces head.sizes) }
+    ensures err { IfErr result (λ cause. line_fault first_forms
+        (codes "trace" ∷ seen words.now) ≡ Some cause) }
 {
-    let [version, frames, processors, spaces] = numbers else {
-        return Err(LineCause::Form);
-    };
-    version_of(version)?;
+    match words {
+        [version, frames, processors, spaces] => {
+            let version = small(version, 1, 1..2)?;
+            head_of(version, frames, processors, spaces, Sizes::all())
+        }
+        [version, frames, processors, spaces, sizes] => {
+            let sizes = page_sizes(sizes).ok_or(LineCause::Form)?;
+            let version = small(version, 1, 2..3)?;
+            head_of(version, frames, processors, spaces, sizes)
+        }
+        _ => Err(LineCause::Form),
+    }
+}
+
+/// What a first line of this version says with these words for its counts, and with these page sizes.
+fn head_of(
+    version: u32,
+    frames: &[u8],
+    processors: &[u8],
+    spaces: &[u8],
+    sizes: Sizes,
+) -> Result<Head, LineCause>
+    requires { IsVersion version sizes }
+    ensures own { IfOk result (λ head. (head.version ≡ version) × (head.sizes ≡ sizes)) }
+    ensures range { IfOk result (λ head. IsInRange head) }
+    ensures text { IfOk result (λ head. frames.now ∷ processors.now ∷ spaces.now ∷ []
+        ≡ decimal head.frames ∷ decimal head.processors ∷ decimal head.spaces ∷ []) }
+    ensures err { IfErr result (λ cause. leftmost (first_places [])
+        (frames.now ∷ processors.now ∷ spaces.now ∷ []) ≡ Some cause) }
+{
     Ok(Head {
+        version,
         frames: small(frames, 512, 512..32_769)?,
         processors: small(processors, 1, 1..17)?,
         spaces: small(spaces, 1, 1..17)?,
+        sizes,
     })
-}
-
-/// The number of the version, which is 1.
-#[tactic(auto, using(crate::proofs::Numbers::version_text))]
-fn version_of(word: &[u8]) -> Result<u32, LineCause>
-    ensures exact { result ≡ number_in 1 1 2 word.now }
-    ensures text { OnOk result (word.now ≡ codes "1") }
-{
-    small(word, 1, 1..2)
 }
 
 /// The numbers' words of a line that fits the form of a daemon's.
@@ -113,8 +135,8 @@ pub fn daemon(low: &[u8], turns: &[u8]) -> Result<Daemon, LineCause>
 }
 
 /// The call that a line says, in a trace with this first line.
-pub fn call(line: &[u8], head: Head) -> Result<Line, LineCause>
-    ensures { IsRead head (call_forms head.processors head.spaces) (words_of line.now) result }
+pub fn call(line: &[u8], head: &Head) -> Result<Line, LineCause>
+    ensures { IsRead head.now (call_forms head.now.processors head.now.spaces) (words_of line.now) result }
 {
     let Some(words) = words(line) else {
         return Err(LineCause::Form);
@@ -127,12 +149,12 @@ pub fn call(line: &[u8], head: Head) -> Result<Line, LineCause>
 
 /// The call of this name, by a processor, with these arguments.
 fn call_of(
-    head: Head,
+    head: &Head,
     processor: &[u8],
     name: &[u8],
     arguments: &[&[u8]],
 ) -> Result<Line, LineCause>
-    ensures { IsRead head (call_forms head.processors head.spaces) (processor.now ∷ name.now ∷ seen arguments.now) result }
+    ensures { IsRead head.now (call_forms head.now.processors head.now.spaces) (processor.now ∷ name.now ∷ seen arguments.now) result }
 {
     match name_of(name) {
         Some(Name::Map) => map(head, processor, arguments),
@@ -203,8 +225,8 @@ fn name_of(word: &[u8]) -> Option<Name>
 }
 
 /// The call `map` of this processor, with these arguments.
-fn map(head: Head, processor: &[u8], arguments: &[&[u8]]) -> Result<Line, LineCause>
-    ensures { IsRead head (map_form head.processors head.spaces ∷ []) (processor.now ∷ codes "map" ∷ seen arguments.now) result }
+fn map(head: &Head, processor: &[u8], arguments: &[&[u8]]) -> Result<Line, LineCause>
+    ensures { IsRead head.now (map_form head.now.processors head.now.spaces ∷ []) (processor.now ∷ codes "map" ∷ seen arguments.now) result }
 {
     let [space, page, length, kind_word, rights_word] = arguments else {
         return Err(LineCause::Form);
@@ -226,8 +248,8 @@ fn map(head: Head, processor: &[u8], arguments: &[&[u8]]) -> Result<Line, LineCa
 }
 
 /// The call `grow` of this processor, with these arguments.
-fn grow(head: Head, processor: &[u8], arguments: &[&[u8]]) -> Result<Line, LineCause>
-    ensures { IsRead head (grow_form head.processors head.spaces ∷ []) (processor.now ∷ codes "grow" ∷ seen arguments.now) result }
+fn grow(head: &Head, processor: &[u8], arguments: &[&[u8]]) -> Result<Line, LineCause>
+    ensures { IsRead head.now (grow_form head.now.processors head.now.spaces ∷ []) (processor.now ∷ codes "grow" ∷ seen arguments.now) result }
 {
     let [space, page, by] = arguments else {
         return Err(LineCause::Form);
@@ -248,12 +270,12 @@ struct OnePage {
 }
 
 /// Where such a call of this processor is made, with these arguments.
-fn one_page(head: Head, processor: &[u8], arguments: &[&[u8]]) -> Result<OnePage, LineCause>
+fn one_page(head: &Head, processor: &[u8], arguments: &[&[u8]]) -> Result<OnePage, LineCause>
     ensures range { IfOk result
-        (λ at. (at.processor < head.processors) × (at.space < head.spaces) × (at.page < PAGES)) }
+        (λ at. (at.processor < head.now.processors) × (at.space < head.now.spaces) × (at.page < PAGES)) }
     ensures text { IfOk result (λ at. processor.now ∷ seen arguments.now
         ≡ decimal at.processor ∷ decimal at.space ∷ decimal at.page ∷ []) }
-    ensures err { IfErr result (λ cause. line_fault ((Number 1 0 head.processors ∷ Number 1 0 head.spaces ∷ page ∷ []) ∷ [])
+    ensures err { IfErr result (λ cause. line_fault ((Number 1 0 head.now.processors ∷ Number 1 0 head.now.spaces ∷ page ∷ []) ∷ [])
         (processor.now ∷ seen arguments.now) ≡ Some cause) }
 {
     let [space, page] = arguments else {
@@ -270,8 +292,8 @@ fn one_page(head: Head, processor: &[u8], arguments: &[&[u8]]) -> Result<OnePage
 }
 
 /// The call `protect` of this processor, with these arguments.
-fn protect(head: Head, processor: &[u8], arguments: &[&[u8]]) -> Result<Line, LineCause>
-    ensures { IsRead head (protect_form head.processors head.spaces ∷ []) (processor.now ∷ codes "protect" ∷ seen arguments.now) result }
+fn protect(head: &Head, processor: &[u8], arguments: &[&[u8]]) -> Result<Line, LineCause>
+    ensures { IsRead head.now (protect_form head.now.processors head.now.spaces ∷ []) (processor.now ∷ codes "protect" ∷ seen arguments.now) result }
 {
     let [space, page, length, rights_word] = arguments else {
         return Err(LineCause::Form);
@@ -291,8 +313,8 @@ fn protect(head: Head, processor: &[u8], arguments: &[&[u8]]) -> Result<Line, Li
 }
 
 /// The call `load` of this processor, with these arguments.
-fn load(head: Head, processor: &[u8], arguments: &[&[u8]]) -> Result<Line, LineCause>
-    ensures { IsRead head (load_form head.processors head.spaces ∷ []) (processor.now ∷ codes "load" ∷ seen arguments.now) result }
+fn load(head: &Head, processor: &[u8], arguments: &[&[u8]]) -> Result<Line, LineCause>
+    ensures { IsRead head.now (load_form head.now.processors head.now.spaces ∷ []) (processor.now ∷ codes "load" ∷ seen arguments.now) result }
 {
     let [space, address] = arguments else {
         return Err(LineCause::Form);
@@ -305,8 +327,8 @@ fn load(head: Head, processor: &[u8], arguments: &[&[u8]]) -> Result<Line, LineC
 }
 
 /// The call `store` of this processor, with these arguments.
-fn store(head: Head, processor: &[u8], arguments: &[&[u8]]) -> Result<Line, LineCause>
-    ensures { IsRead head (store_form head.processors head.spaces ∷ []) (processor.now ∷ codes "store" ∷ seen arguments.now) result }
+fn store(head: &Head, processor: &[u8], arguments: &[&[u8]]) -> Result<Line, LineCause>
+    ensures { IsRead head.now (store_form head.now.processors head.now.spaces ∷ []) (processor.now ∷ codes "store" ∷ seen arguments.now) result }
 {
     let [space, address, word] = arguments else {
         return Err(LineCause::Form);

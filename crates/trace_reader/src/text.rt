@@ -46,14 +46,14 @@ fn first_call(daemon: Option<Daemon>) -> u64
 }
 
 /// The calls of the lines, of which the first has this number, up to the line `end`, behind which nothing may stand.
-fn calls(alloc: Global, head: Head, first: u64, text: &[u8]) -> Result<Vec<Line>, TraceFault>
+fn calls(alloc: Global, head: &Head, first: u64, text: &[u8]) -> Result<Vec<Line>, TraceFault>
     requires { first ≤ 3 }
-    ensures lines { IfOk result (λ calls. All (IsLine head.processors head.spaces) calls.items) }
+    ensures lines { IfOk result (λ calls. All (IsLine head.now.processors head.now.spaces) calls.items) }
     ensures few { IfOk result (λ calls. length calls.items ≤ MAX_CALLS) }
     ensures text { IfOk result
         (λ calls. text.now ≡ flat_map call_line calls.items ++ line_of_words (codes "end" ∷ [])) }
     ensures refused { IfErr result (λ fault. IsCause
-        (calls_refusal (call_forms head.processors head.spaces) first 0 (lines_of text.now)) fault) }
+        (calls_refusal (call_forms head.now.processors head.now.spaces) first 0 (lines_of text.now)) fault) }
     ensures all_was_read { IsErrOf result TraceFault.ReadFault → ⊥ }
 {
     let mut calls = Vec::new(alloc);
@@ -104,6 +104,14 @@ pub fn parse(alloc: Global, text: &[u8]) -> Result<Trace, TraceFault>
         Ok(parts) => parts,
         Err(cause) => return Err(TraceFault::Line { number: 2, cause }),
     };
-    let calls = calls(alloc, head, first_call(daemon), rest)?;
-    Ok(Trace::of(head.frames, head.processors, head.spaces, daemon, calls))
+    let calls = calls(alloc, &head, first_call(daemon), rest)?;
+    Ok(Trace::of(
+        head.version,
+        head.frames,
+        head.processors,
+        head.spaces,
+        head.sizes,
+        daemon,
+        calls,
+    ))
 }

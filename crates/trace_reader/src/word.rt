@@ -1,14 +1,14 @@
 //! Words, and what they say.
 ghost use Rattle.std.specs.Prelude.{◌≡◌, ◌==◌, ◌+◌, ◌-◌, ◌*◌, ◌^◌, ◌%◌, ◌<◌, ◌≤◌, ◌++◌, ◌∷◌, [], length, true, false, IsTrue, ◌↔◌, IfSome, IfNone, IfOk, decimal};
 ghost use Rattle.std.specs.List.{position, slice_split};
-ghost use Rattle.pager_model.specs.TraceText.{kind_word, rights_word};
-ghost use Rattle.trace_reader.specs.Forms.{number_of, number_in, may_stand, any_kind, any_rights};
+ghost use Rattle.pager_model.specs.TraceText.{kind_word, rights_word, sizes_word};
+ghost use Rattle.trace_reader.specs.Forms.{number_of, number_in, may_stand, any_kind, any_rights, any_sizes};
 ghost use Rattle.trace_reader.specs.Refusals.{words_of};
 ghost use Rattle.trace_reader.specs.Words.{seen, IsPlain};
 
 use crate::fault::LineCause;
 use arrayvec::ArrayVec;
-use pager_model::{Kind, Rights};
+use pager_model::{Kind, Rights, Sizes};
 use std::ops::Range;
 
 /// The most words that a form has.
@@ -154,6 +154,25 @@ pub fn rights(word: &[u8]) -> Option<Rights>
         b"none" => Some(Rights::NoAccess),
         b"read" => Some(Rights::Read),
         b"write" => Some(Rights::Write),
+        _ => None,
+    }
+}
+
+/// The page sizes that a word names.
+pub fn page_sizes(word: &[u8]) -> Option<Sizes>
+    ensures named { IfSome result (λ sizes. word.now ≡ sizes_word sizes) }
+    ensures some { IfSome result (λ sizes. may_stand any_sizes word.now ≡ true) }
+    ensures none { IfNone result (may_stand any_sizes word.now ≡ false) }
+{
+    match word {
+        b"0" => Some(Sizes::of(false, false, false)),
+        b"01" => Some(Sizes::of(true, false, false)),
+        b"02" => Some(Sizes::of(false, true, false)),
+        b"03" => Some(Sizes::of(false, false, true)),
+        b"012" => Some(Sizes::of(true, true, false)),
+        b"013" => Some(Sizes::of(true, false, true)),
+        b"023" => Some(Sizes::of(false, true, true)),
+        b"0123" => Some(Sizes::of(true, true, true)),
         _ => None,
     }
 }

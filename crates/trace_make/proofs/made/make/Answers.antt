@@ -13,5 +13,6 @@ of-requires-2 c =
     let are =
     c.in_ok-add_drawn.ensures ∙ ap (λ l. l ++ drawn c.of.result) (c.in_ok-add_maps.ensures ∙ ap (λ l. l ++ maps) c.in_ok-lines.ensures.items)
     ∙ ap (λ x. maps ++ drawn x) c.of.ensures in
-    subst (λ l. HasText (record { frames = args.frames; processors = args.processors; spaces = args.spaces; daemon = None; calls = l })) (sym are)
-    (HasText-made args.number args.calls args.processors args.spaces args.frames c.requires)
+    subst (λ l. HasText (record { version = 1; frames = args.frames; processors = args.processors; spaces = args.spaces; sizes = c.all.result; daemon = None; calls = l })) (sym are)
+    (subst (λ z. HasText (record { version = 1; frames = args.frames; processors = args.processors; spaces = args.spaces; sizes = z; daemon = None; calls = maps ++ drawn args.number })) (sym c.all.ensures)
+    (HasText-made args.number args.calls args.processors args.spaces args.frames c.requires))

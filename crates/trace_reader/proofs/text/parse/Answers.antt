@@ -1,5 +1,6 @@
-use Rattle.std.proofs.Common.{◌∙◌}
+use Rattle.std.proofs.Common.{◌∙◌, sym, subst}
 use Rattle.std.proofs.lemmas.Result.{err_from_is_err_and}
+use Rattle.pager_model.specs.TraceText.{IsTextOf}
 use Rattle.trace_reader.specs.Forms.{call_forms}
 use Rattle.trace_reader.proofs.Refusals.{too_long, no_first_line, faulty_first_line, behind_first_line, is_text}
 use Rattle.trace_reader.proofs.text.parse.Goals as goal
@@ -29,4 +30,5 @@ returns-in_err-calls-clause-refused c =
 pub returns-clause-ok : goal.returns-clause-ok
 returns-clause-ok c =
     let parts = c.in-Ok-second_line.parts in
-    rw c.of.ensures (is_text c.args.text.now c.in-Some.line.now c.in-Some.rest.now parts.1.now c.in-Ok.head parts.0 c.in_ok-calls.calls.items c.in-Some.ensures.parts c.in-Ok.ensures.text c.in-Ok.ensures.range c.in-Ok-second_line.ensures.text c.in-Ok-second_line.ensures.range c.in_ok-calls.ensures.lines c.in_ok-calls.ensures.few c.in_ok-calls.ensures.text)
+    subst (IsTextOf c.args.text.now) (sym c.of.ensures)
+    (is_text c.args.text.now c.in-Some.line.now c.in-Some.rest.now parts.1.now c.in-Ok.head parts.0 c.in_ok-calls.calls.items c.in-Some.ensures.parts c.in-Ok.ensures.text c.in-Ok.ensures.range c.in-Ok-second_line.ensures.text c.in-Ok-second_line.ensures.range c.in_ok-calls.ensures.lines c.in_ok-calls.ensures.few c.in_ok-calls.ensures.text)
