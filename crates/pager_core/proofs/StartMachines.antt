@@ -26,7 +26,6 @@ use Rattle.pager_model.specs.TraceText.{HasText, IsCall, IsDaemon}
 use Rattle.pager_model.proofs.Lists.{get_or_within}
 use Rattle.pager_laws.proofs.LegalHistories.{Agrees-legal}
 use Rattle.space_core.specs.Standing.{Kept}
-use Rattle.pager_model.specs.SizeSets.{all_sizes}
 use Rattle.pager_model.specs.Stored.{Stored}
 use Rattle.pager_model.specs.Stores.{setting_over}
 use Rattle.pager_core.specs.declared.flight.Flight.{Flight}
@@ -414,7 +413,7 @@ module _ (plan : Plan) (trace : HasText plan) (stores : List Stored) (enough : p
         one_keeper = λ s c d f g flies flies' keeps keeps'. absurd (keeps_none c f s flies keeps);
       }
 
-  IsMachine-start : (capacity : ℕ) → entries_of_trace plan ≤ capacity → IsMachine start spaces (start_frames all_sizes plan.frames (actors plan)) capacity
+  IsMachine-start : (capacity : ℕ) → entries_of_trace plan ≤ capacity → IsMachine start spaces (start_frames plan.sizes plan.frames (actors plan)) capacity
   IsMachine-start capacity fits =
       record {
         lawful = lawful;
@@ -435,7 +434,7 @@ module _ (plan : Plan) (trace : HasText plan) (stores : List Stored) (enough : p
       }
 
 -- whatever its parts are called
-pub IsMachine-started : (plan : Plan) → HasText plan → (stores : List Stored) → plan.spaces ≤ length stores → (run : Running) (spaces : List Kept) (pool : FrameState) (capacity : ℕ) → run.given ≡ setting_over plan stores → run.jobs ≡ map (λ c. jobs_of c plan) (range_with_len 0 (actors plan)) → run.flights ≡ first_flights run.jobs → run.history ≡ [] → AreNewSpaces run.given spaces → pool ≡ start_frames all_sizes plan.frames (actors plan) → entries_of_trace plan ≤ capacity → IsMachine run spaces pool capacity
+pub IsMachine-started : (plan : Plan) → HasText plan → (stores : List Stored) → plan.spaces ≤ length stores → (run : Running) (spaces : List Kept) (pool : FrameState) (capacity : ℕ) → run.given ≡ setting_over plan stores → run.jobs ≡ map (λ c. jobs_of c plan) (range_with_len 0 (actors plan)) → run.flights ≡ first_flights run.jobs → run.history ≡ [] → AreNewSpaces run.given spaces → pool ≡ start_frames plan.sizes plan.frames (actors plan) → entries_of_trace plan ≤ capacity → IsMachine run spaces pool capacity
 IsMachine-started plan trace stores enough run spaces pool capacity given jobs same_flights none new same_pool room =
     let new' = subst (λ (g : Given). AreNewSpaces g spaces) given new in
     let same : run ≡ start plan trace stores enough run.unused run.jobs jobs spaces new' =

@@ -14,7 +14,7 @@ use Rattle.pager_model.specs.Entries.{space_part}
 use Rattle.pager_model.specs.FrameStates.{FrameState}
 use Rattle.pager_model.specs.Legal.{space_at, entries_in}
 use Rattle.pager_model.specs.Settings.{Given, is_told, faults_at_entry}
-use Rattle.pager_model.specs.SizeSets.{SizeSet, all_sizes}
+use Rattle.pager_model.specs.SizeSets.{SizeSet}
 use Rattle.pager_model.specs.SpaceStates.{SpaceState, empty_state, space_after}
 use Rattle.pager_model.specs.Stored.{Stored, TellsZero}
 use Rattle.pager_model.specs.Stores.{given_over, EndsWith, StoresEnd}
@@ -125,11 +125,11 @@ read_at : {X Y : Type 0} (f : X → Y) (d : Y) (xs : List X) (i : ℕ) (x : X) �
 read_at f d xs i x at = get_or_from_slice_get (map f xs) i (f x) d (slice_get-map f xs i ∙ ap (option_map f) at)
 
 -- rooms for the stores that the setting is over
-pub AreRoomsOver-made : (frames : ℕ) (marks : List ℕ) (stores : List Stored) (given : Given) (rooms : List Capacity) (n processors : ℕ) (z : SizeSet) → given ≡ given_over frames marks stores → n ≡ length stores → processors ≡ length marks → z ≡ all_sizes → rooms ≡ replicate n (record { frames = frames; processors = processors; sizes = z }) → Each IsZeroIfTold stores → AreRoomsOver given stores rooms
-AreRoomsOver-made frames marks stores given rooms n processors z is count many all are zeros =
+pub AreRoomsOver-made : (frames : ℕ) (z : SizeSet) (marks : List ℕ) (stores : List Stored) (given : Given) (rooms : List Capacity) (n processors : ℕ) → given ≡ given_over frames z marks stores → n ≡ length stores → processors ≡ length marks → rooms ≡ replicate n (record { frames = frames; processors = processors; sizes = z }) → Each IsZeroIfTold stores → AreRoomsOver given stores rooms
+AreRoomsOver-made frames z marks stores given rooms n processors is count many are zeros =
     let told_count = length-map stores (λ (s : Stored). s.told) in
     subst (λ (g : Given). AreRoomsOver g stores rooms) (sym is) (record {
-      rooms_are = are ∙ (λ i. replicate ((count ∙ sym told_count) i) (record { frames = frames; processors = many i; sizes = all i }));
+      rooms_are = are ∙ (λ i. replicate ((count ∙ sym told_count) i) (record { frames = frames; processors = many i; sizes = z }));
       told = λ s store at told. zeros s store at (sym (read_at (λ (x : Stored). x.told) false stores s store at) ∙ told);
       faults = λ s store at. read_at (λ (x : Stored). x.faults) 0 stores s store at;
     })

@@ -3,7 +3,6 @@ ghost use Rattle.std.specs.List.{range_with_len};
 ghost use Rattle.pager_model.specs.Agreement.{OwnsBy};
 ghost use Rattle.pager_model.specs.Counts.{counts};
 ghost use Rattle.pager_model.specs.FrameStates.{start_frames};
-ghost use Rattle.pager_model.specs.SizeSets.{all_sizes};
 ghost use Rattle.pager_model.specs.Headline.{IsNeverShort};
 ghost use Rattle.pager_model.specs.Laws.{KeepsLaws};
 ghost use Rattle.pager_model.specs.Legal.{entries_in};
@@ -263,7 +262,7 @@ fn parts_of<S: Store + Send + Drop>(
     ensures history { IfOk result (λ p. (p.history.items ≡ []) × (entries_of_trace trace.now ≤ vec_capacity p.history)) }
     ensures setting { IfOk result (λ p. p.room.setting ≡ setting_over trace.now (map S.seen stores.now)) }
     ensures spaces { IfOk result (λ p. AreRoomsOver p.room.setting (take trace.now.spaces (map S.seen stores.now)) p.room.spaces) }
-    ensures pool { IfOk result (λ p. p.room.pool ≡ start_frames all_sizes trace.now.frames (actors trace.now)) }
+    ensures pool { IfOk result (λ p. p.room.pool ≡ start_frames trace.now.sizes trace.now.frames (actors trace.now)) }
     ensures capped { IfOk result (λ _. AreCapped trace.now.spaces (map S.seen stores.now)) }
 {
     let history = Vec::with_capacity(alloc, entries_of_trace(trace))?;
@@ -271,7 +270,7 @@ fn parts_of<S: Store + Send + Drop>(
     let flights = first_of_each(alloc, jobs.as_slice())?;
     let marks = marks_of(alloc, trace)?;
     let own = &stores[..trace.spaces() as usize];
-    let room = RunRoom::create(alloc, trace.frames(), marks.as_slice(), own)?;
+    let room = RunRoom::create(alloc, trace.frames(), trace.sizes(), marks.as_slice(), own)?;
     Ok(Parts {
         jobs,
         flights,

@@ -7,7 +7,6 @@ ghost use Rattle.pager_model.specs.FrameStates.{start_frames};
 ghost use Rattle.pager_model.specs.Legal.{entries_in};
 ghost use Rattle.pager_model.specs.Settings.{Given};
 ghost use Rattle.pager_model.specs.Showing.{actors, calls_of, jobs_of, marks_of, turns_of};
-ghost use Rattle.pager_model.specs.SizeSets.{all_sizes};
 ghost use Rattle.pager_model.specs.TraceText.{HasText};
 ghost use Rattle.pager_model.specs.Stores.{given_over, StoresEnd, AreCapped};
 ghost use Rattle.pager_model.specs.Stored.{Stored, TellsZero};
@@ -35,11 +34,12 @@ pub struct RunRoom<S: Store + Send + Drop> {
 }
 
 impl<S: Store + Send + Drop> RunRoom<S> {
-    /// Room for a run of a space for each of these stores, which are only looked at. `frames` is a multiple of 512, and `marks` has one mark a
-    /// processor.
+    /// Room for a run with these page sizes of a space for each of these stores, which are only looked at. `frames` is a multiple of 512, and `marks`
+    /// has one mark a processor.
     pub fn create(
         alloc: Global,
         frames: u32,
+        sizes: Sizes,
         marks: &[u32],
         stores: &[S],
     ) -> Result<RunRoom<S>, NoMemory>
@@ -47,19 +47,18 @@ impl<S: Store + Send + Drop> RunRoom<S> {
         requires processors { (1 ≤ length marks.now) × (length marks.now ≤ 17) }
         requires whole { frames % 512 ≡ 0 }
         requires frames { frames ≤ most_frames }
-        ensures setting { IfOk result (λ room. room.setting ≡ given_over frames marks.now (map S.seen stores.now)) }
+        ensures setting { IfOk result (λ room. room.setting ≡ given_over frames sizes marks.now (map S.seen stores.now)) }
         ensures spaces { IfOk result (λ room. AreRoomsOver room.setting (map S.seen stores.now) room.spaces) }
-        ensures pool { IfOk result (λ room. room.pool ≡ start_frames all_sizes frames (length marks.now)) }
+        ensures pool { IfOk result (λ room. room.pool ≡ start_frames sizes frames (length marks.now)) }
 
         // Each store was asked for its count of faults.
         ensures capped { IfOk result (λ _. AreCapped (length stores.now) (map S.seen stores.now)) }
     {
         let processors = marks.len() as u32;
         let spaces = stores.len() as u32;
-        let all_sizes = Sizes::of(true, true, true);
-        let pool = Pool::create(alloc, frames, processors, all_sizes)?;
-        let setting = setting_of(alloc, frames, marks, stores)?;
-        let spaces = SpaceRooms::create(alloc, frames, processors, all_sizes, spaces)?;
+        let pool = Pool::create(alloc, frames, processors, sizes)?;
+        let setting = setting_of(alloc, frames, sizes, marks, stores)?;
+        let spaces = SpaceRooms::create(alloc, frames, processors, sizes, spaces)?;
         Ok(RunRoom {
             setting,
             spaces,
@@ -192,12 +191,13 @@ impl<S: Store + Send + Drop> Gathered<S> {
 fn setting_of<S: Store + Send + Drop>(
     alloc: Global,
     frames: u32,
+    sizes: Sizes,
     marks: &[u32],
     stores: &[S],
 ) -> Result<Setting, NoMemory>
     requires spaces { (1 ≤ length stores.now) × (length stores.now ≤ 16) }
     requires processors { (1 ≤ length marks.now) × (length marks.now ≤ 17) }
-    ensures given { IfOk result (λ g. g ≡ given_over frames marks.now (map S.seen stores.now)) }
+    ensures given { IfOk result (λ g. g ≡ given_over frames sizes marks.now (map S.seen stores.now)) }
     ensures told { IfOk result (λ g. (s : ℕ) (store : Stored) → slice_get (map S.seen stores.now) s ≡ Some store → store.told ≡ true → TellsZero store) }
     ensures capped { IfOk result (λ _. AreCapped (length stores.now) (map S.seen stores.now)) }
 {
@@ -208,7 +208,7 @@ fn setting_of<S: Store + Send + Drop>(
         told.push(store.told())?;
         faults.push(store.faults())?;
     }
-    Ok(Setting::of(frames, marks, told, faults))
+    Ok(Setting::of(frames, marks, told, faults).with_sizes(sizes))
 }
 
 /// Puts the stores of the spaces behind these, the first space's last.

@@ -9,7 +9,7 @@ use Rattle.std.proofs.Math.ListN.{length-map}
 use Rattle.journal_core.specs.Journals.{JournalName, AuthorState, new_author}
 use Rattle.pager_model.specs.FrameStates.{FrameState, start_frames}
 use Rattle.pager_model.specs.Settings.{Given, is_told, faults_at_entry}
-use Rattle.pager_model.specs.SizeSets.{all_sizes}
+use Rattle.pager_model.specs.SizeSets.{SizeSet}
 use Rattle.pager_model.specs.Stores.{given_over}
 use Rattle.pager_model.specs.Stored.{Stored}
 use Rattle.space_core.specs.Standing.{Kept}
@@ -132,9 +132,9 @@ none_left j k spaces authors left past =
     (none, nil_from_length authors (omega (arith, short, same)))
 
 -- The parts of a run and all authors of the journal that was made for its setting are a pager's.
-pub AreNewParts-made : (j : JournalName) (given : Given) (frames : ℕ) (marks : List ℕ) (stores : List Stored) (spaces : List Kept) (authors : List AuthorState) (pool : FrameState) → j.setting ≡ given → given ≡ given_over frames marks stores → length spaces ≤ 16 → AreNewSpaces given spaces
-    → authors ≡ map (new_author j) (range_with_len 0 (length given.told + 1)) → pool ≡ start_frames all_sizes frames (length marks) → AreNewParts j spaces authors pool
-AreNewParts-made j given frames marks stores spaces authors pool setting over few new are_authors start =
+pub AreNewParts-made : (j : JournalName) (given : Given) (frames : ℕ) (z : SizeSet) (marks : List ℕ) (stores : List Stored) (spaces : List Kept) (authors : List AuthorState) (pool : FrameState) → j.setting ≡ given → given ≡ given_over frames z marks stores → length spaces ≤ 16 → AreNewSpaces given spaces
+    → authors ≡ map (new_author j) (range_with_len 0 (length given.told + 1)) → pool ≡ start_frames z frames (length marks) → AreNewParts j spaces authors pool
+AreNewParts-made j given frames z marks stores spaces authors pool setting over few new are_authors start =
     record {
       few = (let count = new.count in let same : length j.setting.told ≡ length given.told = ap (λ (g : Given). length g.told) setting in omega (arith, count, same, few));
       spaces_are = subst (λ (g : Given). AreNewSpaces g spaces) (sym setting) new;

@@ -11,6 +11,7 @@ use crate::pager::Pager;
 use frame_pool::Pool;
 use journal_core::{Author, Journal, Pass, create};
 use pager_core::RunRoom;
+use pager_model::Sizes;
 use space_core::Space;
 use std::alloc::Global;
 use std::marker::Model;
@@ -41,11 +42,12 @@ impl<S: Store + Send + Drop> Model for Prepared<S> {
 }
 
 impl<S: Store + Send + Drop> Prepared<S> {
-    /// A space for each store, a processor for each mark, with room for so many entries, and a journal without entries. All the memory that
+    /// A space with these page sizes for each store, a processor for each mark, with room for so many entries, and a journal without entries. All the memory that
     /// a pager takes, but for that of the stores' writes, is taken here, and for want of it the stores come back.
     pub fn create(
         alloc: Global,
         frames: u32,
+        sizes: Sizes,
         marks: &[u32],
         stores: Vec<S>,
         rooms: &[usize],
@@ -54,7 +56,7 @@ impl<S: Store + Send + Drop> Prepared<S> {
         requires stores { (1 ≤ length stores.items) × (length stores.items ≤ 16) }
         requires processors { (1 ≤ length marks.now) × (length marks.now ≤ 17) × (length rooms.now ≡ length marks.now) }
         requires rooms { All (λ r. r ≤ 2 ^ 31) rooms.now }
-        ensures setting { IfOk result (λ p. p.journal.name.setting ≡ given_over frames marks.now (map S.seen stores.items)) }
+        ensures setting { IfOk result (λ p. p.journal.name.setting ≡ given_over frames sizes marks.now (map S.seen stores.items)) }
         ensures passes { IfOk result (λ p. p.passes ≡ new_passes p.journal.name 0 rooms.now) }
         ensures room { IfOk result (λ p. p.journal.room ≡ sum rooms.now) }
 
@@ -62,7 +64,7 @@ impl<S: Store + Send + Drop> Prepared<S> {
         ensures capped { IfOk result (λ _. AreCapped (length stores.items) (map S.seen stores.items)) }
         ensures back { IfErr result (λ back. map S.seen back.items ≡ map S.seen stores.items) }
     {
-        let Ok(room) = RunRoom::create(alloc, frames, marks, stores.as_slice()) else {
+        let Ok(room) = RunRoom::create(alloc, frames, sizes, marks, stores.as_slice()) else {
             return Err(stores);
         };
         let Ok(opened) = create(alloc, room.setting, rooms) else {

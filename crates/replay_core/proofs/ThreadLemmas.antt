@@ -19,6 +19,7 @@ use Rattle.pager_model.specs.Settings.{Given, mark_of}
 use Rattle.pager_model.specs.Showing.{actors, jobs_of, marks_of}
 use Rattle.pager_model.specs.TraceText.{HasText}
 use Rattle.pager_model.specs.Stores.{given_over, setting_over, EndsWith, StoresEnd, AreCapped}
+use Rattle.pager_model.specs.SizeSets.{SizeSet}
 use Rattle.pager_model.specs.Stored.{Stored}
 use Rattle.pager_core.specs.Machines.{CanDo, most_entries}
 use Rattle.pager_core.specs.Running.{AreOfMark, jobs_at, IsWholeRun}
@@ -80,7 +81,7 @@ module _ (plan : Plan) (trace : HasText plan) (jobs : List (List Job)) (are : jo
       (omega (arith, some, all), omega (arith, few, all), omega (arith, all, own))
 
   -- and that it is one for them
-  pub is_prepared : (prepared : PreparedState) (stores : List Stored) (rooms : List ℕ) → prepared.journal.name.setting ≡ given_over plan.frames (marks_of plan) stores → length stores ≡ plan.spaces → rooms ≡ map room_for jobs → prepared.passes ≡ new_passes prepared.journal.name 0 rooms → prepared.journal.room ≡ sum rooms → IsPreparedFor prepared jobs
+  pub is_prepared : (prepared : PreparedState) (stores : List Stored) (rooms : List ℕ) → prepared.journal.name.setting ≡ given_over plan.frames plan.sizes (marks_of plan) stores → length stores ≡ plan.spaces → rooms ≡ map room_for jobs → prepared.passes ≡ new_passes prepared.journal.name 0 rooms → prepared.journal.room ≡ sum rooms → IsPreparedFor prepared jobs
   is_prepared prepared stores rooms setting count rooms_are passes room =
       record {
         may = record {
@@ -142,9 +143,9 @@ module _ {P : Type 0} (seen : P → Stored) {plan : Plan} {stores own others : L
       ∙ sym (drop-map seen plan.spaces stores)
 
   -- The run of a pager over them.
-  module _ (trace : HasText plan) (given : Given) (setting : given ≡ given_over plan.frames (marks_of plan) (map seen own)) where
+  module _ (trace : HasText plan) (given : Given) (setting : given ≡ given_over plan.frames plan.sizes (marks_of plan) (map seen own)) where
     is_setting : given ≡ setting_over plan (map seen stores)
-    is_setting = setting ∙ ap (given_over plan.frames (marks_of plan)) own_seen
+    is_setting = setting ∙ ap (given_over plan.frames plan.sizes (marks_of plan)) own_seen
 
     pub replayed : (jobs : List (List Job)) (history : List Numbered) (after joined : List P) → joined ≡ after ++ others → jobs ≡ map (λ c. jobs_of c plan) (range_with_len 0 (actors plan)) → AreCapped (length own) (map seen own) → IsWholeRun given jobs history → StoresEnd given history (map seen after) → length after ≡ length given.told → IsReplay plan (map seen stores) history (map seen joined)
     replayed jobs history after joined is are capped whole ends count =
@@ -158,5 +159,5 @@ module _ {P : Type 0} (seen : P → Stored) {plan : Plan} {stores own others : L
     counted history summary = subst (λ (g : Given). summary ≡ counts g (entries_in history)) is_setting
 
 -- the setting of a pager that was made for a trace
-pub setting_made : (plan : Plan) {frames : ℕ} {lent marks : List ℕ} {given : Given} (stores : List Stored) → given ≡ given_over frames lent stores → frames ≡ plan.frames → lent ≡ marks → marks ≡ marks_of plan → given ≡ given_over plan.frames (marks_of plan) stores
-setting_made plan stores setting same_frames same_marks own = setting ∙ ap₂ (λ n l. given_over n l stores) same_frames (same_marks ∙ own)
+pub setting_made : (plan : Plan) {frames : ℕ} {z : SizeSet} {lent marks : List ℕ} {given : Given} (stores : List Stored) → given ≡ given_over frames z lent stores → frames ≡ plan.frames → z ≡ plan.sizes → lent ≡ marks → marks ≡ marks_of plan → given ≡ given_over plan.frames plan.sizes (marks_of plan) stores
+setting_made plan stores setting same_frames same_sizes same_marks own = setting ∙ (λ i. given_over (same_frames i) (same_sizes i) ((same_marks ∙ own) i) stores)

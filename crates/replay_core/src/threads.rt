@@ -48,7 +48,15 @@ pub fn replay<S: Store + Send + Drop, R: Threads + Wait + Sync>(
     };
     let (own, others) = parted(stores, trace.spaces() as usize)?;
     let frames = trace.frames();
-    match Prepared::create(alloc, frames, marks.as_slice(), own, rooms.as_slice()) {
+    let sizes = trace.sizes();
+    match Prepared::create(
+        alloc,
+        frames,
+        sizes,
+        marks.as_slice(),
+        own,
+        rooms.as_slice(),
+    ) {
         Ok(prepared) => {
             let Gathered {
                 history,

@@ -7,6 +7,7 @@ ghost use Rattle.pager_model.specs.declared.reply.Reply.{Reply as Replied};
 ghost use Rattle.pager_model.specs.Entries.{entries_of};
 ghost use Rattle.pager_model.specs.Legal.{IsLegal, entries_in};
 ghost use Rattle.pager_model.specs.Showing.{answers_in};
+ghost use Rattle.pager_model.specs.SizeSets.{all_sizes};
 ghost use Rattle.pager_model.specs.Stores.{given_over};
 ghost use Rattle.pager_core.specs.Machines.{CanFly};
 ghost use Rattle.pager_locks.specs.Calls.{MakesCall};
@@ -15,7 +16,7 @@ ghost use Rattle.pager_locks.specs.Prepared.{MayCall};
 use journal_core::Pass;
 use pager_core::Gathered;
 use pager_locks::{Named, Pager, Prepared, Running};
-use pager_model::Call;
+use pager_model::{Call, Sizes};
 use std::alloc::Global;
 use std::marker::Brand;
 use std::sync::Wait;
@@ -35,12 +36,12 @@ pub fn share<S: Store + Send + Drop, R: Threads + Wait + Sync>(
     requires stores { (1 ≤ length stores.items) × (length stores.items ≤ 16) }
     requires first { CanFly (length stores.items) first.now }
     requires second { CanFly (length stores.items) second.now }
-    ensures legal { IfOk result (λ g. IsLegal (given_over 512 (0 ∷ 0 ∷ []) (map S.seen stores.items)) (entries_in g.history.items)) }
+    ensures legal { IfOk result (λ g. IsLegal (given_over 512 all_sizes (0 ∷ 0 ∷ []) (map S.seen stores.items)) (entries_in g.history.items)) }
     ensures first { IfOk result (λ g. answers_in (entries_of 0 (entries_in g.history.items)) ≡ (0, first.now) ∷ []) }
     ensures second { IfOk result (λ g. answers_in (entries_of 1 (entries_in g.history.items)) ≡ (0, second.now) ∷ []) }
     ensures back { IfErr result (λ back. map S.seen back.items ≡ map S.seen stores.items) }
 {
-    let prepared = Prepared::create(alloc, 512, &[0, 0], stores, &[8, 8])?;
+    let prepared = Prepared::create(alloc, 512, Sizes::all(), &[0, 0], stores, &[8, 8])?;
     Ok(run::<Brand, S, R>(rt, prepared, first, second))
 }
 

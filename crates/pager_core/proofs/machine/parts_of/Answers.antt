@@ -30,7 +30,7 @@ returns-clause-setting g c =
     let marks : c.as_slice-2.result.now ≡ marks_of plan = c.as_slice-2.ensures.value ∙ c.in_ok-marks.ensures in
     let own = first g.S.Store.seen c.args.stores.now c.spaces.result plan.spaces c.spaces.ensures.spaces in
     c.in_ok-room.ensures.setting
-    ∙ (λ i. given_over (c.frames.ensures.frames i) (marks i) (own i))
+    ∙ (λ i. given_over (c.frames.ensures.frames i) (c.sizes.ensures.sizes i) (marks i) (own i))
 
 pub returns-clause-spaces : goal.returns-clause-spaces
 returns-clause-spaces g c =

@@ -1,6 +1,6 @@
 use Rattle.std.proofs.Common.{◌≡◌, ◌+◌, ◌≤◌, ◌++◌, [], ◌∷◌, map, take, sym, ap, subst, ◌∙◌, arith}
 use Rattle.std.proofs.lemmas.List.{map_push, take_more, take_all}
-use Rattle.pager_model.specs.SizeSets.{all_sizes}
+use Rattle.pager_model.specs.Settings.{Given}
 use Rattle.pager_model.specs.SpaceStates.{last_count}
 use Rattle.pager_model.specs.Stored.{Stored}
 use Rattle.pager_core.proofs.Stores.{read_more, Each, Each-push, IsZeroIfTold}
@@ -22,13 +22,13 @@ loop-store-preserved g c =
     )
 
 -- it read all of them
-read : (g : Over) (c : goal.After-of g) → map g.S.Store.seen (take c.loop-store.store-index c.args.stores.now) ≡ map g.S.Store.seen c.args.stores.now
+read : (g : Over) (c : goal.After-with_sizes g) → map g.S.Store.seen (take c.loop-store.store-index c.args.stores.now) ≡ map g.S.Store.seen c.args.stores.now
 read g c = ap (map g.S.Store.seen) (take_all c.loop-store.store-index c.args.stores.now (omega (arith, c.loop-store-test.false)))
 
 pub returns-clause-given : goal.returns-clause-given
 returns-clause-given g c =
-    c.of.ensures ∙ (λ i. record {
-      sizes = all_sizes;
+    c.with_sizes.ensures ∙ ap (λ (g : Given). record g { sizes = c.args.sizes }) c.of.ensures ∙ (λ i. record {
+      sizes = c.args.sizes;
       frames = c.args.frames;
       marks = c.in_ok-marks.ensures.items_if_clones_equal (λ x y same. same) i;
       told = (c.loop-store.invariant.0 ∙ ap (map (λ (s : Stored). s.told)) (read g c)) i;
