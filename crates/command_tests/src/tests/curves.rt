@@ -10,13 +10,18 @@ use trace_reader::TraceFault;
 const EIGHT_STORED: &[u8] =
     b"trace 1 512 1 1\n0 map 0 0 8 fixed write\n0 load 0 0\n0 load 0 8192\n0 load 0 16384\n0 load 0 24576\n0 load 0 32768\n0 load 0 40960\n0 load 0 49152\n0 load 0 57344\n0 store 0 24576 7\n0 store 0 0 7\n0 store 0 8192 7\n0 store 0 16384 7\n0 store 0 32768 7\n0 store 0 40960 7\n0 store 0 49152 7\n0 store 0 57344 7\nend\n";
 
+/// By base pages and 512 of them alone eight pages stay base pages.
+const EIGHT_TWICE: &[u8] =
+    b"trace 2 512 1 1 03\n0 map 0 0 8 fixed write\n0 load 0 0\n0 load 0 8192\n0 load 0 16384\n0 load 0 24576\n0 load 0 32768\n0 load 0 40960\n0 load 0 49152\n0 load 0 57344\n0 load 0 0\n0 load 0 8192\n0 load 0 16384\n0 load 0 24576\n0 load 0 32768\n0 load 0 40960\n0 load 0 49152\n0 load 0 57344\nend\n";
+
 /// The capacities behind those before it, up to one: each has so many misses, by tiles and by base pages alone.
 type Piece = (u64, u64, u64);
 
 /// A trace, and its curves.
-static CURVES: [(&[u8], &[Piece]); 2] = [
+static CURVES: [(&[u8], &[Piece]); 3] = [
     (EIGHT, &[(1024, 8, 8)]),
     (EIGHT_STORED, &[(4, 15, 16), (7, 15, 15), (1024, 15, 8)]),
+    (EIGHT_TWICE, &[(7, 16, 16), (1024, 8, 8)]),
 ];
 
 fn push_line<R: Abort + AllocGlobal>(rt: &R, text: &mut Vec<u8>, capacity: u64, piece: &Piece) {

@@ -36,3 +36,11 @@ pub const LOADED_TWICE: &[u8] =
 /// Eight pages become one tile.
 pub const EIGHT: &[u8] =
     b"trace 1 512 1 1\n0 map 0 0 8 fixed write\n0 load 0 0\n0 load 0 8192\n0 load 0 16384\n0 load 0 24576\n0 load 0 32768\n0 load 0 40960\n0 load 0 49152\n0 load 0 57344\nend\n";
+
+/// A reservation of 512 pages is broken into base pages, where there is no size between.
+pub const BROKEN: &[u8] =
+    b"trace 2 512 1 2 03\n0 map 0 0 512 fixed write\n0 map 1 0 8 fixed write\n0 load 0 0\n0 load 1 0\nend\n";
+
+/// What is printed of it, with the history.
+pub const BROKEN_HISTORY_TEXT: &[u8] =
+    b"0 0 done\n0 1 done\n0 2 value 0 miss 0\n0 3 value 0 miss 0\n0 0 s0 answer 0 done\n1 0 s1 answer 1 done\n2 0 s0+f take 0 0 0 512 512 0\n3 0 s0 answer 2 value 0 miss 0\n4 0 s1+f take 0 1 0 8 8 0\n5 0 s1 answer 3 value 0 miss 0\ntiles 2 0 0 0\npromotions 0\ndemotions 0\npreemptions 1\nimages 0 2\nframes 510 0 2\nend\n";

@@ -2,7 +2,8 @@
 
 use super::runs::{AMPLE, Setup, assert_done, assert_stopped, ran, ran_in_order};
 use super::texts::{
-    EMPTY, LAST_PAGE, LAST_PAGE_HISTORY_TEXT, LAST_PAGE_TEXT, TWO_SPACES, WRITTEN_TWICE,
+    BROKEN, BROKEN_HISTORY_TEXT, EMPTY, LAST_PAGE, LAST_PAGE_HISTORY_TEXT, LAST_PAGE_TEXT,
+    TWO_SPACES, WRITTEN_TWICE,
 };
 use pager_command::USAGE;
 
@@ -38,6 +39,15 @@ fn the_history_is_printed_where_the_words_ask_for_it(rt: HostRuntime) {
     for words in &WITH_HISTORY {
         let ending = ran(&rt, words, LAST_PAGE, AMPLE);
         assert_done(&rt, &ending, LAST_PAGE_HISTORY_TEXT);
+    }
+}
+
+#[test]
+fn a_run_is_by_the_page_sizes_of_its_trace(rt: HostRuntime) {
+    let setup = Setup { stores: 2, ..AMPLE };
+    for words in &WITH_HISTORY {
+        let ending = ran(&rt, words, BROKEN, setup);
+        assert_done(&rt, &ending, BROKEN_HISTORY_TEXT);
     }
 }
 

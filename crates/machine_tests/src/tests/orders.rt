@@ -5,7 +5,7 @@ ghost use Rattle.pager_model.specs.Showing.{actors};
 
 mod silent;
 
-use pager_model::{Call, Generator, Kind, Line, NoMemory, Numbered, Rights, Trace};
+use pager_model::{Call, Generator, Kind, Line, NoMemory, Numbered, Rights, Sizes, Trace};
 use replay_core::{Gathered, replay_file_order, replay_schedule, replay_turns};
 use silent::Silent;
 use std::alloc::Global;
@@ -49,7 +49,7 @@ fn two_processors(alloc: Global) -> Result<Trace, NoMemory>
             call: STORE,
         },
     ];
-    Ok(Trace::of(512, 2, 1, None, lines.to_vec(alloc)?))
+    Ok(Trace::of(1, 512, 2, 1, Sizes::all(), None, lines.to_vec(alloc)?))
 }
 
 /// Two loads of each of four processors. No region has their page, so each is answered by one entry.
@@ -61,7 +61,7 @@ fn four_processors(alloc: Global) -> Result<Trace, NoMemory>
         call: LOAD,
     });
     let lines = [first, first, second, second, third, third, fourth, fourth];
-    Ok(Trace::of(512, 4, 1, None, lines.to_vec(alloc)?))
+    Ok(Trace::of(1, 512, 4, 1, Sizes::all(), None, lines.to_vec(alloc)?))
 }
 
 /// A store for the one space.

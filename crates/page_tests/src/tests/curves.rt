@@ -2,8 +2,9 @@
 ghost use Rattle.std.specs.Prelude.{◌≡◌, ◌+◌, ◌*◌, ◌<◌, ◌≤◌, ◌^◌, length, Some};
 
 use super::size;
+use super::tiling::{Beside, Told, mapping};
 use miss_curves::{Curves, Stacks, Use};
-use pager_model::{Answered, Call, Entry, Extent, Reply, Rights, Tile, What};
+use pager_model::{Answered, Call, Entry, Extent, Reply, Rights, Sizes, Tile, What};
 use std::alloc::Global;
 use std::process::Abort;
 
@@ -235,4 +236,82 @@ fn stores_hit_where_their_pages_tile_stood(rt: HostRuntime) {
             && are(&curves.pages, 5, 7, 15)
             && are(&curves.pages, 8, 1024, 8)
     );
+}
+
+/// Base pages alone.
+fn base_alone() -> Sizes {
+    Sizes::of(false, false, false)
+}
+
+/// A page of a block gets its frame.
+fn fill(stacks: &mut Stacks, block: &mut Beside, page: u32)
+    requires one { length stacks.old.tiles ≡ 1 }
+    requires room { stacks.old.entries < 2 ^ 32 }
+    ensures one { length stacks.new.tiles ≡ 1 }
+    ensures entries { stacks.new.entries ≤ stacks.old.entries + 1 }
+{
+    let Told::OfPage(changes) = block.fill(page, mapping(page)) else {
+        return;
+    };
+    let gone = changes.gone();
+    let base = &block.base;
+    let sizes = block.sizes;
+    stacks.follow(
+        &answer(),
+        &|tile: &Tile| !gone.has_page(tile.extent.first) || base.is_tile(tile, sizes),
+        None,
+        &|tile: &Tile| base.is_tile(tile, base_alone()),
+        None,
+    );
+}
+
+/// A use of a page of a block that stays as it is, by some sizes, where the page is resident.
+fn use_of(block: &Beside, page: u32, sizes: Sizes) -> Option<Use> {
+    let before = block.base.tile_of(page, sizes);
+    before.map(|after| Use { before, after })
+}
+
+/// The first eight pages of a block are loaded.
+fn load_eight(stacks: &mut Stacks, block: &Beside)
+    requires one { length stacks.old.tiles ≡ 1 }
+    requires room { stacks.old.entries < 2 ^ 32 }
+    ensures one { length stacks.new.tiles ≡ 1 }
+    ensures entries { stacks.new.entries ≤ stacks.old.entries + 8 }
+{
+    for page in 0..8 {
+        let used = use_of(block, page, block.sizes);
+        let used_page = use_of(block, page, base_alone());
+        stacks.follow_same(&answer(), used, used_page);
+    }
+}
+
+/// The curves, by these sizes, of loads of the first eight pages of a block before its last page has a frame, and then of them again.
+fn curves_by(alloc: Global, sizes: Sizes) -> Option<Curves> {
+    let mut block = Beside::create(alloc, sizes).ok()?;
+    let mut stacks = Stacks::create(alloc, 1).ok()?;
+    for page in 0..511 {
+        fill(&mut stacks, &mut block, page);
+    }
+    load_eight(&mut stacks, &block);
+    fill(&mut stacks, &mut block, 511);
+    load_eight(&mut stacks, &block);
+    stacks.curves(alloc).ok()
+}
+
+/// Before the last page has its frame, the tile of the eight pages has 64 where there are all sizes; without those of 8 and 64 each has its own.
+/// Then they have the block's.
+#[test]
+fn tiles_of_the_sizes_that_there_are_miss(rt: HostRuntime) {
+    for (sizes, misses) in [(Sizes::all(), 2), (Sizes::of(false, false, true), 9)] {
+        let curves = curves_by(rt.alloc(), sizes).expect(&rt, super::NO_MEMORY);
+        assert!(rt; are(&curves.tiles, 1, 1024, misses));
+        assert!(rt; are(&curves.pages, 1, 7, 16) && are(&curves.pages, 8, 1024, 8));
+    }
+}
+
+#[test]
+fn tiles_of_base_pages_alone_miss_as_base_pages_do(rt: HostRuntime) {
+    let curves = curves_by(rt.alloc(), base_alone()).expect(&rt, super::NO_MEMORY);
+    assert!(rt; are(&curves.tiles, 1, 7, 16) && are(&curves.tiles, 8, 1024, 8));
+    assert!(rt; are(&curves.pages, 1, 7, 16) && are(&curves.pages, 8, 1024, 8));
 }

@@ -36,7 +36,7 @@ fn all_sizes() -> Sizes {
 
 /// What the base told of a drawn change.
 #[derive(Drop)]
-enum Told {
+pub(super) enum Told {
     /// No change was made.
     Nothing,
     OfPage(Changes),
@@ -45,9 +45,9 @@ enum Told {
 
 /// The base beside a plain list of mappings, and the sizes by which their tiles are compared.
 #[derive(Drop)]
-struct Beside {
-    sizes: Sizes,
-    base: Base,
+pub(super) struct Beside {
+    pub(super) sizes: Sizes,
+    pub(super) base: Base,
     pages: Vec<Option<Mapping>>,
     ghost frames: { frames_in base ≡ 1536 },
     ghost absent: { (p : ℕ) → 1024 ≤ p → mapping_at base p ≡ None },
@@ -149,7 +149,7 @@ fn came(before: &[Option<Tile>], after: &[Option<Tile>]) -> usize {
 }
 
 impl Beside {
-    fn create(alloc: Global, sizes: Sizes) -> Result<Beside, NoMemory> {
+    pub(super) fn create(alloc: Global, sizes: Sizes) -> Result<Beside, NoMemory> {
         Ok(Beside {
             sizes,
             base: Base::create(alloc, FRAMES)?,
@@ -158,7 +158,7 @@ impl Beside {
     }
 
     /// Fills a page that has no frame with one that no page has.
-    fn fill(&mut self, page: u32, mapping: Mapping) -> Told {
+    pub(super) fn fill(&mut self, page: u32, mapping: Mapping) -> Told {
         if page >= PAGES || mapping.frame >= FRAMES || self.base.mapping(page).is_some() {
             return Told::Nothing;
         }
@@ -258,7 +258,7 @@ fn large_meeting(tiles: &[Option<Tile>], first: usize, end: usize) -> usize {
 }
 
 /// The mapping of a page in the frame of its number, after the first 512 pages in those from 1,024 on.
-fn mapping(page: u32) -> Mapping {
+pub(super) fn mapping(page: u32) -> Mapping {
     Mapping {
         frame: if page < 512 { 1024 + page } else { page - 512 },
         region: if page < 900 { 0 } else { 900 },
@@ -307,12 +307,19 @@ fn keeps_outside(moves: &Moves, before: &[Option<Tile>], after: &[Option<Tile>])
     gone.all(|(old, _)| old.is_none_or(|tile| begins_in(moves.touched, &tile)))
 }
 
-/// Whether the list has each of the second tiles that is none of the first, once, and no other.
+/// Whether the list has each of the second tiles that is none of the first, once, and no other, and so their pages.
 fn are_new(list: &TileList, before: &[Option<Tile>], after: &[Option<Tile>]) -> bool {
     let tiles = before.iter().zip(after).enumerate();
     let mut new = tiles.filter(|(page, (old, new))| begins(new, *page) && old != new);
     list.len() == count_new(before, after)
         && new.all(|(_, (_, new))| new.is_some_and(|tile| list.has(&tile)))
+        && has_pages(list, before, after)
+}
+
+/// Whether the pages of the list's tiles are those whose second tile is another one than the first.
+fn has_pages(list: &TileList, before: &[Option<Tile>], after: &[Option<Tile>]) -> bool {
+    let mut pages = (0..).zip(before.iter().zip(after));
+    pages.all(|(page, (old, new))| list.has_page(page) == (new.is_some() && old != new))
 }
 
 /// How many of the second tiles are none of the first.

@@ -7,7 +7,7 @@ ghost use Rattle.replay_tests.specs.Calling.{MayMakeCalls};
 use super::printed::memory_stores;
 use journal_core::Pass;
 use pager_locks::{Named, Pager, Prepared, Running};
-use pager_model::{Call, Kind, Rights};
+use pager_model::{Call, Kind, Rights, Sizes};
 use paging_daemon::{Turned, turn};
 use std::alloc::Global;
 use std::marker::Brand;
@@ -78,7 +78,7 @@ fn turn_when_full<N: Named, R: Wait>(rt: &R, prepared: Prepared<MemoryStore>) ->
 fn turned_when_full<R: Wait>(rt: &R, alloc: Global) -> Result<Turned, Fail> {
     let stores = memory_stores(alloc, 1)?;
     // Room for 513 calls, and for one turn.
-    match Prepared::create(alloc, PAGES, &[0, LOW], stores, &[4104, 9]) {
+    match Prepared::create(alloc, PAGES, Sizes::all(), &[0, LOW], stores, &[4104, 9]) {
         Ok(prepared) => Ok(turn_when_full::<Brand, R>(rt, prepared)),
         Err(_) => Err(Fail::from("no memory for the pager")),
     }

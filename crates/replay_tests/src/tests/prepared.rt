@@ -3,6 +3,7 @@ ghost use Rattle.std.specs.Prelude.{◌≤◌};
 
 use super::printed::memory_stores;
 use pager_locks::Prepared;
+use pager_model::Sizes;
 use std::alloc::Global;
 use std::test::Fail;
 
@@ -14,7 +15,14 @@ fn is_prepared(alloc: Global, spaces: u32, actors: usize) -> Result<bool, Fail>
     let marks = vec![in alloc; 0; actors]?;
     let rooms = vec![in alloc; 4096; actors]?;
     let stores = memory_stores(alloc, spaces)?;
-    let prepared = Prepared::create(alloc, 1024, marks.as_slice(), stores, rooms.as_slice());
+    let prepared = Prepared::create(
+        alloc,
+        1024,
+        Sizes::all(),
+        marks.as_slice(),
+        stores,
+        rooms.as_slice(),
+    );
     Ok(prepared.is_ok())
 }
 

@@ -2,9 +2,11 @@
 ghost use Rattle.std.specs.Prelude.{◌<◌};
 
 use super::NO_MEMORY;
+use super::streams::sink_of;
 use io_core::{MemorySource, ReadFailed, Source};
-use pager_model::{Call, Daemon, Kind, Line, Rights, Trace};
+use pager_model::{Call, Daemon, Kind, Line, Rights, Sizes, Trace};
 use std::process::Abort;
+use trace_make::write_trace;
 use trace_reader::LineCause::{After, Form, Number, Range};
 use trace_reader::{LineCause, MAX_BYTES, MAX_CALLS, TraceFault, parse, read_trace};
 
@@ -143,6 +145,18 @@ static LAWFUL: [(&[u8], u32, Call); 14] = [
     ),
 ];
 
+/// The word of each set of page sizes, and which of the levels from 1 to 3 it names.
+static SIZES: [(&[u8], bool, bool, bool); 8] = [
+    (b"0", false, false, false),
+    (b"01", true, false, false),
+    (b"02", false, true, false),
+    (b"03", false, false, true),
+    (b"012", true, true, false),
+    (b"013", true, false, true),
+    (b"023", false, true, true),
+    (b"0123", true, true, true),
+];
+
 /// First lines, each behind what is wrong with it. The leftmost place decides, behind the form.
 const FIRST_LINES: &str = "\
     form: \n\
@@ -177,6 +191,17 @@ const FIRST_LINES: &str = "\
     range: trace 1 512 1 17\n\
     number: trace 1 512 1 \n\
     form: trace 2 500 1 1 30\n\
+    form: trace 2 512 1 1 30\n\
+    form: trace 2 512 1 1 3\n\
+    form: trace 2 512 1 1 00\n\
+    form: trace 2 512 1 1 01234\n\
+    form: trace 2 512 1 1 0 3\n\
+    form: trace x x x x 031\n\
+    range: trace 1 512 1 1 03\n\
+    range: trace 3 512 1 1 03\n\
+    number: trace x 512 1 1 03\n\
+    range: trace 2 500 1 1 0123\n\
+    number: trace 2 512 1 x 0\n\
     number: trace x 500 0 0\n\
     range: trace 2 x x x\n\
     range: trace 1 500 x x\n\
@@ -516,9 +541,48 @@ fn reads_each_form_to_the_ends_of_its_ranges(rt: HostRuntime) {
     assert!(rt; calls_in(&rt, b"trace 1 32768 16 16\nend\n") == Ok(0));
 }
 
+/// The trace of a text that is there as a whole.
+fn parsed<R: Abort + AllocGlobal>(rt: &R, text: &[u8]) -> Trace {
+    parse(rt.alloc(), text).ok().expect(rt, "refused")
+}
+
+/// The version of a text, and its page sizes.
+fn sizes_in<R: Abort + AllocGlobal>(rt: &R, text: &[u8]) -> (u32, Sizes) {
+    let trace = parsed(rt, text);
+    (trace.version(), trace.sizes())
+}
+
+/// A text of version 2 with this word for its page sizes.
+fn sized<R: Abort + AllocGlobal>(rt: &R, word: &[u8]) -> Vec<u8> {
+    between(rt, b"trace 2 512 1 1 ", word, END)
+}
+
+#[test]
+fn reads_each_word_of_page_sizes(rt: HostRuntime) {
+    for (word, one, two, three) in &SIZES {
+        let sizes = Sizes::of(*one, *two, *three);
+        assert!(rt; sizes_in(&rt, &sized(&rt, word)) == (2, sizes), "{word:?}");
+    }
+    assert!(rt; sizes_in(&rt, WHOLE) == (1, Sizes::all()));
+}
+
+/// The trace of a text is written as that text.
+fn is_written_again<R: Abort + AllocGlobal>(rt: &R, text: &[u8]) -> bool {
+    let mut sink = sink_of(rt, rt.alloc(), 300, 0);
+    write_trace(&mut sink, &parsed(rt, text)).is_ok() && sink.bytes() == text
+}
+
+#[test]
+fn what_is_read_is_written_again(rt: HostRuntime) {
+    for (word, _, _, _) in &SIZES {
+        assert!(rt; is_written_again(&rt, &sized(&rt, word)), "{word:?}");
+    }
+    assert!(rt; is_written_again(&rt, WHOLE));
+}
+
 /// The daemon of a text that is there as a whole.
 fn daemon_in<R: Abort + AllocGlobal>(rt: &R, text: &[u8]) -> Option<Daemon> {
-    parse(rt.alloc(), text).ok().expect(rt, "refused").daemon()
+    parsed(rt, text).daemon()
 }
 
 #[test]
