@@ -6,13 +6,18 @@ import signal
 import sys
 from contextlib import suppress
 from subprocess import CalledProcessError, SubprocessError
-from typing import Callable, NoReturn, Optional
+from typing import Callable, List, NoReturn, Optional
 
 # Until `end` calls a tool's main function an interrupt ends it without a word: Python would tell which module it was reading.
 signal.signal(signal.SIGINT, signal.SIG_DFL)
 
 TOP = os.path.dirname(os.path.dirname(os.path.abspath(__file__)))
 PROGRAM = os.path.join(TOP, 'crates', 'superpager', 'out', 'superpager')
+
+# The sets of page sizes that a trace may name, each the digits of its levels: a page of level k is 8**k base pages.
+SIZE_SETS = ('0', '01', '02', '03', '012', '013', '023', '0123')
+# The first words of a trace's first line, and what stands behind its numbers of frames, processors and spaces.
+FIRST_LINES = [([b'trace', b'1'], [])] + [([b'trace', b'2'], [sizes.encode()]) for sizes in SIZE_SETS]
 
 
 class Stopped(Exception):
@@ -41,6 +46,31 @@ def number_in(low: int, high: int, step: int = 1) -> Callable[[str], int]:
             raise argparse.ArgumentTypeError('%r is not %s from %d to %d' % (text, kind, low, high))
         return int(text)
     return number
+
+
+def sizes_in(text: str) -> str:
+    """Reads a set of page sizes among the words, for argparse."""
+    if text not in SIZE_SETS:
+        raise argparse.ArgumentTypeError('%r is none of %s' % (text, ', '.join(SIZE_SETS)))
+    return text
+
+
+def size_sets_in(text: str) -> List[str]:
+    """Reads sets of page sizes among the words, for argparse."""
+    return [sizes_in(word) for word in text.split(',')]
+
+
+def with_first_line(trace: bytes, frames: Optional[int], sizes: Optional[str]) -> bytes:
+    """The trace with another number of frames and other page sizes, where they are given. What has no first line is left for the program to refuse."""
+    first, line_feed, rest = trace.partition(b'\n')
+    words = first.split(b' ')
+    if len(words) < 5 or (words[:2], words[5:]) not in FIRST_LINES:
+        return trace
+    if frames is not None:
+        words[2] = b'%d' % frames
+    if sizes is not None:
+        words = [b'trace', b'2', *words[2:5], sizes.encode()]
+    return b' '.join(words) + line_feed + rest
 
 
 def cause_of(why: Exception) -> str:

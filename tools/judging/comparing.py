@@ -4,7 +4,8 @@ import os
 import signal
 import subprocess
 import sys
-from typing import Iterator, List, NamedTuple, Optional
+from collections import Counter
+from typing import Dict, Iterator, List, NamedTuple, Optional
 
 from common import TOP, Stopped
 
@@ -18,11 +19,16 @@ from .showing import wrong_with_answers, wrong_with_filing, wrong_with_turns
 from .trace_text import Refusal, text_of, trace_of
 from .values import Trace, setting_of
 
-RANDOM_TRACE = os.path.join(TOP, 'examples', 'random_trace.py')
+sys.path.insert(0, os.path.join(TOP, 'examples'))
+from random_trace import write_trace  # noqa: E402: it stands beside the examples
+
 FORMS = ('order', 'turns', 'replay')
+IN_ONE_THREAD = ('order', 'turns')
 # The form `plan`, by its size.
 PLANS = {'plan1': 1, 'plan2': 2, 'plan3': 3}
 CURVE = 'curve'
+MOVES = ('promotions', 'demotions', 'preemptions')
+REFUSED = 'noframes'
 # The forms that print no history.
 WITHOUT_HISTORY = (*PLANS, CURVE)
 # The first seeds draw traces over frames enough, and those above them traces in which few frames are left.
@@ -32,7 +38,8 @@ SECONDS = 600
 
 class Job(NamedTuple):
     """One run: of the trace of a seed, by a form of the program, with the copies of each space in so many slots where a number is given. Where
-    `beyond` is a number the trace is one short of frames, whose wired pages and processors are so many more than its frames."""
+    `beyond` is a number the trace is one short of frames, whose wired pages and processors are so many more than its frames. Where `sizes` is
+    a word of page sizes the trace names them."""
     program: str
     seed: int
     form: str
@@ -40,14 +47,26 @@ class Job(NamedTuple):
     laws: bool
     turns: int
     beyond: Optional[int] = None
+    sizes: Optional[str] = None
 
 
 class Outcome(NamedTuple):
-    """Of a run how many lines it printed, how many accesses it refused for want of a frame, and what is wrong, if something is."""
+    """Of a run how many lines it printed, how often there was what is counted, and what is wrong, if something is."""
     job: Job
     lines: int
-    refused: int
+    counts: Dict[str, int]
     wrong: Optional[str]
+
+
+def sized_words(seed: int) -> List[int]:
+    """The words of a trace that names its page sizes: it is shorter than one that doesn't. Of every fourth seed few frames are left, and of
+    every other fourth most are reserved and few are used."""
+    calls, processors, spaces = 60 + 37 * seed % 100, 1 + seed // 4 % 3, 1 + seed // 8 % 2
+    if seed % 4 == 0:
+        return [seed, calls, 512, processors, spaces, 512 + 8 * (seed // 16 % 3)]
+    if seed % 4 == 1:
+        return [seed, calls, 512 + 512 * (seed // 4 % 2), processors, spaces, 64 + seed % 64]
+    return [seed, calls, 512, 1 + seed % 3, 1 + seed // 4 % 3, 0]
 
 
 def trace_words(seed: int, form: str) -> List[int]:
@@ -125,8 +144,10 @@ def words_of(job: Job) -> List[str]:
 def trace_text(job: Job) -> bytes:
     """The text of a run's trace."""
     if job.beyond is not None:
-        return text_of(short(job.seed, job.beyond)).encode()
-    return output_of([sys.executable, RANDOM_TRACE, *map(str, trace_words(job.seed, job.form))], b'')
+        return text_of(short(job.seed, job.beyond, job.sizes)).encode()
+    words = trace_words(job.seed, job.form) if job.sizes is None or job.form == CURVE else sized_words(job.seed)
+    lines = write_trace(*words, job.sizes)
+    return ''.join(line + '\n' for line in lines).encode()
 
 
 def wrong_with_run(job: Job, text: bytes, printed: bytes) -> Optional[str]:
@@ -145,12 +166,29 @@ def run(job: Job) -> Outcome:
         printed = output_of([job.program, *words_of(job)], text)
         wrong = wrong_with_run(job, text, printed)
     except (Stopped, Refusal, Illegal) as fault:
-        return Outcome(job, 0, 0, str(fault))
-    # With its history a run prints each answer twice, and a line of the history has the answer behind four words.
-    refused = sum(line.split(b' ')[2:3] == [b'noframes'] for line in printed.splitlines())
-    if wrong is None and job.beyond == 0 and refused:
-        wrong = '%d accesses are refused for want of a frame' % refused
-    return Outcome(job, printed.count(b'\n'), refused, wrong)
+        return Outcome(job, 0, {}, str(fault))
+    counts = counted(printed.decode())
+    if wrong is None and job.beyond == 0 and counts[REFUSED]:
+        wrong = '%d accesses are refused for want of a frame' % counts[REFUSED]
+    return Outcome(job, printed.count(b'\n'), counts, wrong)
+
+
+def counted(printed: str) -> Dict[str, int]:
+    """How often a run promoted, demoted and preempted, which it prints; how many accesses it refused for want of a frame; how many frames were
+    claimed; and how many accesses hit by a translation of each size from 1 on. With its history a run prints each answer twice, and a line of the
+    history has the answer behind four words."""
+    counts: Dict[str, int] = Counter({REFUSED: 0})
+    for line in printed.splitlines():
+        words = line.split(' ')
+        if words[0] in MOVES:
+            counts[words[0]] += int(words[1])
+        elif words[2:3] == [REFUSED]:
+            counts[REFUSED] += 1
+        elif words[3:4] == ['claim']:
+            counts['claims'] += 1
+        elif words[3:4] == ['answer'] and words[-2] == 'hit' and words[-1] != '0':
+            counts['hits of size ' + words[-1]] += 1
+    return counts
 
 
 def ignore_interrupts() -> None:
@@ -167,7 +205,9 @@ def outcomes(jobs: List[Job], processes: int) -> Iterator[Outcome]:
 def name_of(job: Job) -> str:
     """What a run is called where it differs."""
     form = 'turns %d' % job.turns if job.form == 'turns' else job.form
-    return 'seed %d%s, %s' % (job.seed, '' if job.beyond is None else ' with %d beyond' % job.beyond, form)
+    beyond = '' if job.beyond is None else ' with %d beyond' % job.beyond
+    sizes = '' if job.sizes is None else ' of sizes %s' % job.sizes
+    return 'seed %d%s%s, %s' % (job.seed, sizes, beyond, form)
 
 
 def compare(jobs: List[Job], processes: int) -> List[Outcome]:

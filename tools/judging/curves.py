@@ -9,7 +9,7 @@ from typing import Iterable, List, NamedTuple, Optional, Sequence, Set, Tuple
 from .printed import line_of
 from .spaces import Space
 from .tiles import Tiles
-from .values import Answer, Entry, Tile, Trace, has_size, page_of
+from .values import Answer, Entry, Sizes, Tile, Trace, has_size, page_of
 
 CAPACITIES = range(1, 1025)
 BASE_ALONE = (0,)
@@ -25,7 +25,7 @@ class Step(NamedTuple):
 class Noting(Tiles):
     """The tiles of a space, which note what went and keep no image."""
 
-    def __init__(self, sizes: Tuple[int, ...]):
+    def __init__(self, sizes: Sizes):
         super().__init__(sizes)
         self.gone: Set[Tile] = set()
 
@@ -40,16 +40,16 @@ def page_used(e: Entry) -> Optional[int]:
     return page_of(w.call.address) if is_use else None
 
 
-def steps_of(sizes: Tuple[int, ...], entries: Iterable[Entry]) -> List[Step]:
+def steps_of(sizes: Sizes, entries: Iterable[Entry]) -> List[Step]:
     """What the entries of a space do to its images, with tiles by these sizes."""
     space, steps = Space(sizes, True, 0), []
     for e in entries:
         tiles, page = Noting(sizes), page_used(e)
-        tiles.of_extent = space.tiles.of_extent
+        tiles.begins = space.tiles.begins
         space.tiles = tiles
-        before = None if page is None else tiles.tile_of(page)
+        before = None if page is None else tiles.tile_at(page)
         space.after(e)
-        steps.append(Step(tiles.gone, before, None if page is None else tiles.tile_of(page)))
+        steps.append(Step(tiles.gone, before, None if page is None else tiles.tile_at(page)))
     return steps
 
 
@@ -82,13 +82,13 @@ def curve_of(steps: Sequence[Step], capacities: Iterable[int]) -> List[int]:
     return curve
 
 
-def curve_by(trace: Trace, history: Sequence[Entry], sizes: Tuple[int, ...]) -> List[int]:
+def curve_by(trace: Trace, history: Sequence[Entry], sizes: Sizes) -> List[int]:
     """The misses of a history at each capacity, over all spaces, with tiles by these sizes. (Curves.antt: misses_by)"""
     curves = [curve_of(steps_of(sizes, [e for e in history if e.space == s]), CAPACITIES) for s in range(trace.spaces)]
     return [sum(column) for column in zip(*curves)]
 
 
-def curves_text(trace: Trace, history: Sequence[Entry], sizes: Tuple[int, ...]) -> str:
+def curves_text(trace: Trace, history: Sequence[Entry], sizes: Sizes) -> str:
     """A line for each capacity, with the misses by the tiles of the run and by base pages alone; and the end. (CurveText.antt)"""
     rows = zip(CAPACITIES, curve_by(trace, history, sizes), curve_by(trace, history, BASE_ALONE))
     return ''.join(map(line_of, rows)) + line_of(['end'])

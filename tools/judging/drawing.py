@@ -1,8 +1,9 @@
 """Drawn numbers, the trace that is made from a number (TurnOrders.antt; crates/trace_make/specs/Made.antt), and traces that are short of
 frames."""
-from typing import List, Tuple
+from typing import List, Optional, Tuple
 
-from .values import Call, Daemon, Evict, Line, Load, Map, Protect, Store, Sync, Trace
+from .trace_text import sizes_of
+from .values import ALL_SIZES, Call, Daemon, Evict, Line, Load, Map, Protect, Store, Sync, Trace
 
 REGION = 4096
 NEAR = 512
@@ -36,7 +37,7 @@ def made(number: int, calls: int, processors: int, spaces: int, frames: int) -> 
         processor, space = g.draw(processors), g.draw(spaces)
         page = g.draw(NEAR if g.draw(8) else REGION)
         lines.append(Line(processor, drawn_call(g, space, page)))
-    return Trace(frames, processors, spaces, None, tuple(lines))
+    return Trace(1, frames, processors, spaces, ALL_SIZES, None, tuple(lines))
 
 
 def drawn_call(g: Generator, space: int, page: int) -> Call:
@@ -51,9 +52,10 @@ def drawn_call(g: Generator, space: int, page: int) -> Call:
     return Protect(space, page - page % 8, 8, rights)
 
 
-def short(seed: int, beyond: int) -> Trace:
+def short(seed: int, beyond: int, sizes: Optional[str] = None) -> Trace:
     """A trace whose wired pages and processors, a daemon among them, are as many as its frames, or `beyond` more. A processor maps and loads
-    its share of the wired pages, and has a few that aren't wired; then all make calls at those, and few frames are left for them."""
+    its share of the wired pages, and has a few that aren't wired; then all make calls at those, and few frames are left for them. It names its
+    page sizes where a word of them is given."""
     g = Generator(seed)
     processors, spaces = 1 + g.draw(4), 1 + g.draw(3)
     daemon = Daemon(1 + g.draw(64), 100 + g.draw(1400)) if g.draw(2) else None
@@ -69,7 +71,8 @@ def short(seed: int, beyond: int) -> Trace:
         others += pages
     filling = [line for n in range(max(map(len, rows))) for row in rows for line in row[n:n + 1]]
     behind = [Line(g.draw(processors), call_at(g, others[g.draw(len(others))])) for _ in range(60 + 40 * processors)]
-    return Trace(FRAMES, processors, spaces, daemon, tuple(filling + behind))
+    version, there = (1, ALL_SIZES) if sizes is None else (2, sizes_of(sizes))
+    return Trace(version, FRAMES, processors, spaces, there, daemon, tuple(filling + behind))
 
 
 def mapped(g: Generator, processor: int, ends: List[int], length: int, kind: str) -> Tuple[Line, List[Place]]:

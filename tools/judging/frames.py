@@ -1,59 +1,73 @@
 """The frames' state: which are free, which reservations there are, which of their places are used, who claims and holds frames; which entries
 this allows, and what each does (FrameStates.antt, Layouts.antt, Records.antt, FreeBlocks.antt, PreferredSize.antt, Ages.antt)."""
-from typing import Dict, List, Optional, Set, Tuple
+from copy import copy
+from itertools import islice
+from typing import Collection, Dict, FrozenSet, Iterator, List, NamedTuple, Optional, Set, Tuple
 
-from .values import (Answer, Claim, Clear, DropHeld, Entry, Evict, Give, Got, Refused, Rest, Take, Unclaim, UseHeld, Want, extent_start, pages_of)
+from .values import (Answer, Claim, Clear, DropHeld, Entry, Evict, Give, Got, Refused, Rest, Sizes, Take, Unclaim, UseHeld, Want, extent_start,
+                     pages_of)
 
 # The largest free block has 2^9 frames, which is an extent of size 3.
 LARGEST_ORDER = 9
 
 
-class Reservation:
+class Reservation(NamedTuple):
     """An extent of pages of one space with an extent of frames of the same size: its place i joins page first + i and frame frame + i. Its
-    stamp is the number of entries on the frames before its latest page allocation. (Records.antt)"""
-
-    def __init__(self, space: int, first: int, size: int, frame: int, stamp: int, used: Set[int]):
-        self.space, self.first, self.size, self.frame, self.stamp = space, first, size, frame, stamp
-        # The used places, by their numbers i.
-        self.used = used
+    stamp is the number of entries on the frames before its latest page allocation. Its used places are told by their numbers i. (Records.antt)"""
+    space: int
+    first: int
+    size: int
+    frame: int
+    stamp: int
+    used: FrozenSet[int]
 
     @property
-    def count(self) -> int:
+    def length(self) -> int:
         """How many places it has."""
         return pages_of(self.size)
 
+    @property
+    def frames(self) -> range:
+        """The frames of its places, used or not."""
+        return range(self.frame, self.frame + self.length)
+
     def covers(self, space: int, page: int) -> bool:
         """It has the page of the space. (Layouts.antt)"""
-        return self.space == space and self.first <= page < self.first + self.count
-
-    def has_frame(self, frame: int) -> bool:
-        """The frame is a place of it, used or not. (Agreement.antt)"""
-        return self.frame <= frame < self.frame + self.count
+        return self.space == space and self.first <= page < self.first + self.length
 
 
-class Used:
+class Used(NamedTuple):
     """Of a used place its age, whether its page's region is wired, and the processor that claims it, if one does."""
-
-    def __init__(self, age: int, wired: bool):
-        self.age, self.wired = age, wired
-        self.claim: Optional[int] = None
+    age: int
+    wired: bool
+    claim: Optional[int] = None
 
 
 class Frames:
     """The frames' state. At first all frames are free. (FrameStates.antt: start_frames)"""
 
-    def __init__(self, count: int, sizes: Tuple[int, ...]):
-        self.count, self.sizes = count, tuple(sorted(sizes))
+    def __init__(self, count: int, sizes: Sizes):
+        self.count, self.sizes = count, sizes
         self.free: Set[int] = set(range(count))
-        self.reservations: List[Reservation] = []
+        # The reservation that begins at a page of a space.
+        self.begins: Dict[Tuple[int, int], Reservation] = {}
         self.used: Dict[int, Used] = {}
         self.held: Dict[int, int] = {}
         self.entries = 0
         self.preemptions = 0
 
+    @property
+    def reservations(self) -> Collection[Reservation]:
+        return self.begins.values()
+
+    def put(self, r: Reservation) -> None:
+        """The reservation is there, in place of the one that began at its first page."""
+        self.begins[r.space, r.first] = r
+
     def covering(self, space: int, page: int) -> Optional[Reservation]:
-        """The reservation that has the page, where one has it. (Layouts.antt)"""
-        return next((r for r in self.reservations if r.covers(space, page)), None)
+        """The reservation that has the page, where one has it: it begins where an extent of its size round the page does. (Layouts.antt)"""
+        there = (self.begins.get((space, extent_start(k, page))) for k in self.sizes)
+        return next((r for r in there if r and r.covers(space, page)), None)
 
     def frame_of(self, space: int, page: int) -> Optional[int]:
         """The frame that is the used place of the page, where there is one. (FrameStates.antt)"""
@@ -74,7 +88,7 @@ class Frames:
 
     def reserved_count(self) -> int:
         """How many unused places there are. (FrameStates.antt)"""
-        return sum(r.count for r in self.reservations) - len(self.used)
+        return sum(r.length for r in self.reservations) - len(self.used)
 
     def is_short(self, mark: int) -> bool:
         """Free frames and unused places are fewer than a low mark. (FrameStates.antt)"""
@@ -89,50 +103,53 @@ class Frames:
 
 def copy_of(state: Frames) -> Frames:
     """The same state, to try on it what a taking would do."""
-    copy = Frames(state.count, state.sizes)
-    copy.free = set(state.free)
-    copy.reservations = [Reservation(r.space, r.first, r.size, r.frame, r.stamp, set(r.used)) for r in state.reservations]
-    copy.used, copy.held = dict(state.used), dict(state.held)
-    copy.entries, copy.preemptions = state.entries, state.preemptions
-    return copy
+    twin = copy(state)
+    twin.free, twin.begins = set(state.free), dict(state.begins)
+    twin.used, twin.held = dict(state.used), dict(state.held)
+    return twin
 
 
-def maximal_blocks(free: Set[int], order: int) -> List[int]:
-    """The first frames of the maximal free blocks of an order n: aligned runs of 2^n free frames, n at most 9, in no larger such run.
-    (FreeBlocks.antt)"""
-    def is_free(n: int, first: int) -> bool:
-        return all(f in free for f in range(first, first + 2 ** n))
-
-    starts = sorted({f - f % 2 ** order for f in free})
-    wide = order + 1
-    return [f for f in starts if is_free(order, f) and not (order < LARGEST_ORDER and is_free(wide, f - f % 2 ** wide))]
+def maximal_blocks(free: Set[int]) -> Iterator[List[int]]:
+    """For each order n from 0 to 9 the first frames, ascending, of the maximal free blocks: aligned runs of 2^n free frames in no larger such
+    run. Two free runs of one order are one of the next, where they are aligned to it. (FreeBlocks.antt)"""
+    runs = free
+    for n in range(LARGEST_ORDER + 1):
+        wide = 2 ** (n + 1)
+        larger = {f for f in runs if f % wide == 0 and f + 2 ** n in runs} if n < LARGEST_ORDER else set()
+        yield sorted(f for f in runs if f - f % wide not in larger)
+        runs = larger
 
 
 def choice(free: Set[int], size: int) -> Optional[int]:
     """The choice for size k, by its first frame: the lowest 8^k frames of the lowest-numbered maximal free block of the least order that is
     at least 3k. (FreeBlocks.antt)"""
-    blocks = (maximal_blocks(free, order) for order in range(3 * size, LARGEST_ORDER + 1))
-    return next((found[0] for found in blocks if found), None)
+    return next((blocks[0] for blocks in islice(maximal_blocks(free), 3 * size, None) if blocks), None)
 
 
-def yield_in(sizes: Tuple[int, ...], r: Reservation) -> Optional[int]:
-    """The yield of a reservation is the largest size of an extent inside it without a used place; a full one has none. (Records.antt)"""
+def yield_in(sizes: Sizes, r: Reservation) -> Optional[int]:
+    """The yield of a reservation is the largest of these sizes of which an extent inside it has no used place; a full one has none.
+    (Records.antt)"""
     def has_empty(size: int) -> bool:
-        return len({i // pages_of(size) for i in r.used}) < r.count // pages_of(size)
+        return len({i // pages_of(size) for i in r.used}) < pages_of(r.size - size)
 
-    return max((k for k in sizes if k <= r.size and has_empty(k)), default=None)
-
-
-def list_of(state: Frames, size: int) -> List[Reservation]:
-    """The list by age of a yield: in order of stamp and then of first frame. (Ages.antt, Layouts.antt)"""
-    return sorted((r for r in state.reservations if yield_in(state.sizes, r) == size), key=lambda r: (r.stamp, r.frame))
+    return next((k for k in reversed(sizes) if k <= r.size and has_empty(k)), None)
 
 
 def to_break(state: Frames, size: int) -> Optional[Reservation]:
-    """The reservation that is broken for an extent of this size: the oldest of the first list that isn't empty, from the list of this size
-    up. (Layouts.antt)"""
-    lists = (list_of(state, k) for k in range(size, 3))
-    return next((found[0] for found in lists if found), None)
+    """The reservation that is broken for an extent of this size: the oldest of the first list by age that isn't empty, from the list of this
+    size up. The list of a yield is in order of stamp and then of first frame. (Ages.antt, Layouts.antt)"""
+    yields = ((yield_in(state.sizes, r), r) for r in state.reservations)
+    listed = ((k, r.stamp, r.frame, r) for k, r in yields if k is not None and k >= size)
+    return min(listed, default=(None, None, None, None))[-1]
+
+
+def settle(state: Frames, r: Reservation) -> None:
+    """The reservation is there, where it has a used place; and else its frames are free."""
+    if r.used:
+        state.put(r)
+    else:
+        state.begins.pop((r.space, r.first), None)
+        state.free.update(r.frames)
 
 
 def split(state: Frames, r: Reservation) -> List[Reservation]:
@@ -140,11 +157,10 @@ def split(state: Frames, r: Reservation) -> List[Reservation]:
     order. (Layouts.antt: split_layout)"""
     size = max(k for k in state.sizes if k < r.size)
     n = pages_of(size)
-    parts = [Reservation(r.space, r.first + a, size, r.frame + a, r.stamp, {i - a for i in r.used if a <= i < a + n})
-             for a in range(0, r.count, n)]
-    state.reservations.remove(r)
-    state.reservations += [p for p in parts if p.used]
-    state.free.update(f for p in parts if not p.used for f in range(p.frame, p.frame + n))
+    parts = [Reservation(r.space, r.first + a, size, r.frame + a, r.stamp, frozenset(i - a for i in r.used if a <= i < a + n))
+             for a in range(0, r.length, n)]
+    for part in parts:
+        settle(state, part)
     return parts
 
 
@@ -159,19 +175,19 @@ def break_reservation(state: Frames, r: Reservation) -> None:
 
 def is_full(state: Frames) -> bool:
     """No frame is free and every reservation is full. (Layouts.antt)"""
-    return not state.free and all(len(r.used) == r.count for r in state.reservations)
+    return not state.free and all(len(r.used) == r.length for r in state.reservations)
 
 
 def fits(state: Frames, space: int, page: int, want: Want, size: int) -> bool:
     """The extent round the page lies where the region allows, has at most as many pages as the region, and meets no reservation of the
     space. (PreferredSize.antt)"""
     first, n = extent_start(size, page), pages_of(size)
-    free_of_others = not any(r.space == space and r.first < first + n and first < r.first + r.count for r in state.reservations)
+    free_of_others = not any(r.space == space and r.first < first + n and first < r.first + r.length for r in state.reservations)
     return want.low <= first and first + n <= want.high and n <= want.cap and free_of_others
 
 
 def preferred_size(state: Frames, space: int, page: int, want: Want) -> int:
-    """The preferred size: the largest size whose extent round the page fits. (PreferredSize.antt)"""
+    """The preferred size: the largest of the sizes that there are whose extent round the page fits. (PreferredSize.antt)"""
     return max((k for k in state.sizes if k and fits(state, space, page, want, k)), default=0)
 
 
@@ -195,9 +211,8 @@ def place(state: Frames, space: int, page: int, want: Want) -> Tuple[Reservation
         best = preferred_size(state, space, page, want)
         tried = ((k, extent_for(state, k)) for k in reversed(state.sizes) if k <= best)
         size, frame = next((k, f) for k, f in tried if f is not None)
-        r = Reservation(space, extent_start(size, page), size, frame, state.entries, set())
-        state.reservations.append(r)
-        state.free.difference_update(range(frame, frame + r.count))
+        r = Reservation(space, extent_start(size, page), size, frame, state.entries, frozenset())
+        state.free.difference_update(r.frames)
     return r, page - r.first
 
 
@@ -207,8 +222,7 @@ def take(state: Frames, space: int, page: int, want: Want) -> Optional[int]:
     if state.covering(space, page) is None and is_full(state):
         return None
     r, i = place(state, space, page, want)
-    r.used.add(i)
-    r.stamp = state.entries
+    state.put(r._replace(used=r.used | {i}, stamp=state.entries))
     state.used[r.frame + i] = Used(state.entries, want.wired)
     return r.frame + i
 
@@ -222,10 +236,7 @@ def give(state: Frames, space: int, page: int) -> None:
     if claim is not None:
         r = carved_down_to(state, r, frame)
     del state.used[frame]
-    r.used.remove(page - r.first)
-    if not r.used:
-        state.reservations.remove(r)
-        state.free.update(range(r.frame, r.frame + r.count))
+    settle(state, r._replace(used=r.used - {page - r.first}))
     if claim is not None:
         state.free.remove(frame)
         state.held[claim] = frame
@@ -235,7 +246,7 @@ def carved_down_to(state: Frames, r: Reservation, frame: int) -> Reservation:
     """The reservation is split into its parts of the next smaller size, and the part with the frame again, down to the frame.
     (Layouts.antt: carve_layout)"""
     while r.size > 0:
-        r = next(p for p in split(state, r) if p.has_frame(frame))
+        r = next(p for p in split(state, r) if frame in p.frames)
     return r
 
 
@@ -251,7 +262,7 @@ def victim(state: Frames) -> Optional[Tuple[int, int, int]]:
     if not evictable:
         return None
     frame = min(evictable, key=lambda f: state.used[f].age)
-    r = next(r for r in state.reservations if r.has_frame(frame))
+    r = next(r for r in state.reservations if frame in r.frames)
     return r.space, r.first + frame - r.frame, frame
 
 
@@ -308,16 +319,16 @@ def claimed_as(state: Frames, e: Entry, mark: int) -> Optional[str]:
         return 'the victim is %s' % (victim(state),)
     if not may_claim(state, mark):
         return 'frames are not short'
-    state.used[w.frame].claim = e.processor
+    state.used[w.frame] = state.used[w.frame]._replace(claim=e.processor)
     return None
 
 
 def unclaimed_as(state: Frames, e: Entry) -> Optional[str]:
     """A claim's end: the frame is under a page of the space, and the processor claims it. (FrameStates.antt: FramesAllow)"""
     frame = e.what.frame
-    if state.claimed_by(e.processor) != [frame] or not any(r.space == e.space and r.has_frame(frame) for r in state.reservations):
+    if state.claimed_by(e.processor) != [frame] or not any(r.space == e.space and frame in r.frames for r in state.reservations):
         return 'the processor claims no such frame of this space'
-    state.used[frame].claim = None
+    state.used[frame] = state.used[frame]._replace(claim=None)
     return None
 
 

@@ -1,8 +1,8 @@
-"""Which histories are legal, and what a legal one keeps (Legal.antt, Entries.antt, Agreement.antt, Laws.antt)."""
+"""Which histories are legal, and what a legal one keeps (Legal.antt, Entries.antt, Agreement.antt, Laws.antt, Headline.antt)."""
 from typing import List, Optional
 
 from . import frames as fr
-from .frames import Frames
+from .frames import Frames, Reservation
 from .order import Victim, at_rest, is_whole, progress_after
 from .spaces import Space, wrong_with
 from .values import (Answer, Claim, Clear, DropHeld, Entry, Failed, Give, Got, Out, Refused, Rest, Setting, Take, Unclaim, UseHeld)
@@ -73,26 +73,45 @@ class Pager:
 
 def after_history(setting: Setting, history: List[Entry], laws: bool = False) -> Pager:
     """What stands after a history; `Illegal` where it isn't legal, and where `laws` are asked for, also where it doesn't keep them at each of
-    its places. (Legal.antt: IsLegal; Laws.antt: KeepsLawsAllAlong)"""
+    its places, or preempts another reservation than the oldest. (Legal.antt: IsLegal; Laws.antt: KeepsLawsAllAlong)"""
     pager = Pager(setting)
     for e in history:
+        before = fr.copy_of(pager.frames) if laws else None
         pager.add(e)
-        broken = broken_law(pager) if laws else None
+        broken = broken_law(pager, before, e) if laws else None
         if broken:
             raise Illegal('entry %d: the law of %s is broken after it' % (len(pager.history) - 1, broken))
     return pager
 
 
-def broken_law(pager: Pager) -> Optional[str]:
-    """The name of a law that doesn't hold, or None. (Laws.antt: KeepsLaws)"""
+def broken_law(pager: Pager, before: Frames, e: Entry) -> Optional[str]:
+    """The name of a law that doesn't hold after an entry, or None. (Laws.antt: KeepsLaws)"""
     laws = {
         'copies': all(keeps_copies(space) for space in pager.spaces),
         'frames': is_partition(pager.frames) and keeps_frames(pager.frames),
         'owners': all(owns(pager.frames, c, p) for c, p in enumerate(pager.progress)),
         'agreement': agrees(pager),
         'rest': not pager.is_whole() or not (pager.frames.held or pager.frames.refusal().claimed),
+        'preemptions': preempts_oldest(before, pager.frames, e),
     }
     return next((name for name, holds in laws.items() if not holds), None)
+
+
+def preempts_oldest(before: Frames, after: Frames, e: Entry) -> bool:
+    """Each reservation that a taking preempted was the oldest of its list. It is one that stood, and none of its size begins at its first frame
+    any more. (Headline.antt: PreemptsOldest)"""
+    if not isinstance(e.what, (Take, UseHeld)):
+        return True
+    sizes = {r.frame: r.size for r in after.reservations}
+    return all(is_oldest(before, r) for r in before.reservations if sizes.get(r.frame) != r.size)
+
+
+def is_oldest(state: Frames, r: Reservation) -> bool:
+    """Every other reservation of its yield, by the sizes that there are, has a later stamp, or the same stamp and a later first frame.
+    (Headline.antt: IsOldest)"""
+    size = fr.yield_in(state.sizes, r)
+    others = [q for q in state.reservations if fr.yield_in(state.sizes, q) == size]
+    return size is not None and min((q.stamp, q.frame) for q in others) == (r.stamp, r.frame)
 
 
 def keeps_copies(space: Space) -> bool:
@@ -114,7 +133,7 @@ def keeps_copies(space: Space) -> bool:
 def is_partition(state: Frames) -> bool:
     """Each frame is exactly one of free, an unused place of one reservation, a used place of one reservation, and held by one processor.
     (Agreement.antt: IsPartition)"""
-    places = [r.frame + i for r in state.reservations for i in range(r.count)]
+    places = [r.frame + i for r in state.reservations for i in range(r.length)]
     roles = sorted([*state.free, *places, *state.held.values()])
     used = {r.frame + i for r in state.reservations for i in r.used}
     return roles == list(range(state.count)) and used == set(state.used)
@@ -123,7 +142,7 @@ def is_partition(state: Frames) -> bool:
 def keeps_frames(state: Frames) -> bool:
     """Every reservation has a used place; no page of a space is in two; no two used places are of one age; and a processor claims at most one
     frame, and holds none while it does. (Laws.antt: KeepsFrames)"""
-    pages = [(r.space, r.first + i) for r in state.reservations for i in range(r.count)]
+    pages = [(r.space, r.first + i) for r in state.reservations for i in range(r.length)]
     ages = [u.age for u in state.used.values()]
     owners = [u.claim for u in state.used.values() if u.claim is not None] + list(state.held)
     return all(r.used for r in state.reservations) and all(len(set(row)) == len(row) for row in (pages, ages, owners))

@@ -3,16 +3,16 @@ from typing import Dict, Optional, Set, Tuple
 
 from . import flat as flats
 from .flat import Flat
-from .tiles import Tiles
+from .tiles import Tiles, tile_of
 from .values import (DONE, LAST_COUNT, NO_MEMORY, WANTS, WRITTEN, Answer, Call, Claim, Clear, Entry, Evict, Failed, Give, Load, Out, Protect, Reply,
-                     Store, Sync, Take, Unclaim, Unmap, UseHeld, has_size, is_access, page_of, page_of_call, word_of)
+                     Sizes, Store, Sync, Take, Unclaim, Unmap, UseHeld, has_size, is_access, page_of, page_of_call, word_of)
 
 
 class Space:
     """The state of a space: its flat memory, the frame of each resident page, who makes the next entry, what answers said of words, the
     highest count of its store's faults, and its tiles and images. A space begins empty. (SpaceStates.antt: empty_state)"""
 
-    def __init__(self, sizes: Tuple[int, ...], told: bool, faults: int):
+    def __init__(self, sizes: Sizes, told: bool, faults: int):
         self.flat = Flat()
         self.base: Dict[int, int] = {}
         # The processor that makes the next entry, where it isn't anyone, and the range that it just cleared.
@@ -151,15 +151,13 @@ def hit_and_size(space: Space, processor: int, call: Call, reply: Reply) -> Tupl
         return False, None
     page = page_of(call.address)
     hit = space.tiles.is_hit(processor, page)
-    tile = space.tiles.tile_of(page)
     makes_dirty = isinstance(call, Store) and page not in space.flat.dirty
-    if not makes_dirty or tile is None:
-        return hit, None if tile is None else tile.size
-    space.flat.dirty.add(page)
-    after = Tiles(space.tiles.sizes)
-    after.settle(space.flat, space.base, {page})
-    space.flat.dirty.discard(page)
-    return hit, after.tile_of(page).size
+    if makes_dirty:
+        space.flat.dirty.add(page)
+    tile = tile_of(space.flat, space.base, space.tiles.sizes, page)
+    if makes_dirty:
+        space.flat.dirty.discard(page)
+    return hit, None if tile is None else tile.size
 
 
 def reply_allowed(space: Space, processor: int, call: Call, reply: Reply) -> bool:

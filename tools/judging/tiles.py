@@ -1,14 +1,9 @@
-"""Tiles, what changes of them count as promotions and demotions, and the images of processors (Tiles.antt, Images.antt).
-
-The tiles of a space are kept by extents of 512 pages, in one of which each tile lies, and those of an extent that a change touched are found
-anew by the rule.
-"""
+"""Tiles, what changes of them count as promotions and demotions, and the images of processors (Tiles.antt, Images.antt)."""
 from typing import Dict, List, Optional, Set, Tuple
 
 from .flat import Flat
-from .values import IMAGE_ROOM, Tile, extent_start, pages_of
+from .values import IMAGE_ROOM, Sizes, Tile, extent_start, pages_of
 
-LARGEST = 3
 Base = Dict[int, int]
 
 
@@ -22,23 +17,27 @@ def tile_if_eligible(flat: Flat, base: Base, size: int, first: int) -> Optional[
     region = flat.region_at(first)
     if region is None or region.end < first + n:
         return None
-    rights, dirty = flat.rights_of(first), first in flat.dirty
-    own, usual = flat.own_rights, region.rights
+    own, usual, dirty = flat.own_rights, region.rights, first in flat.dirty
+    rights = own.get(first, usual)
     same = all(base.get(p) == frame + p - first and own.get(p, usual) == rights and (p in flat.dirty) == dirty for p in range(first, first + n))
     return Tile(size, first, frame, rights, dirty) if same else None
 
 
-def tiles_in(flat: Flat, base: Base, sizes: Tuple[int, ...], first: int, length: int) -> List[Tile]:
-    """The tiles in an extent of pages: the eligible extents that lie in no larger eligible one. The largest size is looked at first, and
-    inside an eligible extent no smaller one. (Tiles.antt)"""
-    size, smaller = max(sizes), tuple(k for k in sizes if k < max(sizes))
-    found = []
-    for start in range(first, first + length, pages_of(size)):
-        tile = tile_if_eligible(flat, base, size, start)
-        if tile:
-            found.append(tile)
-        elif smaller:
-            found += tiles_in(flat, base, smaller, start, pages_of(size))
+def tile_of(flat: Flat, base: Base, sizes: Sizes, page: int) -> Optional[Tile]:
+    """The tile of a page by these sizes is the largest eligible extent of one of them round it; a page has one exactly where it is resident.
+    (Tiles.antt: tile_in)"""
+    tiles = (tile_if_eligible(flat, base, k, extent_start(k, page)) for k in reversed(sizes))
+    return next((tile for tile in tiles if tile), None)
+
+
+def tiles_in(flat: Flat, base: Base, sizes: Sizes, first: int, length: int) -> List[Tile]:
+    """The tiles of the pages of an extent round which no larger one is eligible, page after page."""
+    found: List[Tile] = []
+    page = first
+    while page < first + length:
+        tile = tile_of(flat, base, sizes, page)
+        found += [tile] if tile else []
+        page += pages_of(tile.size) if tile else 1
     return found
 
 
@@ -55,48 +54,56 @@ def promotions(before: List[Tile], after: List[Tile]) -> int:
 
 
 class Tiles:
-    """The tiles of a space, the image of each processor, and the counts of promotions and demotions."""
+    """The tiles of a space by these sizes, the image of each processor, and the counts of promotions and demotions."""
 
-    def __init__(self, sizes: Tuple[int, ...]):
+    def __init__(self, sizes: Sizes):
         self.sizes = sizes
-        self.of_extent: Dict[int, List[Tile]] = {}
+        # The tile that begins at a page.
+        self.begins: Dict[int, Tile] = {}
         self.images: Dict[int, List[Tile]] = {}
         self.promotions = 0
         self.demotions = 0
 
     def all(self) -> List[Tile]:
-        """All tiles, ascending by page."""
-        return [tile for first in sorted(self.of_extent) for tile in self.of_extent[first]]
+        """All tiles."""
+        return list(self.begins.values())
 
-    def tile_of(self, page: int) -> Optional[Tile]:
-        """The tile of a page is the largest eligible extent round it; a page has one exactly where it is resident. (Tiles.antt)"""
-        tiles = self.of_extent.get(extent_start(LARGEST, page), [])
-        return next((t for t in tiles if t.first <= page < t.first + pages_of(t.size)), None)
+    def tile_at(self, page: int) -> Optional[Tile]:
+        """The tile that has the page, as the tiles are kept."""
+        tiles = (self.begins.get(extent_start(k, page)) for k in self.sizes)
+        return next((tile for tile in tiles if tile and page < tile.first + pages_of(tile.size)), None)
 
     def is_hit(self, processor: int, page: int) -> bool:
         """The tile of the page stands in the processor's image. (Images.antt)"""
-        return self.tile_of(page) in self.images.get(processor, [])
+        return self.tile_at(page) in self.images.get(processor, [])
 
     def touch(self, processor: int, page: int) -> None:
         """The tile of the page comes to the front of the processor's image, which has at most 128. (Images.antt)"""
-        tile = self.tile_of(page)
+        tile = self.tile_at(page)
         if tile is not None:
             image = [tile] + [t for t in self.images.get(processor, []) if t != tile]
             self.images[processor] = image[:IMAGE_ROOM]
 
     def settle(self, flat: Flat, base: Base, touched: Set[int]) -> None:
-        """After a change of these pages: the tiles round them are found anew, what is no tile any more leaves all images, and promotions and
-        demotions are counted. (Tiles.antt, Images.antt)"""
-        for first in {extent_start(LARGEST, page) for page in touched}:
-            before = self.of_extent.pop(first, [])
-            after = tiles_in(flat, base, self.sizes, first, pages_of(LARGEST))
-            if after:
-                self.of_extent[first] = after
+        """After a change of these pages: the tiles of the extents that it reaches are found anew, what is no tile any more leaves all images,
+        and promotions and demotions are counted. (Tiles.antt, Images.antt)"""
+        reached = {self.reach(flat, base, page) for page in touched}
+        for first, n in sorted(reached, key=lambda extent: -extent[1]):
+            before = [self.begins.pop(page) for page in range(first, first + n) if page in self.begins]
+            after = tiles_in(flat, base, self.sizes, first, n)
+            self.begins.update((tile.first, tile) for tile in after)
             self.promotions += promotions(before, after)
             self.demotions += promotions(after, before)
             self.forget(set(before) - set(after))
 
+    def reach(self, flat: Flat, base: Base, page: int) -> Tuple[int, int]:
+        """How far a change of a page reaches, as a first page and a length: the larger of the page's tiles before and after it. A larger extent
+        round the page was eligible neither before nor after, and an extent without it is as eligible as it was."""
+        tiles = (self.tile_at(page), tile_of(flat, base, self.sizes, page))
+        size = max((tile.size for tile in tiles if tile), default=0)
+        return extent_start(size, page), pages_of(size)
+
     def forget(self, gone: Set[Tile]) -> None:
         """What is no tile any more leaves all images. (Images.antt)"""
-        for processor, image in self.images.items():
+        for processor, image in self.images.items() if gone else ():
             self.images[processor] = [t for t in image if t not in gone]

@@ -1,8 +1,8 @@
 """The text of a trace (TraceText.antt), and why a text is none (crates/trace_reader/specs/Refusals.antt, Forms.antt)."""
 from typing import Callable, List, Optional, Sequence, Tuple, Union
 
-from .values import (LAST_COUNT, MOST_BYTES, MOST_CALLS, SPACE_PAGES, Call, Daemon, Evict, Grow, Line, Load, Map, Protect, Store, Sync, Trace,
-                     Unmap)
+from .values import (ALL_SIZES, LAST_COUNT, MOST_BYTES, MOST_CALLS, SPACE_PAGES, Call, Daemon, Evict, Grow, Line, Load, Map, Protect, Sizes, Store,
+                     Sync, Trace, Unmap)
 
 # A place of a form is a word, one of some words, or a number with its range.
 Place = Union[bytes, Sequence[bytes], Callable[[int], bool]]
@@ -10,6 +10,8 @@ Form = List[Place]
 
 KINDS = (b'fixed', b'growing', b'wired')
 RIGHTS = (b'none', b'read', b'write')
+# The words of page sizes: the digits of their levels, ascending.
+SIZE_SETS = (b'0', b'01', b'02', b'03', b'012', b'013', b'023', b'0123')
 LAST_ADDRESS = SPACE_PAGES * 8192 - 8
 CALLS = {b'map': Map, b'grow': Grow, b'unmap': Unmap, b'protect': Protect, b'load': Load, b'store': Store, b'sync': Sync, b'evict': Evict}
 
@@ -27,7 +29,8 @@ ADDRESS: Place = lambda n: n % 8 == 0 and n <= LAST_ADDRESS
 PAGE: Place = between(0, SPACE_PAGES - 1)
 LENGTH: Place = between(1, SPACE_PAGES)
 SIXTEEN: Place = between(1, 16)
-FIRST: Form = [b'trace', between(1, 1), FRAMES, SIXTEEN, SIXTEEN]
+# Version 1 has all four page sizes, and version 2 names its own.
+FIRSTS: List[Form] = [[b'trace', between(1, 1), FRAMES, SIXTEEN, SIXTEEN], [b'trace', between(2, 2), FRAMES, SIXTEEN, SIXTEEN, SIZE_SETS]]
 DAEMON: Form = [b'daemon', between(1, 64), between(1, 4096)]
 END: Form = [b'end']
 
@@ -80,14 +83,26 @@ def trace_of(text: bytes) -> Trace:
     *lines, rest = text.split(b'\n')
     if not lines:
         raise Refusal('no end')
-    refuse(1, cause_of(lines[0].split(b' '), [FIRST]))
-    frames, processors, spaces = [int(word) for word in lines[0].split(b' ')[2:]]
+    words = lines[0].split(b' ')
+    refuse(1, cause_of(words, FIRSTS))
+    version, frames, processors, spaces = map(int, words[1:5])
+    sizes = sizes_of(words[5].decode()) if version == 2 else ALL_SIZES
     forms = call_forms(processors, spaces)
     daemon, first = daemon_of(lines)
     last = end_behind(lines, first, forms)
     if len(lines) > last + 1 or rest:
         raise Refusal('line %d: after' % (last + 2))
-    return Trace(frames, processors, spaces, daemon, tuple(call_of(line.split(b' ')) for line in lines[first:last]))
+    return Trace(version, frames, processors, spaces, sizes, daemon, tuple(call_of(line.split(b' ')) for line in lines[first:last]))
+
+
+def sizes_of(word: str) -> Sizes:
+    """The page sizes that a word names."""
+    return tuple(map(int, word))
+
+
+def sizes_word(sizes: Sizes) -> str:
+    """The word of page sizes. (TraceText.antt)"""
+    return ''.join(map(str, sizes))
 
 
 def refuse(number: int, cause: Optional[str]) -> None:
@@ -123,7 +138,8 @@ def words_of(call: Call) -> List[object]:
 
 def text_of(trace: Trace) -> str:
     """The trace's one text. (TraceText.antt)"""
-    first = ['trace', 1, trace.frames, trace.processors, trace.spaces]
+    sizes = [] if trace.version == 1 else [sizes_word(trace.sizes)]
+    first = ['trace', trace.version, trace.frames, trace.processors, trace.spaces, *sizes]
     daemon = [['daemon', trace.daemon.low, trace.daemon.turns]] if trace.daemon else []
     rows = [first, *daemon, *([line.processor, *words_of(line.call)] for line in trace.lines), ['end']]
     return ''.join(' '.join(map(str, row)) + '\n' for row in rows)

@@ -3,7 +3,7 @@
 A reply is a tuple of its word and its numbers, as ('done',), ('value', 7) or ('noframes', 3, 1, 0).
 """
 from dataclasses import dataclass
-from typing import List, Optional, Sequence, Tuple, Union
+from typing import List, NamedTuple, Optional, Sequence, Tuple, Union
 
 PAGE_BYTES = 8192
 SPACE_PAGES = 1048576
@@ -12,7 +12,9 @@ IMAGE_ROOM = 128
 MOST_CALLS = 262144
 MOST_BYTES = 16777216
 LAST_COUNT = 2 ** 64 - 1
-SIZES = (0, 1, 2, 3)
+# Which page sizes there are: levels, ascending, and 0 is always one.
+Sizes = Tuple[int, ...]
+ALL_SIZES: Sizes = (0, 1, 2, 3)
 
 Reply = Tuple
 DONE: Reply = ('done',)
@@ -136,8 +138,7 @@ class Need:
     writing: bool
 
 
-@value
-class Tile:
+class Tile(NamedTuple):
     """An extent of pages that one translation maps."""
     size: int
     first: int
@@ -256,9 +257,11 @@ class Daemon:
 
 @value
 class Trace:
+    version: int
     frames: int
     processors: int
     spaces: int
+    sizes: Sizes
     daemon: Optional[Daemon]
     lines: Tuple[Line, ...]
 
@@ -272,16 +275,16 @@ class Setting:
     """What a history is legal for: how many frames and which page sizes there are; of each processor 0 where it makes calls, and a daemon's
     low mark; of each space whether its store tells its copies, and the store's count of faults at entry. (Settings.antt)"""
     frames: int
-    sizes: Tuple[int, ...]
+    sizes: Sizes
     marks: Tuple[int, ...]
     told: Tuple[bool, ...]
     faults: Tuple[int, ...]
 
 
 def setting_of(trace: Trace, told: Optional[Sequence[bool]] = None, faults: Optional[Sequence[int]] = None) -> Setting:
-    """The setting of a trace, with all four sizes, over stores that tell their copies and never failed where nothing else is said. A daemon
+    """The setting of a trace, with its page sizes, over stores that tell their copies and never failed where nothing else is said. A daemon
     is one processor more. (Showing.antt: daemon_marks)"""
     marks = (0,) * trace.processors + ((trace.daemon.low,) if trace.daemon else ())
     told = (True,) * trace.spaces if told is None else tuple(told)
     faults = (0,) * trace.spaces if faults is None else tuple(faults)
-    return Setting(trace.frames, SIZES, marks, told, faults)
+    return Setting(trace.frames, trace.sizes, marks, told, faults)

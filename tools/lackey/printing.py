@@ -1,5 +1,5 @@
 """Lays the pages out in a space and prints the trace."""
-from typing import Dict, Iterator, List, Tuple
+from typing import Dict, Iterator, List, Optional, Tuple
 
 from common import Stopped
 
@@ -85,13 +85,18 @@ class Calls:
             yield time, PROTECTS, first, 'protect 0 %d %d %s' % (self.places[first], length, RIGHTS[new])
 
 
-def trace_of(accesses: List[Access], changes: List[Change], regions: List[Region], frames: int, processors: int) -> List[str]:
-    """The lines of the trace: each call of a region before the access that its change came before."""
+def first_line(frames: int, processors: int, sizes: Optional[str]) -> str:
+    """The first line of the trace: of version 2 where it names its page sizes, and else of version 1."""
+    return 'trace 1 %d %d 1' % (frames, processors) if sizes is None else 'trace 2 %d %d 1 %s' % (frames, processors, sizes)
+
+
+def trace_of(accesses: List[Access], changes: List[Change], regions: List[Region], first: str, processors: int) -> List[str]:
+    """The lines of the trace, behind this first one: each call of a region before the access that its change came before."""
     edges = {page for region in regions for pages in region.history for page in pages}
     places = lay_out(sorted(edges.union(page for _, page, _ in accesses)))
     calls = sorted(call for region in regions for call in Calls(region, places))
     waiting = [(0 if time < 0 else changes[time].at, words) for time, _, _, words in reversed(calls)]
-    lines = ['trace 1 %d %d 1' % (frames, processors)]
+    lines = [first]
     for number, (stores, page, offset) in enumerate(accesses):
         processor = number // STRETCH % processors
         lines += due(waiting, number, processor)

@@ -2,7 +2,7 @@
 import subprocess
 from typing import Callable, Dict, List, NamedTuple, Optional, Tuple
 
-from common import Stopped
+from common import SIZE_SETS, Stopped
 from pictures import words
 from pictures.frames import CLAIMED, FREE, LARGEST, UNUSED, USED, WIRED, Astray, Frames, Reservation, Want, begin_of
 from pictures.spaces import Region, Space, Tile
@@ -12,9 +12,11 @@ Outline = Tuple[int, int, int]
 
 
 class Run(NamedTuple):
-    """A trace and what the program printed of it: the calls of each processor, the lines of the history, and the counts by their names."""
+    """A trace and what the program printed of it: the page sizes, ascending, the calls of each processor, the lines of the history, and the counts by
+    their names."""
     frames: int
     spaces: int
+    sizes: List[int]
     calls: List[List[str]]
     history: List[str]
     counts: Dict[str, List[int]]
@@ -51,15 +53,6 @@ class Change(NamedTuple):
     counts: Counts
 
 
-def with_frames(trace: bytes, frames: Optional[int]) -> bytes:
-    """The trace over so many frames. What isn't a first line of a trace is left for the program to refuse."""
-    first, line_feed, rest = trace.partition(b'\n')
-    parts = first.split(b' ')
-    if frames is None or len(parts) != 5:
-        return trace
-    return b' '.join(parts[:2] + [b'%d' % frames] + parts[3:]) + line_feed + rest
-
-
 def printed(program: str, words: List[str], trace: bytes) -> str:
     """What the program prints of the trace by these words."""
     done = subprocess.run([program] + words, input=trace, stdout=subprocess.PIPE, stderr=subprocess.PIPE)
@@ -81,7 +74,7 @@ def run(program: str, order: List[str], trace: bytes) -> Run:
 def read(trace: str, text: str) -> Run:
     """A trace that the program took, and what it printed of it."""
     lines = trace.split('\n')[:-2]
-    _, _, frames, processors, spaces = lines[0].split(' ')
+    _, _, frames, processors, spaces, *named = lines[0].split(' ')
     # A daemon is one processor more, which makes no calls.
     daemons = sum(line.startswith('daemon ') for line in lines[1:2])
     calls: List[List[str]] = [[] for _ in range(int(processors) + daemons)]
@@ -92,7 +85,9 @@ def read(trace: str, text: str) -> Run:
     printed = text.split('\n')[sum(map(len, calls)):]
     end = next(at for at, line in enumerate(printed) if line.startswith('tiles '))
     counts = {line.split(' ')[0]: [int(word) for word in line.split(' ')[1:]] for line in printed[end:] if line}
-    return Run(int(frames), int(spaces), calls, printed[:end], counts)
+    # Where the first line names no sizes there are all.
+    sizes = list(map(int, named[0] if named else SIZE_SETS[-1]))
+    return Run(int(frames), int(spaces), sizes, calls, printed[:end], counts)
 
 
 def page_of(call: List[str]) -> int:
@@ -105,8 +100,8 @@ class Follower:
 
     def __init__(self, run: Run) -> None:
         self.calls = run.calls
-        self.frames = Frames(run.frames, lambda *painted: self.paints.append(painted), self.outline)
-        self.spaces = [Space() for _ in range(run.spaces)]
+        self.frames = Frames(run.frames, run.sizes, lambda *painted: self.paints.append(painted), self.outline)
+        self.spaces = [Space(run.sizes) for _ in range(run.spaces)]
         self.answered = [0] * len(run.calls)
         self.begin()
 

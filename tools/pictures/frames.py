@@ -1,7 +1,7 @@
 """The frames' state of docs/model.md, followed entry by entry: free blocks, reservations, used places, claims and held frames."""
 import heapq
 from collections import Counter
-from typing import Callable, Dict, List, NamedTuple, Optional, Tuple
+from typing import Callable, Dict, List, NamedTuple, Optional, Sequence, Tuple
 
 # The largest size: a page of size k has 8**k base pages.
 LARGEST = 3
@@ -40,16 +40,17 @@ class Want(NamedTuple):
 
 
 class Reservation:
-    """An extent of pages of a space joined to one of frames: place i joins page `first + i` and frame `frame + i`."""
+    """An extent of pages of a space joined to one of frames: place i joins page `first + i` and frame `frame + i`. `sizes` are those that there
+    are, ascending, up to its own."""
 
-    def __init__(self, space: int, first: int, size: int, frame: int, stamp: int, used: bytes) -> None:
-        self.space, self.first, self.size, self.frame, self.stamp = space, first, size, frame, stamp
-        # For each size up to this one how many places of each part are used.
-        self.used = [[sum(used[at:at + pages_of(k)]) for at in range(0, len(used), pages_of(k))] for k in range(size + 1)]
+    def __init__(self, space: int, first: int, sizes: Sequence[int], frame: int, stamp: int, used: bytes) -> None:
+        self.space, self.first, self.sizes, self.size, self.frame, self.stamp = space, first, sizes, sizes[-1], frame, stamp
+        # For each of these sizes how many places of each part are used.
+        self.used = {k: [sum(used[at:at + pages_of(k)]) for at in range(0, len(used), pages_of(k))] for k in sizes}
 
     def add(self, place: int, by: int) -> None:
         """The place becomes used (1) or unused (-1)."""
-        for size, parts in enumerate(self.used):
+        for size, parts in self.used.items():
             parts[place // pages_of(size)] += by
 
     def is_empty(self) -> bool:
@@ -57,13 +58,14 @@ class Reservation:
 
     def give_back(self) -> Optional[int]:
         """The yield: the largest size of a part without a used place, or None where every place is used."""
-        return next((size for size in range(self.size, -1, -1) if 0 in self.used[size]), None)
+        return next((size for size in reversed(self.sizes) if 0 in self.used[size]), None)
 
     def parts(self) -> List['Reservation']:
         """The parts of the next smaller size, with the same stamp."""
-        size, used = self.size - 1, bytes(self.used[0])
-        return [Reservation(self.space, self.first + at, size, self.frame + at, self.stamp, used[at:at + pages_of(size)])
-                for at in range(0, len(used), pages_of(size))]
+        sizes, used = self.sizes[:-1], bytes(self.used[0])
+        length = pages_of(sizes[-1])
+        return [Reservation(self.space, self.first + at, sizes, self.frame + at, self.stamp, used[at:at + length])
+                for at in range(0, len(used), length)]
 
 
 class FreeBlocks:
@@ -111,11 +113,12 @@ class Taken(NamedTuple):
 
 
 class Frames:
-    """The frames' state. What becomes of a run of frames is told to `paint`: its first frame, length and code. What reservation begins at a
-    frame from now on, or that none does, is told to `outline`."""
+    """The frames' state. `sizes` are those that there are, ascending. What becomes of a run of frames is told to `paint`: its first frame,
+    length and code. What reservation begins at a frame from now on, or that none does, is told to `outline`."""
 
-    def __init__(self, count: int, paint: Callable[[int, int, int], None], outline: Callable[[int, Optional[Reservation]], None]) -> None:
-        self.paint, self.outline = paint, outline
+    def __init__(self, count: int, sizes: Sequence[int], paint: Callable[[int, int, int], None],
+                 outline: Callable[[int, Optional[Reservation]], None]) -> None:
+        self.sizes, self.paint, self.outline = sizes, paint, outline
         self.free = FreeBlocks()
         # Reservations by space, size and first page.
         self.reservations: Dict[Tuple[int, int, int], Reservation] = {}
@@ -184,14 +187,16 @@ class Frames:
         rows = (row for row in self.partial[size:] if row)
         return min(next(rows, ()), key=lambda r: (r.stamp, r.frame), default=None)
 
-    def preferred(self, space: int, page: int, want: Want) -> int:
-        """The preferred size for a page that no reservation has."""
-        for size in range(LARGEST, 0, -1):
-            first, pages = begin_of(size, page), pages_of(size)
-            met = self.inside[space, size, first] or (space, size, first) in self.reservations
-            if want.low <= first and first + pages <= want.high and pages <= want.cap and not met:
-                return size
-        return 0
+    def fits(self, space: int, page: int, want: Want, size: int) -> bool:
+        """Whether a reservation of this size may have the page, which none has."""
+        first, pages = begin_of(size, page), pages_of(size)
+        met = self.inside[space, size, first] or (space, size, first) in self.reservations
+        return want.low <= first and first + pages <= want.high and pages <= want.cap and not met
+
+    def tried(self, space: int, page: int, want: Want) -> Sequence[int]:
+        """The sizes up to the preferred one, ascending, for a page that no reservation has. A base page fits always."""
+        preferred = max(size for size in self.sizes if size == 0 or self.fits(space, page, want, size))
+        return self.sizes[:self.sizes.index(preferred) + 1]
 
     def take(self, stamp: int, space: int, page: int, frame: int, want: Want) -> Taken:
         """The page gets a frame by the rules, which has to be the one that is told."""
@@ -212,16 +217,18 @@ class Frames:
 
     def reserve(self, stamp: int, space: int, page: int, want: Want) -> Taken:
         """Makes a reservation for the page, of the preferred size or the next that can be had."""
-        broken = None
-        for size in range(self.preferred(space, page, want), -1, -1):
+        sizes, broken = self.tried(space, page, want), None
+        while sizes:
+            size = sizes[-1]
             frame = self.free.take(size)
             if frame is None:
                 broken = self.oldest(size)
                 if broken is None:
+                    sizes = sizes[:-1]
                     continue
                 self.break_up(broken)
                 frame = self.free.take(size)
-            r = Reservation(space, begin_of(size, page), size, frame, stamp, bytes(pages_of(size)))
+            r = Reservation(space, begin_of(size, page), sizes, frame, stamp, bytes(pages_of(size)))
             self.enter(r, 1)
             self.paint(frame, pages_of(size), coded(UNUSED, space))
             return Taken(r, True, broken)
@@ -250,9 +257,9 @@ class Frames:
     def carve(self, r: Reservation, frame: int, claimer: int) -> None:
         """The claimed frame leaves its reservation, which is split down to it, and its claimer holds it."""
         self.enter(r, -1)
-        for size in range(r.size - 1, -1, -1):
+        while r.size > 0:
             parts = r.parts()
-            r = parts.pop((frame - r.frame) // pages_of(size))
+            r = parts.pop((frame - r.frame) // pages_of(parts[0].size))
             self.keep(parts)
         del self.claimed[claimer]
         self.held[claimer] = frame

@@ -5,6 +5,7 @@ from typing import Dict, Iterator, List, NamedTuple, Set, Tuple
 from pictures.following import Change, Run, State
 from pictures.frames import LARGEST
 from pictures.spaces import Region
+from pictures.words import sizes_said
 
 # The most pages of small regions that a line shows of a space, and the most pages of others.
 MOST = 64
@@ -75,10 +76,12 @@ def calls_and_rows(run: Run, changes: List[Change], shown: List[Shown]) -> Itera
             changed.clear()
 
 
-def legend(shown: List[Shown]) -> List[str]:
-    """What the last column is."""
+def legend(run: Run, shown: List[Shown]) -> List[str]:
+    """What the last column is, and which page sizes there are where they aren't all."""
     out = ['Behind each call and its reply: the size of the translation of each page, worked out from the history; %s no frame, %s unmapped.'
            % (NO_FRAME, UNMAPPED)]
+    said = sizes_said(run.sizes)
+    out += [said[:1].upper() + said[1:]] * (said != '')
     for space, (pages, everything) in enumerate(shown):
         parts = ['pages ' + runs_text(pages)] * (pages != []) + ['how many translations (tiles) have 1, 8, 64 and 512 pages'] * (not everything)
         out.append('Space %d: %s' % (space, ', and '.join(parts) or 'no page'))
@@ -92,4 +95,4 @@ def text(run: Run, changes: List[Change]) -> str:
     wide = [max((len(row[at]) for row in rows), default=0) for at in (0, 1)]
     lines = [('%-*s  %-*s  %s' % (wide[0], call, wide[1], reply, pages)).rstrip() for call, reply, pages in rows]
     counts = [' '.join([name] + [str(number) for number in numbers]) for name, numbers in run.counts.items() if numbers]
-    return '\n'.join(legend(shown) + [''] + lines + [''] + counts + [''])
+    return '\n'.join(legend(run, shown) + [''] + lines + [''] + counts + [''])

@@ -369,8 +369,9 @@ byId("name").append(element("small", data.about));
 byId("omitted").textContent = data.omitted;
 const outlined = (name) => ["", name, "outline"], focused = ["", "what this entry is about", "focus"];
 legend("roles", [...data.legend, outlined("outline of a reservation"), focused]);
+const ofSize = (size) => [data.tiles[size][0], "translation of " + data.tiles[size][1]];
 legend("sizes", [
-  [data.mapped, "mapped, without a frame"], [data.unmapped, "unmapped"], ...data.tiles.map(([colour, name]) => [colour, "translation of " + name]),
+  [data.mapped, "mapped, without a frame"], [data.unmapped, "unmapped"], ...data.sizes.map(ofSize),
   [data.dirty, "dirty: stored to since it was equal to its copy"], outlined("extent of one translation"), focused,
 ]);
 strip();

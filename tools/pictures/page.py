@@ -59,7 +59,7 @@ def page(run: Run, changes: List[Change], name: str, about: str) -> str:
         'codes': codes, 'legend': list(codes.values()), 'tiles': list(zip(layout.TILES, layout.TILE_NAMES)),
         'mapped': layout.MAPPED, 'unmapped': layout.UNMAPPED, 'dirty': layout.DIRTY, 'outline': layout.OUTLINE, 'focus': layout.FOCUS,
         'border': layout.BORDER, 'lattice': layout.GRID,
-        'names': Counts._fields, 'told': told(run), 'printed': run.counts,
+        'sizes': run.sizes, 'names': Counts._fields, 'told': told(run), 'printed': run.counts,
         'marks': [(Counts._fields.index(field), colour) for field, colour in MARKS],
         'changes': [short(change) for change in changes],
     }

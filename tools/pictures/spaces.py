@@ -1,6 +1,6 @@
 """What docs/model.md says of a space, followed entry by entry: its regions, rights, resident and dirty pages, and their tiles."""
 from bisect import bisect_left, bisect_right
-from typing import Dict, List, NamedTuple, Optional, Set, Tuple
+from typing import Dict, List, NamedTuple, Optional, Sequence, Set, Tuple
 
 from pictures.frames import LARGEST, begin_of, pages_of
 
@@ -66,9 +66,10 @@ class Moves(NamedTuple):
 
 
 class Space:
-    """A space after the entries that were told."""
+    """A space after the entries that were told. `sizes` are the page sizes that there are, ascending."""
 
-    def __init__(self) -> None:
+    def __init__(self, sizes: Sequence[int]) -> None:
+        self.sizes = sizes
         self.regions: List[Region] = []
         self.rights = Ranges()
         self.frames: Dict[int, int] = {}
@@ -141,7 +142,7 @@ class Space:
         """Finds the tiles again where pages changed, and answers what became of them."""
         moves = Moves({}, [], [])
         for block in self.touched:
-            old, new = self.tiles.get(block, {}), tiles_of(block, self.kinds[block])
+            old, new = self.tiles.get(block, {}), tiles_of(block, self.kinds[block], self.sizes)
             self.tiles[block] = new
             moves.tiles.update({first: new.get(first) for first in old.keys() | new.keys() if old.get(first) != new.get(first)})
             moves.promoted.extend(outside(new, old))
@@ -150,12 +151,12 @@ class Space:
         return moves
 
 
-def tiles_of(block: int, kinds: List[Optional[Kind]]) -> Dict[int, Tile]:
+def tiles_of(block: int, kinds: List[Optional[Kind]], sizes: Sequence[int]) -> Dict[int, Tile]:
     """The tiles of an extent of the largest size: the eligible extents in it that lie in no larger one, by first page."""
     tiles: Dict[int, Tile] = {}
     at = 0
     while at < BLOCK:
-        size = size_at(kinds, at)
+        size = size_at(kinds, at, sizes)
         if size is not None:
             kind, page = kinds[at], block * BLOCK + at
             tiles[page] = Tile(size, page + kind.distance, kind.rights, kind.dirty)
@@ -163,13 +164,13 @@ def tiles_of(block: int, kinds: List[Optional[Kind]]) -> Dict[int, Tile]:
     return tiles
 
 
-def size_at(kinds: List[Optional[Kind]], at: int) -> Optional[int]:
+def size_at(kinds: List[Optional[Kind]], at: int, sizes: Sequence[int]) -> Optional[int]:
     """The size of the largest eligible extent that begins here, or None where no page is resident."""
     kind = kinds[at]
     if kind is None:
         return None
-    sizes = (size for size in range(LARGEST, 0, -1) if at % pages_of(size) == 0 and kind.distance % pages_of(size) == 0)
-    return next((size for size in sizes if kinds[at:at + pages_of(size)].count(kind) == pages_of(size)), 0)
+    aligned = (size for size in reversed(sizes) if at % pages_of(size) == 0 and kind.distance % pages_of(size) == 0)
+    return next((size for size in aligned if kinds[at:at + pages_of(size)].count(kind) == pages_of(size)), 0)
 
 
 def outside(some: Dict[int, Tile], others: Dict[int, Tile]) -> List[Tuple[int, int]]:

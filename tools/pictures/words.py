@@ -48,6 +48,11 @@ def run_of(name: str, first: int, count: int) -> str:
     return '%s %d' % (name, first) if count == 1 else '%ss %d to %d' % (name, first, first + count - 1)
 
 
+def sizes_said(sizes: List[int]) -> str:
+    """The page sizes, where they aren't all."""
+    return '' if len(sizes) == len(SIZE_NAMES) else 'page sizes: %s' % ', '.join(SIZE_NAMES[size] for size in sizes)
+
+
 def called(words: List[str]) -> str:
     """What a call asks for."""
     name, space, numbers = words[0], words[1], words[2:]
