@@ -14,37 +14,53 @@ from common import end, number_in  # noqa: E402: it stands beside the tools
 HELP = """\
 Prints a random trace in which every call has its turn and frames soon run short.
 
-    examples/random_trace.py SEED CALLS FRAMES PROCESSORS SPACES LOADS >random.trace
+    examples/random_trace.py SEED CALLS FRAMES PROCESSORS SPACES LOADS [SIZES] >random.trace
 
 It begins with LOADS loads of as many pages, so that few frames are left, and has CALLS more calls, and a few beyond them where the last
 draw is a run of loads. Equal words give equal bytes. CALLS and LOADS are at most 130000 each, so that there are no more calls than a trace
-may have.
+may have. With SIZES the trace names these page sizes, as 03 for those of 1 and of 512 base pages. Where it begins with loads then, a region
+has a page of the largest of them at least, and of half the traces the loads are first at every eighth page, and then between.
 """
 
 PAGE = 8192
 PAGES = 700
 REGION = 60
+SIZES = ('0', '01', '02', '03', '012', '013', '023', '0123')
 LAST_PAGE = 1048575
 # The most calls, and the most loads before them: with the maps, they are fewer than a trace may have.
 MOST = 130000
 
 
-def write_trace(seed, calls, frames, processors, spaces, loads):
-    """The lines of the trace that these numbers draw."""
+def first_line(frames, processors, spaces, sizes):
+    """The first line: of version 1, or of version 2, which names the page sizes."""
+    numbers = '%d %d %d' % (frames, processors, spaces)
+    return 'trace 1 ' + numbers if sizes is None else 'trace 2 %s %s' % (numbers, sizes)
+
+
+def write_trace(seed, calls, frames, processors, spaces, loads, sizes):
+    """The lines of the trace that these words draw."""
     r = random.Random(seed)
-    lines = ['trace 1 %d %d %d' % (frames, processors, spaces)]
+    lines = [first_line(frames, processors, spaces, sizes)]
+    small = REGION if sizes is None else max(REGION, 8 ** int(sizes[-1]))
     for s in range(spaces):
         length = r.choice((PAGES, 600, 300))
         kind = r.choice(('fixed', 'growing', 'fixed', 'wired'))
         # Where frames are to be few, small regions, so that an unmap doesn't free most of them.
-        size = REGION if loads else length
+        size = small if loads else length
         for first in range(0, length, size):
             lines.append('%d map %d %d %d %s write' % (s % processors, s, first, min(size, length - first), kind))
-    lines += ['0 load %d %d' % (i % spaces, i // spaces * PAGE) for i in range(loads)]
+    step = 1 if sizes is None else r.choice((1, 8))
+    lines += ['0 load %d %d' % (i % spaces, nth_page(i // spaces, step) * PAGE) for i in range(loads)]
     wanted = len(lines) + calls
     while len(lines) < wanted:
         lines += some_calls(r, r.randrange(processors), r.randrange(spaces))
     return lines + ['end']
+
+
+def nth_page(n, step):
+    """The page of a load: of each 512 pages first every one at this step, and then those beside them."""
+    i = n % 512
+    return n - i + i * step % 512 + i * step // 512
 
 
 def some_calls(r, processor, space):
@@ -85,8 +101,9 @@ def main():
     parser.add_argument('processors', metavar='PROCESSORS', type=number_in(1, 16))
     parser.add_argument('spaces', metavar='SPACES', type=number_in(1, 16))
     parser.add_argument('loads', metavar='LOADS', type=number_in(0, MOST))
+    parser.add_argument('sizes', metavar='SIZES', nargs='?', choices=SIZES)
     words = parser.parse_args()
-    print('\n'.join(write_trace(words.seed, words.calls, words.frames, words.processors, words.spaces, words.loads)))
+    print('\n'.join(write_trace(**vars(words))))
     return 0
 
 
