@@ -80,12 +80,13 @@ first_words_short : (version frames processors spaces : ℕ) → version < 10000
 first_words_short version frames processors spaces v f p s word short true = simp length-append (omega (arith, small version v, small frames f, small processors p, small spaces s))
 first_words_short version frames processors spaces v f p s word short false = simp length-append (omega (arith, small version v, small frames f, small processors p, small spaces s, short))
 
-version_is_small : (version : ℕ) (z : SizeSet) → IsVersion version z → version < 10000000
-version_is_small version z is = elim is [ inl one ↦ omega (arith, one.0) | inr two ↦ omega (arith, two) ]
+-- there are two versions
+pub version_low : (version : ℕ) (z : SizeSet) → IsVersion version z → version ≤ 2
+version_low version z is = elim is [ inl one ↦ omega (arith, one.0) | inr two ↦ omega (arith, two) ]
 
 first_is_short : (plan : Plan) → HasText plan → length (first_line plan) ≤ 43
 first_is_short plan has =
-    first_words_short plan.version plan.frames plan.processors plan.spaces (version_is_small plan.version plan.sizes has.version_in) (omega (arith, has.frames_in)) (omega (arith, has.processors_in))
+    first_words_short plan.version plan.frames plan.processors plan.spaces (let low = version_low plan.version plan.sizes has.version_in in omega arith) (omega (arith, has.frames_in)) (omega (arith, has.processors_in))
     (omega (arith, has.spaces_in)) (sizes_word plan.sizes) (sizes_are_short plan.sizes.one plan.sizes.two plan.sizes.three) (plan.version == 1)
 
 daemon_is_short : (daemon : Option Daemon) → IsDaemon daemon → length (daemon_line daemon) ≤ 40

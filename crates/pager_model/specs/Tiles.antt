@@ -107,21 +107,9 @@ begins_at page (Some t) = t.extent.first == page
 abbrev pub size_at : (ℕ → Option Mapping) → ℕ → ℕ
 size_at pages page = size_in (tile_of pages page)
 
--- the page is the first of a tile that is larger than its tile was before: an extent of size 1 or more that lay in no tile
-abbrev pub is_promoted : (ℕ → Option Mapping) → (ℕ → Option Mapping) → ℕ → Bool
-is_promoted before after page = begins_at page (tile_of after page) && nat_lt (size_at before page) (size_at after page)
-
 -- how many pages of a space are so
 unfoldable pub count_pages : (ℕ → Bool) → ℕ
 count_pages test = count_by test (range_with_len 0 space_pages)
-
--- promotions by all four sizes: the extents of size 1 or more that are tiles after a change and lay in no tile before it
-abbrev pub promotions_between : (ℕ → Option Mapping) → (ℕ → Option Mapping) → ℕ
-promotions_between before after = count_pages (is_promoted before after)
-
--- demotions by all four sizes: the extents of size 1 or more that were tiles before it and lie in no tile after it
-abbrev pub demotions_between : (ℕ → Option Mapping) → (ℕ → Option Mapping) → ℕ
-demotions_between before after = promotions_between after before
 
 -- the page is the first of a tile of this size, by all four sizes
 abbrev pub begins_tile : (ℕ → Option Mapping) → ℕ → ℕ → Bool
@@ -150,7 +138,7 @@ is_tile_in z pages t = is_that_tile t (tile_in z pages t.extent.first)
 abbrev pub tile_size_in : SizeSet → (ℕ → Option Mapping) → ℕ → ℕ
 tile_size_in z pages page = size_in (tile_in z pages page)
 
--- the page is the first of a tile by these sizes that is larger than its tile was before
+-- the page is the first of a tile by these sizes that is larger than its tile was before: an extent of size 1 or more that lay in no tile
 abbrev pub is_promoted_in : SizeSet → (ℕ → Option Mapping) → (ℕ → Option Mapping) → ℕ → Bool
 is_promoted_in z before after page = begins_at page (tile_in z after page) && nat_lt (tile_size_in z before page) (tile_size_in z after page)
 

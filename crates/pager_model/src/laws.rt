@@ -18,12 +18,12 @@ ghost use Rattle.pager_model.specs.Layouts.{oldest_of};
 ghost use Rattle.pager_model.specs.PreferredSize.{preferred_size, preferred_among};
 ghost use Rattle.pager_model.specs.PrintedText.{answers_text, history_line};
 ghost use Rattle.pager_model.specs.Records.{is_used, yield_of, kept_part, part_at, goes_on_at};
-ghost use Rattle.pager_model.specs.TraceText.{first_line, call_line, line_words, text_of};
+ghost use Rattle.pager_model.specs.TraceText.{HasText, first_line, call_line, line_words, text_of};
 ghost use Rattle.pager_model.specs.Legal.{IsLegal, MayFollow, space_at};
 ghost use Rattle.pager_model.specs.Settings.{Given};
 ghost use Rattle.pager_model.specs.SizeSets.{all_sizes, size_within, size_below};
 ghost use Rattle.pager_model.specs.Images.{is_in_image, images_with, touched, still_tiles};
-ghost use Rattle.pager_model.specs.Tiles.{tile_of, tile_with, size_at, is_promoted, tile_in, tile_size_in, is_promoted_in};
+ghost use Rattle.pager_model.specs.Tiles.{tile_of, tile_with, size_at, tile_in, tile_size_in, is_promoted_in};
 
 /// A legal history goes on by an entry that may follow it.
 pub fn legal_goes_on()
@@ -148,6 +148,8 @@ pub fn a_store_waits_for_its_frame()
 pub fn small_texts()
     ensures trace { text_of small_plan ≡ codes "trace 1 512 1 1\n0 map 0 0 8 fixed write\n0 store 0 8192 5\nend\n" }
     ensures sizes { first_line (record small_plan { version = 2; sizes = base_and_512 }) ≡ codes "trace 2 512 1 1 03\n" }
+    ensures all_sizes { first_line (record small_plan { version = 2 }) ≡ codes "trace 2 512 1 1 0123\n" }
+    ensures version { HasText (record small_plan { sizes = base_and_512 }) → ⊥ }
     ensures grow { call_line (record { processor = 1; call = Grow 2 1048575 1048576 }) ≡ codes "1 grow 2 1048575 1048576\n" }
     ensures unmap { call_line (record { processor = 15; call = Unmap 15 0 }) ≡ codes "15 unmap 15 0\n" }
     ensures protect { call_line (record { processor = 0; call = Protect 0 300 1 NoAccess }) ≡ codes "0 protect 0 300 1 none\n" }
@@ -227,13 +229,14 @@ pub fn a_tile_is_of_the_sizes()
     ensures alone { tile_in base_and_512 (run_of_pages 512 511) 300 ≡ Some (tile_with 0 300 (writable 812 false)) }
     ensures sixty_four { tile_size_in base_and_64 (run_of_pages 512 512) 300 ≡ 2 }
     ensures not_promoted { is_promoted_in base_and_512 (run_of_pages 16 7) (run_of_pages 16 8) 0 ≡ false }
+    ensures promoted { is_promoted_in base_and_512 (run_of_pages 512 511) (run_of_pages 512 512) 0 ≡ true }
 {}
 
 /// The eighth page promotes its extent once, and the first dirty page demotes it once.
 pub fn a_promotion_is_counted_at_the_first_page()
-    ensures promoted { is_promoted (run_of_pages 16 7) (run_of_pages 16 8) 0 ≡ true }
-    ensures once { is_promoted (run_of_pages 16 7) (run_of_pages 16 8) 7 ≡ false }
-    ensures demoted { is_promoted (with_dirty 5 (run_of_pages 16 8)) (run_of_pages 16 8) 0 ≡ true }
+    ensures promoted { is_promoted_in all_sizes (run_of_pages 16 7) (run_of_pages 16 8) 0 ≡ true }
+    ensures once { is_promoted_in all_sizes (run_of_pages 16 7) (run_of_pages 16 8) 7 ≡ false }
+    ensures demoted { is_promoted_in all_sizes (with_dirty 5 (run_of_pages 16 8)) (run_of_pages 16 8) 0 ≡ true }
 {}
 
 /// An access puts its page's tile into its own processor's image alone, and each entry takes out of every image what is no tile any more.

@@ -17,10 +17,9 @@ use Rattle.pager_model.specs.declared.region.Kind.TheVariants.{Fixed, Growing, W
 use Rattle.pager_model.specs.declared.region.Rights.{Rights}
 use Rattle.pager_model.specs.declared.region.Rights.TheVariants.{NoAccess, Read, Write}
 use Rattle.pager_model.specs.Plans.{Plan}
-use Rattle.pager_model.specs.SizeSets.{SizeSet}
 use Rattle.pager_model.specs.declared.trace.Daemon.{Daemon}
-use Rattle.pager_model.specs.TraceText.{kind_word, rights_word, sizes_word, call_words, line_words, line_of_words, call_line, daemon_line, daemon_words, first_words, first_line, text_of, IsCall, IsDaemon, IsLine, IsVersion, HasText}
-use Rattle.pager_model.proofs.Texts.{text_is_short}
+use Rattle.pager_model.specs.TraceText.{kind_word, rights_word, sizes_word, call_words, line_words, line_of_words, call_line, daemon_line, daemon_words, first_words, first_line, text_of, IsCall, IsDaemon, IsLine, HasText}
+use Rattle.pager_model.proofs.Texts.{text_is_short, version_low}
 use Rattle.trace_reader.specs.declared.line.Head.{Head}
 use Rattle.trace_reader.specs.Forms.{call_forms, daemon_form, fits, line_fault}
 use Rattle.trace_reader.specs.Heads.{first_call, IsInRange}
@@ -96,12 +95,9 @@ call_words_are spaces (Evict space page) few is =
 line_words_are : (processors spaces : ℕ) (line : Line) → processors ≤ 2 ^ 64 → spaces ≤ 2 ^ 64 → IsLine processors spaces line → AllByRecursion IsWord (line_words line)
 line_words_are processors spaces line some few is = (decimal_is line.processor (omega (arith, is.0)), call_words_are spaces line.call few is.1)
 
-pub version_is_small : (version : ℕ) (z : SizeSet) → IsVersion version z → version ≤ 2
-version_is_small version z is = elim is [ inl one ↦ omega (arith, one.0) | inr two ↦ omega (arith, two) ]
-
 first_words_are : (plan : Plan) → HasText plan → AllByRecursion IsWord (first_words plan.version plan.frames plan.processors plan.spaces plan.sizes)
 first_words_are plan has =
-    let version = version_is_small plan.version plan.sizes has.version_in in
+    let version = version_low plan.version plan.sizes has.version_in in
     let sizes = sizes_are plan.sizes.one plan.sizes.two plan.sizes.three in
     (is_word (codes "trace") refl, (decimal_is plan.version (omega (arith, version)), (decimal_is plan.frames (omega (arith, has.frames_in)), (decimal_is plan.processors (omega (arith, has.processors_in)), (decimal_is plan.spaces (omega (arith, has.spaces_in)), unnamed_or (plan.version == 1) (sizes_word plan.sizes) sizes)))))
 

@@ -15,10 +15,11 @@ use Rattle.pager_model.specs.declared.region.Rights.TheVariants.{NoAccess, Read,
 use Rattle.pager_model.specs.Plans.{Plan}
 use Rattle.pager_model.specs.SizeSets.{SizeSet, all_sizes}
 use Rattle.pager_model.specs.declared.trace.Daemon.{Daemon}
+use Rattle.pager_model.proofs.Texts.{version_low}
 use Rattle.pager_model.specs.TraceText.{kind_word, rights_word, sizes_word, call_words, daemon_words, first_words, line_words, text_of, IsCall, IsDaemon, IsLine, IsVersion, HasText}
 use Rattle.trace_reader.specs.Forms.{daemon_form, fits}
 use Rattle.trace_reader.specs.Refusals.{lines_of, words_of}
-use Rattle.trace_reader.proofs.CutTexts.{behind_text, calls_text, call_again, call_words_again, call_is_no_daemons, call_is_not_end, daemon_again, daemon_words_again, first_again, first_words_again, version_is_small}
+use Rattle.trace_reader.proofs.CutTexts.{behind_text, calls_text, call_again, call_words_again, call_is_no_daemons, call_is_not_end, daemon_again, daemon_words_again, first_again, first_words_again}
 use Rattle.trace_reader.proofs.Numbers.{decimal_value}
 
 -- the number at a place, the kind and the rights
@@ -148,7 +149,7 @@ plan_back text = plan_of (words_of (get_or (lines_of text) 0 [])) (drop 1 (lines
 
 plan_is_back : (plan : Plan) → HasText plan → plan_back (text_of plan) ≡ plan
 plan_is_back plan has =
-    let version = decimal_value plan.version (let small = version_is_small plan.version plan.sizes has.version_in in omega (arith, small)) in
+    let version = decimal_value plan.version (let small = version_low plan.version plan.sizes has.version_in in omega (arith, small)) in
     let frames = decimal_value plan.frames (omega (arith, has.frames_in)) in
     let processors = decimal_value plan.processors (omega (arith, has.processors_in)) in
     let spaces = decimal_value plan.spaces (omega (arith, has.spaces_in)) in

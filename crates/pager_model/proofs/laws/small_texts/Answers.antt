@@ -1,5 +1,7 @@
-use Rattle.std.proofs.Common.{refl}
+use Rattle.std.proofs.Common.{refl, ap, inl, inr, arith}
+use Rattle.std.proofs.lemmas.Bool.{false≢true}
 use Rattle.std.specs.Fmt.{digits}
+use Rattle.pager_model.specs.SizeSets.{SizeSet}
 use Rattle.pager_model.proofs.laws.small_texts.Goals as goal
 
 pub returns-clause-trace : goal.returns-clause-trace
@@ -9,6 +11,16 @@ returns-clause-trace c = refl
 pub returns-clause-sizes : goal.returns-clause-sizes
 unfolding digits
 returns-clause-sizes c = refl
+
+pub returns-clause-all_sizes : goal.returns-clause-all_sizes
+unfolding digits
+returns-clause-all_sizes c = refl
+
+pub returns-clause-version : goal.returns-clause-version
+returns-clause-version c text = elim text.version_in [
+  | inl one ↦ absurd (false≢true (ap (λ (z : SizeSet). z.one) one.1))
+  | inr two ↦ absurd (omega (arith, two))
+]
 
 pub returns-clause-answers : goal.returns-clause-answers
 unfolding digits
