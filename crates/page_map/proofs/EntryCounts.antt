@@ -201,3 +201,8 @@ none_counted m counts entries are zeros page = elim (entry_at m page) as (λ o. 
       let found : is_first_of size first (entry_at m first) ≡ true = ap (is_first_of size first) here ∙ ap (λ b. b && (size == size)) (eq-eqb first first refl) ∙ eq-eqb size size refl in
       absurd (omega (arith, are.each size low, zeros size low, is_counted (begins_entry m size) first (entries.in_space first entry here) found))
 ] refl
+
+-- and where there is none, none is counted
+pub none_is_counted : (m : Arena Mapping) (size : ℕ) → ((page : ℕ) → entry_at m page ≡ None) → entry_count m size ≡ 0
+unfolding count_pages
+none_is_counted m size none = count-none (begins_entry m size) 0 space_pages (λ page low high. ap (is_first_of size page) (none page))

@@ -86,6 +86,7 @@ impl Mixed {
         ensures some { IfSome result (IsNextEntry self.now from end) }
         ensures none { IfNone result (NoneMapped self.now from end) }
         ensures cost { MatchOption result (steps.new ≤ steps.old + 4 * (end - from)) (λ entry. steps.new + 4 * from ≤ steps.old + 4 * (max from entry.extent.first + 1)) }
+        ensures nothing { ((page : ℕ) → entry_at self.now page ≡ None) → steps.new ≡ steps.old }
         ensures empty { from ≤ end → NoneMapped self.now (from / 512 * 512) ((end + 511) / 512 * 512) → steps.new + from / 512 ≤ steps.old + (end + 511) / 512 }
     {
         if self.is_empty() {
@@ -183,7 +184,8 @@ impl Mixed {
 
     /// Whether nothing is mapped.
     fn is_empty(&self) -> bool
-        ensures { result ≡ true → (page : ℕ) → entry_at self.now page ≡ None }
+        ensures true_where_none { ((page : ℕ) → entry_at self.now page ≡ None) → result ≡ true }
+        ensures none_where_true { result ≡ true → (page : ℕ) → entry_at self.now page ≡ None }
     {
         let _ = &self.tree;
         self.counts == [0; 4]
