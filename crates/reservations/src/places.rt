@@ -1,7 +1,8 @@
-ghost use Rattle.std.specs.Prelude.{◌≡◌, ◌<◌, ◌≤◌, ◌+◌, ◌-◌, ◌/◌, ◌%◌, ◌^◌, length, replicate, slice_set, true, false, IfOk};
+ghost use Rattle.std.specs.Prelude.{◌≡◌, ◌<◌, ◌≤◌, ◌+◌, ◌-◌, ◌*◌, ◌/◌, ◌%◌, ◌^◌, length, replicate, slice_set, map, true, false, IfOk};
+ghost use Rattle.std.specs.List.{range_with_len};
 ghost use Rattle.pager_model.specs.Extents.{IsExtent};
-ghost use Rattle.pager_model.specs.Records.{is_used, none_used, has_empty, yield_of};
-ghost use Rattle.reservations.specs.Counts.{used_in};
+ghost use Rattle.pager_model.specs.Records.{is_used, none_used, yield_of};
+ghost use Rattle.reservations.specs.Counts.{used_in, AreCounts};
 ghost use Rattle.pager_model.specs.RecordPlaces.{IsPlaced};
 ghost use Rattle.reservations.specs.Parts.{told_part, told_parts};
 
@@ -115,22 +116,30 @@ impl UsedPlaces {
 
 /// What the used places say of a reservation.
 impl UsedPlaces {
-    /// Whether some extent of a size inside the reservation has no used place.
-    fn has_empty(&self, whole: &Reservation, size: Size) -> bool
+    /// How many used places each extent of a size above the smallest has.
+    fn counts(&self, size: Size) -> &[u16]
+        requires { 0 < size }
+        ensures { AreCounts self.now (8 ^ size) result.now }
+    {
+        match size.level() {
+            1 => &self.small,
+            2 => &self.middle,
+            _ => &self.large,
+        }
+    }
+
+    /// The counts of the extents of a size above the smallest inside the reservation.
+    fn counts_in(&self, whole: &Reservation, size: Size) -> &[u16]
         requires placed { IsPlaced (length self.now) whole.now.frame whole.now }
         requires inside { size ≤ whole.now.size }
-        ensures { result ≡ has_empty (is_used self.now) whole.now size }
+        requires counted { 0 < size }
+        ensures { result.now ≡
+            map (λ i. used_in self.now (whole.now.frame + i * 8 ^ size) (8 ^ size)) (range_with_len 0 (8 ^ (whole.now.size - size))) }
     {
-        // Of single frames one is unused where fewer than all are used, and no walk over them is needed.
-        if size.level() == 0 {
-            return u32::from(self.count(whole.size, whole.frame)) < whole.size.pages();
-        }
-        for i in 0..whole.size.pages() / size.pages() {
-            if self.is_empty(size, whole.frame + i * size.pages()) {
-                return true;
-            }
-        }
-        false
+        let pages = size.pages();
+        let first = (whole.frame / pages) as usize;
+        let many = (whole.size.pages() / pages) as usize;
+        &self.counts(size)[first..first + many]
     }
 
     /// The size of the largest extent inside the reservation without a used place, and `None` where it is full.
@@ -138,13 +147,21 @@ impl UsedPlaces {
         requires { IsPlaced (length self.now) whole.now.frame whole.now }
         ensures { result ≡ yield_of (is_used self.now) whole.now }
     {
-        for level in (0..whole.size.level() + 1).rev() {
-            let size = Size::of(level).unwrap();
-            if self.has_empty(whole, size) {
+        let used = u32::from(self.count(whole.size, whole.frame));
+        if used == whole.size.pages() {
+            return None;
+        }
+        if used == 0 {
+            return Some(whole.size);
+        }
+        for level in (1..whole.size.level()).rev() {
+            let size = Size::at_level(level);
+            if self.counts_in(whole, size).contains(&0) {
                 return Some(size);
             }
         }
-        None
+        // A reservation that isn't full has an unused frame, and no walk over its frames is needed to tell.
+        Some(Size::at_level(0))
     }
 
     /// One of the eight parts of the reservation.
