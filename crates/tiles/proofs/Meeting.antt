@@ -1,5 +1,5 @@
 -- Tiles that have a page of a range: those that begin in it, and the one that crosses its first page.
-use Rattle.std.proofs.Common.{◌≡◌, ℕ, ◌+◌, ◌*◌, ◌/◌, ◌%◌, ◌^◌, ◌<◌, ◌≤◌, Bool, true, false, eqb, ltb, ◌&&◌, not, nat_lt, Option, refl, sym, ap, inl, inr, ◌∙◌, arith, subst}
+use Rattle.std.proofs.Common.{◌≡◌, ℕ, ◌+◌, ◌-◌, ◌*◌, ◌/◌, ◌%◌, ◌^◌, ◌<◌, ◌≤◌, Bool, true, false, eqb, ltb, ◌&&◌, not, nat_lt, Option, refl, sym, ap, inl, inr, ◌∙◌, arith, subst}
 use Rattle.std.specs.Cmp.{both_ways}
 use Rattle.std.proofs.lemmas.Bool.{cases_Bool, cases_eq, cases_lt, and_parts, and_from, eqb-true, eq-eqb, ne_eqb, ltb-true, lt-ltb, true≢false}
 use Rattle.std.proofs.lemmas.Bool.Decides.{nat_tests}
@@ -208,3 +208,38 @@ meeting_bare z pages first len bare =
           absurd (omega (arith, is.large, none, by_alike z pages q common.page_in_both common.joined))
       | inr none ↦ none
     ]
+
+-- the page begins a large tile that meets what lies between two pages
+abbrev begins_between : SizeSet → (ℕ → Option Mapping) → (first end page : ℕ) → Bool
+begins_between z pages first end page = begins_large_in z pages page && extent_meets first (end - first) (tile_size_in z pages page) page
+
+-- where none of the first pages of a range is resident, the tiles that meet it are those that meet the rest
+pub meeting_from : (z : SizeSet) (pages : ℕ → Option Mapping) (first page end : ℕ) → first ≤ page → page ≤ end → NoneResident pages first page
+    → large_tiles_meeting_in z first (end - first) pages ≡ large_tiles_meeting_in z page (end - page) pages
+meeting_from z pages first page end from within bare = ap count_pages (let tests : begins_between z pages first end ≡ begins_between z pages page end = λ i q. both_ways _ _ (rest q) (whole q) i in tests)
+  where
+    rest : (q : ℕ) → begins_between z pages first end q ≡ true → begins_between z pages page end q ≡ true
+    rest q both =
+        let k = size_by z pages q in
+        let parts = and_parts (begins_large_in z pages q) _ both in
+        let is = large_is z pages q parts.0 in
+        let meets : extent_meets first (end - first) k q ≡ true = ap (λ j. extent_meets first (end - first) j q) (sym (tile_size z pages q)) ∙ parts.1 in
+        let m = meets_if first (end - first) k q meets in
+        let common = common_page first (end - first) k q is.starts meets in
+        let p = common.page_in_both in
+        let range = in_bounds first (end - first) p common.inside in
+        let extent = range_of_extent (q / 8 ^ k) (8 ^ k) p (eight_pos k) common.joined in
+        let on : page ≤ p = elim (cases_lt p page) [
+          | inl before ↦ absurd (omega (arith, is.large, by_absent z pages p (bare p range.0 before), by_alike z pages q p common.joined))
+          | inr on ↦ on
+        ] in
+        and_from _ _ parts.0 (ap (λ j. extent_meets page (end - page) j q) (tile_size z pages q)
+        ∙ if_meets page (end - page) k q (record { some = omega (arith, range, on); before_end = omega (arith, m.before_end); past_first = omega (arith, is.starts, extent, on) }))
+
+    whole : (q : ℕ) → begins_between z pages page end q ≡ true → begins_between z pages first end q ≡ true
+    whole q both =
+        let k = size_by z pages q in
+        let parts = and_parts (begins_large_in z pages q) _ both in
+        let m = meets_if page (end - page) k q (ap (λ j. extent_meets page (end - page) j q) (sym (tile_size z pages q)) ∙ parts.1) in
+        and_from _ _ parts.0 (ap (λ j. extent_meets first (end - first) j q) (tile_size z pages q)
+        ∙ if_meets first (end - first) k q (record { some = omega (arith, m.some); before_end = omega (arith, m.before_end); past_first = omega (arith, m.past_first) }))

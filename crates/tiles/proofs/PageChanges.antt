@@ -1,5 +1,5 @@
 -- What a change of one page does to the tiles, by the page's tile before it and after.
-use Rattle.std.proofs.Common.{◌≡◌, ◌≢◌, ℕ, ◌+◌, ◌<◌, Bool, true, false, not, ◌&&◌, List, [], length, if◌then◌else◌, ◌-◌, is_some, Option, Some, None, option_map, refl, sym, ap, inl, inr, ◌∙◌, ◌⊎◌, arith, subst}
+use Rattle.std.proofs.Common.{◌≡◌, ◌≢◌, ℕ, ◌+◌, ◌<◌, Bool, true, false, not, ◌&&◌, List, [], length, if◌then◌else◌, ◌-◌, ◌^◌, is_some, Option, Some, None, option_map, refl, sym, ap, inl, inr, ◌∙◌, ◌⊎◌, arith, subst}
 use Rattle.std.specs.List.{list_any}
 use Rattle.std.specs.Option.{IfSome}
 use Rattle.std.proofs.lemmas.Bool.{cases_Bool, cond-true, cond-false, false_from_ne_true, true≢false}
@@ -7,15 +7,17 @@ use Rattle.std.proofs.lemmas.Option.{none-some, same_Some}
 use Rattle.pager_model.specs.declared.tile.Mapping.{Mapping}
 use Rattle.pager_model.specs.declared.tile.Tile.{Tile}
 use Rattle.pager_model.specs.SizeSets.{size_within}
-use Rattle.pager_model.specs.Tiles.{tile_of, size_in, is_tile, same_tile}
+use Rattle.pager_model.specs.Tiles.{tile_of, size_in, size_at, is_tile, same_tile}
 use Rattle.pager_model.proofs.ExtentLemmas.{eight_pos, eight_small}
 use Rattle.pager_model.proofs.TileParts.{same_tile-true, same_tile-refl}
 use Rattle.tiles.specs.declared.pages.Turn.{Turn}
 use Rattle.tiles.specs.Beside.{OthersSame}
-use Rattle.tiles.specs.Changes.{AreChanges, Came, HasPieces, IsRound, IsTurn, are_same, coming, cut_round, moves_between, moves_of, times, pieces}
+use Rattle.tiles.specs.Changes.{AreChanges, Came, HasPieces, IsRound, IsTurn, are_same, coming, cut_round, frame_within, moves_between, moves_of, times, pieces}
 use Rattle.tiles.specs.Kept.{ArePages}
 use Rattle.tiles.specs.Resident.{Resident, mapping_at, frames_in, Maps}
 use Rattle.tiles.specs.Sized.{AreMovesIn, size_by}
+use Rattle.tiles.proofs.Extents.{starts_below}
+use Rattle.tiles.proofs.Largest.{size_small, tile_absent, tile_by_own}
 use Rattle.tiles.proofs.MoveCounts.{others_same, moves_one, moves_same}
 use Rattle.tiles.proofs.Pieces.{came_none, came_pieces, cut_round-none, none_stands, one_stands}
 use Rattle.tiles.proofs.SizeChanges.{others_back}
@@ -33,6 +35,23 @@ round_of r kept page (Some t) at =
 pub turn_of : (r s : Resident) → ArePages r → ArePages s → (page : ℕ) (turn : Turn) → turn.before ≡ tile_of (mapping_at r) page → turn.after ≡ tile_of (mapping_at s) page → IsTurn page r s turn
 turn_of r s kept later page turn before after =
     record { before = before; after = after; before_round = round_of r kept page turn.before before; after_round = round_of s later page turn.after after }
+
+-- a page's tile tells its frame
+pub frame_by_tile : (pages : ℕ → Option Mapping) (page : ℕ) → frame_within page (tile_of pages page) ≡ option_map (λ (m : Mapping). m.frame) (pages page)
+frame_by_tile pages page = by (pages page) refl
+  where
+    by : (o : Option Mapping) → pages page ≡ o → frame_within page (tile_of pages page) ≡ option_map (λ (m : Mapping). m.frame) o
+    by None at = ap (frame_within page) (tile_absent pages page at)
+    by (Some m) at =
+        let tile = tile_by_own pages page m at in
+        let starts = starts_below (size_at pages page) page (size_small pages page) in
+        ap (frame_within page) tile.is ∙ ap Some (omega (arith, starts.within, tile.from_frame))
+
+-- and no frame by a tile round a page is too large
+pub frame_fits : (page : ℕ) (t : Tile) → IsRound page t → t.frame + (page - t.extent.first) < 2 ^ 32
+frame_fits page t round =
+    let starts = starts_below t.extent.size page round.low in
+    omega (arith, starts.first, starts.within, starts.short, round.starts, round.fits)
 
 same_or_other : (a b : Option Tile) → (a ≡ b) ⊎ (a ≢ b)
 same_or_other None None = inl refl

@@ -1,5 +1,5 @@
 -- Which tiles came with a change of pages, and which went.
-use Rattle.std.specs.Prelude.{ℕ, zero, suc, ◌≡◌, ◌≢◌, ◌+◌, ◌-◌, ◌*◌, ◌/◌, ◌%◌, ◌^◌, ◌<◌, ◌≤◌, Bool, true, false, ◌&&◌, ◌||◌, ◌==◌, not, max, nat_lt, if◌then◌else◌, count_by, List, [], ◌∷◌, ◌++◌, length, Option, Some, None, IfSome, is_some}
+use Rattle.std.specs.Prelude.{ℕ, zero, suc, ◌≡◌, ◌≢◌, ◌+◌, ◌-◌, ◌*◌, ◌/◌, ◌%◌, ◌^◌, ◌<◌, ◌≤◌, Bool, true, false, ◌&&◌, ◌||◌, ◌==◌, not, max, nat_lt, if◌then◌else◌, count_by, List, [], ◌∷◌, ◌++◌, length, Option, Some, None, IfSome, is_some, option_map}
 use Rattle.std.specs.Option.{option_to_list}
 use Rattle.pager_model.specs.declared.page_range.PageRange.{PageRange}
 use Rattle.pager_model.specs.declared.tile.Mapping.{Mapping}
@@ -90,6 +90,14 @@ pub record PageChange : Type 0 where
   pub page : ℕ
   pub before : Option Tile
   pub after : Option Tile
+
+-- the frame of a page by its tile, where it has one
+abbrev pub frame_within : ℕ → Option Tile → Option ℕ
+frame_within page tile = option_map (λ (t : Tile). t.frame + (page - t.extent.first)) tile
+
+-- the frame that the page had before, where it was resident
+abbrev pub frame_before : PageChange → Option ℕ
+frame_before changes = frame_within changes.page changes.before
 
 -- the tiles that went with it, and those that came
 abbrev pub gone_of : PageChange → List Tile

@@ -5,7 +5,7 @@ ghost use Rattle.std.specs.Prelude.{◌≡◌, ◌≢◌, ◌∷◌, [], ℕ, �
 ghost use Rattle.pager_model.specs.Tiles.{tile_in, is_tile_in, tile_count_in, cut_to};
 ghost use Rattle.pager_model.specs.declared.tile.Mapping.{Mapping};
 ghost use Rattle.tiles.specs.Resident.{mapping_at, frames_in, frame_of_page, Maps, Protects, IsNextResident, NoneResident, with_flag, with_rights};
-ghost use Rattle.tiles.specs.Changes.{AreChanges, IsRound};
+ghost use Rattle.tiles.specs.Changes.{AreChanges, IsRound, frame_before};
 ghost use Rattle.page_map.specs.Entries.{entry_at};
 ghost use Rattle.tiles.specs.Blocks.{KeepsRights, ProtectsTo, ProtectsInBlock, AreSizesOfBlock, OutsideSame};
 ghost use Rattle.tiles.specs.Sized.{AreMovesIn, size_by, begins_before_in, large_tiles_begun_in, large_tiles_meeting_in};
@@ -189,6 +189,7 @@ impl Base {
     pub fn after_remove<L: Ledger>(&mut self, page: u32, steps: &mut Steps<L>) -> Changes
         ensures maps { Maps page None self.old self.new }
         ensures changes { AreChanges self.old self.new result }
+        ensures frame { frame_before result ≡ frame_of_page self.old page }
         ensures cost { steps.new ≤ steps.old + 50 }
     {
         let Some(entry) = self.pages.find(page, steps) else {
@@ -351,14 +352,20 @@ impl Base {
     }
 
     /// The resident pages of a range have these rights. The moves by some sizes are those of the whole change.
+    ///
+    /// It goes from block to block, and passes over those without a resident page.
     pub fn after_rights(&mut self, first: u32, length: u32, rights: Rights, sizes: Sizes) -> Moves
         requires { first + length ≤ space_pages }
         ensures protects { Protects first length rights self.old self.new }
         ensures moves { AreMovesIn sizes (mapping_at self.old) (mapping_at self.new) result }
     {
+        let end = first + length;
         let mut moves = Moves::NONE;
-        for block in first / BLOCK..(first + length).div_ceil(BLOCK) {
+        let mut from = first / BLOCK;
+        while let Some(page) = self.next_resident(first.max(from * BLOCK), end) {
+            let block = page / BLOCK;
             moves = moves.and(self.after_rights_in_block(block, first, length, rights, sizes));
+            from = block + 1;
         }
         moves
     }

@@ -1,8 +1,8 @@
 //! What a change of one page does to the tiles.
 
-ghost use Rattle.std.specs.Prelude.{◌≡◌, ◌<◌, ℕ, false, [], Option, IfSome};
+ghost use Rattle.std.specs.Prelude.{◌≡◌, ◌<◌, ℕ, false, [], Option, None, IfSome};
 ghost use Rattle.pager_model.specs.Bounds.{space_pages};
-ghost use Rattle.tiles.specs.Changes.{AreChanges, IsRound, IsTurn, came_of, gone_of, moves_of};
+ghost use Rattle.tiles.specs.Changes.{AreChanges, IsRound, IsTurn, came_of, frame_before, frame_within, gone_of, moves_of};
 ghost use Rattle.pager_model.specs.declared.tile.Mapping.{Mapping};
 ghost use Rattle.tiles.specs.Resident.{Maps, Resident, mapping_at};
 
@@ -34,7 +34,8 @@ impl Model for Changes {
 impl Changes {
     /// The changes where each page is as it was.
     pub(crate) fn none() -> Changes
-        ensures { (old new : Resident) → ((p : ℕ) → mapping_at new p ≡ mapping_at old p) → AreChanges old new result }
+        ensures changes { (old new : Resident) → ((p : ℕ) → mapping_at new p ≡ mapping_at old p) → AreChanges old new result }
+        ensures frame { frame_before result ≡ None }
     {
         Changes {
             page: 0,
@@ -48,7 +49,8 @@ impl Changes {
         requires page { page < space_pages }
         requires before { IfSome turn.before (IsRound page) }
         requires after { IfSome turn.after (IsRound page) }
-        ensures { (old new : Resident) (given : Option Mapping) → Maps page given old new → IsTurn page old new turn → AreChanges old new result }
+        ensures changes { (old new : Resident) (given : Option Mapping) → Maps page given old new → IsTurn page old new turn → AreChanges old new result }
+        ensures frame { frame_before result ≡ frame_within page turn.before }
     {
         Changes {
             page,
@@ -67,6 +69,14 @@ impl Changes {
             return Moves::NONE;
         }
         Moves::of_one(self.page, before, after)
+    }
+
+    /// The frame that the page had before, where it was resident. No look-up is made for it: the page's tile before tells it.
+    pub fn frame_before(&self) -> Option<u32>
+        ensures { result ≡ frame_before self.now }
+    {
+        let tile = self.before?;
+        Some(tile.frame + (self.page - tile.extent.first))
     }
 
     /// The tiles that are none any more.

@@ -3,7 +3,7 @@
 ghost use Rattle.std.specs.Prelude.{◌≡◌, ◌≢◌, ℕ, ◌%◌, ◌^◌, ◌<◌, ◌≤◌, IfNone, IfSome, None, Some, option_map};
 ghost use Rattle.page_map.specs.Entries.{IsNextEntry, NoneMapped, entry_at, mapping_of};
 ghost use Rattle.pager_model.specs.Bounds.{space_pages};
-ghost use Rattle.tiles.specs.Changes.{AreChanges};
+ghost use Rattle.tiles.specs.Changes.{AreChanges, frame_before};
 ghost use Rattle.tiles.specs.Kept.{MapsExtent};
 ghost use Rattle.tiles.specs.Resident.{Maps, frame_of_page, frames_in, mapping_at, with_flag};
 
@@ -85,6 +85,7 @@ pub fn after_remove<L: Ledger>(base: &mut Base, page: u32, blank: Blank) -> Chan
     requires share { 0 < blank.parts }
     ensures maps { Maps page None base.old base.new }
     ensures changes { AreChanges base.old base.new result }
+    ensures frame { frame_before result ≡ frame_of_page base.old page }
 {
     let (book, share) = blank.open::<L>();
     base.after_remove(page, &mut Steps::begin(book, share))

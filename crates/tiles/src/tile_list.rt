@@ -54,7 +54,7 @@ fn is_same(one: &Tile, other: &Tile) -> bool
     one == other
 }
 
-/// Whether a page is one of the tile's.
+/// Whether the tile has a page.
 fn has_page(tile: &Tile, page: u32) -> bool
     ensures { result ≡ (extent_start tile.now.extent.size page == tile.now.extent.first) }
 {
@@ -180,7 +180,7 @@ impl TileList {
         self.places.iter().any(|place| is_same(tile, &place.tile))
     }
 
-    /// Whether a page is one of a tile's.
+    /// Whether one of them has a page.
     pub fn has_page(&self, page: u32) -> bool
         ensures { result ≡ list_any (λ t. extent_start t.extent.size page == t.extent.first) self.now }
     {

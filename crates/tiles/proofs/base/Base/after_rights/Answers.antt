@@ -1,36 +1,45 @@
-use Rattle.std.proofs.Common.{◌+◌, refl, arith}
-use Rattle.tiles.specs.Resident.{mapping_at}
-use Rattle.tiles.proofs.Blocks.{blocks_none, blocks_more, blocks_all, moves_more, moves_fit, blocks_past}
+use Rattle.std.proofs.Common.{◌≡◌, ◌+◌, ◌*◌, ◌/◌, max, refl, subst, arith}
+use Rattle.tiles.specs.Resident.{mapping_at, IsNextResident, NoneResident}
+use Rattle.tiles.proofs.Blocks.{ProtectsBlocks, blocks_none, blocks_more, blocks_to_next, blocks_end, moves_more, moves_fit}
 use Rattle.tiles.proofs.MoveCounts.{moves_same}
 use Rattle.tiles.proofs.base.Base.after_rights.Goals as goal
 
-pub loop-block-init : goal.loop-block-init
-loop-block-init c = record {
+pub loop-page-init : goal.loop-page-init
+loop-page-init c = record {
+  few = omega (arith, c.requires);
   protects = blocks_none c.args.first c.args.length c.args.rights c.args.self.now;
   moves = moves_same c.args.sizes (mapping_at c.args.self.now) (mapping_at c.args.self.now) _ (λ p. refl) refl refl (omega arith);
 }
 
-pub loop-block-preserved : goal.loop-block-preserved
-loop-block-preserved c = record {
-  protects = blocks_more c.loop-block.block c.args.first c.args.length c.args.rights c.args.self.now c.loop-block.self c.after_rights_in_block.new.self c.loop-block.invariant.protects c.after_rights_in_block.ensures.protects;
+-- what the blocks before that of the next resident page have
+so_far : (c : goal.After-after_rights_in_block) → ProtectsBlocks (c.in-Some.page / 512) c.args.first c.args.length c.args.rights c.args.self.now c.loop-page.self
+so_far c =
+    blocks_to_next c.loop-page.from c.args.first c.args.length c.in-Some.page c.args.rights c.args.self.now c.loop-page.self
+    (subst (λ from. IsNextResident (mapping_at c.loop-page.self) from (c.args.first + c.args.length) c.in-Some.page) c.max.ensures c.in-Some.ensures.some) c.loop-page.invariant.protects
+
+pub loop-page-preserved : goal.loop-page-preserved
+loop-page-preserved c = record {
+  few = omega (arith, c.in-Some.ensures.some.before_end, c.requires);
+  protects = blocks_more (c.in-Some.page / 512) c.args.first c.args.length c.args.rights c.args.self.now c.loop-page.self c.after_rights_in_block.new.self (so_far c.before) c.after_rights_in_block.ensures.protects;
   moves =
-      moves_more c.args.sizes c.loop-block.block c.args.first c.args.length c.args.rights c.args.self.now c.loop-block.self c.after_rights_in_block.new.self c.loop-block.moves c.after_rights_in_block.result c.and-moves.result c.loop-block.invariant.protects c.after_rights_in_block.ensures.protects
-      c.loop-block.invariant.moves c.after_rights_in_block.ensures.moves c.and-moves.ensures.promotions c.and-moves.ensures.demotions c.and-moves.ensures.in_space c.and-moves.ensures.touched;
+      moves_more c.args.sizes (c.in-Some.page / 512) c.args.first c.args.length c.args.rights c.args.self.now c.loop-page.self c.after_rights_in_block.new.self c.loop-page.moves c.after_rights_in_block.result c.and-moves.result (so_far c.before) c.after_rights_in_block.ensures.protects
+      c.loop-page.invariant.moves c.after_rights_in_block.ensures.moves c.and-moves.ensures.promotions c.and-moves.ensures.demotions c.and-moves.ensures.in_space c.and-moves.ensures.touched;
 }
 
 pub returns-clause-protects : goal.returns-clause-protects
 returns-clause-protects c =
-    blocks_all c.loop-block.block c.args.first c.args.length c.args.rights c.args.self.now c.loop-block.self (blocks_past (c.args.first + c.args.length) c.loop-block.block (omega (arith, c.div_ceil-block-end.ensures, c.loop-block-test.false))) c.loop-block.invariant.protects
+    blocks_end c.loop-page.from c.args.first c.args.length c.args.rights c.args.self.now c.loop-page.self c.loop-page.invariant.few c.requires
+    (subst (λ from. NoneResident (mapping_at c.loop-page.self) from (c.args.first + c.args.length)) c.max.ensures c.in_default.ensures.none) c.loop-page.invariant.protects
 
 pub returns-clause-moves : goal.returns-clause-moves
-returns-clause-moves c = c.loop-block.invariant.moves
+returns-clause-moves c = c.loop-page.invariant.moves
 
 pub and-moves-requires-clause-promotions : goal.and-moves-requires-clause-promotions
 and-moves-requires-clause-promotions c =
-    (moves_fit c.args.sizes c.loop-block.block c.args.first c.args.length c.args.rights c.args.self.now c.loop-block.self c.after_rights_in_block.new.self c.loop-block.moves c.after_rights_in_block.result c.loop-block.invariant.protects c.after_rights_in_block.ensures.protects
-    c.loop-block.invariant.moves c.after_rights_in_block.ensures.moves).0
+    (moves_fit c.args.sizes (c.in-Some.page / 512) c.args.first c.args.length c.args.rights c.args.self.now c.loop-page.self c.after_rights_in_block.new.self c.loop-page.moves c.after_rights_in_block.result (so_far c) c.after_rights_in_block.ensures.protects
+    c.loop-page.invariant.moves c.after_rights_in_block.ensures.moves).0
 
 pub and-moves-requires-clause-demotions : goal.and-moves-requires-clause-demotions
 and-moves-requires-clause-demotions c =
-    (moves_fit c.args.sizes c.loop-block.block c.args.first c.args.length c.args.rights c.args.self.now c.loop-block.self c.after_rights_in_block.new.self c.loop-block.moves c.after_rights_in_block.result c.loop-block.invariant.protects c.after_rights_in_block.ensures.protects
-    c.loop-block.invariant.moves c.after_rights_in_block.ensures.moves).1
+    (moves_fit c.args.sizes (c.in-Some.page / 512) c.args.first c.args.length c.args.rights c.args.self.now c.loop-page.self c.after_rights_in_block.new.self c.loop-page.moves c.after_rights_in_block.result (so_far c) c.after_rights_in_block.ensures.protects
+    c.loop-page.invariant.moves c.after_rights_in_block.ensures.moves).1

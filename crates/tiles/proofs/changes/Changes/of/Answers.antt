@@ -1,5 +1,5 @@
 use Rattle.tiles.proofs.PageChanges.{changes_of}
 use Rattle.tiles.proofs.changes.Changes.of.Goals as goal
 
-pub returns : goal.returns
-returns c old new given maps turned = changes_of old new c.args.page given c.args.turn c.requires.page maps turned
+pub returns-clause-changes : goal.returns-clause-changes
+returns-clause-changes c old new given maps turned = changes_of old new c.args.page given c.args.turn c.requires.page maps turned
