@@ -20,13 +20,25 @@ use Rattle.space_core.specs.Tables.{Table, mapping_in, frame_in, word_in, dirty_
 use Rattle.space_core.specs.Translating.{Retouches, CleansPage}
 use Rattle.space_core.proofs.SameView.{BesideAt, SameWhole, SameAt, settled_from, same_regions, one_stands, same_stands, rises_told, within_faults}
 use Rattle.space_core.proofs.ServedPages.{resident_from}
-use Rattle.space_core.proofs.TableLemmas.{dirty_in-absent, dirty-same, cleans_frame, cleans_dirty}
+use Rattle.space_core.proofs.TableLemmas.{dirty_in-absent, dirty-same, cleans_frame, cleans_dirty, cleans_none}
 use Rattle.space_core.proofs.Translations.{Still, same_translates, stays, retouches, said_flag}
 use Rattle.tiles.specs.Resident.{with_flag}
 
 -- a dirty page is resident
 pub dirty_resident : (t : Table) (page : ℕ) → dirty_in t page ≡ true → frame_in t page ≢ None
 dirty_resident t page dirty none = true≢false (sym dirty ∙ dirty_in-absent t page none)
+
+-- a clean page is clean as it is
+pub clean_already : (kept : Kept) (page : ℕ) → dirty_at kept page ≡ false → CleansPage kept kept page
+clean_already kept page clean = record { same = refl; table = cleans_none kept.table page clean; retouched = λ dirty. absurd (true≢false (sym dirty ∙ clean)); as_it_was = λ _. refl }
+
+-- and so is a page that wasn't written as it was saved
+pub unwritten_clean : (old saved : Kept) (page : ℕ) → Saves old saved page false → CleansPage saved saved page
+unwritten_clean old saved page saves = clean_already saved page (ap (λ (k : Kept). dirty_at k page) (saves.left refl) ∙ saves.was)
+
+-- but a page that was written is dirty still
+pub written_dirty : (old saved : Kept) (page : ℕ) → Saves old saved page true → dirty_at saved page ≡ true
+written_dirty old saved page saves = ap (λ (k : Kept). dirty_at k page) saves.same ∙ saves.was
 
 -- the state after an entry of a processor that leaves this flat memory, and each page its frame
 abbrev pub with_flat : SpaceState → ℕ → Next → Flat → SpaceState

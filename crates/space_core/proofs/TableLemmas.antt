@@ -275,18 +275,6 @@ module _ (t : Table) (paged : IsPaged t) (page k : ℕ) (pages : Resident) (maps
   pub take_maps : Maps page None t taken
   take_maps = moved_maps t paged page k None None pages maps (others_apart t paged page k has)
 
--- a page without a frame is given none as it is
-pub maps_none : (t : Table) (page : ℕ) → frame_in t page ≡ None → Maps page None t t
-maps_none t page none =
-    record {
-      same = record { sizes = refl; count = refl; own = λ p. refl };
-      mapping = λ p. elim (cases_eq p page) [
-        | inl e ↦ rw e (mapping-absent t page none ∙ sym (cond-true _ _ _ (eq-eqb page page refl)))
-        | inr n ↦ sym (cond-false _ _ _ (ne_eqb p page n))
-      ];
-      word = λ p i n. refl;
-    }
-
 -- The words of a resident page's frame are written.
 module _ (t : Table) (paged : IsPaged t) (page k : ℕ) (f : Framed) (has : frame_in t page ≡ Some k) (number : f.number ≡ k) where
   abbrev pub rewritten : Table
@@ -331,6 +319,28 @@ module _ (t : Table) (paged : IsPaged t) (pages : Resident) (count : frames_in p
 
   pub said_paged : ((p : ℕ) → frame_in said p ≡ frame_in t p) → IsPaged said
   said_paged frame = kept_paged t said paged count refl frame (λ n at. frame_at-same t said n refl at)
+
+-- a page without a frame is given none, and all is as before
+module _ (t : Table) (page : ℕ) (pages : Resident) (maps : MapsTo page None t.pages pages) (none : frame_in t page ≡ None) where
+  abbrev pub untaken : Table
+  untaken = record { sizes = t.sizes; pages = pages; own = t.own; frames = t.frames }
+
+  frame_untaken : (p : ℕ) → frame_in untaken p ≡ frame_in t p
+  frame_untaken p = frame-same t untaken p (maps.at p ∙ elim (cases_eq p page) [
+    | inl e ↦ rw e (cond-true _ _ _ (eq-eqb page page refl) ∙ sym (mapping-absent t page none))
+    | inr n ↦ cond-false _ _ _ (ne_eqb p page n)
+  ])
+
+  pub untaken_paged : IsPaged t → IsPaged untaken
+  untaken_paged paged = said_paged t paged pages maps.frames frame_untaken
+
+  pub untaken_maps : Maps page None t untaken
+  untaken_maps =
+      record {
+        same = record { sizes = refl; count = refl; own = λ p. own_in-is untaken p ∙ sym (own_in-is t p) };
+        mapping = maps.at;
+        word = λ p i n. word-same t untaken p i refl (frame_untaken p);
+      }
 
 -- the flag of a page is written, where it is resident
 module _ (t : Table) (page : ℕ) (flag : Bool) (pages : Resident) (maps : MapsTo page (option_map (with_flag flag) (mapping_at t.pages page)) t.pages pages) where

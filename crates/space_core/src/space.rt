@@ -11,7 +11,7 @@ ghost use Rattle.space_core.specs.Beginning.{Begins, Finds, IsMappedBy, NeedsIts
 ghost use Rattle.space_core.specs.Beginning.{NoneResident, ClearsOne, ClearsNone, Unmapped};
 ghost use Rattle.space_core.specs.Pages.{Maps};
 ghost use Rattle.space_core.specs.Saving.{Saves, FailsToSave, LacksRoom, unwritten_by};
-ghost use Rattle.space_core.specs.Standing.{StandsFor, IsResting, range_of, frame_at, dirty_at, image_at, rights_by, is_allowed, CanBegin};
+ghost use Rattle.space_core.specs.Standing.{Kept, StandsFor, IsResting, range_of, frame_at, dirty_at, image_at, rights_by, is_allowed, CanBegin};
 ghost use Rattle.space_core.specs.Tables.{mapping_in, own_in};
 ghost use Rattle.tiles.specs.Touched.{is_touched};
 ghost use Rattle.space_core.specs.Translating.{counted_up, untouched_tiles, Retouches, ChangesPages, CleansPage, Touches, BeginsClear};
@@ -253,9 +253,7 @@ impl<S: Store + Send + Drop> Space<S> {
         ensures failed { (count : ℕ) → result ≡ Err (OutFault.Failed count) → FailsToWrite self.old self.new page count }
         ensures no_memory { result ≡ Err OutFault.NoMemory → LeavesUnwritten self.old self.new page }
     {
-        let written = self.save(page)?;
-        self.clean(page);
-        Ok(written)
+        self.copy_out(page)
     }
 
     /// Takes the frame of a clean page away.
@@ -319,8 +317,8 @@ impl<S: Store + Send + Drop> Space<S> {
         answered(Reply::Done)
     }
 
-    /// Goes on with the clearing of a range, or begins it, where the large tiles that meet it are counted first, which is none where no page of it
-    /// is resident. None of its pages before the result is resident.
+    /// Goes on with the clearing of a range, or begins it, where the large tiles that meet it are counted first, from its first resident page on: none
+    /// where it has none. None of its pages before the result is resident.
     fn begin_clearing(&mut self, range: PageRange) -> u32
         requires in_space { range.first + range.length ≤ space_pages }
         requires none_pending { self.old.pending ≡ None }
@@ -338,7 +336,7 @@ impl<S: Store + Send + Drop> Space<S> {
             self.scan = end;
             return end;
         };
-        self.broken = self.table.tiles_meeting(range.first, range.length);
+        self.broken = self.table.tiles_meeting(page, end - page);
         self.scan = page;
         page
     }
@@ -477,11 +475,8 @@ impl<S: Store + Send + Drop> Space<S> {
         if self.regions.find(page).is_none() {
             return Begun::Answered(answered(Reply::Unmapped));
         }
-        match self.save(page) {
-            Ok(written) => {
-                self.clean(page);
-                Begun::Answered(answered(copied(written)))
-            }
+        match self.copy_out(page) {
+            Ok(written) => Begun::Answered(answered(copied(written))),
             Err(fault) => unwritten(page, fault),
         }
     }
@@ -508,6 +503,20 @@ impl<S: Store + Send + Drop> Space<S> {
             }
             Err(fault) => unwritten(page, fault),
         }
+    }
+
+    /// Makes a page equal to its copy, which is written where the page is dirty, and tells whether it was. A page that wasn't is clean as it is.
+    fn copy_out(&mut self, page: u32) -> Result<bool, OutFault>
+        ensures copied { IfOk result (λ written. (saved : Kept) × Saves self.old saved page written × CleansPage saved self.new page) }
+        ensures failed { (count : ℕ) → result ≡ Err (OutFault.Failed count) → FailsToSave self.old self.new page count }
+        ensures no_memory { result ≡ Err OutFault.NoMemory → LacksRoom self.old self.new page }
+    {
+        let written = self.save(page)?;
+        if written {
+            let moves = self.table.set_clean(page);
+            self.follow(moves);
+        }
+        Ok(written)
     }
 
     /// Writes the copy of a page where it is dirty, tells whether it was, and leaves it so.
@@ -597,16 +606,6 @@ impl<S: Store + Send + Drop> Space<S> {
             reply,
             hit,
             size: Some(tile.extent.size),
-        }
-    }
-
-    /// The copy of a page is equal to it.
-    fn clean(&mut self, page: u32)
-        ensures { CleansPage self.old self.new page }
-    {
-        if self.table.is_dirty(page) {
-            let moves = self.table.set_clean(page);
-            self.follow(moves);
         }
     }
 

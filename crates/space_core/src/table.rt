@@ -166,8 +166,8 @@ impl PageTable {
         ensures none { IfNone result (frame_in self.old page ≡ None) }
         ensures after { Maps page None self.old self.new }
     {
-        let number = self.number(page)?;
         let changes = after_remove::<Brand>(&mut self.pages, page, Blank::new(1));
+        let number = changes.frame_before()?;
         let frame = self.frames[number as usize].take()?;
         Some((frame, changes.moves(self.sizes)))
     }

@@ -16,11 +16,12 @@ returns-then-is_none g c =
 pub returns-in-Ok : goal.returns-in-Ok
 returns-in-Ok g c =
     let has : is_some (region_at c.args.self.now.regions c.args.page) ≡ true = rw (← c.self.view_is) (search rules) in
+    let copied = c.in-Ok.ensures.copied in
     rw (c.answered-in-Ok.ensures, c.copied.ensures)
-    (λ processor. syncs c.args.self.now c.save.new.self c.clean.new.self processor c.args.page _ c.requires.resting has c.in-Ok.ensures.saved c.clean.ensures)
+    (λ processor. syncs c.args.self.now copied.0 c.copy_out.new.self processor c.args.page _ c.requires.resting has copied.1 copied.2)
 
 pub returns-in-Err : goal.returns-in-Err
 returns-in-Err g c =
     let has : is_some (region_at c.args.self.now.regions c.args.page) ≡ true = rw (← c.self.view_is) (search rules) in
-    rw c.unwritten.ensures (λ processor. begins_unwritten c.args.self.now c.save.new.self processor c.args.page c.requires.resting (Sync c.args.self.now.number c.args.page) c.in-Err.fault refl has
+    rw c.unwritten.ensures (λ processor. begins_unwritten c.args.self.now c.copy_out.new.self processor c.args.page c.requires.resting (Sync c.args.self.now.number c.args.page) c.in-Err.fault refl has
     (λ count h. c.in-Err.ensures.failed count (ap Err h)) (λ h. c.in-Err.ensures.no_memory (ap Err h)))

@@ -1,10 +1,11 @@
-use Rattle.std.proofs.Common.{rules}
+use Rattle.std.proofs.lemmas.Result.{IfOk-weaker}
 use Rattle.space_core.proofs.SavedCopies.{writes_out, fails_to_write}
 use Rattle.space_core.proofs.space.Space.write_out.Goals as goal
 
 pub returns-clause-written : goal.returns-clause-written
 returns-clause-written g c =
-    writes_out c.args.self.now c.save.new.self c.clean.new.self c.args.page _ c.requires.resting c.in_ok-written.ensures.saved c.clean.ensures c.requires.resident
+    IfOk-weaker c.copy_out.result _ _
+    (λ written copied. writes_out c.args.self.now copied.0 c.copy_out.new.self c.args.page written c.requires.resting copied.1 copied.2 c.requires.resident) c.copy_out.ensures.copied
 
-pub returns-in_err-written-clause-failed : goal.returns-in_err-written-clause-failed
-returns-in_err-written-clause-failed g c count is = fails_to_write _ c.requires.resting _ c.args.page count (c.in_err-written.ensures.failed count (search rules))
+pub returns-clause-failed : goal.returns-clause-failed
+returns-clause-failed g c count is = fails_to_write _ c.requires.resting _ c.args.page count (c.copy_out.ensures.failed count is)
