@@ -16,9 +16,7 @@ ghost use Rattle.pager_core.specs.Sums.{AreFewer, sum_at, tiles_in, promotions_i
 ghost use Rattle.pager_model.specs.Bounds.{most_frames};
 
 use frame_pool::Pool;
-use pager_model::{
-    Call, Daemon, Job, Line, NoMemory, Numbered, Setting, Sizes, Summary, Trace, What,
-};
+use pager_model::{Daemon, Job, Line, NoMemory, Numbered, Setting, Sizes, Summary, Trace, What};
 use space_core::{Space, SpaceRoom};
 use std::alloc::Global;
 use std::marker::Model;
@@ -328,32 +326,24 @@ pub fn jobs_by_processor(alloc: Global, trace: &Trace) -> Result<Vec<Vec<Job>>, 
 fn jobs_of(alloc: Global, trace: &Trace, processor: u32) -> Result<Vec<Job>, NoMemory>
     ensures { IfOk result (λ jobs. jobs.items ≡ jobs_of processor trace.now) }
 {
-    let calls = calls_of(alloc, processor, trace.calls())?;
-    let mut jobs = jobs_for(alloc, calls)?;
+    let mut jobs = jobs_in(alloc, processor, trace.calls())?;
     if processor == trace.processors() {
         jobs.append(&mut turns_of(alloc, trace.daemon())?)?;
     }
     Ok(jobs)
 }
 
-/// One processor's calls, in the order of the lines.
-fn calls_of(alloc: Global, processor: u32, lines: &[Line]) -> Result<Vec<Call>, NoMemory>
-    ensures { IfOk result (λ calls. calls.items ≡ calls_of processor lines.now) }
+/// To make one processor's calls, in the order of the lines.
+fn jobs_in(alloc: Global, processor: u32, lines: &[Line]) -> Result<Vec<Job>, NoMemory>
+    ensures { IfOk result (λ jobs. jobs.items ≡ map Job.Call (calls_of processor lines.now)) }
 {
-    Ok(
-        lines
-            .iter()
-            .filter(|line| line.processor == processor)
-            .map(|line| line.call)
-            .collect(alloc)?,
-    )
-}
-
-/// To make these calls.
-fn jobs_for(alloc: Global, calls: Vec<Call>) -> Result<Vec<Job>, NoMemory>
-    ensures { IfOk result (λ jobs. jobs.items ≡ map Job.Call calls.items) }
-{
-    Ok(calls.into_iter().map(Job::Call).collect(alloc)?)
+    let mut jobs = Vec::new(alloc);
+    for line in lines {
+        if line.processor == processor {
+            jobs.push(Job::Call(line.call))?;
+        }
+    }
+    Ok(jobs)
 }
 
 /// A daemon's turns.
