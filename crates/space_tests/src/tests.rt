@@ -106,11 +106,6 @@ fn begun(
     Ok((Space::over(number, room, store), spare))
 }
 
-/// All four page sizes.
-fn all_sizes() -> Sizes {
-    Sizes::of(true, true, true)
-}
-
 /// A store in memory that fails at these reads and writes.
 fn failing(alloc: Global, reads: &[u64], writes: &[u64]) -> Result<MemoryStore, Fail> {
     Ok(MemoryStore::of(alloc, reads.to_vec(alloc)?, writes.to_vec(alloc)?))
@@ -250,7 +245,7 @@ fn answers(
     steps: &[Step],
 ) -> Result<(), Fail> {
     let store = failing(alloc, reads, writes)?;
-    let (mut space, mut spare) = begun(alloc, SPACE, SPARE, SPARE, all_sizes(), store)?;
+    let (mut space, mut spare) = begun(alloc, SPACE, SPARE, SPARE, Sizes::all(), store)?;
     serves(rt, &mut space, &mut spare, steps)
 }
 
@@ -259,7 +254,7 @@ fn first_reply(alloc: Global, number: u32) -> Result<Reply, Fail>
     requires { number < 16 }
 {
     let store = failing(alloc, &[], &[])?;
-    let (mut space, _spare) = begun(alloc, number, 32_768, SPARE, all_sizes(), store)?;
+    let (mut space, _spare) = begun(alloc, number, 32_768, SPARE, Sizes::all(), store)?;
     let call = Call::Load {
         space: number,
         address: 0,

@@ -18,7 +18,7 @@ const PAGES: u32 = 1024;
 const FRAMES: u32 = 1536;
 
 /// How many changes are drawn.
-const CHANGES: u32 = 350;
+const CHANGES: u32 = 3_000;
 
 const NO_MOVES: Moves = Moves {
     promotions: 0,
@@ -28,11 +28,6 @@ const NO_MOVES: Moves = Moves {
         length: 0,
     },
 };
-
-/// All four page sizes.
-fn all_sizes() -> Sizes {
-    Sizes::of(true, true, true)
-}
 
 /// What the base told of a drawn change.
 #[derive(Drop)]
@@ -284,7 +279,7 @@ fn is_told(told: &Told, sizes: Sizes, before: &[Option<Tile>], after: &[Option<T
         Told::OfRange(moves) => are_moves(moves, before, after),
         Told::OfPage(changes) => {
             are_moves(&changes.moves(sizes), before, after)
-                && (sizes != all_sizes() || are_listed(changes, before, after))
+                && (sizes != Sizes::all() || are_listed(changes, before, after))
         }
     }
 }
@@ -381,14 +376,14 @@ fn compare(rt: &impl Abort, alloc: Global, sizes: Sizes, changes: u32) {
 
 #[test]
 fn drawn_changes_leave_the_tiles_of_a_scan(rt: HostRuntime) {
-    compare(&rt, rt.alloc(), all_sizes(), CHANGES);
+    compare(&rt, rt.alloc(), Sizes::all(), CHANGES);
 }
 
 #[test]
 fn drawn_changes_leave_the_tiles_by_each_set_of_sizes(rt: HostRuntime) {
     for set in 0..7 {
         let sizes = Sizes::of(set & 1 != 0, set & 2 != 0, set & 4 != 0);
-        compare(&rt, rt.alloc(), sizes, CHANGES / 7);
+        compare(&rt, rt.alloc(), sizes, CHANGES / 3);
     }
 }
 
@@ -396,7 +391,7 @@ fn drawn_changes_leave_the_tiles_by_each_set_of_sizes(rt: HostRuntime) {
 fn moves_of(told: &Told) -> Moves {
     match told {
         Told::Nothing => NO_MOVES,
-        Told::OfPage(changes) => changes.moves(all_sizes()),
+        Told::OfPage(changes) => changes.moves(Sizes::all()),
         Told::OfRange(moves) => *moves,
     }
 }
@@ -417,18 +412,18 @@ fn fill_half(rt: &impl Abort, both: &mut Beside) {
 
 /// How many tiles there are of each size before a page is dirty and then, and the demotions between.
 fn make_dirty(both: &mut Beside) -> ([u32; 4], u32, [u32; 4]) {
-    let before = both.base.counts(all_sizes());
+    let before = both.base.counts(Sizes::all());
     let demotions = moves_of(&both.set_dirty(100, true)).demotions;
-    (before, demotions, both.base.counts(all_sizes()))
+    (before, demotions, both.base.counts(Sizes::all()))
 }
 
 /// How many tiles above size 0 have one of these pages: all 512, eight, one and none.
 fn meeting(base: &Base) -> [u32; 4] {
     [
-        base.tiles_meeting(0, 512, all_sizes()),
-        base.tiles_meeting(60, 8, all_sizes()),
-        base.tiles_meeting(300, 1, all_sizes()),
-        base.tiles_meeting(300, 0, all_sizes()),
+        base.tiles_meeting(0, 512, Sizes::all()),
+        base.tiles_meeting(60, 8, Sizes::all()),
+        base.tiles_meeting(300, 1, Sizes::all()),
+        base.tiles_meeting(300, 0, Sizes::all()),
     ]
 }
 
@@ -444,7 +439,7 @@ fn make_read_only(both: &mut Beside) -> (u32, u32) {
 
 #[test]
 fn a_change_touches_the_larger_of_its_tiles(rt: HostRuntime) {
-    let mut both = Beside::create(rt.alloc(), all_sizes()).expect(&rt, NO_MEMORY);
+    let mut both = Beside::create(rt.alloc(), Sizes::all()).expect(&rt, NO_MEMORY);
     fill_half(&rt, &mut both);
     assert!(rt; touched_by_one(&mut both) == [(0, 0), (600, 1), (0, 512), (101, 1), (64, 8)]);
     assert!(rt; touched_by_rights(&mut both) == [(0, 0), (0, 0), (0, 512)]);
@@ -501,14 +496,14 @@ fn told_of_one(both: &mut Beside) -> [(usize, usize); 5] {
 
 #[test]
 fn a_large_tile_comes_apart_and_together(rt: HostRuntime) {
-    let mut both = Beside::create(rt.alloc(), all_sizes()).expect(&rt, NO_MEMORY);
+    let mut both = Beside::create(rt.alloc(), Sizes::all()).expect(&rt, NO_MEMORY);
     fill_half(&rt, &mut both);
     assert!(rt; told_of_one(&mut both) == [(1, 22), (0, 0), (22, 1), (1, 21), (21, 1)]);
 }
 
 #[test]
 fn the_last_page_of_an_extent_makes_it_a_tile(rt: HostRuntime) {
-    let mut both = Beside::create(rt.alloc(), all_sizes()).expect(&rt, NO_MEMORY);
+    let mut both = Beside::create(rt.alloc(), Sizes::all()).expect(&rt, NO_MEMORY);
     fill_half(&rt, &mut both);
     assert!(rt; make_dirty(&mut both) == ([0, 0, 0, 1], 1, [8, 7, 7, 0]));
     assert!(rt; meeting(&both.base) == [14, 2, 1, 0]);
