@@ -1,0 +1,2 @@
+pub mod BriefAnswers
+pub mod KeptEntries
