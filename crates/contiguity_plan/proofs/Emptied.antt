@@ -46,7 +46,8 @@ is_bad : FrameState → Option ℕ → Bool
 is_bad st None = true
 is_bad st (Some f) = is_some (claim_in (used_at st f))
 
-AreLoose-from : (st : FrameState) (ps : List PageOf) → ((f : ℕ) → having st f ps ≤ 1) → count_by (λ (q : PageOf). is_bad st (frame_of st q.space q.page)) ps ≡ 0 → AreLoose st ps
+AreLoose-from : (st : FrameState) (ps : List PageOf) → ((f : ℕ) → having st f ps ≤ 1)
+    → count_by (λ (q : PageOf). is_bad st (frame_of st q.space q.page)) ps ≡ 0 → AreLoose st ps
 unfolding AreLoose is_bad
 AreLoose-from st [] once good = tt
 AreLoose-from st (p ∷ ps) once good = by_place (frame_of st p.space p.page) refl (AreLoose-from st ps (λ f. let all = once f in let split = count-cons (λ (q : PageOf). is_that f (frame_of st q.space q.page)) p ps in omega (arith, all, split)) (let split = count-cons (λ (q : PageOf). is_bad st (frame_of st q.space q.page)) p ps in omega (arith, good, split)))
@@ -72,7 +73,8 @@ AreLoose-from st (p ∷ ps) once good = by_place (frame_of st p.space p.page) re
         (f, is, unclaimed (claim_in (used_at st f)) free, omega (arith, all, split, mine), rest)
 
 -- What one page's giving up leaves.
-module _ (frames processors : ℕ) (st : FrameState) (p : PageOf) (f : ℕ) (sound : IsSound frames processors st) (is : frame_of st p.space p.page ≡ Some f) (free : claim_in (used_at st f) ≡ None) where
+module _ (frames processors : ℕ) (st : FrameState) (p : PageOf) (f : ℕ) (sound : IsSound frames processors st)
+    (is : frame_of st p.space p.page ≡ Some f) (free : claim_in (used_at st f) ≡ None) where
   gives : GivesPage st (give_page st p.space p.page) f
   gives = GivesPage-give_page st p.space p.page f sound.laid is
 
@@ -135,7 +137,8 @@ record GivenUp (frames processors : ℕ) (st after : FrameState) (ps : List Page
   pub none : (g : ℕ) → used_at st g ≡ None → used_at after g ≡ None
   pub given : (g : ℕ) → 1 ≤ having st g ps → used_at after g ≡ None
 
-GivenUp-all : (frames processors : ℕ) (ps : List PageOf) (st : FrameState) → IsSound frames processors st → AreLoose st ps → GivenUp frames processors st (given_up st ps) ps
+GivenUp-all : (frames processors : ℕ) (ps : List PageOf) (st : FrameState) → IsSound frames processors st → AreLoose st ps
+    → GivenUp frames processors st (given_up st ps) ps
 unfolding AreLoose
 GivenUp-all frames processors [] st sound loose = record { sound = sound; held = refl; none = λ g none. none; given = λ g some. absurd (omega (arith, some)) }
 GivenUp-all frames processors (p ∷ ps) st sound loose =
@@ -159,7 +162,8 @@ GivenUp-all frames processors (p ∷ ps) st sound loose =
 -- Counts over the used frames of an extent.
 
 -- where no used frame of the range is bad, none is counted
-good_in : (used : ℕ → Bool) (bad : Option ℕ → Bool) (a n : ℕ) → ((f : ℕ) → a ≤ f → f < a + n → bad (Some f) ≡ false) → count_by bad (map Some (filter used (range_with_len a n))) ≡ 0
+good_in : (used : ℕ → Bool) (bad : Option ℕ → Bool) (a n : ℕ) → ((f : ℕ) → a ≤ f → f < a + n → bad (Some f) ≡ false)
+    → count_by bad (map Some (filter used (range_with_len a n))) ≡ 0
 good_in used bad a zero good = refl
 good_in used bad a (suc n) good =
     let rest = filter used (range_with_len (a + 1) n) in
@@ -173,7 +177,8 @@ good_in used bad a (suc n) good =
     ]
 
 -- a frame of a range is counted once where it is used, and no frame twice
-once_in : (used : ℕ → Bool) (f a n : ℕ) → (count_by (is_that f) (map Some (filter used (range_with_len a n))) ≤ 1) × (a ≤ f → f < a + n → used f ≡ true → 1 ≤ count_by (is_that f) (map Some (filter used (range_with_len a n))))
+once_in : (used : ℕ → Bool) (f a n : ℕ)
+    → (count_by (is_that f) (map Some (filter used (range_with_len a n))) ≤ 1) × (a ≤ f → f < a + n → used f ≡ true → 1 ≤ count_by (is_that f) (map Some (filter used (range_with_len a n))))
 once_in used f a zero = (omega arith, λ low high is. absurd (omega (arith, low, high)))
 once_in used f a (suc n) = elim (cases_Bool (used a)) [
   | inl passes ↦
@@ -213,7 +218,8 @@ loose_parts false false true h = absurd (false≢true h)
 loose_parts false true c h = absurd (false≢true h)
 loose_parts true b c h = absurd (false≢true h)
 
-module _ (frames processors : ℕ) (st : FrameState) (sound : IsSound frames processors st) (k first : ℕ) (may : MayBeEmptied st frames k first) (pages : List PageOf) (its : AreItsPages st k first pages) where
+module _ (frames processors : ℕ) (st : FrameState) (sound : IsSound frames processors st) (k first : ℕ)
+    (may : MayBeEmptied st frames k first) (pages : List PageOf) (its : AreItsPages st k first pages) where
   loose_at : (f : ℕ) → first ≤ f → f < first + 8 ^ k → (is_claimed_place (used_at st f) ≡ false) × (list_any (is_that f) st.held ≡ false)
   loose_at f low high = loose_parts (is_wired_place (used_at st f)) (is_claimed_place (used_at st f)) (list_any (is_that f) st.held) ((list_all-range (λ g. not (is_fixed st g)) first (8 ^ k)).0 may.loose f low high)
 
@@ -252,7 +258,8 @@ module _ (frames processors : ℕ) (st : FrameState) (sound : IsSound frames pro
           all.given frame (omega (arith, same, one))
 
 -- what is planned empties its extent
-pub empties-planned : (frames processors : ℕ) (st : FrameState) (k : ℕ) (plan : Option Plan) → IsSound frames processors st → IsPlanned st frames k plan → IfSome plan (Empties st)
+pub empties-planned : (frames processors : ℕ) (st : FrameState) (k : ℕ) (plan : Option Plan) → IsSound frames processors st
+    → IsPlanned st frames k plan → IfSome plan (Empties st)
 empties-planned frames processors st k None sound planned = tt
 empties-planned frames processors st k (Some plan) sound planned =
     let may = subst (λ s. MayBeEmptied st frames s plan.extent.first) (sym planned.0) planned.1.may in

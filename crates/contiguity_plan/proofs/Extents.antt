@@ -22,7 +22,8 @@ extent_fits number count frames below =
     omega (arith, one, two, three, four)
 
 -- and each extent within the frames has a number
-pub number_of : (first count frames : ℕ) → 0 < count → first % count ≡ 0 → first + count ≤ frames → (first / count < frames / count) × (first / count * count ≡ first)
+pub number_of : (first count frames : ℕ) → 0 < count → first % count ≡ 0 → first + count ≤ frames
+    → (first / count < frames / count) × (first / count * count ≡ first)
 number_of first count frames some aligned within =
     let parts = div-add-mod first count in
     let swapped = mul_comm (first / count) count in
@@ -50,7 +51,8 @@ range_to-more a j past =
     let more : j + 1 - a ≡ suc (j - a) = omega (arith, past) in
     ap (range_with_len a) more ∙ range-more a (j - a) j (omega (arith, past))
 
-pub count_to-more : (used : ℕ → Bool) (a j : ℕ) → a ≤ j → count_by used (range_with_len a (j + 1 - a)) ≡ count_by used (range_with_len a (j - a)) + cond (used j) 1 0
+pub count_to-more : (used : ℕ → Bool) (a j : ℕ) → a ≤ j
+    → count_by used (range_with_len a (j + 1 - a)) ≡ count_by used (range_with_len a (j - a)) + cond (used j) 1 0
 count_to-more used a j past =
     let more : j + 1 - a ≡ (j - a) + 1 = omega (arith, past) in
     let split = count-apart used a (j - a) 1 j (omega (arith, past)) in
@@ -70,7 +72,8 @@ emptying-none fixed used first count f low high stays = elim (cases_Bool (list_a
   | inr some ↦ sym (cond-false _ (Some (count_by used (range_with_len first count))) None some)
 ]
 
-pub emptying-some : (fixed used : ℕ → Bool) (first count cost : ℕ) → ((f : ℕ) → first ≤ f → f < first + count → fixed f ≡ false) → cost ≡ count_by used (range_with_len first count)
+pub emptying-some : (fixed used : ℕ → Bool) (first count cost : ℕ) → ((f : ℕ) → first ≤ f → f < first + count → fixed f ≡ false)
+    → cost ≡ count_by used (range_with_len first count)
     → Some cost ≡ emptying fixed used first count
 emptying-some fixed used first count cost loose is =
     let all : list_all (λ f. not (fixed f)) (range_with_len first count) ≡ true = (list_all-range (λ f. not (fixed f)) first count).1 (λ f low high. ap not (loose f low high)) in
@@ -81,7 +84,8 @@ weight-small true = omega arith
 weight-small false = omega arith
 
 -- the pages of one frame more
-pub pages_to-more : (uses : List (Option Use)) (a j : ℕ) → a ≤ j → pages_in uses (range_with_len a (j + 1 - a)) ≡ pages_in uses (range_with_len a (j - a)) ++ page_list (use_in uses j)
+pub pages_to-more : (uses : List (Option Use)) (a j : ℕ) → a ≤ j
+    → pages_in uses (range_with_len a (j + 1 - a)) ≡ pages_in uses (range_with_len a (j - a)) ++ page_list (use_in uses j)
 pages_to-more uses a j past =
     let pages = λ (f : ℕ). page_list (use_in uses f) in
     ap (pages_in uses) (range_to-more a j past) ∙ flat_map-append pages (range_with_len a (j - a)) (j ∷ [])

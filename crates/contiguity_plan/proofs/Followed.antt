@@ -21,7 +21,8 @@ legal-before g history i d known legal =
     IsLegal-at g (entries_in (take i history)) (entries_in (drop (suc i) history)) (get_or history i d).entry (subst (IsLegal g) entries legal)
 
 -- the space that an entry of such a history names is one of 16
-pub known-spaces : (g : Given) (frames : ℕ) (history : List Numbered) → IsOver frames g (entries_in history) → All (λ (n : Numbered). named_space n.entry.space < 16) history
+pub known-spaces : (g : Given) (frames : ℕ) (history : List Numbered) → IsOver frames g (entries_in history)
+    → All (λ (n : Numbered). named_space n.entry.space < 16) history
 known-spaces g frames history over = λ k d known. below (get_or history k d).entry.space (legal-before g history k d known over.legal).1.space
   where
     below : (o : Option ℕ) → IfSome o (λ s. s < length g.told) → named_space o < 16

@@ -31,7 +31,8 @@ place_in-set_other (x ∷ ms) (suc space) zero p m other = refl
 place_in-set_other (x ∷ ms) (suc space) (suc s) p m other = place_in-set_other ms space s p m (λ same. other (ap suc same))
 
 -- a map that was empty is one more space's
-pub place_in-push : (ms : List (BTreeMap ℕ ℕ)) (m : BTreeMap ℕ ℕ) (s p : ℕ) → ((t q : ℕ) → place_in ms t q ≡ None) → get nat_cmp m p ≡ None → place_in (ms ++ m ∷ []) s p ≡ None
+pub place_in-push : (ms : List (BTreeMap ℕ ℕ)) (m : BTreeMap ℕ ℕ) (s p : ℕ) → ((t q : ℕ) → place_in ms t q ≡ None) → get nat_cmp m p ≡ None
+    → place_in (ms ++ m ∷ []) s p ≡ None
 place_in-push [] m zero p none empty = empty
 place_in-push [] m (suc s) p none empty = refl
 place_in-push (x ∷ ms) m zero p none empty = none 0 p

@@ -51,7 +51,8 @@ claims_alike None (Some v) same = absurd (none-some _ same)
 claims_alike (Some u) None same = absurd (none-some _ (sym same))
 claims_alike (Some u) (Some v) same = ap (λ (n : Note). n.claim) (same_Some _ _ same)
 
-reclaimed_alike : (claim : Option ℕ) (u : Option Use) (v : Option Used) → option_map note_of u ≡ option_map noted v → option_map note_of (reclaimed claim u) ≡ option_map noted (with_claim claim v)
+reclaimed_alike : (claim : Option ℕ) (u : Option Use) (v : Option Used) → option_map note_of u ≡ option_map noted v
+    → option_map note_of (reclaimed claim u) ≡ option_map noted (with_claim claim v)
 reclaimed_alike claim None None same = refl
 reclaimed_alike claim None (Some v) same = absurd (none-some _ same)
 reclaimed_alike claim (Some u) None same = absurd (none-some _ (sym same))
@@ -255,7 +256,8 @@ AreRight-start z frames processors hands places few none = record {
 -- Answers and ranges.
 
 -- an answer that the frames allow is of an evict
-pub answer-some : (st : FrameState) (space : ℕ) (call : Call) (page : ℕ) → Some page ≡ evicted call → AllowsAnswer st space call → give_if_used space st page ≡ moved_by_answer st space call
+pub answer-some : (st : FrameState) (space : ℕ) (call : Call) (page : ℕ) → Some page ≡ evicted call → AllowsAnswer st space call
+    → give_if_used space st page ≡ moved_by_answer st space call
 answer-some st space (Evict s p) page is allowed =
     ap (give_if_used space st) (same_Some page p is) ∙ give_if_used-some st space p allowed.0 allowed.1
 answer-some st space (Map s p len kind rights) page is allowed = absurd allowed

@@ -6,7 +6,8 @@ ghost use Rattle.pager_model.specs.Settings.{Given};
 ghost use Rattle.contiguity_plan.specs.Emptying.{IsOver, IsPlanned, Empties};
 
 use crate::table::Table;
-use pager_model::{Extent, NoMemory, Numbered, Size};
+use pager_model::{Extent, NoMemory, Size};
+use run_history::History;
 use std::alloc::Global;
 
 /// A page of a space.
@@ -28,15 +29,15 @@ pub struct Plan {
 pub fn plan_emptying(
     alloc: Global,
     frames: u32,
-    history: &[Numbered],
+    history: &History,
     size: Size,
 ) -> Result<Option<Plan>, NoMemory>
     requires frames { frames ≤ 32768 }
-    requires legal { (g : Given) × IsOver frames g (entries_in history.now) }
-    ensures planned { IfOk result (λ plan. (g : Given) → IsOver frames g (entries_in history.now)
-        → IsPlanned (frames_at g (entries_in history.now)) frames size plan) }
-    ensures empties { IfOk result (λ plan. (g : Given) → IsOver frames g (entries_in history.now)
-        → IfSome plan (Empties (frames_at g (entries_in history.now)))) }
+    requires legal { (g : Given) × IsOver frames g (entries_in history.now.items) }
+    ensures planned { IfOk result (λ plan. (g : Given) → IsOver frames g (entries_in history.now.items)
+        → IsPlanned (frames_at g (entries_in history.now.items)) frames size plan) }
+    ensures empties { IfOk result (λ plan. (g : Given) → IsOver frames g (entries_in history.now.items)
+        → IfSome plan (Empties (frames_at g (entries_in history.now.items)))) }
 {
     let mut table = Table::create(alloc, frames)?;
     table.follow(history)?;

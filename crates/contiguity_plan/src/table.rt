@@ -16,7 +16,8 @@ ghost use Rattle.contiguity_plan.specs.Tables.{use_in, use_for, claim_of, reclai
 use crate::cheapest::{cheapest, pages_of};
 use crate::places::{self, Places};
 use crate::plan::{PageOf, Plan};
-use pager_model::{Call, Entry, Extent, NoMemory, Numbered, Size, Want, What};
+use pager_model::{Call, Entry, Extent, NoMemory, Size, Want, What};
+use run_history::History;
 use std::alloc::Global;
 
 /// The largest numbers of spaces and of processors, the daemon with them.
@@ -303,13 +304,16 @@ impl Table {
     }
 
     /// What the entries of a history do, from the beginning on.
-    pub(crate) fn follow(&mut self, history: &[Numbered]) -> Result<(), NoMemory>
+    pub(crate) fn follow(&mut self, history: &History) -> Result<(), NoMemory>
         requires spaces { length self.old.places.items ≡ 16 }
-        requires known { All (λ (n : NumberedItem). named_space n.entry.space < 16) history.now }
-        ensures right { OnOk result ((g : Given) → IsLegal g (entries_in history.now) → IsRight (frames_at g []) self.old
-            → IsRight (frames_at g (entries_in history.now)) self.new) }
+        requires known { All (λ (n : NumberedItem). named_space n.entry.space < 16) history.now.items }
+        ensures right { OnOk result ((g : Given) → IsLegal g (entries_in history.now.items) → IsRight (frames_at g []) self.old
+            → IsRight (frames_at g (entries_in history.now.items)) self.new) }
     {
-        for numbered in history {
+        for place in 0..history.len() {
+            let Some(numbered) = history.get(place) else {
+                unreachable!()
+            };
             self.follow_one(&numbered.entry)?;
         }
         Ok(())

@@ -43,7 +43,8 @@ stands-named z g history e s kept named stands =
     rw (space_at-named g history e s named, followed-named z g history e s named) stands
 
 -- an entry of a space changes its stack alone
-pub StandEach-named : (z : SizeSet) (g : Given) (history : List Entry) (e : Entry) (s : ℕ) (stacks : List Kept) (new : Kept) → s < length stacks → e.space ≡ Some s
+pub StandEach-named : (z : SizeSet) (g : Given) (history : List Entry) (e : Entry) (s : ℕ) (stacks : List Kept) (new : Kept)
+    → s < length stacks → e.space ≡ Some s
     → Stands z new (space_after (space_at g history s) e) (λ capacity. follow z capacity (followed z g s (space_part s history) capacity) e)
     → StandEach z g stacks history → StandEach z g (set stacks s new) (history ++ e ∷ [])
 StandEach-named z g history e s stacks new within names stands each = record {
@@ -65,7 +66,8 @@ StandEach-named z g history e s stacks new within names stands each = record {
     apart t other = rw names (ne_eqb s t (λ is. other (sym is)))
 
 -- so one that a stack follows
-pub StandEach-followed : (z : SizeSet) (g : Given) (history : List Entry) (e : Entry) (s : ℕ) (stacks : List Kept) (old new : Kept) → s < length stacks → e.space ≡ Some s
+pub StandEach-followed : (z : SizeSet) (g : Given) (history : List Entry) (e : Entry) (s : ℕ) (stacks : List Kept) (old new : Kept)
+    → s < length stacks → e.space ≡ Some s
     → old ≡ get_or stacks s old
     → (Stands z old (space_at g history s) (followed z g s (space_part s history))
     → Stands z new (space_after (space_at g history s) e) (λ capacity. follow z capacity (followed z g s (space_part s history) capacity) e))

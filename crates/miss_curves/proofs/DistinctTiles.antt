@@ -14,7 +14,8 @@ use Rattle.miss_curves.specs.Stacks.{AreDistinct, Passes, hole_at, is_at, kept_a
 abbrev weight : Bool → ℕ
 weight b = cond b 1 0
 
-count-cons : (t : Tile) (place : Option Tile) (places : List (Option Tile)) → count_by (is_at t) (place ∷ places) ≡ weight (is_at t place) + count_by (is_at t) places
+count-cons : (t : Tile) (place : Option Tile) (places : List (Option Tile))
+    → count_by (is_at t) (place ∷ places) ≡ weight (is_at t place) + count_by (is_at t) places
 count-cons t place places = sum_by-cons (λ p. weight (is_at t p)) place places
 
 -- The row without a tile.
@@ -28,7 +29,8 @@ none-left t (place ∷ places) none = elim (cases_Bool (is_at t place)) [
 ]
 
 -- its only place becomes a hole
-only-left : (t : Tile) (places : List (Option Tile)) → count_by (is_at t) places ≤ 1 → set places (position_or_len (is_at t) places) None ≡ map (left_by t) places
+only-left : (t : Tile) (places : List (Option Tile)) → count_by (is_at t) places ≤ 1
+    → set places (position_or_len (is_at t) places) None ≡ map (left_by t) places
 only-left t [] once = refl
 only-left t (place ∷ places) once = elim (cases_Bool (is_at t place)) [
   | inl at ↦ rw at (ap (λ rest. None ∷ rest) (sym (none-left t places (omega (arith, once, count-cons t place places, ap weight at)))))
@@ -56,7 +58,8 @@ hole-found t (Some u) places distinct same =
 hole-found t None places distinct same = cc
 
 -- Moving down is taking out and shifting.
-pub moved_down-shifted : (t : Tile) (carried : Option Tile) (places : List (Option Tile)) → moved_down t carried places ≡ shifted carried (map (left_by t) places)
+pub moved_down-shifted : (t : Tile) (carried : Option Tile) (places : List (Option Tile))
+    → moved_down t carried places ≡ shifted carried (map (left_by t) places)
 moved_down-shifted t None [] = refl
 moved_down-shifted t (Some c) [] = refl
 moved_down-shifted t None (place ∷ places) = ap (λ rest. left_by t place ∷ rest) (moved_down-shifted t None places)
@@ -70,17 +73,20 @@ left-kept t test (Some u) = elim (cases_Bool (same_tile t u)) [
   | inr other ↦ elim (cases_Bool (test u)) [ inl passes ↦ rw other (rw passes (rw other refl)) | inr fails ↦ rw other (rw fails refl) ]
 ]
 
-pub map_left-kept : (t : Tile) (test : Tile → Bool) (places : List (Option Tile)) → map (left_by t) (map (kept_at test) places) ≡ map (kept_at test) (map (left_by t) places)
+pub map_left-kept : (t : Tile) (test : Tile → Bool) (places : List (Option Tile))
+    → map (left_by t) (map (kept_at test) places) ≡ map (kept_at test) (map (left_by t) places)
 map_left-kept t test [] = refl
 map_left-kept t test (place ∷ places) = ap (λ p. p ∷ map (left_by t) (map (kept_at test) places)) (left-kept t test place)
     ∙ ap (λ rest. kept_at test (left_by t place) ∷ rest) (map_left-kept t test places)
 
 -- the row after a use is what is left of it without the tile, shifted
-pub moved_down-kept : (t : Tile) (test : Tile → Bool) (places : List (Option Tile)) → moved_down t (Some t) (map (kept_at test) places) ≡ shifted (Some t) (map (kept_at test) (map (left_by t) places))
+pub moved_down-kept : (t : Tile) (test : Tile → Bool) (places : List (Option Tile))
+    → moved_down t (Some t) (map (kept_at test) places) ≡ shifted (Some t) (map (kept_at test) (map (left_by t) places))
 moved_down-kept t test places = moved_down-shifted t (Some t) (map (kept_at test) places) ∙ ap (shifted (Some t)) (map_left-kept t test places)
 
 -- a hole ends the shift
-pub shifted-stop : (places : List (Option Tile)) (i : ℕ) (d : Option Tile) (c : Tile) (new : Option Tile) → i < length places → get_or places i d ≡ None → new ≡ Some c
+pub shifted-stop : (places : List (Option Tile)) (i : ℕ) (d : Option Tile) (c : Tile) (new : Option Tile) → i < length places
+    → get_or places i d ≡ None → new ≡ Some c
     → set places i new ≡ take i places ++ shifted (Some c) (drop i places)
 shifted-stop places i d c new within hole is =
     let here : drop i places ≡ None ∷ drop (i + 1) places = drop_more places i d within ∙ ap (λ place. place ∷ drop (i + 1) places) hole in
@@ -126,14 +132,16 @@ count-left t u (place ∷ places) =
     omega (arith, weight-left t u place, count-left t u places, count-cons u place places, count-cons u (left_by t place) (map (left_by t) places))
 
 -- what is carried stands once more
-count-shifted : (u : Tile) (carried : Option Tile) (places : List (Option Tile)) → count_by (is_at u) (shifted carried places) ≤ weight (is_at u carried) + count_by (is_at u) places
+count-shifted : (u : Tile) (carried : Option Tile) (places : List (Option Tile))
+    → count_by (is_at u) (shifted carried places) ≤ weight (is_at u carried) + count_by (is_at u) places
 count-shifted u None places = omega arith
 count-shifted u (Some c) [] = omega arith
 count-shifted u (Some c) (place ∷ places) =
     omega (arith, count-shifted u place places, count-cons u place places, count-cons u (Some c) (shifted place places))
 
 -- so no tile stands at two places after a use, however many others went
-pub distinct-shifted : (t : Tile) (old places : List (Option Tile)) → AreDistinct old → ((u : Tile) → count_by (is_at u) places ≤ count_by (is_at u) (map (left_by t) old))
+pub distinct-shifted : (t : Tile) (old places : List (Option Tile)) → AreDistinct old
+    → ((u : Tile) → count_by (is_at u) places ≤ count_by (is_at u) (map (left_by t) old))
     → AreDistinct (shifted (Some t) places)
 distinct-shifted t old places distinct fewer u = elim (cases_Bool (same_tile u t)) [
   | inl same ↦
@@ -147,7 +155,8 @@ distinct-shifted t old places distinct fewer u = elim (cases_Bool (same_tile u t
   | inr other ↦ omega (arith, count-shifted u (Some t) places, ap weight other, fewer u, count-left t u old, distinct u)
 ]
 
-pub distinct-fewer : (old places : List (Option Tile)) → AreDistinct old → ((u : Tile) → count_by (is_at u) places ≤ count_by (is_at u) old) → AreDistinct places
+pub distinct-fewer : (old places : List (Option Tile)) → AreDistinct old → ((u : Tile) → count_by (is_at u) places ≤ count_by (is_at u) old)
+    → AreDistinct places
 distinct-fewer old places distinct fewer u = omega (arith, fewer u, distinct u)
 
 pub distinct-holes : (n : ℕ) → AreDistinct (replicate n None)

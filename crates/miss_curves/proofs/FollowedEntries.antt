@@ -78,7 +78,8 @@ use_is z before after page own used same is has =
     subst (IsUse z before after page) (sym (is ∙ ap (λ q. use_of (tile_at z before q) (tile_at z after q)) same)) (is_use z before after page has)
 
 -- what follows a space tells of an entry what it did to the pages, and which page it used
-pub Told-followed : (z : SizeSet) (g : Given) (history : List Entry) (e : Entry) (old new : Followed) (page : Option ℕ) (used used_base : Option Use) → g.sizes ≡ z
+pub Told-followed : (z : SizeSet) (g : Given) (history : List Entry) (e : Entry) (old new : Followed) (page : Option ℕ) (used used_base : Option Use)
+    → g.sizes ≡ z
     → ((s : ℕ) → e.space ≡ Some s → IsNext old (space_at g history s) e)
     → ((st : SpaceState) → IsNext old st e → Follows new (space_after st e))
     → page ≡ page_used e.processor e.what
@@ -149,7 +150,8 @@ FollowEach-named g history e s spaces new within names frames follows each = rec
 }
 
 -- one without a space leads none on
-pub FollowEach-none : (g : Given) (history : List Entry) (e : Entry) (spaces : List Followed) → e.space ≡ None → FollowEach g spaces history → FollowEach g spaces (history ++ e ∷ [])
+pub FollowEach-none : (g : Given) (history : List Entry) (e : Entry) (spaces : List Followed) → e.space ≡ None → FollowEach g spaces history
+    → FollowEach g spaces (history ++ e ∷ [])
 FollowEach-none g history e spaces none each = record {
   spaces_are = each.spaces_are;
   frames = each.frames;
@@ -165,7 +167,8 @@ FollowEach-new g spaces same new = record {
 }
 
 -- and so the stacks and the spaces of a run begin
-pub KeepsUp-new : (plan : Plan) (g : Given) (history : List Entry) (frames spaces : ℕ) (z : SizeSet) (rows : Rows) (all : List Followed) → IsRunOf plan g history
+pub KeepsUp-new : (plan : Plan) (g : Given) (history : List Entry) (frames spaces : ℕ) (z : SizeSet) (rows : Rows) (all : List Followed)
+    → IsRunOf plan g history
     → frames ≡ plan.frames → spaces ≡ plan.spaces → z ≡ plan.sizes → (length g.told ≡ spaces → StandAfter g rows []) → length all ≡ spaces → All (IsNew frames) all
     → KeepsUp z g rows all []
 KeepsUp-new plan g history frames spaces z rows all run frames_are spaces_are sizes_are stands same new =
@@ -187,7 +190,8 @@ comes-at g history i x known is each =
     (ap entries_in (split_at history i x known) ∙ map-append (λ (n : Numbered). n.entry) (take i history) (get_or history i x ∷ drop (suc i) history)))
 
 -- and with them it is what stands before the one after it
-pub entries-more : (history : List Numbered) (i : ℕ) (x : Numbered) → i < length history → x ≡ get_or history i x → entries_in (take (i + 1) history) ≡ entries_in (take i history) ++ x.entry ∷ []
+pub entries-more : (history : List Numbered) (i : ℕ) (x : Numbered) → i < length history → x ≡ get_or history i x
+    → entries_in (take (i + 1) history) ≡ entries_in (take i history) ++ x.entry ∷ []
 entries-more history i x known is =
     map_more (λ (n : Numbered). n.entry) history i x known ∙ ap (λ (n : Numbered). entries_in (take i history) ++ n.entry ∷ []) (sym is)
 
@@ -202,7 +206,8 @@ EachComes-run plan g history text run = λ before after e is.
     }
 
 -- in a run of a trace of one processor this one alone answers
-answered_by : (plan : Plan) (g : Given) (before after : List Entry) (e : Entry) (what : What) → e.what ≡ what → HasText plan → IsRunOf plan g (before ++ e ∷ after)
+answered_by : (plan : Plan) (g : Given) (before after : List Entry) (e : Entry) (what : What) → e.what ≡ what → HasText plan
+    → IsRunOf plan g (before ++ e ∷ after)
     → is_answer what ≡ true → e.processor < plan.processors
 answered_by plan g before after e (Answer number call answered) is text run answers = processor-run plan g before after e text run.marks run.legal run.shows number call answered is
 answered_by plan g before after e what is text run answers = cc

@@ -72,7 +72,8 @@ sum-found_some k place found within = elim (cases_lt place k) [
   | inr past ↦ rw (le-ltb place k past, take-set-le k found place (get_or found place 0 + 1) past) (omega arith)
 ]
 
-sum-found : (k : ℕ) (place : Option ℕ) (found : List ℕ) → k ≤ length found → sum (take k (found_at place found)) ≡ sum (take k found) + counts (is_found k place)
+sum-found : (k : ℕ) (place : Option ℕ) (found : List ℕ) → k ≤ length found
+    → sum (take k (found_at place found)) ≡ sum (take k found) + counts (is_found k place)
 sum-found k None found within = omega arith
 sum-found k (Some place) found within = sum-found_some k place found within
 
@@ -148,7 +149,8 @@ sum-zeros (suc k) zero = refl
 sum-zeros (suc k) (suc n) = sum-zeros k n
 
 -- a row of holes stands for images at the beginning
-pub stands-begun : (kept : Kept) (n : ℕ) (sizes : SizeSet) (told : Bool) (faults : ℕ) → kept.places ≡ replicate n None → kept.found ≡ replicate n 0 → kept.uses ≡ 0
+pub stands-begun : (kept : Kept) (n : ℕ) (sizes : SizeSet) (told : Bool) (faults : ℕ) → kept.places ≡ replicate n None
+    → kept.found ≡ replicate n 0 → kept.uses ≡ 0
     → StandsFor kept (empty_state sizes told faults) (λ _. begun sizes told faults)
 stands-begun kept n sizes told faults places found uses k within = record {
   space = refl;
@@ -157,7 +159,8 @@ stands-begun kept n sizes told faults places found uses k within = record {
 }
 
 -- each tile of the stack after an entry passes the test
-pub tiles-after : (test : Tile → Bool) (used : Option Use) (kept : Kept) → IfSome used (λ (u : Use). test u.after ≡ true) → All (Passes test) (kept_after test used kept).places
+pub tiles-after : (test : Tile → Bool) (used : Option Use) (kept : Kept) → IfSome used (λ (u : Use). test u.after ≡ true)
+    → All (Passes test) (kept_after test used kept).places
 tiles-after test None kept passes = All-kept test kept.places
 tiles-after test (Some use') kept passes = All-moved test use'.after (Some use'.after) (map (kept_at test) kept.places) passes (All-kept test kept.places)
 

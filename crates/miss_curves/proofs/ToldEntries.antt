@@ -31,7 +31,8 @@ use Rattle.tiles.proofs.SizedTiles.{tile_in_same}
 use Rattle.tiles.proofs.TileLaws.{largest_tile, tile_largest}
 
 -- what holds of the pages that these are equal to
-of_pages : (P : (ℕ → Option Mapping) → (ℕ → Option Mapping) → Type 0) (before after old new : ℕ → Option Mapping) → before ≡ old → after ≡ new → P old new → P before after
+of_pages : (P : (ℕ → Option Mapping) → (ℕ → Option Mapping) → Type 0) (before after old new : ℕ → Option Mapping) → before ≡ old
+    → after ≡ new → P old new → P before after
 of_pages P before after old new was is holds = subst (λ f. P f after) (sym was) (subst (P old) (sym is) holds)
 
 -- each tile by sizes z is one still
@@ -122,7 +123,8 @@ left z new t false b still is = is ∙ sym (still refl)
 -- One page changed.
 
 -- where none went each is one still
-pub none_went : (old new : Resident) (changes : PageChange) → AreChanges old new changes → gone_of changes ≡ [] → (t : Tile) → is_tile (mapping_at old) t ≡ true → is_tile (mapping_at new) t ≡ true
+pub none_went : (old new : Resident) (changes : PageChange) → AreChanges old new changes → gone_of changes ≡ [] → (t : Tile)
+    → is_tile (mapping_at old) t ≡ true → is_tile (mapping_at new) t ≡ true
 none_went old new changes are none t was =
     sym (stays_where (mapping_at new) (mapping_at old) (gone_of changes) t are.gone was) ∙ ap (λ gone. not (list_any (same_tile t) gone)) none
 
@@ -159,7 +161,8 @@ within_base (suc (suc zero)) = refl
 within_base (suc (suc (suc zero))) = refl
 within_base (suc (suc (suc (suc k)))) = within_base (suc (suc (suc k)))
 
-pub base_at_page : (page : ℕ) (old new : Resident) → OthersSame page (mapping_at old) (mapping_at new) → (t : Tile) (b : Bool) → is_tile_in base_alone (mapping_at old) t ≡ true
+pub base_at_page : (page : ℕ) (old new : Resident) → OthersSame page (mapping_at old) (mapping_at new) → (t : Tile) (b : Bool)
+    → is_tile_in base_alone (mapping_at old) t ≡ true
     → b ≡ (not (t.extent.first == page) || is_tile_in base_alone (mapping_at new) t) → b ≡ is_tile_in base_alone (mapping_at new) t
 base_at_page page old new others t b was is =
     let first = t.extent.first in
@@ -170,6 +173,7 @@ base_at_page page old new others t b was is =
     is
 
 -- Pages of a range changed.
-pub tile_in_range : (z : SizeSet) (old new : ℕ → Option Mapping) (range : PageRange) → KeepsOutsideIn z range old new → (t : Tile) (b : Bool) → is_tile_in z old t ≡ true
+pub tile_in_range : (z : SizeSet) (old new : ℕ → Option Mapping) (range : PageRange) → KeepsOutsideIn z range old new
+    → (t : Tile) (b : Bool) → is_tile_in z old t ≡ true
     → b ≡ (not (is_touched range t.extent.first) || is_tile_in z new t) → b ≡ is_tile_in z new t
 tile_in_range z old new range keeps t b was is = left z new t (is_touched range t.extent.first) b (keeps t was) is

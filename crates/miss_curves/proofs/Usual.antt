@@ -67,7 +67,8 @@ record Step (st : SpaceState) (e : Entry) (what : What) : Type 0 where
   counts : missed (page_used e.processor what) (is_in_image (st.images 0) (tile_at st.sizes (pages_of st) (page_used e.processor what))) ≡ weight (is_miss_in what)
 
 -- entries that are no answers use no tile
-silent : (st : SpaceState) (e : Entry) (what : What) → page_used e.processor what ≡ None → used_tile st.sizes (pages_after st e.frames what) what ≡ None → is_miss_in what ≡ false
+silent : (st : SpaceState) (e : Entry) (what : What) → page_used e.processor what ≡ None
+    → used_tile st.sizes (pages_after st e.frames what) what ≡ None → is_miss_in what ≡ false
     → Step st e what
 silent st e what page tile miss = record {
   image = rw (page, tile) (untouched (0 == e.processor) (still_tiles st.sizes (pages_after st e.frames what) (st.images 0)));
@@ -185,7 +186,8 @@ miss-named space frames (Unclaim frame) on none = refl
 miss-named space frames (Refused wired claimed held) on none = refl
 miss-named space frames (Rest short) on none = refl
 
-module _ (g : Given) (history : List Entry) (e : Entry) (may : MayFollow g history e) (own : is_answer e.what ≡ true → e.processor ≡ 0) (usual : AreUsual g history) where
+module _ (g : Given) (history : List Entry) (e : Entry) (may : MayFollow g history e) (own : is_answer e.what ≡ true → e.processor ≡ 0)
+    (usual : AreUsual g history) where
   abbrev w : ℕ
   w = weight (is_miss_in e.what)
 
@@ -215,7 +217,8 @@ module _ (g : Given) (history : List Entry) (e : Entry) (may : MayFollow g histo
   same_misses : (s : ℕ) → names_space s e ≡ false → (usual_at g (history ++ e ∷ []) s).misses ≡ (usual_at g history s).misses
   same_misses s other = ap (λ (fs : ℕ → Follower). (fs image_room).misses) (followed-other g.sizes g history e s other)
 
-  more_misses : (s : ℕ) → names_space s e ≡ true → SpaceAllows (space_at g history s) e → (usual_at g (history ++ e ∷ []) s).misses ≡ (usual_at g history s).misses + w
+  more_misses : (s : ℕ) → names_space s e ≡ true → SpaceAllows (space_at g history s) e
+      → (usual_at g (history ++ e ∷ []) s).misses ≡ (usual_at g history s).misses + w
   more_misses s named allowed = omega (arith, (own_space s named allowed).misses_are, (usual.each s).1.misses_are)
 
   all_after : (o : Option ℕ) → e.space ≡ o → misses g (history ++ e ∷ []) image_room ≡ misses g history image_room + w

@@ -1,10 +1,9 @@
 //! The misses of a whole history at each capacity.
 
-ghost use Rattle.std.specs.Prelude.{◌≡◌, ℕ, ◌+◌, ◌-◌, ◌<◌, ◌≤◌, ◌^◌, [], ◌∷◌, ◌++◌, ◌==◌, ◌||◌, not, List, Some, length, slice_index, IfOk, IfSome};
+ghost use Rattle.std.specs.Prelude.{◌≡◌, ℕ, ◌+◌, ◌-◌, ◌<◌, ◌≤◌, ◌^◌, [], ◌∷◌, ◌++◌, ◌==◌, ◌||◌, not, List, Some, length, IfOk, IfSome};
 ghost use Rattle.std.specs.List.{All, list_any};
 ghost use Rattle.pager_model.specs.declared.entry.Entry.{Entry as Item};
 ghost use Rattle.pager_model.specs.Bounds.{most_frames};
-ghost use Rattle.pager_model.specs.Counts.{counts};
 ghost use Rattle.pager_model.specs.Extents.{extent_start};
 ghost use Rattle.pager_model.specs.Legal.{entries_in, space_at};
 ghost use Rattle.pager_model.specs.Settings.{Given};
@@ -26,7 +25,8 @@ ghost use Rattle.tiles.specs.Touched.{is_touched};
 use crate::stack::Use;
 use crate::stacks::{Curves, Stacks};
 use followed_space::{Changed, FollowedSpace};
-use pager_model::{Call, Entry, NoMemory, Numbered, PageRange, Reply, Sizes, Tile, Trace, What};
+use pager_model::{Call, Entry, NoMemory, PageRange, Reply, Sizes, Tile, Trace, What};
+use run_history::History;
 use std::alloc::Global;
 use tiles::{Changes, TileList};
 
@@ -243,15 +243,18 @@ fn follow_next(stacks: &mut Stacks, spaces: &mut [FollowedSpace], entry: &Entry,
 fn follow_history(
     stacks: &mut Stacks,
     spaces: &mut [FollowedSpace],
-    history: &[Numbered],
+    history: &History,
     sizes: Sizes,
 )
-    requires start { (g : Given) × KeepsUp sizes g stacks.old spaces.old [] × EachComes g (entries_in history.now) }
+    requires start { (g : Given) × KeepsUp sizes g stacks.old spaces.old [] × EachComes g (entries_in history.now.items) }
     requires unused { stacks.old.entries ≡ 0 }
-    ensures keeps { (g : Given) → KeepsUp sizes g stacks.old spaces.old [] → EachComes g (entries_in history.now)
-        → KeepsUp sizes g stacks.new spaces.new (entries_in history.now) }
+    ensures keeps { (g : Given) → KeepsUp sizes g stacks.old spaces.old [] → EachComes g (entries_in history.now.items)
+        → KeepsUp sizes g stacks.new spaces.new (entries_in history.now.items) }
 {
-    for numbered in history {
+    for place in 0..history.len() {
+        let Some(numbered) = history.get(place) else {
+            unreachable!()
+        };
         follow_next(stacks, spaces, &numbered.entry, sizes);
     }
 }
@@ -271,10 +274,10 @@ fn new_spaces(alloc: Global, spaces: u32, frames: u32) -> Result<Vec<FollowedSpa
 }
 
 /// The stacks after a run of a trace.
-fn stacks_after(alloc: Global, trace: &Trace, history: &[Numbered]) -> Result<Stacks, NoMemory>
-    requires run { (g : Given) × IsRunOf trace.now g (entries_in history.now) }
+fn stacks_after(alloc: Global, trace: &Trace, history: &History) -> Result<Stacks, NoMemory>
+    requires run { (g : Given) × IsRunOf trace.now g (entries_in history.now.items) }
     ensures text { HasText trace.now }
-    ensures stands { IfOk result (λ s. (g : Given) → IsRunOf trace.now g (entries_in history.now) → StandAfter g s (entries_in history.now)) }
+    ensures stands { IfOk result (λ s. (g : Given) → IsRunOf trace.now g (entries_in history.now.items) → StandAfter g s (entries_in history.now.items)) }
 {
     let frames = trace.frames();
     let spaces = trace.spaces();
@@ -286,11 +289,11 @@ fn stacks_after(alloc: Global, trace: &Trace, history: &[Numbered]) -> Result<St
 }
 
 /// The misses at each capacity from 1 to 1,024 of a run of a trace of one processor, with the tiles of the run and with base pages alone.
-pub fn curves(alloc: Global, trace: &Trace, history: &[Numbered]) -> Result<Curves, NoMemory>
+pub fn curves(alloc: Global, trace: &Trace, history: &History) -> Result<Curves, NoMemory>
     requires one { trace.now.processors ≡ 1 }
-    requires run { (g : Given) × IsRunOf trace.now g (entries_in history.now) }
-    ensures curves { IfOk result (λ c. (g : Given) → IsRunOf trace.now g (entries_in history.now)
-        → AreCurves g (entries_in history.now) c.tiles.items c.pages.items) }
+    requires run { (g : Given) × IsRunOf trace.now g (entries_in history.now.items) }
+    ensures curves { IfOk result (λ c. (g : Given) → IsRunOf trace.now g (entries_in history.now.items)
+        → AreCurves g (entries_in history.now.items) c.tiles.items c.pages.items) }
 {
     let stacks = stacks_after(alloc, trace, history)?;
     stacks.curves(alloc)

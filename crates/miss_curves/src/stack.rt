@@ -1,14 +1,13 @@
 //! One row of places: the images of every capacity at once.
 
-ghost use Rattle.std.specs.Prelude.{◌≡◌, ◌≢◌, ℕ, ◌+◌, ◌-◌, ◌<◌, ◌≤◌, ◌^◌, [], ◌∷◌, List, Bool, true, false, Some, None, Option, length, map, count_by, replicate, sum, take, slice_index, IfOk, IfSome, IsSome};
+ghost use Rattle.std.specs.Prelude.{◌≡◌, ℕ, ◌+◌, ◌-◌, ◌<◌, ◌≤◌, ◌^◌, Bool, false, Some, None, Option, length, map, count_by, sum, take, slice_index, IfOk, IfSome};
 ghost use Rattle.std.specs.Fn.{FnReturnsAt};
 ghost use Rattle.std.specs.List.{position, All};
 ghost use Rattle.pager_model.specs.declared.tile.Tile.{Tile};
 ghost use Rattle.pager_model.specs.declared.entry.Entry.{Entry};
 ghost use Rattle.pager_model.specs.SizeSets.{SizeSet};
-ghost use Rattle.pager_model.specs.Tiles.{is_tile_in};
-ghost use Rattle.pager_model.specs.SpaceStates.{SpaceState, empty_state, space_after, pages_of, pages_after};
-ghost use Rattle.miss_curves.specs.Curves.{Follower, begun, follow, page_used};
+ghost use Rattle.pager_model.specs.SpaceStates.{SpaceState, space_after};
+ghost use Rattle.miss_curves.specs.Curves.{Follower, follow};
 ghost use Rattle.miss_curves.specs.Stacks.{is_at, kept_at, left_by, moved_down, hole_at, shifted, found_at, place_of, kept_after, missed_at, AreDistinct, IsBlank, Stands, Passes, AnswersFor, Tells, TellsSame};
 
 use pager_model::{NoMemory, Tile};

@@ -1,6 +1,6 @@
 //! The stacks of all spaces, and the misses of a history at each capacity.
 
-ghost use Rattle.std.specs.Prelude.{◌≡◌, ℕ, ◌+◌, ◌-◌, ◌<◌, ◌≤◌, ◌^◌, [], ◌∷◌, ◌++◌, List, Some, None, length, slice_index, slice_index_or, IfOk, IfSome};
+ghost use Rattle.std.specs.Prelude.{◌≡◌, ℕ, ◌+◌, ◌-◌, ◌<◌, ◌≤◌, ◌^◌, [], ◌∷◌, ◌++◌, List, Some, length, slice_index, IfOk, IfSome};
 ghost use Rattle.std.specs.Fn.{FnReturnsAt};
 ghost use Rattle.std.specs.List.{All};
 ghost use Rattle.pager_model.specs.declared.entry.Entry.{Entry as Item};
@@ -9,7 +9,7 @@ ghost use Rattle.pager_model.specs.Legal.{IsLegal, space_at};
 ghost use Rattle.pager_model.specs.Settings.{Given};
 ghost use Rattle.pager_model.specs.SizeSets.{SizeSet};
 ghost use Rattle.miss_curves.specs.Curves.{AnswersAlone, base_alone, misses_by, misses, page_misses};
-ghost use Rattle.miss_curves.specs.Rows.{AreStacks, StandEach, StandAfter, uses_in};
+ghost use Rattle.miss_curves.specs.Rows.{AreStacks, StandEach, StandAfter};
 ghost use Rattle.miss_curves.specs.Stacks.{IsBlank, Tells, TellsSame};
 
 use crate::stack::{Stack, Use};

@@ -42,15 +42,18 @@ rose_then : (a b c : ℕ) → a ≤ b → Rose b c → Rose a c
 rose_then a b c below (inl more) = inl (omega (arith, below, more))
 rose_then a b c below (inr full) = inr full
 
-told_sent : (first mid last : Option (List ℕ)) (w0 w1 w2 x y : List ℕ) → IfSome first (λ had. Gone mid had w0 w1 x) → IfSome mid (λ had. Gone last had w1 w2 y) → IfSome first (λ had. Gone last had w0 w2 (x ++ y))
+told_sent : (first mid last : Option (List ℕ)) (w0 w1 w2 x y : List ℕ) → IfSome first (λ had. Gone mid had w0 w1 x)
+    → IfSome mid (λ had. Gone last had w1 w2 y) → IfSome first (λ had. Gone last had w0 w2 (x ++ y))
 told_sent None mid last w0 w1 w2 x y before more = tt
 told_sent (Some had) mid last w0 w1 w2 x y before more = gone_gone had mid last w0 w1 w2 x y before more
 
-told_part : (first mid last : Option (List ℕ)) (w0 w1 x y : List ℕ) → IfSome first (λ had. Gone mid had w0 w1 x) → IfSome mid (λ had. GonePart last had (w1 ++ y)) → IfSome first (λ had. GonePart last had (w0 ++ (x ++ y)))
+told_part : (first mid last : Option (List ℕ)) (w0 w1 x y : List ℕ) → IfSome first (λ had. Gone mid had w0 w1 x)
+    → IfSome mid (λ had. GonePart last had (w1 ++ y)) → IfSome first (λ had. GonePart last had (w0 ++ (x ++ y)))
 told_part None mid last w0 w1 x y before more = tt
 told_part (Some had) mid last w0 w1 x y before more = gone_part had mid last w0 w1 w1 x y before more
 
-told_more : (first last : Option (List ℕ)) (w x rest : List ℕ) → IfSome first (λ had. GonePart last had (w ++ x)) → IfSome first (λ had. GonePart last had (w ++ (x ++ rest)))
+told_more : (first last : Option (List ℕ)) (w x rest : List ℕ) → IfSome first (λ had. GonePart last had (w ++ x))
+    → IfSome first (λ had. GonePart last had (w ++ (x ++ rest)))
 told_more None last w x rest part = tt
 told_more (Some had) last w x rest part = subst (λ l. GonePart last had l) (append_assoc w x rest) (part_more had last (w ++ x) rest part)
 
@@ -78,7 +81,8 @@ and_then x [] = x
 and_then x (y ∷ ys) = and_then (x ++ y) ys
 
 -- a part of a text is a part of one that goes on from it
-pub puts_failed : {E : Type 0} (r : Result (Unit {0}) E) {a b : Outgoing} (x : List ℕ) (rest : List (List ℕ)) → IsErr r → SentPart a b x → Puts r a b (and_then x rest)
+pub puts_failed : {E : Type 0} (r : Result (Unit {0}) E) {a b : Outgoing} (x : List ℕ) (rest : List (List ℕ)) → IsErr r → SentPart a b x
+    → Puts r a b (and_then x rest)
 puts_failed (Ok done) x rest is part = absurd (false≢true is)
 puts_failed (Err e) {a = a} {b = b} x rest is part = longer x rest part
   where
@@ -92,7 +96,8 @@ joined x [] = append-nil x
 joined x (y ∷ rest) = sym (append_assoc x y (flat_map (λ (text : List ℕ). text) rest)) ∙ joined (x ++ y) rest
 
 -- Texts of a list's elements, one after another, behind a text before them. The element at hand has this text.
-module _ {X : Type 0} (f : X → List ℕ) (xs : List X) (i : ℕ) (x d : X) (within : i < length xs) (is : x ≡ get_or xs i d) (text : List ℕ) (same : text ≡ f x) (before : List ℕ) where
+module _ {X : Type 0} (f : X → List ℕ) (xs : List X) (i : ℕ) (x d : X) (within : i < length xs) (is : x ≡ get_or xs i d) (text : List ℕ)
+    (same : text ≡ f x) (before : List ℕ) where
   so_far : (before ++ flat_map f (take i xs)) ++ text ≡ before ++ flat_map f (take (i + 1) xs)
   so_far =
       ap (λ l. (before ++ flat_map f (take i xs)) ++ l) (same ∙ ap f is) ∙ flat_map_more f before (take i xs) (get_or xs i d)
@@ -108,7 +113,8 @@ module _ {X : Type 0} (f : X → List ℕ) (xs : List X) (i : ℕ) (x d : X) (wi
   sent_next {a = a} {c = c} first more = subst (λ l. Sent a c l) so_far (sent_sent _ text first more)
 
   -- or it went out in part, and other texts come after all
-  pub next_failed : {E : Type 0} (r : Result (Unit {0}) E) {a b c : Outgoing} (rest : List (List ℕ)) → IsErr r → Sent a b (before ++ flat_map f (take i xs)) → SentPart b c text → Puts r a c (and_then (before ++ flat_map f xs) rest)
+  pub next_failed : {E : Type 0} (r : Result (Unit {0}) E) {a b c : Outgoing} (rest : List (List ℕ)) → IsErr r
+      → Sent a b (before ++ flat_map f (take i xs)) → SentPart b c text → Puts r a c (and_then (before ++ flat_map f xs) rest)
   next_failed r {a = a} {c = c} rest fails first part =
       subst (λ l. Puts r a c (and_then l rest)) (ap (λ l. l ++ flat_map f (drop (i + 1) xs)) so_far ∙ all)
       (puts_failed r _ (flat_map f (drop (i + 1) xs) ∷ rest) fails (sent_part _ text first part))

@@ -1,6 +1,6 @@
 //! The text of miss curves.
 
-ghost use Rattle.std.specs.Prelude.{◌≡◌, ◌+◌, ◌^◌, ◌<◌, ◌≤◌, [], ◌∷◌, codes, decimal, flat_map, length, OnOk, OnErr};
+ghost use Rattle.std.specs.Prelude.{◌≡◌, ◌+◌, ◌^◌, ◌<◌, [], ◌∷◌, decimal, flat_map, length, OnOk, OnErr};
 ghost use Rattle.std.specs.List.{range_with_len};
 ghost use Rattle.io_core.specs.Faults.{Rose};
 ghost use Rattle.pager_model.specs.TraceText.{line_of_words};

@@ -1,6 +1,6 @@
 //! The report of a run: each call's answer, the history where it is asked for, and the counts.
 
-ghost use Rattle.std.specs.Prelude.{◌≡◌, if◌then◌else◌, [], ◌∷◌, OnOk, OnErr};
+ghost use Rattle.std.specs.Prelude.{◌≡◌, if◌then◌else◌, [], option_to_list, slice_get, OnOk, OnErr};
 ghost use Rattle.io_core.specs.Faults.{Rose};
 ghost use Rattle.pager_model.specs.Legal.{entries_in};
 ghost use Rattle.pager_model.specs.PrintedText.{answers_of, answers_text, history_text, out_text, summary_text};
@@ -12,7 +12,8 @@ use crate::entry_words::{line_of_answer, line_of_entry};
 use crate::summary_lines::summary_lines;
 use crate::writing::Room;
 use io_core::{Sink, WriteFailed};
-use pager_model::{Entry, Numbered, Summary, What};
+use pager_model::Summary;
+use run_history::History;
 
 /// Which parts of a run are printed before its counts.
 #[derive(Clone, Copy, Debug, PartialEq, Eq)]
@@ -28,12 +29,12 @@ pub enum Parts {
 pub fn write_report<K: Sink>(
     sink: &mut K,
     processors: u32,
-    history: &[Numbered],
+    history: &History,
     summary: &Summary,
     parts: Parts,
 ) -> Result<(), WriteFailed>
-    ensures whole { OnOk result (WroteAll (out_text (has_history parts) processors history.now summary.now) (K.taken sink.old) (K.taken sink.new)) }
-    ensures part { OnErr result (WrotePart (out_text (has_history parts) processors history.now summary.now) (K.taken sink.old) (K.taken sink.new)) }
+    ensures whole { OnOk result (WroteAll (out_text (has_history parts) processors history.now.items summary.now) (K.taken sink.old) (K.taken sink.new)) }
+    ensures part { OnErr result (WrotePart (out_text (has_history parts) processors history.now.items summary.now) (K.taken sink.old) (K.taken sink.new)) }
     ensures rose { OnErr result (Rose (K.faults sink.old) (K.faults sink.new)) }
 {
     let mut room = Room::new();
@@ -57,14 +58,14 @@ fn put_report<K: Sink>(
     room: &mut Room,
     sink: &mut K,
     processors: u32,
-    history: &[Numbered],
+    history: &History,
     summary: &Summary,
     parts: Parts,
 ) -> Result<(), WriteFailed>
     ensures puts { Puts result
         (outgoing (K.taken sink.old) (K.faults sink.old) room.old.bytes.items)
         (outgoing (K.taken sink.new) (K.faults sink.new) room.new.bytes.items)
-        (out_text (has_history parts) processors history.now summary.now) }
+        (out_text (has_history parts) processors history.now.items summary.now) }
     ensures empty { OnOk result (room.new.bytes.items ≡ []) }
 {
     put_answers(room, sink, processors, history)?;
@@ -89,12 +90,12 @@ fn put_answers<K: Sink>(
     room: &mut Room,
     sink: &mut K,
     processors: u32,
-    history: &[Numbered],
+    history: &History,
 ) -> Result<(), WriteFailed>
     ensures { Puts result
         (outgoing (K.taken sink.old) (K.faults sink.old) room.old.bytes.items)
         (outgoing (K.taken sink.new) (K.faults sink.new) room.new.bytes.items)
-        (answers_text processors (entries_in history.now)) }
+        (answers_text processors (entries_in history.now.items)) }
 {
     for processor in 0..processors {
         put_answers_of(room, sink, processor, history)?;
@@ -107,40 +108,37 @@ fn put_answers_of<K: Sink>(
     room: &mut Room,
     sink: &mut K,
     processor: u32,
-    history: &[Numbered],
+    history: &History,
 ) -> Result<(), WriteFailed>
     ensures { Puts result
         (outgoing (K.taken sink.old) (K.faults sink.old) room.old.bytes.items)
         (outgoing (K.taken sink.new) (K.faults sink.new) room.new.bytes.items)
-        (answers_of (entries_in history.now) processor) }
+        (answers_of (entries_in history.now.items) processor) }
 {
-    for numbered in history {
-        put_answer_of(room, sink, processor, &numbered.entry)?;
+    for place in 0..history.len() {
+        put_answer_of(room, sink, processor, history, place)?;
     }
     Ok(())
 }
 
-/// Puts the line of an entry that is an answer of the processor. Others have none.
+/// Puts the line of the entry at a place, where it is an answer of the processor. Others have none.
 fn put_answer_of<K: Sink>(
     room: &mut Room,
     sink: &mut K,
     processor: u32,
-    entry: &Entry,
+    history: &History,
+    place: usize,
 ) -> Result<(), WriteFailed>
     ensures { Puts result
         (outgoing (K.taken sink.old) (K.faults sink.old) room.old.bytes.items)
         (outgoing (K.taken sink.new) (K.faults sink.new) room.new.bytes.items)
-        (answers_of (entry.now ∷ []) processor) }
+        (answers_of (entries_in (option_to_list (slice_get history.now.items place))) processor) }
 {
-    match entry.what {
-        What::Answer {
-            number,
-            answered,
-            ..
-        } if entry.processor == processor => {
+    match history.answer_by(place, processor) {
+        Some((number, answered)) => {
             room.put_line(sink, &line_of_answer(processor, number, &answered))
         }
-        _ => Ok(()),
+        None => Ok(()),
     }
 }
 
@@ -149,12 +147,12 @@ fn put_history<K: Sink>(
     room: &mut Room,
     sink: &mut K,
     parts: Parts,
-    history: &[Numbered],
+    history: &History,
 ) -> Result<(), WriteFailed>
     ensures { Puts result
         (outgoing (K.taken sink.old) (K.faults sink.old) room.old.bytes.items)
         (outgoing (K.taken sink.new) (K.faults sink.new) room.new.bytes.items)
-        (if has_history parts then history_text history.now else []) }
+        (if has_history parts then history_text history.now.items else []) }
 {
     match parts {
         Parts::Answers => Ok(()),
@@ -163,18 +161,17 @@ fn put_history<K: Sink>(
 }
 
 /// Puts a line for each entry.
-fn put_entries<K: Sink>(
-    room: &mut Room,
-    sink: &mut K,
-    history: &[Numbered],
-) -> Result<(), WriteFailed>
+fn put_entries<K: Sink>(room: &mut Room, sink: &mut K, history: &History) -> Result<(), WriteFailed>
     ensures { Puts result
         (outgoing (K.taken sink.old) (K.faults sink.old) room.old.bytes.items)
         (outgoing (K.taken sink.new) (K.faults sink.new) room.new.bytes.items)
-        (history_text history.now) }
+        (history_text history.now.items) }
 {
-    for numbered in history {
-        room.put_line(sink, &line_of_entry(numbered))?;
+    for place in 0..history.len() {
+        let Some(numbered) = history.get(place) else {
+            unreachable!()
+        };
+        room.put_line(sink, &line_of_entry(&numbered))?;
     }
     Ok(())
 }

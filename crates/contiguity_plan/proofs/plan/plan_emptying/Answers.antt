@@ -11,11 +11,11 @@ use Rattle.contiguity_plan.proofs.Followed.{known-spaces}
 use Rattle.contiguity_plan.proofs.plan.plan_emptying.Goals as goal
 
 pub follow-requires-clause-known : goal.follow-requires-clause-known
-follow-requires-clause-known c = known-spaces c.requires.legal.0 c.args.frames c.args.history.now c.requires.legal.1
+follow-requires-clause-known c = known-spaces c.requires.legal.0 c.args.frames c.args.history.now.items c.requires.legal.1
 
 pub returns : goal.returns
 returns c =
-    let history = entries_in c.args.history.now in
+    let history = entries_in c.args.history.now.items in
     let planned = λ (g : Given) (over : IsOver c.args.frames g history).
     (let begun : IsRight (frames_at g []) c.in_ok-table.table =
     subst (λ n. IsRight (start_frames g.sizes n (length g.marks)) c.in_ok-table.table) (sym over.frames_are)

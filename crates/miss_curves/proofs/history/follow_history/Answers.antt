@@ -1,4 +1,5 @@
-use Rattle.std.proofs.Common.{take, sym, subst, arith}
+use Rattle.std.proofs.Common.{◌≡◌, get_or, take, sym, subst, arith}
+use Rattle.std.proofs.lemmas.Option.{get_or_from_slice_get}
 use Rattle.pager_model.specs.Legal.{entries_in}
 use Rattle.miss_curves.specs.Histories.{KeepsUp}
 use Rattle.miss_curves.proofs.FollowedEntries.{comes-at, entries-more}
@@ -7,22 +8,25 @@ use Rattle.miss_curves.proofs.history.follow_history.Goals as goal
 pub follow_next-requires-clause-next : goal.follow_next-requires-clause-next
 follow_next-requires-clause-next c =
     let start = c.requires.start in
-    let history = c.args.history.now in
-    let i = c.loop-numbered.numbered-index in (
+    let history = c.args.history.now.items in
+    let i = c.loop-place.place in
+    let x = c.in-Some.numbered in
+    let is : x ≡ get_or history i x = sym (get_or_from_slice_get history i x x (sym c.in-Some.ensures)) in (
       start.0,
       entries_in (take i history),
-      c.loop-numbered.invariant.keeps start.0 start.1 start.2,
-      comes-at start.0 history i c.numbered-item.result (omega arith) c.numbered-item.is start.2,
+      c.loop-place.invariant.keeps start.0 start.1 start.2,
+      comes-at start.0 history i x (omega arith) is start.2,
     )
 
-pub loop-numbered-preserved : goal.loop-numbered-preserved
-loop-numbered-preserved c =
-    let history = c.args.history.now in
-    let i = c.loop-numbered.numbered-index in
-    let x = c.numbered-item.result in
+pub loop-place-preserved : goal.loop-place-preserved
+loop-place-preserved c =
+    let history = c.args.history.now.items in
+    let i = c.loop-place.place in
+    let x = c.in-Some.numbered in
+    let is : x ≡ get_or history i x = sym (get_or_from_slice_get history i x x (sym c.in-Some.ensures)) in
     record {
-      entries = omega (arith, c.follow_next.ensures.entries, c.loop-numbered.invariant.entries);
+      entries = omega (arith, c.follow_next.ensures.entries, c.loop-place.invariant.entries);
       keeps = λ g start each.
-          subst (KeepsUp c.args.sizes g c.follow_next.new.stacks c.follow_next.new.spaces) (sym (entries-more history i x (omega arith) c.numbered-item.is))
-          (c.follow_next.ensures.keeps g (entries_in (take i history)) (c.loop-numbered.invariant.keeps g start each) (comes-at g history i x (omega arith) c.numbered-item.is each));
+          subst (KeepsUp c.args.sizes g c.follow_next.new.stacks c.follow_next.new.spaces) (sym (entries-more history i x (omega arith) is))
+          (c.follow_next.ensures.keeps g (entries_in (take i history)) (c.loop-place.invariant.keeps g start each) (comes-at g history i x (omega arith) is each));
     }

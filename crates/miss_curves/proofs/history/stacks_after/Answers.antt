@@ -5,7 +5,7 @@ use Rattle.miss_curves.proofs.history.stacks_after.Goals as goal
 pub follow_history-requires-clause-start : goal.follow_history-requires-clause-start
 follow_history-requires-clause-start c =
     let plan = c.args.trace.now in
-    let history = entries_in c.args.history.now in
+    let history = entries_in c.args.history.now.items in
     let run = c.requires.run in
     let followed = c.in_ok-followed in
     let stacks = c.in_ok-stacks in (
@@ -19,7 +19,7 @@ follow_history-requires-clause-start c =
 pub returns-clause-stands : goal.returns-clause-stands
 returns-clause-stands c = λ g run.
     let plan = c.args.trace.now in
-    let history = entries_in c.args.history.now in
+    let history = entries_in c.args.history.now.items in
     let followed = c.in_ok-followed in
     let stacks = c.in_ok-stacks in
     let keeps =

@@ -9,4 +9,4 @@ abbrev pub invariant-loop-processor : goal.invariant-loop-processor
 invariant-loop-processor g l =
     Sent (outgoing (g.K.Sink.taken l.fn.sink) (g.K.Sink.faults l.fn.sink) l.fn.room.bytes.items)
     (outgoing (g.K.Sink.taken l.sink) (g.K.Sink.faults l.sink) l.room.bytes.items)
-    (flat_map (answers_of (entries_in l.history)) (take l.processor (range_with_len 0 l.processors)))
+    (flat_map (answers_of (entries_in l.history.items)) (take l.processor (range_with_len 0 l.processors)))

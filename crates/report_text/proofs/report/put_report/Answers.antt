@@ -8,14 +8,14 @@ use Rattle.report_text.proofs.report.put_report.Goals as goal
 
 pub returns-in_err-put_answers-clause-puts : goal.returns-in_err-put_answers-clause-puts
 returns-in_err-put_answers-clause-puts g c =
-    let h = c.args.history.now in
+    let h = c.args.history.now.items in
     let middle : List ℕ = if has_history c.args.parts then history_text h else [] in
     puts_failed c.from_residual.result (answers_text c.args.processors (entries_in h)) (middle ∷ summary_text c.args.summary.now ∷ []) c.from_residual.ensures.0
     c.in_err-put_answers.ensures
 
 pub returns-in_err-put_history-clause-puts : goal.returns-in_err-put_history-clause-puts
 returns-in_err-put_history-clause-puts g c =
-    let h = c.args.history.now in
+    let h = c.args.history.now.items in
     let answers = answers_text c.args.processors (entries_in h) in
     let middle : List ℕ = if has_history c.args.parts then history_text h else [] in
     puts_failed c.from_residual-in_err-put_history.result (answers ++ middle) (summary_text c.args.summary.now ∷ []) c.from_residual-in_err-put_history.ensures.0
@@ -23,7 +23,7 @@ returns-in_err-put_history-clause-puts g c =
 
 pub returns-clause-puts : goal.returns-clause-puts
 returns-clause-puts g c =
-    let h = c.args.history.now in
+    let h = c.args.history.now.items in
     let answers = answers_text c.args.processors (entries_in h) in
     let middle : List ℕ = if has_history c.args.parts then history_text h else [] in
     let first = outgoing (g.K.Sink.taken c.args.sink.now) (g.K.Sink.faults c.args.sink.now) c.args.room.now.bytes.items in

@@ -4,9 +4,9 @@ use Rattle.pager_model.specs.Settings.{Given}
 use Rattle.contiguity_plan.specs.Tables.{IsRight}
 use Rattle.contiguity_plan.proofs.table.Table.follow.Given as goal
 
-abbrev pub invariant-loop-numbered : goal.invariant-loop-numbered
-invariant-loop-numbered l = record {
+abbrev pub invariant-loop-place : goal.invariant-loop-place
+invariant-loop-place l = record {
   spaces : length l.self.places.items ≡ 16;
-  right : (g : Given) → IsLegal g (entries_in l.history) → IsRight (frames_at g []) l.fn.self
-      → IsRight (frames_at g (entries_in (take l.numbered-index l.history))) l.self;
+  right : (g : Given) → IsLegal g (entries_in l.history.items) → IsRight (frames_at g []) l.fn.self
+      → IsRight (frames_at g (entries_in (take l.place l.history.items))) l.self;
 }
