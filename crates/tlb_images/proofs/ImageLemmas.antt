@@ -1,22 +1,21 @@
 -- What stays true of an image as tiles go and come.
-use Rattle.std.proofs.Common.{◌≡◌, ◌≢◌, ℕ, zero, suc, ◌+◌, ◌-◌, ◌<◌, ◌≤◌, Bool, true, false, not, cond, ◌||◌, List, [], ◌∷◌, ◌++◌, length, inl, inr, get_or, take, drop, filter, nat_lt, is_some, Some, None, refl, sym, ap, ◌∙◌, subst, add-one, length-take, take_all, arith}
-use Rattle.std.specs.List.{All, AllPairs, list_any, position, position_or_len, remove}
-use Rattle.std.specs.Bool.{⊤}
-use Rattle.std.specs.List.Retain.{RetainsInTurn}
-use Rattle.std.proofs.lemmas.Bool.{cases_lt, lt-ltb, le-ltb, false_from_ne_true, false≢true, or_parts, cond-true, cond-false, cond_both, not_from_true, not_from_false, not-true}
+use Rattle.std.proofs.Common.{◌≡◌, ◌≢◌, ℕ, zero, suc, ◌+◌, ◌-◌, ◌<◌, ◌≤◌, Bool, true, false, not, cond, ◌||◌, List, [], ◌∷◌, ◌++◌, length, inl, inr, get_or, take, drop, filter, nat_lt, count_by, is_some, Some, None, refl, sym, ap, ◌∙◌, subst, add-one, length-take, take_all, arith}
+use Rattle.std.specs.List.{All, AllPairs, list_any, position, position_or_len, items_where_true, remove}
+use Rattle.std.proofs.lemmas.Bool.{cases_lt, lt-ltb, le-ltb, false_from_ne_true, false≢true, or_parts, cond-true, cond-false, not_from_true, not_from_false, not-true}
 use Rattle.std.proofs.lemmas.List.{length-take-le, take_more, take-take, get_or-take, drop_at}
 use Rattle.std.proofs.lemmas.List.Edits.{length-remove}
 use Rattle.std.proofs.lemmas.List.Elements.{All-cons, All-head, All-tail, filter_passes}
 use Rattle.std.proofs.lemmas.List.Folds.{list_any_none}
-use Rattle.std.proofs.lemmas.List.Sums.{length-filter, count_by-le-length}
+use Rattle.std.proofs.lemmas.List.Sums.{length-filter, count_by-le-length, sum_by-cons, sum_by-remove}
 use Rattle.std.proofs.lemmas.List.Kept.{AllPairs-cons, AllPairs-filter}
 use Rattle.std.proofs.lemmas.List.Quantifiers.{position-Some}
 use Rattle.pager_model.specs.declared.region.Rights.TheVariants.{NoAccess}
 use Rattle.pager_model.specs.declared.tile.Tile.{Tile}
+use Rattle.pager_model.specs.declared.page_range.PageRange.{PageRange}
 use Rattle.pager_model.specs.Images.{image_room, touched}
 use Rattle.pager_model.specs.Tiles.{same_tile}
 use Rattle.pager_model.proofs.TileParts.{same_tile-true, same_tile-refl}
-use Rattle.tlb_images.specs.Image.{IsImage}
+use Rattle.tlb_images.specs.Image.{IsImage, begins_in}
 
 pub same_tile-ne : (t u : Tile) → t ≢ u → same_tile t u ≡ false
 same_tile-ne t u differ = false_from_ne_true (same_tile t u) (λ h. differ (same_tile-true t u h))
@@ -45,7 +44,8 @@ without-absent t (u ∷ us) absent =
     ∙ ap (λ rest. u ∷ rest) (without-absent t us parts.1)
 
 -- taking a tile out at the one place where it stands leaves the image without it
-remove-is_without : (t : Tile) (ts : List Tile) (n : ℕ) (d : Tile) → Once ts → n < length ts → same_tile t (get_or ts n d) ≡ true → ((k : ℕ) → k < n → same_tile t (get_or ts k d) ≡ false) → remove ts n ≡ without t ts
+remove-is_without : (t : Tile) (ts : List Tile) (n : ℕ) (d : Tile) → Once ts → n < length ts → same_tile t (get_or ts n d) ≡ true
+    → ((k : ℕ) → k < n → same_tile t (get_or ts k d) ≡ false) → remove ts n ≡ without t ts
 remove-is_without t [] n d once below here before = absurd (omega arith)
 remove-is_without t (u ∷ us) zero d once below here before =
     let others = subst (λ v. list_any (same_tile v) us ≡ false) (sym (same_tile-true t u here)) (Once-head u us once) in
@@ -93,7 +93,8 @@ pub touched-absent : (t : Tile) (ts : List Tile) → list_any (same_tile t) ts �
 touched-absent t ts absent = ap (λ us. take image_room (t ∷ us)) (sym (without-absent t ts absent))
 
 -- a tile that stands in the image comes to the front of the others, and none has to go
-pub touched-found : (t : Tile) (ts : List Tile) (n : ℕ) (d : Tile) → IsImage ts → position (same_tile t) ts ≡ Some n → get_or ts n d ∷ remove ts n ≡ touched t ts
+pub touched-found : (t : Tile) (ts : List Tile) (n : ℕ) (d : Tile) → IsImage ts → position (same_tile t) ts ≡ Some n
+    → get_or ts n d ∷ remove ts n ≡ touched t ts
 touched-found t ts n d image is =
     let found = position-Some (same_tile t) ts n d is in
     let rest = remove-at_position t ts n image.once is in
@@ -115,6 +116,11 @@ IsImage-touched t ts image =
       once = Once-take image_room (t ∷ without t ts) (AllPairs-cons (λ u v. u ≢ v) t (without t ts) differ left.once);
     }
 
+-- bringing a tile to the front loses none, and makes no other
+pub count-turned : (f : Tile → Bool) (ts : List Tile) (n : ℕ) (d : Tile) → n < length ts → count_by f (get_or ts n d ∷ remove ts n) ≡ count_by f ts
+count-turned f ts n d below =
+    omega (arith, sum_by-cons (λ u. cond (f u) 1 0) (get_or ts n d) (remove ts n), sum_by-remove (λ u. cond (f u) 1 0) ts n d below)
+
 -- turning the front of a list by one brings the place that it ends with to the front
 pub turned : (ts : List Tile) (n : ℕ) (d : Tile) → n < length ts
     → (let front = take (n + 1) ts in (drop (length front - 1) front ++ take (length front - 1) front) ++ drop (n + 1) ts ≡ get_or ts n d ∷ remove ts n)
@@ -127,31 +133,42 @@ turned ts n d below =
     let others : take n front ≡ take n ts = take-take n (n + 1) ts (omega arith) in
     ap (λ k. (drop k front ++ take k front) ++ drop (n + 1) ts) one ∙ (λ i. (last i ++ others i) ++ drop (add-one n i) ts)
 
-module _ {F : Type 0} (R : F → Tile → Bool → F → Tile → Type 0) (f : F)
-    (same : (t : Tile) (b : Bool) (f' : F) (u : Tile) → R f t b f' u → (f' ≡ f) × (u ≡ t)) where
-  -- what a test keeps has what all had, whatever it answers
-  kept-All : (P : Tile → Type 0) (ts us : List Tile) → RetainsInTurn R f ts us → All P ts → (All P us) × (length us ≤ length ts)
-  kept-All P [] us kept all = rw kept (all, omega arith)
-  kept-All P (t ∷ ts) us kept all =
-      let said = same t kept.0 kept.1 kept.2 kept.3 in
-      let rest = kept-All P ts kept.4 (subst (λ h. RetainsInTurn R h ts kept.4) said.0 kept.5) (All-tail P t ts all) in
-      rw kept.6 (cond_both kept.0 (kept.2 ∷ kept.4) kept.4 (λ vs. (All P vs) × (length vs ≤ suc (length ts)))
-      (λ _. (All-cons P kept.2 kept.4 (subst P (sym said.1) (All-head P t ts all)) rest.0, omega (arith, rest.1)))
-      (λ _. (rest.0, omega (arith, rest.1))))
+picked-All : (P : Tile → Type 0) (bs : List Bool) (ts : List Tile) → All P ts → All P (items_where_true bs ts)
+picked-All P [] ts all = λ k d below. absurd (omega arith)
+picked-All P (b ∷ bs) [] all = λ k d below. absurd (omega arith)
+picked-All P (true ∷ bs) (t ∷ ts) all =
+    All-cons P t (items_where_true bs ts) (All-head P t ts all) (picked-All P bs ts (All-tail P t ts all))
+picked-All P (false ∷ bs) (t ∷ ts) all = picked-All P bs ts (All-tail P t ts all)
 
-  kept-once : (ts us : List Tile) → RetainsInTurn R f ts us → Once ts → Once us
-  kept-once [] us kept once = rw kept once
-  kept-once (t ∷ ts) us kept once =
-      let said = same t kept.0 kept.1 kept.2 kept.3 in
-      let later = subst (λ h. RetainsInTurn R h ts kept.4) said.0 kept.5 in
-      let rest = kept-once ts kept.4 later (Once-tail t ts once) in
-      let differ = (kept-All (λ u. t ≢ u) ts kept.4 later (λ k d below. once 0 (suc k) d (omega arith) (omega arith))).0 in
-      rw kept.6 (cond_both kept.0 (kept.2 ∷ kept.4) kept.4 Once
-      (λ _. AllPairs-cons (λ u v. u ≢ v) kept.2 kept.4 (subst (λ x. All (λ v. x ≢ v) kept.4) (sym said.1) differ) rest)
-      (λ _. rest))
+picked-once : (bs : List Bool) (ts : List Tile) → Once ts → Once (items_where_true bs ts)
+picked-once [] ts once = λ i j d lt below. absurd (omega arith)
+picked-once (b ∷ bs) [] once = λ i j d lt below. absurd (omega arith)
+picked-once (true ∷ bs) (t ∷ ts) once =
+    AllPairs-cons (λ u v. u ≢ v) t (items_where_true bs ts)
+    (picked-All (λ u. t ≢ u) bs ts (λ k d below. once 0 (suc k) d (omega arith) (omega arith)))
+    (picked-once bs ts (Once-tail t ts once))
+picked-once (false ∷ bs) (t ∷ ts) once = picked-once bs ts (Once-tail t ts once)
 
-  pub IsImage-retained : (ts us : List Tile) → RetainsInTurn R f ts us → IsImage ts → IsImage us
-  IsImage-retained ts us kept image = record {
-    at_most = omega (arith, image.at_most, (kept-All (λ _. ⊤) ts us kept (λ k d below. tt)).1);
-    once = kept-once ts us kept image.once;
-  }
+-- what a test keeps of an image is one, whatever it answers
+pub IsImage-picked : (bs : List Bool) (ts us : List Tile) → IsImage ts → us ≡ items_where_true bs ts → length us ≤ length ts → IsImage us
+IsImage-picked bs ts us image is shorter = record {
+  at_most = omega (arith, image.at_most);
+  once = subst Once (sym is) (picked-once bs ts image.once);
+}
+
+-- and no test is passed by more of them
+pub count-picked : (f : Tile → Bool) (bs : List Bool) (ts : List Tile) → count_by f (items_where_true bs ts) ≤ count_by f ts
+count-picked f [] ts = omega arith
+count-picked f (b ∷ bs) [] = omega arith
+count-picked f (true ∷ bs) (t ∷ ts) =
+    omega (arith, sum_by-cons (λ u. cond (f u) 1 0) t (items_where_true bs ts), sum_by-cons (λ u. cond (f u) 1 0) t ts, count-picked f bs ts)
+count-picked f (false ∷ bs) (t ∷ ts) = omega (arith, sum_by-cons (λ u. cond (f u) 1 0) t ts, count-picked f bs ts)
+
+-- where none begins in the range, none of those in it goes
+pub kept-outside : (range : PageRange) (test : Tile → Bool) (ts : List Tile) → list_any (begins_in range) ts ≡ false
+    → filter (λ t. not (begins_in range t) || test t) ts ≡ ts
+kept-outside range test [] none = refl
+kept-outside range test (t ∷ ts) none =
+    let parts = or_parts (begins_in range t) (list_any (begins_in range) ts) none in
+    let passes : (not (begins_in range t) || test t) ≡ true = rw parts.0 refl in
+    cond-true _ _ _ passes ∙ ap (λ rest. t ∷ rest) (kept-outside range test ts parts.1)

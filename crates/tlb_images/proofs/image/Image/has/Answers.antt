@@ -2,7 +2,7 @@ use Rattle.std.proofs.Common.{is_some, sym, ap, ◌∙◌}
 use Rattle.pager_model.specs.Images.{is_in_image}
 use Rattle.pager_model.specs.Tiles.{same_tile}
 use Rattle.tlb_images.proofs.ImageLemmas.{is_some-position}
-use Rattle.tlb_images.proofs.Image.has.Goals as goal
+use Rattle.tlb_images.proofs.image.Image.has.Goals as goal
 
 pub returns-in-Some : goal.returns-in-Some
 returns-in-Some c =

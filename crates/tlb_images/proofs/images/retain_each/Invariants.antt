@@ -1,0 +1,13 @@
+use Rattle.std.proofs.Common.{◌≡◌, ◌++◌, Bool, filter, map, take, drop}
+use Rattle.std.specs.Fn.{FnReturnsAt}
+use Rattle.pager_model.specs.declared.tile.Tile.{Tile}
+use Rattle.tlb_images.specs.Counted.{AreCounted}
+use Rattle.tlb_images.specs.Image.{AnswersTest}
+use Rattle.tlb_images.proofs.images.retain_each.Given as goal
+
+abbrev pub invariant-loop-image : goal.invariant-loop-image
+invariant-loop-image g l = record {
+  counted : AreCounted l.begun l.images;
+  kept : (test : Tile → Bool) → AnswersTest (FnReturnsAt g.F.Fn l.is_tile) test
+      → l.images ≡ map (filter test) (take l.image-index l.fn.images) ++ drop l.image-index l.fn.images;
+}
