@@ -35,7 +35,8 @@ oldest_from-some l k zero more some = absurd (omega arith)
 oldest_from-some l k (suc count) more some = option_or-some (oldest_of l k) (oldest_from l (k + 1) count) some
 
 -- and where it is, the lists after it are looked at
-pub oldest_from-later : (l : Layout) (k count rest : ℕ) → count ≡ suc rest → is_some (oldest_of l k) ≡ false → oldest_from l k count ≡ oldest_from l (k + 1) rest
+pub oldest_from-later : (l : Layout) (k count rest : ℕ) → count ≡ suc rest → is_some (oldest_of l k) ≡ false
+    → oldest_from l k count ≡ oldest_from l (k + 1) rest
 oldest_from-later l k count rest more none = ap (oldest_from l k) more ∙ option_or-none (oldest_of l k) (oldest_from l (k + 1) rest) none
 
 -- Where the breaking goes on.
@@ -50,7 +51,8 @@ pub record Fills (l new : Layout) (id : ℕ) (r : Reservation) : Type 0 where
   pub none : has_empty (is_used l.used) r (part_size l.sizes r) ≡ false
 
 -- where it has another yield than the parts' size, none of the parts is empty
-pub none_empty : (z : SizeSet) (used : ℕ → Bool) (r : Reservation) → same_size (yield_in z used r) (Some (part_size z r)) ≡ false → has_empty used r r.size ≡ false → has_empty used r (part_size z r) ≡ false
+pub none_empty : (z : SizeSet) (used : ℕ → Bool) (r : Reservation) → same_size (yield_in z used r) (Some (part_size z r)) ≡ false
+    → has_empty used r r.size ≡ false → has_empty used r (part_size z r) ≡ false
 none_empty z used r other whole = elim (cases_Bool (has_empty used r (part_size z r))) [
   | inr none ↦ none
   | inl some ↦
@@ -81,7 +83,8 @@ stops_there z used r is =
 pub stops_small : (z : SizeSet) (used : ℕ → Bool) (r : Reservation) → part_size z r ≡ 0 → goes_on_at z used r ≡ None
 stops_small z used r small = cond-false _ _ _ (le-ltb 0 (part_size z r) (omega arith))
 
-pub Fills-from : (l new : Layout) (id : ℕ) (r : Reservation) → IsLaid l → record_at l id ≡ Some r → CanBreak l id → new ≡ split_layout r l → 0 < part_size l.sizes r → same_size (yield_in l.sizes (is_used l.used) r) (Some (part_size l.sizes r)) ≡ false → Fills l new id r
+pub Fills-from : (l new : Layout) (id : ℕ) (r : Reservation) → IsLaid l → record_at l id ≡ Some r → CanBreak l id → new ≡ split_layout r l
+    → 0 < part_size l.sizes r → same_size (yield_in l.sizes (is_used l.used) r) (Some (part_size l.sizes r)) ≡ false → Fills l new id r
 Fills-from l new id r laid is can split large other =
     let both = subst (λ o. IsSomeAnd o (λ q. (0 < q.size) × IsSome (yield_in l.sizes (is_used l.used) q))) is can in
     let some = laid.some_used id r is in
@@ -116,7 +119,8 @@ module _ (l new : Layout) (id : ℕ) (r : Reservation) (fills : Fills l new id r
   below_count i found = let below = find_below as_wide 0 (part_count m r) i found in omega (arith, below)
 
   -- the breaking goes on at the lowest part with the yield of the whole
-  pub goes_on-lowest : (next : Option ℕ) → next ≡ first_of (option_map (part_at m r) (lowest_as_wide z m (is_used l.used) r)) → option_and_then (record_at new) next ≡ goes_on_at z (is_used l.used) r
+  pub goes_on-lowest : (next : Option ℕ) → next ≡ first_of (option_map (part_at m r) (lowest_as_wide z m (is_used l.used) r))
+      → option_and_then (record_at new) next ≡ goes_on_at z (is_used l.used) r
   unfolding as_wide
   goes_on-lowest next lowest =
       elim (lowest_as_wide z m (is_used l.used) r) as (λ o. lowest_as_wide z m (is_used l.used) r ≡ o → next ≡ first_of (option_map (part_at m r) o) → option_and_then (record_at new) next ≡ option_map (part_at m r) o) [
@@ -170,7 +174,8 @@ Breakable-from l id can =
     ] refl can
 
 -- one step of a breaking, from which it goes on with a smaller reservation
-module _ (l : Layout) (id : ℕ) (r : Reservation) (next : Option ℕ) (is : record_at l id ≡ Some r) (splits : 0 < r.size) (goes : option_and_then (record_at (split_layout r l)) next ≡ goes_on_at l.sizes (is_used l.used) r) where
+module _ (l : Layout) (id : ℕ) (r : Reservation) (next : Option ℕ) (is : record_at l id ≡ Some r) (splits : 0 < r.size)
+    (goes : option_and_then (record_at (split_layout r l)) next ≡ goes_on_at l.sizes (is_used l.used) r) where
   -- the reservation at which it goes on is smaller, and has more than one frame
   part_falls : (p : Reservation) → goes_on_at l.sizes (is_used l.used) r ≡ Some p → (0 < p.size) × (p.size < r.size)
   unfolding Falls
@@ -219,7 +224,8 @@ pub record StepsOn (l new : Layout) (id : ℕ) (next : Option ℕ) : Type 0 wher
   pub broken : broken_from next new ≡ broken_at id l
   pub falls : size_from next new < size_from (Some id) l
 
-pub StepsOn-split : (l new : Layout) (id : ℕ) (next : Option ℕ) → CanBreak l id → IfSome (record_at l id) (λ r. new ≡ split_layout r l) → IfSome (record_at l id) (λ r. option_and_then (record_at new) next ≡ goes_on_at l.sizes (is_used l.used) r) → StepsOn l new id next
+pub StepsOn-split : (l new : Layout) (id : ℕ) (next : Option ℕ) → CanBreak l id → IfSome (record_at l id) (λ r. new ≡ split_layout r l)
+    → IfSome (record_at l id) (λ r. option_and_then (record_at new) next ≡ goes_on_at l.sizes (is_used l.used) r) → StepsOn l new id next
 StepsOn-split l new id next can split goes =
     let at = Breakable-from l id can in
     let is_split : new ≡ split_layout at.whole l = subst (λ o. IfSome o (λ r. new ≡ split_layout r l)) at.is split in

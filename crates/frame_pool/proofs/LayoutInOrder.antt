@@ -10,7 +10,7 @@ use Rattle.pager_model.specs.Agreement.{has_frame}
 use Rattle.pager_model.specs.Layouts.{Layout, frame_for, stamped, populated, split_layout, part_with, narrows_to, narrow_layout, split_on, record_at, is_free}
 use Rattle.pager_model.specs.Records.{Records, is_used, part_size, part_count, part_at, split_records}
 use Rattle.pager_model.specs.SizeSets.{SizeSet}
-use Rattle.reservation_lists.specs.Kept.{KeptLists, is_listed}
+use Rattle.reservation_lists.specs.Kept.{KeptLists, without_frame}
 use Rattle.reservations.specs.Kept.{CoversPage}
 use Rattle.pager_model.specs.RecordPlaces.{IsPlaced, ArePlaced}
 use Rattle.pager_laws.proofs.PartsAt.{part_ends, used_part}
@@ -28,7 +28,7 @@ use Rattle.pager_laws.proofs.LayoutBreak.{record_at-part, part_with-has, part_si
 use Rattle.pager_laws.proofs.LayoutRelease.{not_in_rest}
 use Rattle.pager_laws.proofs.AgeLists.{list_of-used}
 use Rattle.frame_pool.proofs.ListsByFrame.{found_record_and}
-use Rattle.frame_pool.proofs.UnlistedFrames.{is_listed-none}
+use Rattle.frame_pool.proofs.UnlistedFrames.{AreListed-without_frame}
 use Rattle.pager_laws.proofs.PagePlaces.{covers-CoversPageOf, frame_in-is, used_in-unused}
 use Rattle.pager_laws.proofs.LayoutPlacing.{MayPut-stamped}
 use Rattle.pager_laws.proofs.LayoutWithRecord.{IsLaid-put}
@@ -37,7 +37,8 @@ use Rattle.pager_laws.proofs.SplitFrames.{free_up_to, free_up_to-cases}
 -- Which reservation has a frame.
 
 -- a used frame is one of a reservation
-pub reservation_is : (l : Layout) (frame : ℕ) (o : Option Reservation) → IsLaid l → is_used l.used frame ≡ true → IfNone o ((id : ℕ) → has_frame frame (record_at l id) ≡ false) → IsSome o
+pub reservation_is : (l : Layout) (frame : ℕ) (o : Option Reservation) → IsLaid l → is_used l.used frame ≡ true
+    → IfNone o ((id : ℕ) → has_frame frame (record_at l id) ≡ false) → IsSome o
 reservation_is l frame None laid used none =
     let place = laid.places frame used in
     absurd (false≢true (sym (none place.0) ∙ place.1))
@@ -50,7 +51,8 @@ place_has r page has = has_frame_from (frame_for page r) r (omega arith) (omega 
 -- Populating.
 
 -- a page's place in a reservation is used from then on, and the reservation is younger
-pub IsLaid-populated : (l : Layout) (r : Reservation) (stamp page : ℕ) → IsLaid l → record_at l r.frame ≡ Some r → CoversPage r page → is_used l.used (frame_for page r) ≡ false → IsLaid (populated stamp page l r).layout
+pub IsLaid-populated : (l : Layout) (r : Reservation) (stamp page : ℕ) → IsLaid l → record_at l r.frame ≡ Some r → CoversPage r page
+    → is_used l.used (frame_for page r) ≡ false → IsLaid (populated stamp page l r).layout
 IsLaid-populated l r stamp page laid is has unused =
     let covers_page = covers-CoversPageOf r.space page r (record { space_is = refl; low = has.0; high = has.1 }) in
     let none = frame_in-is l r.space page r.frame r laid is covers_page ∙ used_in-unused l page r unused in
@@ -59,7 +61,9 @@ IsLaid-populated l r stamp page laid is has unused =
 -- Lists, as a frame becomes used or unused.
 
 -- lists stay those of reservations that don't have the frame
-pub AreListed-used : (z : SizeSet) (lists : Lists) (used : List Bool) (records : List (Option Reservation)) (f : ℕ) (b : Bool) → AreListed z lists used records → ((id : ℕ) → has_frame f (get_or records id None) ≡ true → ⊥) → AreListed z lists (set used f b) records
+pub AreListed-used : (z : SizeSet) (lists : Lists) (used : List Bool) (records : List (Option Reservation)) (f : ℕ) (b : Bool)
+    → AreListed z lists used records → ((id : ℕ) → has_frame f (get_or records id None) ≡ true → ⊥)
+    → AreListed z lists (set used f b) records
 AreListed-used z lists used records f b are out =
     let same : (g id : ℕ) → has_frame g (get_or records id None) ≡ true → is_used (set used f b) g ≡ is_used used g =
     λ g id has. get_or-set_other used f g b false (λ here. out id (ap (λ h. has_frame h (get_or records id None)) (sym here) ∙ has)) in
@@ -75,17 +79,25 @@ module _ (l : Layout) (id : ℕ) (r : Reservation) (laid : IsLaid l) (is : recor
   pub rest_placed : ArePlaced (set l.records id None)
   rest_placed = ArePlaced-set l.records id None laid.placed (get_or_within l.records id r is) (λ q e. absurd (none-some q e))
 
-  -- lists of the others have no member of it
-  pub rest_unlisted : (lists : Lists) → AreListed l.sizes lists l.used (set l.records id None) → is_listed id lists ≡ false
-  rest_unlisted lists are = is_listed-none l.sizes lists l.used (set l.records id None) id are rest_placed none_there
+  -- the lists know its first frame
+  pub known_to_lists : (kept : KeptLists) (map : Populations) → IsInOrder l kept map → id < kept.frames
+  known_to_lists kept map order = omega (arith, get_or_within l.records id r is, laid.records_long, order.known)
 
-  -- lists of the others stay theirs as a frame of it becomes used or unused
-  rest_listed : (lists : Lists) (f : ℕ) (b : Bool) → has_frame f (Some r) ≡ true → AreListed l.sizes lists l.used (set l.records id None) → AreListed l.sizes lists (set l.used f b) (set l.records id None)
-  rest_listed lists f b mine are = AreListed-used l.sizes lists l.used (set l.records id None) f b are (λ j has. not_in_rest l id r laid is f j mine has)
+  -- the lists without it
+  abbrev rest_of : KeptLists → KeptLists
+  rest_of kept = record kept { lists = without_frame id kept.lists }
+
+  -- are those of the others, also as a frame of it becomes used or unused
+  rest_listed : (lists : Lists) (f : ℕ) (b : Bool) → has_frame f (Some r) ≡ true → AreListed l.sizes lists l.used l.records
+      → AreListed l.sizes (without_frame id lists) (set l.used f b) (set l.records id None)
+  rest_listed lists f b mine are =
+      AreListed-used l.sizes (without_frame id lists) l.used (set l.records id None) f b
+      (AreListed-without_frame l.sizes lists l.used l.records id r are laid.placed is) (λ j has. not_in_rest l id r laid is f j mine has)
 
   -- and from there it was split
-  pub WasSplit-from : (lists : KeptLists) (after : Records) → lists.frames ≡ length l.records → AreListed l.sizes lists.lists l.used (set l.records id None) → after.records ≡ split_records (is_used l.used) r l.records → after.used ≡ l.used → WasSplit l.sizes lists after r
-  WasSplit-from lists after room are split used =
+  pub WasSplit-from : (kept : KeptLists) (after : Records) → kept.frames ≡ length l.records → AreListed l.sizes kept.lists l.used l.records
+      → after.records ≡ split_records (is_used l.used) r l.records → after.used ≡ l.used → WasSplit l.sizes (rest_of kept) after r
+  WasSplit-from kept after room are split used =
       let long = length-set l.records id None in
       let placed = laid.placed id r is in
       record {
@@ -100,7 +112,7 @@ module _ (l : Layout) (id : ℕ) (r : Reservation) (laid : IsLaid l) (is : recor
         split =
             split ∙ sym (split_records-open (is_used l.used) r id l.records placed.named)
             ∙ ap (λ u. split_records (is_used u) r (set l.records id None)) (sym used);
-        listed = subst (λ u. AreListed l.sizes lists.lists u (set l.records id None)) (sym used) are;
+        listed = subst (λ u. AreListed l.sizes (without_frame id kept.lists) u (set l.records id None)) (sym used) (AreListed-without_frame l.sizes kept.lists l.used l.records id r are laid.placed is);
       }
 
   -- no frame of it is free
@@ -111,31 +123,37 @@ module _ (l : Layout) (id : ℕ) (r : Reservation) (laid : IsLaid l) (is : recor
   ]
 
   -- The reservation goes back into the lists as another one may stand in its place, where a frame of it became used or unused.
-  pub IsInOrder-again : (f : ℕ) (b : Bool) (o : Option Reservation) (new : Layout) (kept without after : KeptLists) (map mapped : Populations) → IsInOrder l kept map → has_frame f (Some r) ≡ true → IsLaid new → new.sizes ≡ l.sizes → length new.free ≡ after.frames → new.used ≡ set l.used f b → new.records ≡ set l.records id o → without.frames ≡ kept.frames → after.frames ≡ without.frames → AreListed l.sizes without.lists l.used (set l.records id None) → ((records : List (Option Reservation)) → get_or records id None ≡ None → id < length records → AreListed l.sizes without.lists new.used records → AreListed l.sizes after.lists new.used (set records id (record_at new id))) → IsMapped mapped new.records → IsInOrder new after mapped
-  IsInOrder-again f b o new kept without after map mapped order mine laid_after sizes long used records room last are enlists is_mapped =
+  pub IsInOrder-again : (f : ℕ) (b : Bool) (o : Option Reservation) (new : Layout) (kept after : KeptLists) (map mapped : Populations)
+      → IsInOrder l kept map → has_frame f (Some r) ≡ true → IsLaid new → new.sizes ≡ l.sizes → length new.free ≡ after.frames
+      → new.used ≡ set l.used f b → new.records ≡ set l.records id o → after.frames ≡ kept.frames
+      → ((records : List (Option Reservation)) → get_or records id None ≡ None → id < length records → AreListed l.sizes (without_frame id kept.lists) new.used records → AreListed l.sizes after.lists new.used (set records id (record_at new id)))
+      → IsMapped mapped new.records → IsInOrder new after mapped
+  IsInOrder-again f b o new kept after map mapped order mine laid_after sizes long used records room enlists is_mapped =
       let known = get_or_within l.records id r is in
-      let rest = subst (λ u. AreListed l.sizes without.lists u (set l.records id None)) (sym used) (rest_listed without.lists f b mine are) in
+      let rest = subst (λ u. AreListed l.sizes (without_frame id kept.lists) u (set l.records id None)) (sym used) (rest_listed kept.lists f b mine order.listed) in
       let stands : record_at new id ≡ o = ap (λ rs. get_or rs id None) records ∙ get_or-set_same l.records id o None known in
       let again : set (set l.records id None) id (record_at new id) ≡ new.records =
       set-set l.records id None (record_at new id) ∙ ap (set l.records id) stands ∙ sym records in
       record {
         known = long;
-        few = omega (arith, last, room, order.few);
+        few = omega (arith, room, order.few);
         laid = laid_after;
         listed = subst (λ z. AreListed z after.lists new.used new.records) (sym sizes) (subst (AreListed l.sizes after.lists new.used) again (enlists (set l.records id None) none_there (omega (arith, known, length-set l.records id None)) rest));
         mapped = is_mapped;
       }
 
   -- The reservation goes, and a frame of it became unused.
-  pub IsInOrder-gone : (f : ℕ) (new : Layout) (kept without : KeptLists) (map mapped : Populations) → IsInOrder l kept map → has_frame f (Some r) ≡ true → IsLaid new → new.sizes ≡ l.sizes → length new.free ≡ without.frames → new.used ≡ set l.used f false → new.records ≡ set l.records id None → without.frames ≡ kept.frames → AreListed l.sizes without.lists l.used (set l.records id None) → IsMapped mapped new.records → IsInOrder new without mapped
-  IsInOrder-gone f new kept without map mapped order mine laid_after sizes long used records room are is_mapped = record {
+  pub IsInOrder-gone : (f : ℕ) (new : Layout) (kept : KeptLists) (map mapped : Populations) → IsInOrder l kept map
+      → has_frame f (Some r) ≡ true → IsLaid new → new.sizes ≡ l.sizes → length new.free ≡ kept.frames → new.used ≡ set l.used f false
+      → new.records ≡ set l.records id None → IsMapped mapped new.records → IsInOrder new (rest_of kept) mapped
+  IsInOrder-gone f new kept map mapped order mine laid_after sizes long used records is_mapped = record {
     known = long;
-    few = omega (arith, room, order.few);
+    few = order.few;
     laid = laid_after;
     listed =
-        subst (λ z. AreListed z without.lists new.used new.records) (sym sizes)
-        (subst (λ u. AreListed l.sizes without.lists u new.records) (sym used)
-        (subst (AreListed l.sizes without.lists (set l.used f false)) (sym records) (rest_listed without.lists f false mine are)));
+        subst (λ z. AreListed z (without_frame id kept.lists) new.used new.records) (sym sizes)
+        (subst (λ u. AreListed l.sizes (without_frame id kept.lists) u new.records) (sym used)
+        (subst (AreListed l.sizes (without_frame id kept.lists) (set l.used f false)) (sym records) (rest_listed kept.lists f false mine order.listed)));
     mapped = is_mapped;
   }
 
@@ -148,7 +166,9 @@ module _ (l : Layout) (id : ℕ) (r : Reservation) (laid : IsLaid l) (is : recor
 -- Splitting.
 
 -- a frame of the next part isn't free yet, where none of the whole was
-pub free_up_to-later : (k : ℕ) (used : ℕ → Bool) (r : Reservation) (free : List Bool) (n f : ℕ) → k ≤ r.size → IsPlaced (length free) r.frame r → n < part_count k r → ((g : ℕ) → has_frame g (Some r) ≡ true → get_or free g false ≡ false) → has_frame f (Some (part_at k r n)) ≡ true → get_or (free_up_to n k used r free) f false ≡ false
+pub free_up_to-later : (k : ℕ) (used : ℕ → Bool) (r : Reservation) (free : List Bool) (n f : ℕ) → k ≤ r.size
+    → IsPlaced (length free) r.frame r → n < part_count k r → ((g : ℕ) → has_frame g (Some r) ≡ true → get_or free g false ≡ false)
+    → has_frame f (Some (part_at k r n)) ≡ true → get_or (free_up_to n k used r free) f false ≡ false
 free_up_to-later k used r free n f le placed below taken has =
     let bounds = has_frame_bounds f (part_at k r n) has in
     elim (cases_Bool (get_or (free_up_to n k used r free) f false)) [
@@ -173,7 +193,8 @@ only_frame r frame one has =
     omega (arith, bounds.0, bounds.1, width)
 
 -- a narrowing begins with a split, and goes on at the part with the frame
-narrow_suc : (n frame : ℕ) (r : Reservation) (l : Layout) → r.size ≡ suc n → narrow_layout frame r l ≡ narrow_layout frame (part_with (part_size l.sizes r) frame r) (split_layout r l)
+narrow_suc : (n frame : ℕ) (r : Reservation) (l : Layout) → r.size ≡ suc n
+    → narrow_layout frame r l ≡ narrow_layout frame (part_with (part_size l.sizes r) frame r) (split_layout r l)
 narrow_suc n frame r l size =
     let z = l.sizes in
     let k = part_size z r in
@@ -192,7 +213,9 @@ narrow_suc n frame r l size =
     ]
 
 -- the reservation that has the frame after a split is smaller, and narrowing it ends where narrowing the whole does
-pub narrow_step : (l : Layout) (frame : ℕ) (r q : Reservation) → IsLaid l → record_at l r.frame ≡ Some r → has_frame frame (Some r) ≡ true → is_used l.used frame ≡ true → 0 < r.size → record_at (split_layout r l) q.frame ≡ Some q → has_frame frame (Some q) ≡ true → (q.size < r.size) × (narrow_layout frame q (split_layout r l) ≡ narrow_layout frame r l)
+pub narrow_step : (l : Layout) (frame : ℕ) (r q : Reservation) → IsLaid l → record_at l r.frame ≡ Some r → has_frame frame (Some r) ≡ true
+    → is_used l.used frame ≡ true → 0 < r.size → record_at (split_layout r l) q.frame ≡ Some q → has_frame frame (Some q) ≡ true
+    → (q.size < r.size) × (narrow_layout frame q (split_layout r l) ≡ narrow_layout frame r l)
 narrow_step l frame r q laid is has used splits at holds =
     let z = l.sizes in
     let k = part_size z r in

@@ -24,7 +24,9 @@ use Rattle.frame_pool.proofs.LayoutInOrder.{rest_placed}
 use Rattle.pager_laws.proofs.LayoutRelease.{not_in_rest}
 
 -- a reservation of frames that are in none, with which the layout is sound
-pub MayEnter-added : (l : Layout) (r : Reservation) (page : ℕ) → IsLaid l → IsPlaced (length l.records) r.frame r → r.space < 16 → r.first < 1048576 → ((frame id : ℕ) → has_frame frame (Some r) ≡ true → has_frame frame (record_at l id) ≡ false) → IsLaid (with_reservation r page l) → MayEnter l.records r
+pub MayEnter-added : (l : Layout) (r : Reservation) (page : ℕ) → IsLaid l → IsPlaced (length l.records) r.frame r → r.space < 16
+    → r.first < 1048576 → ((frame id : ℕ) → has_frame frame (Some r) ≡ true → has_frame frame (record_at l id) ≡ false)
+    → IsLaid (with_reservation r page l) → MayEnter l.records r
 MayEnter-added l r page laid placed few within apart after =
     let known : r.frame < length l.records = omega (arith, placed.within, eight_pos r.size) in
     let none = none_begins l.records r.frame laid.placed (apart r.frame r.frame (has_frame_from r.frame r (omega arith) (omega (arith, eight_pos r.size)))) in
@@ -61,7 +63,8 @@ module _ (l : Layout) (id : ℕ) (r : Reservation) (laid : IsLaid l) (is : recor
       }
 
   -- and is split
-  pub WasSplitFrom-left : (map left : Populations) (after : Records) → IsMapped map l.records → IsMapped left (set l.records id None) → after.records ≡ split_records (is_used l.used) r l.records → after.used ≡ l.used → WasSplitFrom left after r
+  pub WasSplitFrom-left : (map left : Populations) (after : Records) → IsMapped map l.records → IsMapped left (set l.records id None)
+      → after.records ≡ split_records (is_used l.used) r l.records → after.used ≡ l.used → WasSplitFrom left after r
   WasSplitFrom-left map left after mapped rest split used = record {
     records = set l.records id None;
     mapped = rest;

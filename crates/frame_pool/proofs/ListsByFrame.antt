@@ -1,8 +1,8 @@
--- What taking a reservation out of the lists and putting one in leaves, by the reservation that is found at the frame.
+-- What putting a reservation into the lists leaves, by the reservation that is found at the frame.
 use Rattle.std.proofs.Common.{◌≡◌, ℕ, zero, suc, ◌+◌, ◌-◌, ◌<◌, ◌≤◌, Bool, false, List, set, get_or, length, Option, Some, None, IsSomeAnd, refl, sym, ap, subst, ◌∙◌, arith}
 use Rattle.std.proofs.lemmas.List.{get_or-set_same, set-set, set-get_or}
 use Rattle.pager_model.specs.declared.reservation.Reservation.{Reservation}
-use Rattle.pager_model.specs.Ages.{Lists, Member, list_at, with_list, with_member, without_member}
+use Rattle.pager_model.specs.Ages.{Lists, Member, list_at, with_list, with_member}
 use Rattle.pager_model.specs.Headline.{member_of}
 use Rattle.pager_model.specs.Records.{Records, is_used, yield_in, part_of, kept_part}
 use Rattle.pager_model.specs.SizeSets.{SizeSet}
@@ -15,7 +15,7 @@ use Rattle.reservations.proofs.FrameIds.{none_begins}
 use Rattle.reservations.proofs.SplitLemmas.{split_up_to, split_up_to-more, ArePlaced-part}
 use Rattle.pager_laws.specs.Listed.{AreListed}
 use Rattle.frame_pool.specs.Listed.{WasSplit}
-use Rattle.pager_laws.proofs.AgeLists.{AreListed-without, AreListed-with, AreListed-full}
+use Rattle.pager_laws.proofs.AgeLists.{AreListed-with, AreListed-full}
 use Rattle.frame_pool.proofs.UnlistedFrames.{is_listed-none}
 
 -- where something stands, it is a reservation
@@ -34,27 +34,23 @@ member_at-named r id named = ap (member_at r) named
 pub set-none : (records : List (Option Reservation)) (id : ℕ) → get_or records id None ≡ None → set records id None ≡ records
 set-none records id none = ap (set records id) (sym none) ∙ set-get_or records id None
 
--- the reservation at the frame goes out of the list of its yield
-pub AreListed-unlisted : (z : SizeSet) (lists : Lists) (used : List Bool) (records : List (Option Reservation)) (id k : ℕ) (r : Reservation) → AreListed z lists used records → ArePlaced records → get_or records id None ≡ Some r → yield_in z (is_used used) r ≡ Some k → k < 3 → AreListed z (with_list lists k (without_member (member_at r id) (list_at lists k))) used (set records id None)
-AreListed-unlisted z lists used records id k r are placed is yields small =
-    subst (λ m. AreListed z (with_list lists k (without_member m (list_at lists k))) used (set records id None)) (member_at-named r id (placed id r is).named)
-    (AreListed-without z lists used records id k r are placed is yields small)
-
 -- a reservation comes in at a frame at which none began
-module _ (z : SizeSet) (lists : Lists) (used : List Bool) (records : List (Option Reservation)) (id : ℕ) (r : Reservation) (none : get_or records id None ≡ None) (known : id < length records) (are : AreListed z lists used records) where
+module _ (z : SizeSet) (lists : Lists) (used : List Bool) (records : List (Option Reservation)) (id : ℕ) (r : Reservation)
+    (none : get_or records id None ≡ None) (known : id < length records) (are : AreListed z lists used records) where
   there : get_or (set records id (Some r)) id None ≡ Some r
   there = get_or-set_same records id (Some r) None known
 
   without : AreListed z lists used (set (set records id (Some r)) id None)
   without = subst (AreListed z lists used) (sym (set-set records id (Some r) None ∙ set-none records id none)) are
 
-  pub AreListed-enlisted : (k : ℕ) → r.frame ≡ id → yield_in z (is_used used) r ≡ Some k → k < 3 → AreListed z (with_list lists k (with_member (member_at r id) (list_at lists k))) used (set records id (Some r))
+  pub AreListed-enlisted : (k : ℕ) → r.frame ≡ id → yield_in z (is_used used) r ≡ Some k → k < 3
+      → AreListed z (with_list lists k (with_member (member_at r id) (list_at lists k))) used (set records id (Some r))
   AreListed-enlisted k named yields small =
       subst (λ m. AreListed z (with_list lists k (with_member m (list_at lists k))) used (set records id (Some r))) (member_at-named r id named)
       (AreListed-with z lists used (set records id (Some r)) id k r without there yields small)
 
   pub AreListed-not_enlisted : ((k : ℕ) → yield_in z (is_used used) r ≡ Some k → 3 ≤ k) → AreListed z lists used (set records id (Some r))
-  AreListed-not_enlisted full = (AreListed-full z lists used (set records id (Some r)) id r there full).1 without
+  AreListed-not_enlisted full = AreListed-full z lists used (set records id (Some r)) id r without there full
 
 -- From these lists on, the first n parts that the reservation was split into went into the lists.
 pub record HasParts (z : SizeSet) (n : ℕ) (start lists : KeptLists) (after : Records) (whole : Reservation) : Type 0 where
@@ -62,14 +58,17 @@ pub record HasParts (z : SizeSet) (n : ℕ) (start lists : KeptLists) (after : R
   pub room : lists.frames ≡ start.frames
   pub listed : AreListed z lists.lists after.used (split_up_to n (is_used after.used) whole was.records)
 
-pub HasParts-none : (z : SizeSet) (start : KeptLists) (after : Records) (whole : Reservation) → WasSplit z start after whole → HasParts z 0 start start after whole
+pub HasParts-none : (z : SizeSet) (start : KeptLists) (after : Records) (whole : Reservation) → WasSplit z start after whole
+    → HasParts z 0 start start after whole
 HasParts-none z start after whole was = record { was = was; room = refl; listed = was.listed }
 
-pub HasParts-all : (z : SizeSet) (start lists : KeptLists) (after : Records) (whole : Reservation) → HasParts z 8 start lists after whole → AreListed z lists.lists after.used after.records
+pub HasParts-all : (z : SizeSet) (start lists : KeptLists) (after : Records) (whole : Reservation) → HasParts z 8 start lists after whole
+    → AreListed z lists.lists after.used after.records
 HasParts-all z start lists after whole has = subst (AreListed z lists.lists after.used) (sym has.was.split) has.listed
 
 -- the first parts are in their places
-pub ArePlaced-parts : (records : List (Option Reservation)) (used : List Bool) (whole : Reservation) (n : ℕ) → 0 < whole.size → IsPlaced (length records) whole.frame whole → ArePlaced records → n ≤ 8 → ArePlaced (split_up_to n (is_used used) whole records)
+pub ArePlaced-parts : (records : List (Option Reservation)) (used : List Bool) (whole : Reservation) (n : ℕ) → 0 < whole.size
+    → IsPlaced (length records) whole.frame whole → ArePlaced records → n ≤ 8 → ArePlaced (split_up_to n (is_used used) whole records)
 ArePlaced-parts records used whole zero splits placed are small = are
 ArePlaced-parts records used whole (suc n) splits placed are small =
     let before = split_up_to n (is_used used) whole records in
@@ -78,7 +77,8 @@ ArePlaced-parts records used whole (suc n) splits placed are small =
     (ArePlaced-part before used whole (length records) n long splits (omega arith) placed (ArePlaced-parts records used whole n splits placed are (omega arith)))
 
 -- the next part
-module _ (z : SizeSet) (n : ℕ) (start lists : KeptLists) (after : Records) (whole : Reservation) (splits : 0 < whole.size) (small : n < 8) (has : HasParts z n start lists after whole) where
+module _ (z : SizeSet) (n : ℕ) (start lists : KeptLists) (after : Records) (whole : Reservation) (splits : 0 < whole.size) (small : n < 8)
+    (has : HasParts z n start lists after whole) where
   abbrev used : ℕ → Bool
   used = is_used after.used
 
@@ -110,7 +110,8 @@ module _ (z : SizeSet) (n : ℕ) (start lists : KeptLists) (after : Records) (wh
       (ArePlaced-parts has.was.records after.used whole n splits has.was.placed has.was.others_placed (omega arith)) none_before
 
   -- it goes in where it is a reservation
-  pub HasParts-more : (new : KeptLists) → AreListed z new.lists after.used (set before first (get_or after.records first None)) → new.frames ≡ lists.frames → HasParts z (n + 1) start new after whole
+  pub HasParts-more : (new : KeptLists) → AreListed z new.lists after.used (set before first (get_or after.records first None))
+      → new.frames ≡ lists.frames → HasParts z (n + 1) start new after whole
   HasParts-more new listed room = record {
     was = has.was;
     room = room ∙ has.room;

@@ -19,8 +19,10 @@ use Rattle.frame_pool.proofs.MappedPages.{end_in_space, in_page, page_in}
 use Rattle.pager_laws.proofs.PagePlaces.{CoversPageOf-covers, covers-CoversPageOf, covering-found, covering-none}
 
 -- of one page
-module _ (m : Populations) (records : List (Option Reservation)) (space page : ℕ) (mapped : IsMapped m records) (known : space < 16) (low : page < 1048576) where
-  pub covering-looked : (size id : ℕ) → OneCovers records → size ≤ 3 → id_of m size (page_at space page) ≡ Some id → get_or records id None ≡ covering space page records
+module _ (m : Populations) (records : List (Option Reservation)) (space page : ℕ) (mapped : IsMapped m records) (known : space < 16)
+    (low : page < 1048576) where
+  pub covering-looked : (size id : ℕ) → OneCovers records → size ≤ 3 → id_of m size (page_at space page) ≡ Some id
+      → get_or records id None ≡ covering space page records
   covering-looked size id one small is =
       let q = found_record_and (get_or records id None) (λ r. (r.size ≡ size) × (covers space page r ≡ true)) ((mapped.exact space page size id known low small).0 is) in
       q.1 ∙ at q.0 q.1 q.2.1 (covering space page records) refl
@@ -52,7 +54,8 @@ any_one p (x ∷ xs) d is = elim (or_cases (p x) (list_any p xs) is) [
 ]
 
 -- of an extent
-module _ (m : Populations) (records : List (Option Reservation)) (space size first : ℕ) (mapped : IsMapped m records) (known : space < 16) (e : IsExtent size first) (low : first < 1048576) where
+module _ (m : Populations) (records : List (Option Reservation)) (space size first : ℕ) (mapped : IsMapped m records) (known : space < 16)
+    (e : IsExtent size first) (low : first < 1048576) where
   -- a reservation with a page of the extent meets it
   meets_by : (page : ℕ) (r : Reservation) → first ≤ page → page < first + 8 ^ size → covers space page r ≡ true → meets space size first (Some r) ≡ true
   meets_by page r above below has =
@@ -83,7 +86,8 @@ module _ (m : Populations) (records : List (Option Reservation)) (space size fir
       let q = found_record_and (get_or records id.0 None) (λ r. (r.size ≡ by.0) × (covers space at.0 r ≡ true)) ((mapped.exact space at.0 by.0 id.0 known at.2 by.1).0 here) in
       list_any_at (meets space size first) records id.0 None (get_or_within records id.0 q.0 q.1) (ap (meets space size first) q.1 ∙ meets_by at.0 q.0 at.3 at.4 q.2.1)
 
-  pub meets_any-not_looked : ArePlaced records → ((page : ℕ) → page / 8 ^ size ≡ page_at space first / 8 ^ size → IsInNone m page) → meets_any space records size first ≡ false
+  pub meets_any-not_looked : ArePlaced records → ((page : ℕ) → page / 8 ^ size ≡ page_at space first / 8 ^ size → IsInNone m page)
+      → meets_any space records size first ≡ false
   meets_any-not_looked placed none = false_from_ne_true _ (λ any.
       let w = any_one (meets space size first) records None any in
       at w.0 (get_or records w.0 None) refl (w.1))

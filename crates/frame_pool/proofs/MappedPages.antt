@@ -13,7 +13,8 @@ pub end_in_space : (size first : ℕ) → IsExtent size first → first < 104857
 end_in_space size first e low = omega (arith, extent_within size first 2048 e.0 e.1 (omega arith))
 
 -- a page of the extent is one of the space
-pub page_in : (size space first page : ℕ) → IsExtent size first → first < 1048576 → page / 8 ^ size ≡ page_at space first / 8 ^ size → (p : ℕ) × (page ≡ page_at space p) × (p < 1048576) × (first ≤ p) × (p < first + 8 ^ size)
+pub page_in : (size space first page : ℕ) → IsExtent size first → first < 1048576 → page / 8 ^ size ≡ page_at space first / 8 ^ size
+    → (p : ℕ) × (page ≡ page_at space p) × (p < 1048576) × (first ≤ p) × (p < first + 8 ^ size)
 page_in size space first page e low same =
     let at = aligned_at size space first e in
     let in_it = of_extent size (page_at space first) page at.0 at.1 same in

@@ -37,7 +37,8 @@ module _ (used : ℕ → Bool) (r : Reservation) (records : List (Option Reserva
   first i = (part_of r i).frame
 
   -- what stands after the first n parts went in stood before, or is one of them
-  who_stands : (n id : ℕ) (q : Reservation) → n ≤ 8 → get_or (split_up_to n used r records) id None ≡ Some q → ((i : ℕ) × (i < n) × (part_of r i ≡ q)) ⊎ (get_or records id None ≡ Some q)
+  who_stands : (n id : ℕ) (q : Reservation) → n ≤ 8 → get_or (split_up_to n used r records) id None ≡ Some q
+      → ((i : ℕ) × (i < n) × (part_of r i ≡ q)) ⊎ (get_or records id None ≡ Some q)
   who_stands zero id q le is = inr is
   who_stands (suc n) id q le is = elim (cases_eq id (first n)) [
     | inl here ↦
@@ -99,7 +100,8 @@ module _ (used : ℕ → Bool) (r : Reservation) (records : List (Option Reserva
       }
 
 -- the next part
-module _ (n : ℕ) (start m : Populations) (after : Records) (whole : Reservation) (splits : 0 < whole.size) (small : n < 8) (has : HasMapped n start m after whole) where
+module _ (n : ℕ) (start m : Populations) (after : Records) (whole : Reservation) (splits : 0 < whole.size) (small : n < 8)
+    (has : HasMapped n start m after whole) where
   abbrev used : ℕ → Bool
   used = is_used after.used
 
@@ -121,7 +123,8 @@ module _ (n : ℕ) (start m : Populations) (after : Records) (whole : Reservatio
   part_enters q is = subst (MayEnter before) (sym (part_is q is)) (MayEnter-part used whole has.was.records splits has.was.enters n small)
 
   -- and does where it is a reservation
-  pub HasMapped-more : (q : Reservation) (new : Populations) → get_or after.records (part_of whole n).frame None ≡ Some q → IsMapped new (set before q.frame (Some q)) → HasMapped (n + 1) start new after whole
+  pub HasMapped-more : (q : Reservation) (new : Populations) → get_or after.records (part_of whole n).frame None ≡ Some q
+      → IsMapped new (set before q.frame (Some q)) → HasMapped (n + 1) start new after whole
   HasMapped-more q new is mapped = record {
     was = has.was;
     mapped =

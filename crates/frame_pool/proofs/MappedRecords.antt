@@ -33,7 +33,8 @@ its_own r k s p = elim (cases_eq k r.size) [
 ]
 
 -- ids after the extent of a reservation changed alone
-module _ (m n : Populations) (r : Reservation) (pages : IsExtent r.size r.first) (low : r.first < 1048576) (o : Option ℕ) (places : PlacesOnly m n r.size (page_at r.space r.first) o) where
+module _ (m n : Populations) (r : Reservation) (pages : IsExtent r.size r.first) (low : r.first < 1048576) (o : Option ℕ)
+    (places : PlacesOnly m n r.size (page_at r.space r.first) o) where
   id_here : (k s p : ℕ) → k ≡ r.size → covers s p r ≡ true → id_of n k (page_at s p) ≡ o
   id_here k s p same has = ap (λ j. id_of n j (page_at s p)) same ∙ places.changed (page_at s p) (covered_in r pages low s p has)
 
@@ -126,7 +127,8 @@ module _ (m : Populations) (records : List (Option Reservation)) (r : Reservatio
 
 -- ---- a reservation goes
 
-module _ (m : Populations) (records : List (Option Reservation)) (id : ℕ) (r : Reservation) (mapped : IsMapped m records) (is : get_or records id None ≡ Some r) (pages : IsExtent r.size r.first) where
+module _ (m : Populations) (records : List (Option Reservation)) (id : ℕ) (r : Reservation) (mapped : IsMapped m records)
+    (is : get_or records id None ≡ Some r) (pages : IsExtent r.size r.first) where
   abbrev without_it : List (Option Reservation)
   without_it = set records id None
 
@@ -193,7 +195,8 @@ module _ (m : Populations) (records : List (Option Reservation)) (id : ℕ) (r :
 -- ---- a reservation becomes younger, and none is at first
 
 -- where one stands with the same pages, the map stays
-pub IsMapped-alike : (m : Populations) (records : List (Option Reservation)) (id : ℕ) (r q : Reservation) → IsMapped m records → get_or records id None ≡ Some r → q.space ≡ r.space → q.first ≡ r.first → q.size ≡ r.size → IsMapped m (set records id (Some q))
+pub IsMapped-alike : (m : Populations) (records : List (Option Reservation)) (id : ℕ) (r q : Reservation) → IsMapped m records
+    → get_or records id None ≡ Some r → q.space ≡ r.space → q.first ≡ r.first → q.size ≡ r.size → IsMapped m (set records id (Some q))
 IsMapped-alike m records id r q mapped is space first size = record {
   spaces = mapped.spaces;
   exact = λ s p k j known low small.
@@ -230,7 +233,8 @@ IsMapped-alike m records id r q mapped is space first size = record {
         ∙ ap (λ k. eqb q.space s && (leb q.first p && ltb p (q.first + 8 ^ k))) (sym size)
 
 -- without a reservation no extent is placed
-pub IsMapped-start : (m : Populations) (frames : ℕ) → ((size page : ℕ) → id_of m size page ≡ None) → placed_pages m ≡ 0 → space_count m ≡ 16 → frame_count m ≡ frames → IsMapped m (replicate frames None)
+pub IsMapped-start : (m : Populations) (frames : ℕ) → ((size page : ℕ) → id_of m size page ≡ None) → placed_pages m ≡ 0 → space_count m ≡ 16
+    → frame_count m ≡ frames → IsMapped m (replicate frames None)
 IsMapped-start m frames no_extent no_page spaces room = record {
   spaces = spaces;
   exact = λ s p k j _ _ _. (

@@ -16,7 +16,8 @@ eighth pages size splits is = ap (λ n. n / 8) is ∙ eight_quotient 1 size spli
 
 -- The records after a split.
 
-pub split_suc : (n : ℕ) (used : ℕ → Bool) (r : Reservation) (records : List (Option Reservation)) → split_up_to (suc n) used r records ≡ split_step used r (split_up_to n used r records) n
+pub split_suc : (n : ℕ) (used : ℕ → Bool) (r : Reservation) (records : List (Option Reservation))
+    → split_up_to (suc n) used r records ≡ split_step used r (split_up_to n used r records) n
 split_suc n used r records = subst (λ m. split_up_to m used r records ≡ split_step used r (split_up_to n used r records) n) (add-one n) (split_up_to-more n used r records)
 
 module _ (used : ℕ → Bool) (r : Reservation) (records : List (Option Reservation)) (splits : 0 < r.size) (placed : IsPlaced (length records) r.frame r) where

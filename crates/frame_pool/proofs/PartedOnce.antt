@@ -229,7 +229,8 @@ module _ (k : ℕ) (l : Layout) (r : Reservation) (laid : IsLaid l) (is : record
             let here = laid.apart f j r.frame has (ap (has_frame f) is ∙ has_frame_from f r low high) in
             elim out [ inl before ↦ omega (arith, here, before) | inr past ↦ omega (arith, here, past, eight_pos r.size) ]
 
-module _ (k : ℕ) (l : Layout) (r : Reservation) (laid : IsLaid l) (is : record_at l r.frame ≡ Some r) (a b : Layout) (down : IsDown k (r.frame + 8 ^ r.size) l a r) (other : IsDown k (r.frame + 8 ^ r.size) l b r) where
+module _ (k : ℕ) (l : Layout) (r : Reservation) (laid : IsLaid l) (is : record_at l r.frame ≡ Some r) (a b : Layout)
+    (down : IsDown k (r.frame + 8 ^ r.size) l a r) (other : IsDown k (r.frame + 8 ^ r.size) l b r) where
   same_record : (id : ℕ) → record_at a id ≡ record_at b id
   same_record id = elim (cases_lt id r.frame) [
     | inl before ↦ down.beside id (inl before) ∙ sym (other.beside id (inl before))
@@ -263,7 +264,8 @@ same_layout a b z f r u =
     ∙ ap (λ (x : List (Option Reservation)). let l : Layout = record { sizes = b.sizes; free = b.free; records = x; used = a.used } in l) r
     ∙ ap (λ (x : List Bool). let l : Layout = record { sizes = b.sizes; free = b.free; records = b.records; used = x } in l) u
 
-pub down_once : (k : ℕ) (l : Layout) (r : Reservation) → IsLaid l → record_at l r.frame ≡ Some r → (a b : Layout) → IsDown k (r.frame + 8 ^ r.size) l a r → IsDown k (r.frame + 8 ^ r.size) l b r → a ≡ b
+pub down_once : (k : ℕ) (l : Layout) (r : Reservation) → IsLaid l → record_at l r.frame ≡ Some r → (a b : Layout)
+    → IsDown k (r.frame + 8 ^ r.size) l a r → IsDown k (r.frame + 8 ^ r.size) l b r → a ≡ b
 down_once k l r laid is a b down other =
     let same = same_record k l r laid is a b down other in
     same_layout a b (down.settles.sizes ∙ sym other.settles.sizes)
@@ -272,7 +274,8 @@ down_once k l r laid is a b down other =
     (down.settles.used ∙ sym other.settles.used)
 
 -- so what a reservation is split down to is what splitting it at once gives
-pub down_parted : (k : ℕ) (l cur : Layout) (r : Reservation) → IsLaid l → record_at l r.frame ≡ Some r → k ≤ r.size → IsDown k (r.frame + 8 ^ r.size) l cur r → cur ≡ parted k r l
+pub down_parted : (k : ℕ) (l cur : Layout) (r : Reservation) → IsLaid l → record_at l r.frame ≡ Some r → k ≤ r.size
+    → IsDown k (r.frame + 8 ^ r.size) l cur r → cur ≡ parted k r l
 down_parted k l cur r laid is le down = down_once k l r laid is cur (parted k r l) down (IsDown-parted k l r laid is le)
 
 -- ---- going through the frames of a reservation
@@ -303,7 +306,8 @@ pub record IsGoing (size next end id : ℕ) (l cur : Layout) : Type 0 where
 own_is : (l : Layout) (id : ℕ) (r : Reservation) → IsLaid l → record_at l id ≡ Some r → record_at l r.frame ≡ Some r
 own_is l id r laid is = ap (record_at l) (laid.placed id r is).named ∙ is
 
-pub IsGoing-start : (size end id : ℕ) (l : Layout) (r : Reservation) → IsLaid l → record_at l id ≡ Some r → size < r.size → end ≡ id + 8 ^ r.size → IsGoing size id end id l l
+pub IsGoing-start : (size end id : ℕ) (l : Layout) (r : Reservation) → IsLaid l → record_at l id ≡ Some r → size < r.size
+    → end ≡ id + 8 ^ r.size → IsGoing size id end id l l
 IsGoing-start size end id l r laid is less ends =
     let named = (laid.placed id r is).named in
     record {
@@ -330,7 +334,8 @@ module _ (size next end id : ℕ) (l cur : Layout) (going : IsGoing size next en
   part_there : next < end → (q : Reservation) → record_at cur next ≡ Some q → IsPartOf size r q
   part_there inside q stands = going.down.parts next q (omega (arith, going.at)) (omega (arith, going.ends, inside)) stands
 
-  pub IsGoing-split : (new : Layout) → next < end → is_larger size (record_at cur next) ≡ true → IfSome (record_at cur next) (λ q. new ≡ parted (q.size - 1) q cur) → IsGoing size next end id l new
+  pub IsGoing-split : (new : Layout) → next < end → is_larger size (record_at cur next) ≡ true
+      → IfSome (record_at cur next) (λ q. new ≡ parted (q.size - 1) q cur) → IsGoing size next end id l new
   IsGoing-split new inside larger split =
       let found = larger_some size (record_at cur next) larger in
       let q = found.0 in
@@ -371,7 +376,8 @@ module _ (size next end id : ℕ) (l cur : Layout) (going : IsGoing size next en
       subst (λ o. IfSome o (λ p. cur ≡ parted size p l)) (sym going.is) (down_parted size l cur r going.laid r_is (omega (arith, going.less)) down)
 
   -- how far it is from the end
-  pub split_nearer : (new : Layout) → next < end → is_larger size (record_at cur next) ≡ true → IfSome (record_at cur next) (λ q. new ≡ parted (q.size - 1) q cur) → size_there (record_at new next) < size_there (record_at cur next)
+  pub split_nearer : (new : Layout) → next < end → is_larger size (record_at cur next) ≡ true
+      → IfSome (record_at cur next) (λ q. new ≡ parted (q.size - 1) q cur) → size_there (record_at new next) < size_there (record_at cur next)
   split_nearer new inside larger split =
       let found = larger_some size (record_at cur next) larger in
       let q = found.0 in

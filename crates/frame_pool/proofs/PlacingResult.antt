@@ -16,7 +16,9 @@ use Rattle.pager_laws.proofs.PagePlaces.{CoversPageOf-covers, covering-found}
 use Rattle.pager_laws.proofs.LayoutPlacing.{WasPlaced-placing}
 
 -- what the definition gives is a place of the page
-pub PlacesPage-from : (l new : Layout) (stamp space page : ℕ) (want : Want) (place : Placing) → IsLaid l → frame_in l space page ≡ None → placing stamp space page want l ≡ Some place → new ≡ place.layout → place.broken ≤ 1 → PlacesPage l new (placing stamp space page want l) place.frame place.broken
+pub PlacesPage-from : (l new : Layout) (stamp space page : ℕ) (want : Want) (place : Placing) → IsLaid l → frame_in l space page ≡ None
+    → placing stamp space page want l ≡ Some place → new ≡ place.layout → place.broken ≤ 1
+    → PlacesPage l new (placing stamp space page want l) place.frame place.broken
 PlacesPage-from l new stamp space page want place laid unplaced is layout few =
     let places = WasPlaced-placing l stamp space page want place laid unplaced is in
     record {
@@ -33,7 +35,8 @@ PlacesPage-from l new stamp space page want place laid unplaced is layout few =
 
 -- In the reservation that has the page.
 
-pub placing-covered : (l : Layout) (stamp space page : ℕ) (want : Want) (r : Reservation) → covering space page l.records ≡ Some r → placing stamp space page want l ≡ Some (populated stamp page l r)
+pub placing-covered : (l : Layout) (stamp space page : ℕ) (want : Want) (r : Reservation) → covering space page l.records ≡ Some r
+    → placing stamp space page want l ≡ Some (populated stamp page l r)
 placing-covered l stamp space page want r is = ap (placing_in stamp space page want l) is
 
 module _ (l : Layout) (space page : ℕ) (r : Reservation) (laid : IsLaid l) (covers : covering space page l.records ≡ Some r) where
@@ -65,7 +68,9 @@ round_page size page start round =
     let rest = mod_below page (8 ^ size) (eight_pos size) in
     (omega (arith, whole, round), omega (arith, whole, rest, round))
 
-module _ (l new : Layout) (stamp space page : ℕ) (want : Want) (preferred size first broken start : ℕ) (none : covering space page l.records ≡ None) (preferred_is : preferred ≡ preferred_in l space page want) (finds : FindsExtent new (largest_extent preferred l) size first broken) (round : start ≡ extent_start size page) where
+module _ (l new : Layout) (stamp space page : ℕ) (want : Want) (preferred size first broken start : ℕ)
+    (none : covering space page l.records ≡ None) (preferred_is : preferred ≡ preferred_in l space page want)
+    (finds : FindsExtent new (largest_extent preferred l) size first broken) (round : start ≡ extent_start size page) where
   abbrev added : Reservation
   added = record { space = space; first = start; size = size; frame = first; stamp = stamp }
 
@@ -85,7 +90,8 @@ module _ (l new : Layout) (stamp space page : ℕ) (want : Want) (preferred size
   IsLaid-added laid unplaced =
       subst IsLaid (sym layout_is) (WasPlaced-placing l stamp space page want (reserved stamp space page finds.found) laid unplaced placing_is).laid
 
-  pub PlacesPage-added : IsLaid l → frame_in l space page ≡ None → PlacesPage l (with_reservation added page new) (placing stamp space page want l) (frame_for page added) broken
+  pub PlacesPage-added : IsLaid l → frame_in l space page ≡ None
+      → PlacesPage l (with_reservation added page new) (placing stamp space page want l) (frame_for page added) broken
   PlacesPage-added laid unplaced =
       let few : finds.found.broken ≤ 1 = omega (arith, finds.same_broken, finds.few_broken) in
       let places = PlacesPage-from l (with_reservation added page new) stamp space page want (reserved stamp space page finds.found) laid unplaced placing_is layout_is few in

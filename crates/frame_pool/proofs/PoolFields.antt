@@ -37,7 +37,9 @@ abbrev pub AreHere : List (Option Framed) → List (Option Used) → Type 0
 AreHere frames used = (f : ℕ) → f < length frames → number_in (get_or frames f None) ≡ cond (is_some (get_or used f None)) None (Some f)
 
 -- a place and its frame are written together
-AreHere-set : (frames : List (Option Framed)) (used : List (Option Used)) (at : ℕ) (frame : Option Framed) (place : Option Used) → AreHere frames used → length used ≡ length frames → number_in frame ≡ cond (is_some place) None (Some at) → AreHere (set frames at frame) (set used at place)
+AreHere-set : (frames : List (Option Framed)) (used : List (Option Used)) (at : ℕ) (frame : Option Framed) (place : Option Used)
+    → AreHere frames used → length used ≡ length frames → number_in frame ≡ cond (is_some place) None (Some at)
+    → AreHere (set frames at frame) (set used at place)
 AreHere-set frames used at frame place here long fits = λ f known.
     let within : f < length frames = omega (arith, length-set frames at frame) in
     elim (cases_eq f at) [
@@ -50,7 +52,8 @@ AreHere-set frames used at frame place here long fits = λ f known.
     ]
 
 -- which places are used is all that counts
-AreHere-same : (frames : List (Option Framed)) (used after : List (Option Used)) → AreHere frames used → map is_some after ≡ map is_some used → AreHere frames after
+AreHere-same : (frames : List (Option Framed)) (used after : List (Option Used)) → AreHere frames used
+    → map is_some after ≡ map is_some used → AreHere frames after
 AreHere-same frames used after here same = λ f known.
     let still : is_some (get_or used f None) ≡ is_some (get_or after f None) = sym (get_or-map is_some used f None) ∙ sym (ap (λ us. get_or us f false) same) ∙ get_or-map is_some after f None in
     here f known ∙ ap (λ b. cond b None (Some f)) still
@@ -70,7 +73,9 @@ pub used_long : (frames : List (Option Framed)) (l : Layout) (claimers : ℕ) (s
 used_long frames l claimers st pool = sym (length-map st.used is_some) ∙ pool.sound.laid.used_long ∙ sym pool.frames_known
 
 -- what a move leaves is a pool, where the state stays sound and the frames are there as it says
-IsPool-after : (frames : List (Option Framed)) (l : Layout) (claimers : ℕ) (st : FrameState) (moved : List (Option Framed)) (m : Layout) (after : FrameState) → IsPool frames l claimers st → IsSound (length st.free) (length st.held) after → m.used ≡ map is_some after.used → length moved ≡ length frames → AreHere moved after.used → after.preemptions ≤ after.entries → IsPool moved m claimers after
+IsPool-after : (frames : List (Option Framed)) (l : Layout) (claimers : ℕ) (st : FrameState) (moved : List (Option Framed)) (m : Layout) (after : FrameState)
+    → IsPool frames l claimers st → IsSound (length st.free) (length st.held) after → m.used ≡ map is_some after.used
+    → length moved ≡ length frames → AreHere moved after.used → after.preemptions ≤ after.entries → IsPool moved m claimers after
 IsPool-after frames l claimers st moved m after pool sound same long here few = record {
   sound = subst (λ n. IsSound n (length after.held) after) (sym sound.known) (subst (λ n. IsSound (length st.free) n after) (sym sound.processors_known) sound);
   same_used = same;
@@ -88,29 +93,36 @@ used_claimed claim None = refl
 used_claimed claim (Some u) = refl
 
 -- a frame is claimed by a processor that has nothing, or by none, and the entry is counted
-IsPool-reclaimed : (frames : List (Option Framed)) (l : Layout) (claimers : ℕ) (st : FrameState) (at : ℕ) (claim : Option ℕ) → IsPool frames l claimers st → IsSound (length st.free) (length st.held) (claimed st at claim) → IsPool frames l claimers (counted (claimed st at claim))
+IsPool-reclaimed : (frames : List (Option Framed)) (l : Layout) (claimers : ℕ) (st : FrameState) (at : ℕ) (claim : Option ℕ)
+    → IsPool frames l claimers st → IsSound (length st.free) (length st.held) (claimed st at claim)
+    → IsPool frames l claimers (counted (claimed st at claim))
 IsPool-reclaimed frames l claimers st at claim pool sound =
     let still = map-set_same is_some st.used at (with_claim claim (used_at st at)) None (used_claimed claim (used_at st at)) in
     IsPool-after frames l claimers st frames l (counted (claimed st at claim)) pool (IsSound-counted _ _ (claimed st at claim) sound) (pool.same_used ∙ sym still) refl
     (AreHere-same frames st.used (set st.used at (with_claim claim (used_at st at))) pool.here still)
     (omega (arith, pool.few_broken))
 
-pub IsPool-claimed : (frames : List (Option Framed)) (l : Layout) (claimers : ℕ) (st : FrameState) (at c : ℕ) → IsPool frames l claimers st → c < length st.held → HasNothing st c → is_evictable (used_at st at) ≡ true → IsPool frames l claimers (counted (claimed st at (Some c)))
+pub IsPool-claimed : (frames : List (Option Framed)) (l : Layout) (claimers : ℕ) (st : FrameState) (at c : ℕ) → IsPool frames l claimers st
+    → c < length st.held → HasNothing st c → is_evictable (used_at st at) ≡ true
+    → IsPool frames l claimers (counted (claimed st at (Some c)))
 IsPool-claimed frames l claimers st at c pool known nothing may =
     IsPool-reclaimed frames l claimers st at (Some c) pool (IsSound-claimed _ _ st at c pool.sound known nothing may)
 
-pub IsPool-unclaimed : (frames : List (Option Framed)) (l : Layout) (claimers : ℕ) (st : FrameState) (at : ℕ) → IsPool frames l claimers st → IsPool frames l claimers (counted (claimed st at None))
+pub IsPool-unclaimed : (frames : List (Option Framed)) (l : Layout) (claimers : ℕ) (st : FrameState) (at : ℕ) → IsPool frames l claimers st
+    → IsPool frames l claimers (counted (claimed st at None))
 IsPool-unclaimed frames l claimers st at pool = IsPool-reclaimed frames l claimers st at None pool (IsSound-unclaimed _ _ st at pool.sound)
 
 -- what is read where a processor holds a frame is the frame
-pub held_read : (st : FrameState) (c frame : ℕ) (read : Option ℕ) → IsSome (held_by st c) → read ≡ get_or st.held c read → read ≡ Some frame → held_by st c ≡ Some frame
+pub held_read : (st : FrameState) (c frame : ℕ) (read : Option ℕ) → IsSome (held_by st c) → read ≡ get_or st.held c read → read ≡ Some frame
+    → held_by st c ≡ Some frame
 held_read st c frame read holds is found = sym (get_or_read st.held c read known is None) ∙ found
   where
     known : c < length st.held
     known = elim (cases_lt c (length st.held)) [ inl within ↦ within | inr past ↦ absurd (false≢true (subst IsSome (get_or_past st.held c None past) holds)) ]
 
 -- a held frame is put back
-pub IsPool-dropped : (frames : List (Option Framed)) (l : Layout) (claimers : ℕ) (st : FrameState) (c frame : ℕ) → IsPool frames l claimers st → held_by st c ≡ Some frame → IsPool frames (put_back frame l) claimers (dropped_in st c (Some frame))
+pub IsPool-dropped : (frames : List (Option Framed)) (l : Layout) (claimers : ℕ) (st : FrameState) (c frame : ℕ)
+    → IsPool frames l claimers st → held_by st c ≡ Some frame → IsPool frames (put_back frame l) claimers (dropped_in st c (Some frame))
 IsPool-dropped frames l claimers st c frame pool holds =
     let sound = subst (λ o. IsSound (length st.free) (length st.held) (dropped_in st c o)) holds (IsSound-dropped _ _ st c pool.sound) in
     IsPool-after frames l claimers st frames (put_back frame l) (dropped_in st c (Some frame)) pool sound pool.same_used refl pool.here pool.few_broken
@@ -132,7 +144,8 @@ AreHere-start n = λ f known.
     ∙ ap (λ g. Some g) (get_or-map-range_with_len zero_frame 0 n f f (zero_frame 0) below (omega arith)) in
     ap number_in at ∙ ap (λ o. cond (is_some o) None (Some f)) (sym (get_or-alike n f None))
 
-pub IsPool-start : (z : SizeSet) (n processors : ℕ) → n ≤ 32768 → processors ≤ 17 → IsPool (all_frames n) (start_layout z n) processors (start_frames z n processors)
+pub IsPool-start : (z : SizeSet) (n processors : ℕ) → n ≤ 32768 → processors ≤ 17
+    → IsPool (all_frames n) (start_layout z n) processors (start_frames z n processors)
 IsPool-start z n processors few few_processors =
     let frames_long = length-replicate n true in
     let held_long = length-replicate {A = Option ℕ} processors None in
@@ -156,7 +169,8 @@ pub noted_evictable : (st : FrameState) (frame : ℕ) → is_evictable (used_at 
 noted_evictable st frame may none = false≢true (sym (ap is_evictable none) ∙ may)
 
 -- the page that its reservation joins to a used place has it
-pub page_of : (st : FrameState) (frame page : ℕ) (r : Reservation) → IsLaid (layout_of st) → record_at (layout_of st) r.frame ≡ Some r → used_at st frame ≢ None → IsPageAt r frame page → frame_of st r.space page ≡ Some frame
+pub page_of : (st : FrameState) (frame page : ℕ) (r : Reservation) → IsLaid (layout_of st) → record_at (layout_of st) r.frame ≡ Some r
+    → used_at st frame ≢ None → IsPageAt r frame page → frame_of st r.space page ≡ Some frame
 page_of st frame page r laid is noted at =
     frame_in-from (layout_of st) r.space page frame laid (record {
       id = r.frame;
@@ -183,7 +197,9 @@ state_taken st m want frame broken =
     }
 
 -- A page has its place in a layout, whose frame is taken out of the pool.
-module _ (p : Inside) (space page : ℕ) (want : Want) (m : Layout) (frame broken : ℕ) (pool : IsPool p.frames.items p.layout p.used.processors (state_of p)) (none : frame_of (state_of p) space page ≡ None) (placed : PlacesPage p.layout m (placing p.entries space page want p.layout) frame broken) where
+module _ (p : Inside) (space page : ℕ) (want : Want) (m : Layout) (frame broken : ℕ)
+    (pool : IsPool p.frames.items p.layout p.used.processors (state_of p)) (none : frame_of (state_of p) space page ≡ None)
+    (placed : PlacesPage p.layout m (placing p.entries space page want p.layout) frame broken) where
   abbrev pub taking_of : Taking
   taking_of = taking (state_of p) want placed.place
 
@@ -237,7 +253,8 @@ state_given st m frame held =
     record { sizes = m.sizes; free = m.free; records = m.records; used = set st.used frame None; held = held; entries = st.entries; preemptions = st.preemptions }
 
 -- A page gives its frame up, and the layout is moved by the claim that was read.
-module _ (p : Inside) (space page frame : ℕ) (pool : IsPool p.frames.items p.layout p.used.processors (state_of p)) (is : frame_of (state_of p) space page ≡ Some frame) where
+module _ (p : Inside) (space page frame : ℕ) (pool : IsPool p.frames.items p.layout p.used.processors (state_of p))
+    (is : frame_of (state_of p) space page ≡ Some frame) where
   place : HasPlace (layout_of (state_of p)) space page frame
   place = frame_in-found (layout_of (state_of p)) space page frame is
 

@@ -14,7 +14,8 @@ use Rattle.frame_pool.specs.Placed.{with_reservation}
 use Rattle.frame_pool.specs.ReservedChanges.{with_free, without_place}
 
 -- a sound layout stays sound as fewer frames are free
-pub IsLaid-fewer : (l : Layout) (free : List Bool) → IsLaid l → length free ≡ length l.free → ((f : ℕ) → get_or free f false ≡ true → is_free l f ≡ true) → IsLaid (with_free free l)
+pub IsLaid-fewer : (l : Layout) (free : List Bool) → IsLaid l → length free ≡ length l.free
+    → ((f : ℕ) → get_or free f false ≡ true → is_free l f ≡ true) → IsLaid (with_free free l)
 IsLaid-fewer l free laid long fewer = record {
   records_long = laid.records_long ∙ sym long;
   used_long = laid.used_long ∙ sym long;
@@ -32,14 +33,16 @@ IsLaid-none_free l frames laid long =
     IsLaid-fewer l (replicate frames false) laid (length-replicate frames false ∙ sym long) (λ f free. absurd (false≢true (sym (get_or-alike frames f false) ∙ free)))
 
 -- also with one reservation more, where it is sound with some frames free
-pub IsLaid-with : (l : Layout) (r : Reservation) (page frames : ℕ) → IsLaid l → length l.free ≡ frames → (free : List Bool) → IsLaid (with_free free (with_reservation r page l)) → IsLaid (with_free (replicate frames false) (with_reservation r page l))
+pub IsLaid-with : (l : Layout) (r : Reservation) (page frames : ℕ) → IsLaid l → length l.free ≡ frames → (free : List Bool)
+    → IsLaid (with_free free (with_reservation r page l)) → IsLaid (with_free (replicate frames false) (with_reservation r page l))
 IsLaid-with l r page frames laid known free after =
     IsLaid-none_free (with_free free (with_reservation r page l)) frames after (sym after.records_long ∙ length-set l.records r.frame (Some r) ∙ laid.records_long ∙ known)
 
 -- A used place goes.
 
 -- the layout stays sound
-pub IsLaid-without_place : (l : Layout) (frame : ℕ) (r : Reservation) → IsLaid l → record_at l r.frame ≡ Some r → has_frame frame (Some r) ≡ true → is_used l.used frame ≡ true → IsLaid (without_place frame r l)
+pub IsLaid-without_place : (l : Layout) (frame : ℕ) (r : Reservation) → IsLaid l → record_at l r.frame ≡ Some r
+    → has_frame frame (Some r) ≡ true → is_used l.used frame ≡ true → IsLaid (without_place frame r l)
 IsLaid-without_place l frame r laid is has used =
     let gives = Gives-vacate l r.frame frame r laid is has used in
     let fits : r.frame + 8 ^ r.size ≤ length l.free = omega (arith, (laid.placed r.frame r is).within, laid.records_long) in
@@ -63,7 +66,9 @@ without_only l frame r named one =
     ap (λ b. left b r.frame) last ∙ ap (left true) named
 
 -- Where the frames of a reservation without a used place become free, the place was given up.
-pub given : (l : Layout) (frame : ℕ) (r : Reservation) (free : List Bool) (last : Bool) → is_last frame r l ≡ last → free ≡ cond last (with_range l.free r.frame (8 ^ r.size) true) l.free → with_free free (without_place frame r l) ≡ vacate_layout frame r l
+pub given : (l : Layout) (frame : ℕ) (r : Reservation) (free : List Bool) (last : Bool) → is_last frame r l ≡ last
+    → free ≡ cond last (with_range l.free r.frame (8 ^ r.size) true) l.free
+    → with_free free (without_place frame r l) ≡ vacate_layout frame r l
 given l frame r free last is freed =
     let by_free : List Bool → Layout = λ fs. with_free fs (without_place frame r l) in
     ap by_free freed ∙ sym (ap (λ b. by_free (cond b (with_range l.free r.frame (8 ^ r.size) true) l.free)) is)

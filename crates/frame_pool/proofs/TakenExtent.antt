@@ -44,7 +44,8 @@ module _ (found : Found) (laid : IsLaid found.layout) (is : choice found.layout.
         | false ↦ λ has. refl
       ] refl
 
-  pub FindsExtent-chosen : (finds : Option Found) → found.broken ≤ 1 → finds ≡ Some found → FindsExtent (without_extent found) finds found.size found.first found.broken
+  pub FindsExtent-chosen : (finds : Option Found) → found.broken ≤ 1 → finds ≡ Some found
+      → FindsExtent (without_extent found) finds found.size found.first found.broken
   FindsExtent-chosen finds few found_is = record {
     found = found;
     is = found_is;
@@ -61,12 +62,14 @@ module _ (found : Found) (laid : IsLaid found.layout) (is : choice found.layout.
 -- Where an extent is found.
 
 -- an extent of free frames
-pub extent_of-free : (size first : ℕ) (l : Layout) → choice l.free size ≡ Some first → extent_of size l ≡ Some (record { layout = l; size = size; first = first; broken = 0 })
+pub extent_of-free : (size first : ℕ) (l : Layout) → choice l.free size ≡ Some first
+    → extent_of size l ≡ Some (record { layout = l; size = size; first = first; broken = 0 })
 extent_of-free size first l is =
     ap (λ o. option_or (option_map (λ f. record { layout = l; size = size; first = f; broken = 0 }) o) (option_and_then (λ id. chosen size 1 (broken_at id l)) (to_break l size))) is
 
 -- and where there is none, one that breaking a reservation frees
-pub extent_of-broken : (size id first : ℕ) (l new : Layout) → choice l.free size ≡ None → to_break l size ≡ Some id → new ≡ broken_at id l → choice new.free size ≡ Some first → extent_of size l ≡ Some (record { layout = new; size = size; first = first; broken = 1 })
+pub extent_of-broken : (size id first : ℕ) (l new : Layout) → choice l.free size ≡ None → to_break l size ≡ Some id → new ≡ broken_at id l
+    → choice new.free size ≡ Some first → extent_of size l ≡ Some (record { layout = new; size = size; first = first; broken = 1 })
 extent_of-broken size id first l new none oldest broken is =
     let later : Option Found = option_and_then (λ i. chosen size 1 (broken_at i l)) (to_break l size) in
     ap (λ o. option_or (option_map (λ f. record { layout = l; size = size; first = f; broken = 0 }) o) later) none

@@ -1,8 +1,7 @@
-ghost use Rattle.std.specs.Prelude.{◌≡◌, ◌<◌, false, List, Option, length, slice_set, slice_index_or, None, IsSome, IsSomeAnd};
+ghost use Rattle.std.specs.Prelude.{◌≡◌, ◌<◌, false, List, Option, length, slice_set, slice_index_or, None, IsSomeAnd};
 ghost use Rattle.pager_model.specs.declared.reservation.Reservation.{Reservation};
 ghost use Rattle.reservation_lists.specs.Kept.{is_listed};
 ghost use Rattle.reservations.specs.Kept.{reservation_at};
-ghost use Rattle.pager_model.specs.RecordPlaces.{ArePlaced};
 ghost use Rattle.pager_laws.specs.Listed.{AreListed};
 ghost use Rattle.frame_pool.specs.Listed.{WasSplit};
 
@@ -10,22 +9,6 @@ use crate::records::yields_in;
 use pager_model::{Reservation, Sizes};
 use reservation_lists::Lists;
 use reservations::Reservations;
-
-/// Takes the reservation that begins at the frame `id` out of its list, where it stands in one.
-pub(crate) fn unlist(lists: &mut Lists, reservations: &Reservations, sizes: Sizes, id: u32)
-    requires there { IsSome (reservation_at reservations.now id) }
-    requires placed { ArePlaced reservations.now.records }
-    requires listed { AreListed sizes lists.old.lists reservations.now.used reservations.now.records }
-    ensures listed { AreListed sizes lists.new.lists reservations.now.used (slice_set reservations.now.records id None) }
-    ensures room { lists.new.frames ≡ lists.old.frames }
-{
-    if let Some(size) = yields_in(reservations, sizes, id) {
-        if size.level() < 3 {
-            let reservation = reservations.get(id).unwrap();
-            lists.remove(size, reservation.stamp, id);
-        }
-    }
-}
 
 /// Puts the reservation that begins at the frame `id` into its list, where it isn't full.
 pub(crate) fn enlist(lists: &mut Lists, reservations: &Reservations, sizes: Sizes, id: u32)

@@ -13,7 +13,7 @@ ghost use Rattle.frame_pool.specs.ReservedChanges.{Vacates, none_reserved, with_
 ghost use Rattle.pager_model.specs.Bounds.{most_frames, space_pages};
 ghost use Rattle.frame_pool.specs.Spaces.{most_spaces};
 
-use crate::lists::{enlist, enlist_parts, unlist};
+use crate::lists::{enlist, enlist_parts};
 use crate::mapped;
 use crate::records::{page_at, yields_in};
 use pager_model::{Extent, NoMemory, Reservation, Size, Sizes, Want};
@@ -196,7 +196,7 @@ impl Reserved {
         ensures frame { result ≡ frame_for page reservation.now }
     {
         let id = reservation.frame;
-        unlist(&mut self.lists, &self.reservations, self.sizes, id);
+        self.lists.remove(id);
         self.reservations.populate(id, page, stamp);
         enlist(&mut self.lists, &self.reservations, self.sizes, id);
         frame_for(reservation, page)
@@ -209,7 +209,7 @@ impl Reserved {
     {
         let reservation = self.reservation_of(frame).unwrap();
         let id = reservation.frame;
-        unlist(&mut self.lists, &self.reservations, self.sizes, id);
+        self.lists.remove(id);
         if self.reservations.vacate(id, page_at(&reservation, frame)) {
             mapped::remove(&mut self.map, &self.reservations, id);
             self.reservations.dissolve(id);
@@ -231,7 +231,7 @@ impl Reserved {
             (λ r. self.new ≡ record self.old { records = parted_records (r.size - 1) (is_used self.old.used) r self.old.records }) }
     {
         let whole = self.reservations.get(id).unwrap();
-        unlist(&mut self.lists, &self.reservations, self.sizes, id);
+        self.lists.remove(id);
         mapped::remove(&mut self.map, &self.reservations, id);
         let parts = self.reservations.split(id);
         enlist_parts(&mut self.lists, &self.reservations, self.sizes, &whole);

@@ -1,12 +1,12 @@
 -- The lists by age, as reservations come and go.
-use Rattle.std.proofs.Common.{◌≡◌, ◌≢◌, ℕ, zero, suc, ◌+◌, ◌<◌, ◌≤◌, ◌↔◌, Bool, true, false, cond, List, [], ◌∷◌, set, get_or, Option, Some, None, refl, sym, ap, subst, ◌∙◌, inl, inr, arith}
+use Rattle.std.proofs.Common.{◌≡◌, ◌≢◌, ℕ, zero, suc, ◌+◌, ◌<◌, ◌≤◌, Bool, true, false, cond, List, [], ◌∷◌, set, get_or, Option, Some, None, refl, sym, ap, subst, ◌∙◌, inl, inr, arith}
 use Rattle.std.specs.List.{All}
 use Rattle.std.specs.Option.{option_or}
 use Rattle.std.proofs.lemmas.Bool.{cases_eq, cond-true, eq-eqb}
 use Rattle.std.proofs.lemmas.List.Elements.{All-nil, All-head}
 use Rattle.std.proofs.lemmas.Option.{none-some, same_Some}
 use Rattle.pager_model.specs.declared.reservation.Reservation.{Reservation}
-use Rattle.pager_model.specs.Ages.{Lists, Member, is_before, list_at, with_list, with_member, without_member, oldest_in}
+use Rattle.pager_model.specs.Ages.{Lists, Member, is_before, list_at, with_list, with_member, oldest_in}
 use Rattle.pager_model.specs.Agreement.{has_frame}
 use Rattle.pager_model.specs.Headline.{member_of}
 use Rattle.pager_model.specs.Layouts.{Layout, list_of, with_listed, oldest_of, oldest_from}
@@ -15,17 +15,18 @@ use Rattle.pager_model.specs.SizeSets.{SizeSet}
 use Rattle.pager_model.proofs.AgeOrder.{All-with_member}
 use Rattle.pager_model.specs.RecordPlaces.{ArePlaced}
 use Rattle.pager_laws.proofs.PartYields.{same_size_from}
-use Rattle.pager_model.proofs.Lists.{unset_before}
 use Rattle.pager_laws.specs.Listed.{AreListed}
-use Rattle.pager_laws.proofs.MemberOrder.{with_member-swap, without_member-with}
+use Rattle.pager_laws.proofs.MemberOrder.{with_member-swap}
 use Rattle.pager_laws.proofs.YieldByPlaces.{yield_in-agree}
 
 -- a reservation is in the list of its yield
-pub with_listed-in : (z : SizeSet) (used : List Bool) (k : ℕ) (r : Reservation) (ms : List Member) → yield_in z (is_used used) r ≡ Some k → with_listed z used k (Some r) ms ≡ with_member (member_of r) ms
+pub with_listed-in : (z : SizeSet) (used : List Bool) (k : ℕ) (r : Reservation) (ms : List Member) → yield_in z (is_used used) r ≡ Some k
+    → with_listed z used k (Some r) ms ≡ with_member (member_of r) ms
 with_listed-in z used k r ms yields = cond-true _ _ _ (ap (λ o. same_size o (Some k)) yields ∙ eq-eqb k k refl)
 
 -- and in no other
-pub with_listed-out : (z : SizeSet) (used : List Bool) (k : ℕ) (r : Reservation) (ms : List Member) → (yield_in z (is_used used) r ≡ Some k → ⊥) → with_listed z used k (Some r) ms ≡ ms
+pub with_listed-out : (z : SizeSet) (used : List Bool) (k : ℕ) (r : Reservation) (ms : List Member)
+    → (yield_in z (is_used used) r ≡ Some k → ⊥) → with_listed z used k (Some r) ms ≡ ms
 with_listed-out z used k r ms other =
     elim (same_size (yield_in z (is_used used) r) (Some k)) as (λ v. same_size (yield_in z (is_used used) r) (Some k) ≡ v → cond v (with_member (member_of r) ms) ms ≡ ms) [
       | true ↦ λ same. absurd (other (same_size_from _ k same))
@@ -33,7 +34,8 @@ with_listed-out z used k r ms other =
     ] refl
 
 -- it doesn't matter which of two records goes into a list first
-with_listed-swap : (z : SizeSet) (used : List Bool) (k : ℕ) (o p : Option Reservation) (ms : List Member) → with_listed z used k o (with_listed z used k p ms) ≡ with_listed z used k p (with_listed z used k o ms)
+with_listed-swap : (z : SizeSet) (used : List Bool) (k : ℕ) (o p : Option Reservation) (ms : List Member)
+    → with_listed z used k o (with_listed z used k p ms) ≡ with_listed z used k p (with_listed z used k o ms)
 with_listed-swap z used k None p ms = refl
 with_listed-swap z used k (Some r) None ms = refl
 with_listed-swap z used k (Some r) (Some q) ms =
@@ -49,7 +51,8 @@ with_listed-swap z used k (Some r) (Some q) ms =
     ]
 
 -- a list is the list without a reservation, and with it again
-pub list_of-open : (z : SizeSet) (used : List Bool) (k : ℕ) (records : List (Option Reservation)) (id : ℕ) (r : Reservation) → get_or records id None ≡ Some r → list_of z used k records ≡ with_listed z used k (Some r) (list_of z used k (set records id None))
+pub list_of-open : (z : SizeSet) (used : List Bool) (k : ℕ) (records : List (Option Reservation)) (id : ℕ) (r : Reservation)
+    → get_or records id None ≡ Some r → list_of z used k records ≡ with_listed z used k (Some r) (list_of z used k (set records id None))
 list_of-open z used k [] id r is = absurd (none-some r is)
 list_of-open z used k (o ∷ rs) zero r is = ap (λ p. with_listed z used k p (list_of z used k rs)) is
 list_of-open z used k (o ∷ rs) (suc id) r is =
@@ -57,20 +60,26 @@ list_of-open z used k (o ∷ rs) (suc id) r is =
     ∙ with_listed-swap z used k o (Some r) (list_of z used k (set rs id None))
 
 -- a record is listed alike where its places are used alike
-with_listed-used : (z : SizeSet) (used new : List Bool) (k : ℕ) (o : Option Reservation) (ms : List Member) → ((frame : ℕ) → has_frame frame o ≡ true → is_used new frame ≡ is_used used frame) → with_listed z new k o ms ≡ with_listed z used k o ms
+with_listed-used : (z : SizeSet) (used new : List Bool) (k : ℕ) (o : Option Reservation) (ms : List Member)
+    → ((frame : ℕ) → has_frame frame o ≡ true → is_used new frame ≡ is_used used frame)
+    → with_listed z new k o ms ≡ with_listed z used k o ms
 with_listed-used z used new k None ms same = refl
 with_listed-used z used new k (Some r) ms same =
     ap (λ y. cond (same_size y (Some k)) (with_member (member_of r) ms) ms) (yield_in-agree (is_used new) (is_used used) r same z)
 
 -- yields are told by the places of the reservations alone
-pub list_of-used : (z : SizeSet) (used new : List Bool) (k : ℕ) (records : List (Option Reservation)) → ((frame id : ℕ) → has_frame frame (get_or records id None) ≡ true → is_used new frame ≡ is_used used frame) → list_of z new k records ≡ list_of z used k records
+pub list_of-used : (z : SizeSet) (used new : List Bool) (k : ℕ) (records : List (Option Reservation))
+    → ((frame id : ℕ) → has_frame frame (get_or records id None) ≡ true → is_used new frame ≡ is_used used frame)
+    → list_of z new k records ≡ list_of z used k records
 list_of-used z used new k [] same = refl
 list_of-used z used new k (o ∷ rs) same =
     with_listed-used z used new k o (list_of z new k rs) (λ frame has. same frame 0 has)
     ∙ ap (with_listed z used k o) (list_of-used z used new k rs (λ frame id has. same frame (suc id) has))
 
 -- what holds of every reservation of a yield holds of every member of the yield's list
-pub All-list_of : (z : SizeSet) (P : Member → Type 0) (used : List Bool) (k : ℕ) (records : List (Option Reservation)) → ((id : ℕ) (r : Reservation) → get_or records id None ≡ Some r → yield_in z (is_used used) r ≡ Some k → P (member_of r)) → All P (list_of z used k records)
+pub All-list_of : (z : SizeSet) (P : Member → Type 0) (used : List Bool) (k : ℕ) (records : List (Option Reservation))
+    → ((id : ℕ) (r : Reservation) → get_or records id None ≡ Some r → yield_in z (is_used used) r ≡ Some k → P (member_of r))
+    → All P (list_of z used k records)
 All-list_of z P used k [] holds = All-nil P
 All-list_of z P used k (None ∷ rs) holds = All-list_of z P used k rs (λ id r is yields. holds (suc id) r is yields)
 All-list_of z P used k (Some r ∷ rs) holds =
@@ -99,24 +108,20 @@ oldest_in-with_member new (m ∷ ms) none =
     ] none
 
 -- what stands first in a list has the list's yield, and where nothing does no reservation has it
-pub oldest_in-found : (z : SizeSet) (used : List Bool) (k : ℕ) (records : List (Option Reservation)) (id : ℕ) → ArePlaced records → oldest_in (list_of z used k records) ≡ Some id → (r : Reservation) × (get_or records id None ≡ Some r) × (yield_in z (is_used used) r ≡ Some k)
+pub oldest_in-found : (z : SizeSet) (used : List Bool) (k : ℕ) (records : List (Option Reservation)) (id : ℕ) → ArePlaced records
+    → oldest_in (list_of z used k records) ≡ Some id
+    → (r : Reservation) × (get_or records id None ≡ Some r) × (yield_in z (is_used used) r ≡ Some k)
 oldest_in-found z used k records id placed found =
     oldest_in-holds (Yields z used k records) (list_of z used k records) id
     (All-list_of z (λ m. Yields z used k records m.frame) used k records (λ at r is yields. (r, ap (λ n. get_or records n None) (placed at r is).named ∙ is, yields)))
     found
 
-pub oldest_in-none : (z : SizeSet) (used : List Bool) (k : ℕ) (records : List (Option Reservation)) (id : ℕ) (r : Reservation) → oldest_in (list_of z used k records) ≡ None → get_or records id None ≡ Some r → yield_in z (is_used used) r ≡ Some k → ⊥
+pub oldest_in-none : (z : SizeSet) (used : List Bool) (k : ℕ) (records : List (Option Reservation)) (id : ℕ) (r : Reservation)
+    → oldest_in (list_of z used k records) ≡ None → get_or records id None ≡ Some r → yield_in z (is_used used) r ≡ Some k → ⊥
 oldest_in-none z used k records id r none is yields =
     let rest = list_of z used k (set records id None) in
     let whole = list_of-open z used k records id r is ∙ with_listed-in z used k r rest yields in
     oldest_in-with_member (member_of r) rest (sym (ap oldest_in whole) ∙ none)
-
--- the other records have members of other frames
-others_of_list : (z : SizeSet) (used : List Bool) (k : ℕ) (records : List (Option Reservation)) (id : ℕ) (r : Reservation) → ArePlaced records → get_or records id None ≡ Some r → All (λ m. m.frame ≢ r.frame) (list_of z used k (set records id None))
-others_of_list z used k records id r placed is =
-    All-list_of z (λ m. m.frame ≢ r.frame) used k (set records id None) (λ at q there yields same.
-    let was = unset_before records id at None (Some q) (none-some q) there in
-    was.0 (sym (placed at q was.1).named ∙ same ∙ (placed id r is).named))
 
 -- a list that was put in is there, and the others are as before
 list_at-same : (lists : Lists) (k : ℕ) (ms : List Member) → list_at (with_list lists k ms) k ≡ ms
@@ -136,28 +141,20 @@ list_at-other lists (suc (suc k)) (suc zero) ms k_small j_small other = refl
 list_at-other lists (suc (suc k)) (suc (suc j)) ms k_small j_small other = absurd (other (omega arith))
 
 -- the lists of another yield are the same without the reservation
-list_of-out : (z : SizeSet) (used : List Bool) (k : ℕ) (records : List (Option Reservation)) (id : ℕ) (r : Reservation) → get_or records id None ≡ Some r → (yield_in z (is_used used) r ≡ Some k → ⊥) → list_of z used k records ≡ list_of z used k (set records id None)
+list_of-out : (z : SizeSet) (used : List Bool) (k : ℕ) (records : List (Option Reservation)) (id : ℕ) (r : Reservation)
+    → get_or records id None ≡ Some r → (yield_in z (is_used used) r ≡ Some k → ⊥)
+    → list_of z used k records ≡ list_of z used k (set records id None)
 list_of-out z used k records id r is other = list_of-open z used k records id r is ∙ with_listed-out z used k r (list_of z used k (set records id None)) other
 
 -- a reservation has one yield
-one_yield : (z : SizeSet) (used : List Bool) (r : Reservation) (k j : ℕ) → yield_in z (is_used used) r ≡ Some k → j ≢ k → yield_in z (is_used used) r ≡ Some j → ⊥
+one_yield : (z : SizeSet) (used : List Bool) (r : Reservation) (k j : ℕ) → yield_in z (is_used used) r ≡ Some k → j ≢ k
+    → yield_in z (is_used used) r ≡ Some j → ⊥
 one_yield z used r k j yields other also = other (same_Some j k (sym also ∙ yields))
 
--- the lists after a reservation goes out, and after it comes in
-pub AreListed-without : (z : SizeSet) (lists : Lists) (used : List Bool) (records : List (Option Reservation)) (id k : ℕ) (r : Reservation) → AreListed z lists used records → ArePlaced records → get_or records id None ≡ Some r → yield_in z (is_used used) r ≡ Some k → k < 3 → AreListed z (with_list lists k (without_member (member_of r) (list_at lists k))) used (set records id None)
-AreListed-without z lists used records id k r are placed is yields small =
-    let rest = list_of z used k (set records id None) in
-    let whole = list_of-open z used k records id r is ∙ with_listed-in z used k r rest yields in
-    let without = without_member (member_of r) (list_at lists k) in
-    let here : without ≡ rest =
-    ap (without_member (member_of r)) (are k small ∙ whole)
-    ∙ without_member-with (member_of r) rest (others_of_list z used k records id r placed is) in
-    λ j j_small. elim (cases_eq j k) [
-      | inl same ↦ subst (λ n. list_at (with_list lists k without) n ≡ list_of z used n (set records id None)) (sym same) (list_at-same lists k without ∙ here)
-      | inr other ↦ list_at-other lists k j without small j_small other ∙ are j j_small ∙ list_of-out z used j records id r is (one_yield z used r k j yields other)
-    ]
-
-pub AreListed-with : (z : SizeSet) (lists : Lists) (used : List Bool) (records : List (Option Reservation)) (id k : ℕ) (r : Reservation) → AreListed z lists used (set records id None) → get_or records id None ≡ Some r → yield_in z (is_used used) r ≡ Some k → k < 3 → AreListed z (with_list lists k (with_member (member_of r) (list_at lists k))) used records
+-- the lists after a reservation comes in
+pub AreListed-with : (z : SizeSet) (lists : Lists) (used : List Bool) (records : List (Option Reservation)) (id k : ℕ) (r : Reservation)
+    → AreListed z lists used (set records id None) → get_or records id None ≡ Some r → yield_in z (is_used used) r ≡ Some k → k < 3
+    → AreListed z (with_list lists k (with_member (member_of r) (list_at lists k))) used records
 AreListed-with z lists used records id k r are is yields small =
     let rest = list_of z used k (set records id None) in
     let whole = list_of-open z used k records id r is ∙ with_listed-in z used k r rest yields in
@@ -169,14 +166,15 @@ AreListed-with z lists used records id k r are is yields small =
     ]
 
 -- a full reservation, and one without a used place of the largest size, stands in no list
-pub AreListed-full : (z : SizeSet) (lists : Lists) (used : List Bool) (records : List (Option Reservation)) (id : ℕ) (r : Reservation) → get_or records id None ≡ Some r → ((k : ℕ) → yield_in z (is_used used) r ≡ Some k → 3 ≤ k) → AreListed z lists used records ↔ AreListed z lists used (set records id None)
-AreListed-full z lists used records id r is full =
-    let same : (k : ℕ) → k < 3 → list_of z used k records ≡ list_of z used k (set records id None) =
-    λ k small. list_of-out z used k records id r is (λ yields. omega (arith, full k yields)) in
-    (λ are k small. are k small ∙ same k small, λ are k small. are k small ∙ sym (same k small))
+pub AreListed-full : (z : SizeSet) (lists : Lists) (used : List Bool) (records : List (Option Reservation)) (id : ℕ) (r : Reservation)
+    → AreListed z lists used (set records id None) → get_or records id None ≡ Some r
+    → ((k : ℕ) → yield_in z (is_used used) r ≡ Some k → 3 ≤ k) → AreListed z lists used records
+AreListed-full z lists used records id r are is full k small =
+    are k small ∙ sym (list_of-out z used k records id r is (λ yields. omega (arith, full k yields)))
 
 -- the first frame of the first list from k on that isn't empty is that of a reservation with a yield of at least k
-pub oldest_from-found : (l : Layout) (k count id : ℕ) → ArePlaced l.records → oldest_from l k count ≡ Some id → (r : Reservation) × (j : ℕ) × (k ≤ j) × (j < k + count) × (get_or l.records id None ≡ Some r) × (yield_in l.sizes (is_used l.used) r ≡ Some j)
+pub oldest_from-found : (l : Layout) (k count id : ℕ) → ArePlaced l.records → oldest_from l k count ≡ Some id
+    → (r : Reservation) × (j : ℕ) × (k ≤ j) × (j < k + count) × (get_or l.records id None ≡ Some r) × (yield_in l.sizes (is_used l.used) r ≡ Some j)
 oldest_from-found l k zero id placed found = absurd (none-some id found)
 oldest_from-found l k (suc count) id placed found =
     elim (oldest_of l k) as (λ o. oldest_of l k ≡ o → option_or o (oldest_from l (k + 1) count) ≡ Some id → (r : Reservation) × (j : ℕ) × (k ≤ j) × (j < k + suc count) × (get_or l.records id None ≡ Some r) × (yield_in l.sizes (is_used l.used) r ≡ Some j)) [
@@ -189,7 +187,8 @@ oldest_from-found l k (suc count) id placed found =
     ] refl found
 
 -- where these lists are empty, no reservation has such a yield
-pub oldest_from-none : (l : Layout) (k count : ℕ) → oldest_from l k count ≡ None → (j : ℕ) → k ≤ j → j < k + count → (id : ℕ) (r : Reservation) → get_or l.records id None ≡ Some r → yield_in l.sizes (is_used l.used) r ≡ Some j → ⊥
+pub oldest_from-none : (l : Layout) (k count : ℕ) → oldest_from l k count ≡ None → (j : ℕ) → k ≤ j → j < k + count
+    → (id : ℕ) (r : Reservation) → get_or l.records id None ≡ Some r → yield_in l.sizes (is_used l.used) r ≡ Some j → ⊥
 oldest_from-none l k zero none j low high id r is yields = absurd (omega arith)
 oldest_from-none l k (suc count) none j low high id r is yields =
     elim (oldest_of l k) as (λ o. oldest_of l k ≡ o → option_or o (oldest_from l (k + 1) count) ≡ None → ⊥) [

@@ -42,7 +42,8 @@ module _ (m : ℕ) (l : Layout) (r : Reservation) (laid : IsLaid l) (is : record
   split = IsSplit-parted m l r laid.records_long placed le
 
   -- a used frame is one of a part that stands after the split
-  part_stands : (f : ℕ) → has_frame f (Some r) ≡ true → used f ≡ true → (j : ℕ) × (has_frame f (Some (part_at m r j)) ≡ true) × (record_at (parted m r l) (part_at m r j).frame ≡ Some (part_at m r j))
+  part_stands : (f : ℕ) → has_frame f (Some r) ≡ true → used f ≡ true
+      → (j : ℕ) × (has_frame f (Some (part_at m r j)) ≡ true) × (record_at (parted m r l) (part_at m r j).frame ≡ Some (part_at m r j))
   part_stands = used_stands m l (parted m r l) r.frame r laid is le split
 
   others_split : (id : ℕ) → (id < r.frame) ⊎ (r.frame + 8 ^ r.size ≤ id) → record_at (parted m r l) id ≡ record_at l id
@@ -136,7 +137,8 @@ module _ (m : ℕ) (l : Layout) (r : Reservation) (laid : IsLaid l) (is : record
 yield_in_parts : (z : SizeSet) (used : ℕ → Bool) (r : Reservation) (k : ℕ) → IsWidest z used r r.size k → k < r.size → k ≤ part_size z r
 yield_in_parts z used r k widest narrow = within_largest z (r.size - 1) k widest.size (omega arith)
 
-Breaks-break_over : (levels : ℕ) (l : Layout) (r : Reservation) (k : ℕ) → r.size ≤ levels → IsLaid l → record_at l r.frame ≡ Some r → yield_in l.sizes (is_used l.used) r ≡ Some k → k < r.size → Breaks r k l (split_on (goes_on_at l.sizes (is_used l.used)) levels r l)
+Breaks-break_over : (levels : ℕ) (l : Layout) (r : Reservation) (k : ℕ) → r.size ≤ levels → IsLaid l → record_at l r.frame ≡ Some r
+    → yield_in l.sizes (is_used l.used) r ≡ Some k → k < r.size → Breaks r k l (split_on (goes_on_at l.sizes (is_used l.used)) levels r l)
 Breaks-break_over zero l r k le laid is yields narrow = absurd (omega arith)
 Breaks-break_over (suc levels) l r k le laid is yields narrow =
     let z = l.sizes in
@@ -178,13 +180,15 @@ Breaks-break_over (suc levels) l r k le laid is yields narrow =
     stops_at false none = refl
 
 -- a reservation that isn't full is broken
-pub Breaks-break : (l : Layout) (r : Reservation) (k : ℕ) → IsLaid l → record_at l r.frame ≡ Some r → yield_in l.sizes (is_used l.used) r ≡ Some k → Breaks r k l (break_layout r l)
+pub Breaks-break : (l : Layout) (r : Reservation) (k : ℕ) → IsLaid l → record_at l r.frame ≡ Some r
+    → yield_in l.sizes (is_used l.used) r ≡ Some k → Breaks r k l (break_layout r l)
 Breaks-break l r k laid is yields =
     let some = laid.some_used r.frame r is in
     Breaks-break_over r.size l r k (omega arith) laid is yields (yield_less l.sizes (is_used l.used) r k some.0 some.1 some.2 yields)
 
 -- breaking a reservation makes a choice for every size up to its yield
-pub choice-break : (l : Layout) (id : ℕ) (r : Reservation) (k size : ℕ) → IsLaid l → record_at l id ≡ Some r → yield_in l.sizes (is_used l.used) r ≡ Some k → size ≤ k → choice (break_layout r l).free size ≡ None → ⊥
+pub choice-break : (l : Layout) (id : ℕ) (r : Reservation) (k size : ℕ) → IsLaid l → record_at l id ≡ Some r
+    → yield_in l.sizes (is_used l.used) r ≡ Some k → size ≤ k → choice (break_layout r l).free size ≡ None → ⊥
 choice-break l id r k size laid is yields le none =
     let breaks = Breaks-break l r k laid (ap (record_at l) (laid.placed id r is).named ∙ is) yields in
     let first = breaks.freed.0 in

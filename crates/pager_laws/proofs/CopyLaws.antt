@@ -34,17 +34,23 @@ equal_again : (f g : Flat) (p : ℕ) → g.copies p ≡ f.copies p → ((i : ℕ
 equal_again f g p copies words is = record { copy = is.copy; known = copies ∙ is.known; equal = λ i. is.equal i ∙ sym (words i) }
 
 -- a page that may have been written to its copy
-written : (f g : Flat) (p : ℕ) (here : Bool) → (f.dirty p ≡ false → EqualsItsCopy f p) → ((i : ℕ) → g.words p i ≡ f.words p i) → g.copies p ≡ (if here then Some (f.words p) else f.copies p) → g.dirty p ≡ (if here then false else f.dirty p) → g.dirty p ≡ false → EqualsItsCopy g p
+written : (f g : Flat) (p : ℕ) (here : Bool) → (f.dirty p ≡ false → EqualsItsCopy f p) → ((i : ℕ) → g.words p i ≡ f.words p i)
+    → g.copies p ≡ (if here then Some (f.words p) else f.copies p) → g.dirty p ≡ (if here then false else f.dirty p) → g.dirty p ≡ false
+    → EqualsItsCopy g p
 written f g p true was words copies dirty clean = record { copy = f.words p; known = copies; equal = λ i. sym (words i) }
 written f g p false was words copies dirty clean = equal_again f g p copies words (was (sym dirty ∙ clean))
 
 -- a page that may have gone with its region
-gone : (f g : Flat) (p : ℕ) (went : Bool) → (f.dirty p ≡ false → EqualsItsCopy f p) → ((i : ℕ) → g.words p i ≡ (if went then 0 else f.words p i)) → g.copies p ≡ (if went then Some (λ i. 0) else f.copies p) → g.dirty p ≡ (if went then false else f.dirty p) → g.dirty p ≡ false → EqualsItsCopy g p
+gone : (f g : Flat) (p : ℕ) (went : Bool) → (f.dirty p ≡ false → EqualsItsCopy f p)
+    → ((i : ℕ) → g.words p i ≡ (if went then 0 else f.words p i)) → g.copies p ≡ (if went then Some (λ i. 0) else f.copies p)
+    → g.dirty p ≡ (if went then false else f.dirty p) → g.dirty p ≡ false → EqualsItsCopy g p
 gone f g p true was words copies dirty clean = record { copy = λ i. 0; known = copies; equal = λ i. sym (words i) }
 gone f g p false was words copies dirty clean = equal_again f g p copies words (was (sym dirty ∙ clean))
 
 -- a page that may have been stored to
-stored : (f g : Flat) (p word : ℕ) (lawful here : Bool) (at : ℕ → Bool) → (f.dirty p ≡ false → EqualsItsCopy f p) → ((i : ℕ) → g.words p i ≡ (if lawful && (here && at i) then word else f.words p i)) → g.copies p ≡ f.copies p → g.dirty p ≡ (if lawful && here then true else f.dirty p) → g.dirty p ≡ false → EqualsItsCopy g p
+stored : (f g : Flat) (p word : ℕ) (lawful here : Bool) (at : ℕ → Bool) → (f.dirty p ≡ false → EqualsItsCopy f p)
+    → ((i : ℕ) → g.words p i ≡ (if lawful && (here && at i) then word else f.words p i)) → g.copies p ≡ f.copies p
+    → g.dirty p ≡ (if lawful && here then true else f.dirty p) → g.dirty p ≡ false → EqualsItsCopy g p
 stored f g p word true true at was words copies dirty clean = absurd (true≢false (sym dirty ∙ clean))
 stored f g p word true false at was words copies dirty clean = equal_again f g p copies words (was (sym dirty ∙ clean))
 stored f g p word false here at was words copies dirty clean = equal_again f g p copies words (was (sym dirty ∙ clean))
@@ -72,14 +78,16 @@ copied_answered f call reply are = copied_after f call are
 -- Who came before.
 
 -- a page is resident where any entry but the unmap of its range comes next
-resident : (next : Next) (c p : ℕ) (what : What) (base : ℕ → Option ℕ) → MayGoOn next c what → ((first len : ℕ) → IsUnmapAnswer first len what → ⊥) → IsResident base p ⊎ WasCleared next p → IsResident base p
+resident : (next : Next) (c p : ℕ) (what : What) (base : ℕ → Option ℕ) → MayGoOn next c what
+    → ((first len : ℕ) → IsUnmapAnswer first len what → ⊥) → IsResident base p ⊎ WasCleared next p → IsResident base p
 resident next c p what base may other (inl is) = is
 resident Anyone c p what base may other (inr was) = absurd was
 resident (Only d) c p what base may other (inr was) = absurd was
 resident (AfterClear d first len) c p what base may other (inr was) = absurd (other first len may.1)
 
 -- and so is each dirty page
-was_there : (st : SpaceState) (c : ℕ) (what : What) → KeepsCopies st → MayGoOn st.next c what → ((first len : ℕ) → IsUnmapAnswer first len what → ⊥) → (p : ℕ) → st.flat.dirty p ≡ true → IsResident st.base p
+was_there : (st : SpaceState) (c : ℕ) (what : What) → KeepsCopies st → MayGoOn st.next c what
+    → ((first len : ℕ) → IsUnmapAnswer first len what → ⊥) → (p : ℕ) → st.flat.dirty p ≡ true → IsResident st.base p
 was_there st c what keeps may other p is = resident st.next c p what st.base may other (keeps.dirty p is)
 
 -- the unmap of a range is lawful
@@ -88,7 +96,8 @@ unmap_lawful first len (Unmap space page) Done is = refl
 unmap_lawful first len call reply is = absurd is
 
 -- after a clearing only a lawful answer comes
-lawful_next : (next : Next) (c p number : ℕ) (call : Call) (answered : Answered) → MayGoOn next c (Answer number call answered) → WasCleared next p → is_lawful answered.reply ≡ true
+lawful_next : (next : Next) (c p number : ℕ) (call : Call) (answered : Answered) → MayGoOn next c (Answer number call answered)
+    → WasCleared next p → is_lawful answered.reply ≡ true
 lawful_next Anyone c p number call answered may was = absurd was
 lawful_next (Only d) c p number call answered may was = absurd was
 lawful_next (AfterClear d first len) c p number call answered may was = unmap_lawful first len call answered.reply may.1
@@ -114,7 +123,8 @@ answered_same f call NoMemory is = refl
 answered_same f call reply is = absurd is
 
 -- and every page its frame
-pub same_base : (st : SpaceState) (frames : Bool) (call : Call) (reply : Reply) → is_lawful reply ≡ false → frames ≡ frees_its_page st call reply → (p : ℕ) → base_after_answer st.base frames call p ≡ st.base p
+pub same_base : (st : SpaceState) (frames : Bool) (call : Call) (reply : Reply) → is_lawful reply ≡ false
+    → frames ≡ frees_its_page st call reply → (p : ℕ) → base_after_answer st.base frames call p ≡ st.base p
 same_base st frames call reply none parts p = ap (λ b. base_after_answer st.base b call p) (parts ∙ sym (frees-unlawful st call reply none)) ∙ base-unnamed st.base call p
 
 -- any other does what its call does, where the flat memory has its reply and its pages
@@ -146,7 +156,9 @@ dirty_or_here true false dirty is = inl is
 dirty_or_here false here dirty is = inl is
 
 -- an evict that gives the frame up leaves its page clean
-evicted : (frames lawful here dirty : Bool) (o : Option ℕ) → (frames ≡ true → lawful ≡ true) → (if lawful && here then false else dirty) ≡ true → (dirty ≡ true → (f : ℕ) × (o ≡ Some f)) → (f : ℕ) × ((if frames && here then None else o) ≡ Some f)
+evicted : (frames lawful here dirty : Bool) (o : Option ℕ) → (frames ≡ true → lawful ≡ true)
+    → (if lawful && here then false else dirty) ≡ true → (dirty ≡ true → (f : ℕ) × (o ≡ Some f))
+    → (f : ℕ) × ((if frames && here then None else o) ≡ Some f)
 evicted false lawful here dirty o gives is was = was (still_dirty (lawful && here) dirty is).0
 evicted true true true dirty o gives is was = absurd (false≢true is)
 evicted true true false dirty o gives is was = was is
@@ -154,7 +166,9 @@ evicted true false here dirty o gives is was = absurd (false≢true (gives refl)
 
 module _ (st : SpaceState) (keeps : KeepsCopies st) (frames : Bool) (c number : ℕ) where
   -- the pages that are dirty after an answer that does what its call does
-  dirty_served : (call : Call) (answered : Answered) → MayGoOn st.next c (Answer number call answered) → IsServed st c call answered.reply → frames ≡ frees_its_page st call answered.reply → (p : ℕ) → (after_call st.flat call).dirty p ≡ true → IsResident (base_after_answer st.base frames call) p
+  dirty_served : (call : Call) (answered : Answered) → MayGoOn st.next c (Answer number call answered) → IsServed st c call answered.reply
+      → frames ≡ frees_its_page st call answered.reply → (p : ℕ) → (after_call st.flat call).dirty p ≡ true
+      → IsResident (base_after_answer st.base frames call) p
   dirty_served (Map space page len kind rights) answered may served parts p is = was_there st c _ keeps may (λ first len un. un) p is
   dirty_served (Grow space page by) answered may served parts p is = was_there st c _ keeps may (λ first len un. un) p is
   dirty_served (Unmap space page) answered may served parts p is =
@@ -177,7 +191,8 @@ module _ (st : SpaceState) (keeps : KeepsCopies st) (frames : Bool) (c number : 
       (λ before. was_there st c _ keeps may (λ first len un. un) p before)
 
   -- after one without service
-  dirty_unserved : (call : Call) (answered : Answered) → MayGoOn st.next c (Answer number call answered) → IsWithoutService answered.reply → (p : ℕ) → st.flat.dirty p ≡ true → IsResident st.base p
+  dirty_unserved : (call : Call) (answered : Answered) → MayGoOn st.next c (Answer number call answered) → IsWithoutService answered.reply
+      → (p : ℕ) → st.flat.dirty p ≡ true → IsResident st.base p
   dirty_unserved call answered may without p is =
       elim (keeps.dirty p is) [
         | inl there ↦ there
@@ -185,7 +200,9 @@ module _ (st : SpaceState) (keeps : KeepsCopies st) (frames : Bool) (c number : 
       ]
 
   -- and after any
-  dirty_answered : (call : Call) (answered : Answered) → MayGoOn st.next c (Answer number call answered) → AnswerAllowed st frames c number call answered → (p : ℕ) → (answered_flat st.flat call answered.reply).dirty p ≡ true → IsResident (base_after_answer st.base frames call) p
+  dirty_answered : (call : Call) (answered : Answered) → MayGoOn st.next c (Answer number call answered)
+      → AnswerAllowed st frames c number call answered → (p : ℕ) → (answered_flat st.flat call answered.reply).dirty p ≡ true
+      → IsResident (base_after_answer st.base frames call) p
   dirty_answered call answered may allowed p is =
       elim (answer_is st c call answered.reply allowed.reply) [
         | inl without ↦
@@ -225,7 +242,8 @@ other_copy f p page other =
 
 -- each entry that a space allows keeps the copies
 module _ (st : SpaceState) (e : Entry) (keeps : KeepsCopies st) where
-  KeepsCopies-after : (what : What) → MayGoOn st.next e.processor what → WhatAllowed st e.frames e.processor what → KeepsCopies (space_after st (record e { what = what }))
+  KeepsCopies-after : (what : What) → MayGoOn st.next e.processor what → WhatAllowed st e.frames e.processor what
+      → KeepsCopies (space_after st (record e { what = what }))
   KeepsCopies-after (Answer number call answered) may allowed =
       record {
         clean = copied_answered st.flat call answered.reply keeps.clean;

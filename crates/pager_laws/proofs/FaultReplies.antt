@@ -102,7 +102,8 @@ module _ (P : ℕ → ℕ → Type 0) where
   tells-out made (Claiming purpose victim) space page = tells-leads (is_victim victim space page) made (Emptied purpose victim) (λ _. tt)
   tells-out made doing space page = tt
 
-  tells-failure : (made : ℕ) (doing : Doing) (space page : ℕ) (writing : Bool) (count : ℕ) → P space count → TellsAt P (after_failure made doing space page writing count)
+  tells-failure : (made : ℕ) (doing : Doing) (space page : ℕ) (writing : Bool) (count : ℕ) → P space count
+      → TellsAt P (after_failure made doing space page writing count)
   tells-failure made Idle space page writing count fails = tells-leads writing made (Uncopied space page count) (λ _. fails)
   tells-failure made (Claiming purpose victim) space page writing count fails =
       tells-leads (writing && is_victim victim space page) made (Unwritten purpose victim count)
@@ -175,7 +176,9 @@ module _ (P : ℕ → ℕ → Type 0) where
 -- A place tells only faults that a store had.
 
 -- a failure that may follow
-HasFailed-now : (g : Given) (history : List Entry) (c : ℕ) (space : Option ℕ) (frames : Bool) (what : What) → MayFollow g history (record { processor = c; space = space; frames = frames; what = what }) → Fails (HasFailed g (history ++ record { processor = c; space = space; frames = frames; what = what } ∷ [])) space what
+HasFailed-now : (g : Given) (history : List Entry) (c : ℕ) (space : Option ℕ) (frames : Bool) (what : What)
+    → MayFollow g history (record { processor = c; space = space; frames = frames; what = what })
+    → Fails (HasFailed g (history ++ record { processor = c; space = space; frames = frames; what = what } ∷ [])) space what
 HasFailed-now g history c (Some s) frames (Failed page writing count) may =
     let e : Entry = record { processor = c; space = Some s; frames = frames; what = Failed page writing count } in
     let st = space_at g history s in
@@ -237,7 +240,8 @@ same_told P s n space count test tells =
     subst (λ m. P space m) (sym (eqb-true count n same.1)) (subst (λ t. P t n) (sym (eqb-true space s same.0)) tells)
 
 -- it is given at a place that tells the fault
-told_there : (P : ℕ → ℕ → Type 0) (doing : Doing) (call : Call) (space count : ℕ) → may_answer doing call (StoreFault space count) ≡ true → Tells P doing → P space count
+told_there : (P : ℕ → ℕ → Type 0) (doing : Doing) (call : Call) (space count : ℕ) → may_answer doing call (StoreFault space count) ≡ true
+    → Tells P doing → P space count
 told_there P Idle call space count may tells = absurd (not_alone call space count may)
 told_there P (Cleared s first len) call space count may tells = absurd (false≢true (and_parts (is_unmap_in s first len call) false may).1)
 told_there P (Uncopied s page n) call space count may tells = same_told P s n space count (and_parts (is_copying s page call) ((space == s) && (count == n)) may).1 tells
@@ -249,7 +253,9 @@ told_there P (Refusing wired claimed held) call space count may tells = absurd (
 told_there P doing call space count may tells = absurd (false≢true may)
 
 -- so the store had it
-HasFailed-told : (g : Given) (before : List Entry) (e : Entry) (number : ℕ) (call : Call) (answered : Answered) (space count : ℕ) → IsLegal g before → MayFollow g before e → e.what ≡ Answer number call answered → answered.reply ≡ StoreFault space count → HasFailed g before space count
+HasFailed-told : (g : Given) (before : List Entry) (e : Entry) (number : ℕ) (call : Call) (answered : Answered) (space count : ℕ)
+    → IsLegal g before → MayFollow g before e → e.what ≡ Answer number call answered → answered.reply ≡ StoreFault space count
+    → HasFailed g before space count
 HasFailed-told g before e number call answered space count legal may is told =
     let from = progress_before (progress_at g before e.processor) e may.ordered.0 may.ordered.1 in
     let p = from.0 in
@@ -260,14 +266,17 @@ HasFailed-told g before e number call answered space count legal may is told =
 
 -- Answers.
 
-served_by : (st : SpaceState) (c : ℕ) (call : Call) (reply : Reply) → ReplyAllowed st c call reply → ((space count : ℕ) → reply ≡ StoreFault space count → ⊥) → IsServed st call reply
+served_by : (st : SpaceState) (c : ℕ) (call : Call) (reply : Reply) → ReplyAllowed st c call reply
+    → ((space count : ℕ) → reply ≡ StoreFault space count → ⊥) → IsServed st call reply
 served_by st c call (NoFrames wired claimed held) allowed none = tt
 served_by st c call (StoreFault space count) allowed none = none space count refl
 served_by st c call NoMemory allowed none = tt
 served_by st c call reply allowed none = allowed.0
 
 -- an answer is allowed after the entries of its call's space before it
-allowed_answer : (g : Given) (before : List Entry) (e : Entry) (number : ℕ) (call : Call) (answered : Answered) → MayFollow g before e → e.what ≡ Answer number call answered → AnswerAllowed (space_at g before (space_of_call call)) e.frames e.processor number call answered
+allowed_answer : (g : Given) (before : List Entry) (e : Entry) (number : ℕ) (call : Call) (answered : Answered) → MayFollow g before e
+    → e.what ≡ Answer number call answered
+    → AnswerAllowed (space_at g before (space_of_call call)) e.frames e.processor number call answered
 allowed_answer g before e number call answered may is =
     let st = space_at g before (space_of_call call) in
     let named : e.space ≡ Some (space_of_call call) = subst (IsOn e.space e.frames) is may.parts in

@@ -26,7 +26,8 @@ sum_by-plus f g (x ∷ xs) =
     omega (arith, sum_by-cons (λ y. f y + g y) x xs, sum_by-cons f x xs, sum_by-cons g x xs, sum_by-plus f g xs)
 
 -- term by term one sum is at most the other
-pub sum_by-le_at : {X : Type 0} (f g : X → ℕ) (xs : List X) (d : X) → ((i : ℕ) → i < length xs → f (get_or xs i d) ≤ g (get_or xs i d)) → sum_by f xs ≤ sum_by g xs
+pub sum_by-le_at : {X : Type 0} (f g : X → ℕ) (xs : List X) (d : X) → ((i : ℕ) → i < length xs → f (get_or xs i d) ≤ g (get_or xs i d))
+    → sum_by f xs ≤ sum_by g xs
 sum_by-le_at f g [] d each = omega arith
 sum_by-le_at f g (x ∷ xs) d each =
     let head : f x ≤ g x = each 0 (omega arith) in
@@ -34,7 +35,8 @@ sum_by-le_at f g (x ∷ xs) d each =
     omega (arith, sum_by-cons f x xs, sum_by-cons g x xs, head, rest)
 
 -- term by term two sums are the same
-pub sum_by-same_at : {X : Type 0} (f g : X → ℕ) (xs : List X) (d : X) → ((i : ℕ) → i < length xs → f (get_or xs i d) ≡ g (get_or xs i d)) → sum_by f xs ≡ sum_by g xs
+pub sum_by-same_at : {X : Type 0} (f g : X → ℕ) (xs : List X) (d : X) → ((i : ℕ) → i < length xs → f (get_or xs i d) ≡ g (get_or xs i d))
+    → sum_by f xs ≡ sum_by g xs
 sum_by-same_at f g xs d each =
     let most = sum_by-le_at f g xs d (λ i known. omega (arith, each i known)) in
     let least = sum_by-le_at g f xs d (λ i known. omega (arith, each i known)) in
@@ -59,7 +61,8 @@ exchange p (x ∷ xs) fs =
     omega (arith, split, parts, rest, sum_by-cons (λ y. count_by (λ f. p f y) fs) x xs)
 
 -- the first elements that pass are as many as their indexes
-count-first_indexes : {X : Type 0} (p : X → Bool) (xs : List X) (d : X) (n : ℕ) → n ≤ length xs → count_by (λ i. p (get_or xs i d)) (range_with_len 0 n) ≡ count_by p (take n xs)
+count-first_indexes : {X : Type 0} (p : X → Bool) (xs : List X) (d : X) (n : ℕ) → n ≤ length xs
+    → count_by (λ i. p (get_or xs i d)) (range_with_len 0 n) ≡ count_by p (take n xs)
 count-first_indexes p xs d zero within = refl
 count-first_indexes p xs d (suc n) within =
     let at : ℕ → ℕ = λ i. cond (p (get_or xs i d)) 1 0 in
@@ -71,7 +74,8 @@ count-first_indexes p xs d (suc n) within =
     subst (λ k. sum_by at (range_with_len 0 k) ≡ count_by p (take k xs)) next step
 
 -- the elements that pass are as many as their indexes
-pub count-indexes : {X : Type 0} (p : X → Bool) (xs : List X) (d : X) (n : ℕ) → length xs ≡ n → count_by (λ i. p (get_or xs i d)) (range_with_len 0 n) ≡ count_by p xs
+pub count-indexes : {X : Type 0} (p : X → Bool) (xs : List X) (d : X) (n : ℕ) → length xs ≡ n
+    → count_by (λ i. p (get_or xs i d)) (range_with_len 0 n) ≡ count_by p xs
 count-indexes p xs d n long = count-first_indexes p xs d n (omega arith) ∙ ap (count_by p) (take_all n xs (omega arith))
 
 -- Frames below a number.
@@ -91,7 +95,8 @@ count-between first (suc w) n within =
     omega (arith, count-one_more fewer more (first + w) fails passes agree 0 n (omega arith) (omega arith), count-between first w n (omega arith))
 
 -- a reservation of known frames has its places
-count-places_in : (n : ℕ) (o : Option Reservation) → ((r : Reservation) → o ≡ Some r → r.frame + 8 ^ r.size ≤ n) → count_by (λ f. has_frame f o) (range_with_len 0 n) ≡ places_in o
+count-places_in : (n : ℕ) (o : Option Reservation) → ((r : Reservation) → o ≡ Some r → r.frame + 8 ^ r.size ≤ n)
+    → count_by (λ f. has_frame f o) (range_with_len 0 n) ≡ places_in o
 count-places_in n None within = count-never (range_with_len 0 n)
 count-places_in n (Some r) within = count-between r.frame (8 ^ r.size) n (within r refl)
 
@@ -109,7 +114,8 @@ weight-le true n one = omega (arith, one refl)
 weight-le false n one = omega arith
 
 -- over all frames the reservations that have each are the places
-all_places_of : (frames : ℕ) (records : List (Option Reservation)) → ((id : ℕ) (r : Reservation) → get_or records id None ≡ Some r → r.frame + 8 ^ r.size ≤ frames)
+all_places_of : (frames : ℕ) (records : List (Option Reservation))
+    → ((id : ℕ) (r : Reservation) → get_or records id None ≡ Some r → r.frame + 8 ^ r.size ≤ frames)
     → sum_by (λ f. count_by (has_frame f) records) (range_with_len 0 frames) ≡ sum_by places_in records
 all_places_of frames records within =
     exchange has_frame records (range_with_len 0 frames)
@@ -117,7 +123,8 @@ all_places_of frames records within =
     (λ i _. count-places_in frames (get_or records i None) (within i))
 
 -- where the element of one index at most passes, one is counted at most
-pub count-one_most : {X : Type 0} (p : X → Bool) (xs : List X) (d : X) → ((i j : ℕ) → p (get_or xs i d) ≡ true → p (get_or xs j d) ≡ true → i ≡ j) → count_by p xs ≤ 1
+pub count-one_most : {X : Type 0} (p : X → Bool) (xs : List X) (d : X)
+    → ((i j : ℕ) → p (get_or xs i d) ≡ true → p (get_or xs j d) ≡ true → i ≡ j) → count_by p xs ≤ 1
 count-one_most p [] d only = omega arith
 count-one_most p (x ∷ xs) d only =
     let both = sum_by-cons (λ y. weight (p y)) x xs in

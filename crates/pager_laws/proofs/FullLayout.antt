@@ -127,7 +127,8 @@ to_break-full l size laid full = at (to_break l size) refl
         absurd (none-some may.yields (sym (full.full id may.reservation may.is) ∙ may.yield_is))
 
 -- each place of a full reservation is used
-pub used-full : (l : Layout) (frame id : ℕ) (r : Reservation) → EachFull l → record_at l id ≡ Some r → has_frame frame (Some r) ≡ true → is_used l.used frame ≡ true
+pub used-full : (l : Layout) (frame id : ℕ) (r : Reservation) → EachFull l → record_at l id ≡ Some r → has_frame frame (Some r) ≡ true
+    → is_used l.used frame ≡ true
 used-full l frame id r full is has =
     let bounds = has_frame_bounds frame r has in
     let i = frame - r.frame in

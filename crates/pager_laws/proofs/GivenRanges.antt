@@ -12,14 +12,18 @@ pub give_if_used-some : (st : FrameState) (space page frame : ℕ) → frame_of 
 give_if_used-some st space page frame is = ap (λ o. cond (is_some o) (give_page st space page) st) is
 
 -- a range of such pages does
-pub give_range-none : (space : ℕ) (st : FrameState) (first len : ℕ) → ((p : ℕ) → first ≤ p → p < first + len → frame_of st space p ≡ None) → give_range st space first len ≡ st
+pub give_range-none : (space : ℕ) (st : FrameState) (first len : ℕ) → ((p : ℕ) → first ≤ p → p < first + len → frame_of st space p ≡ None)
+    → give_range st space first len ≡ st
 give_range-none space st first zero none = refl
 give_range-none space st first (suc len) none =
     ap (λ t. fold (give_if_used space) t (range_with_len (first + 1) len)) (give_if_used-none st space first (none first (omega arith) (omega arith)))
     ∙ give_range-none space st (first + 1) len (λ p low high. none p (omega arith) (omega arith))
 
 -- the lowest page with a place gives it up first
-pub give_range-lowest : (space : ℕ) (st : FrameState) (first len page : ℕ) → first ≤ page → page < first + len → ((p : ℕ) → first ≤ p → p < page → frame_of st space p ≡ None) → is_some (frame_of st space page) ≡ true → ((p : ℕ) → first ≤ p → p ≤ page → frame_of (give_page st space page) space p ≡ None) → give_range (give_page st space page) space first len ≡ give_range st space first len
+pub give_range-lowest : (space : ℕ) (st : FrameState) (first len page : ℕ) → first ≤ page → page < first + len
+    → ((p : ℕ) → first ≤ p → p < page → frame_of st space p ≡ None) → is_some (frame_of st space page) ≡ true
+    → ((p : ℕ) → first ≤ p → p ≤ page → frame_of (give_page st space page) space p ≡ None)
+    → give_range (give_page st space page) space first len ≡ give_range st space first len
 give_range-lowest space st first zero page low high none has gone = absurd (omega arith)
 give_range-lowest space st first (suc len) page low high none has gone =
     elim (cases_eq page first) [

@@ -21,7 +21,8 @@ eligible_alike : (pages : ℕ → Option Mapping) (k p q : ℕ) → p / 8 ^ k �
 eligible_alike pages k p q same = ap (λ n. eligible_with pages k (n * 8 ^ k) (pages (n * 8 ^ k))) same
 
 -- it is an extent of the size, and begins at the extent's first page
-eligible_names : (pages : ℕ → Option Mapping) (k first : ℕ) (o : Option Mapping) (t : Tile) → eligible_with pages k first o ≡ Some t → (t.extent.size ≡ k) × (t.extent.first ≡ first)
+eligible_names : (pages : ℕ → Option Mapping) (k first : ℕ) (o : Option Mapping) (t : Tile) → eligible_with pages k first o ≡ Some t
+    → (t.extent.size ≡ k) × (t.extent.first ≡ first)
 eligible_names pages k first None t is = absurd (none-some t is)
 eligible_names pages k first (Some m) t is =
     let whole = cond_some (is_eligible pages k first m) (tile_with k first m) t is in
@@ -48,7 +49,8 @@ module _ (z : SizeSet) (pages : ℕ → Option Mapping) (t : Tile) where
   ]
 
   -- and it is the largest round each of its pages
-  among_alike : (p q : ℕ) → ((j : ℕ) → t.extent.size ≤ j → j ≤ 3 → p / 8 ^ j ≡ q / 8 ^ j) → (k : ℕ) → k ≤ 3 → largest_among z pages k p ≡ Some t → largest_among z pages k q ≡ Some t
+  among_alike : (p q : ℕ) → ((j : ℕ) → t.extent.size ≤ j → j ≤ 3 → p / 8 ^ j ≡ q / 8 ^ j) → (k : ℕ) → k ≤ 3
+      → largest_among z pages k p ≡ Some t → largest_among z pages k q ≡ Some t
   among_alike p q joined zero low is = sym (eligible_alike pages 0 p q (joined 0 (among_names 0 p is).0 (omega arith))) ∙ is
   among_alike p q joined (suc k) low is =
       let same = eligible_alike pages (suc k) p q (joined (suc k) (among_names (suc k) p is).0 low) in
@@ -104,14 +106,17 @@ abbrev pub IsUsed : SizeSet → (ℕ → Option Mapping) → Option Tile → Typ
 IsUsed z pages None = Unit {0}
 IsUsed z pages (Some t) = is_tile_in z pages t ≡ true
 
-touched_kept : (z : SizeSet) (pages : ℕ → Option Mapping) (o : Option Tile) (ts : List Tile) → IsUsed z pages o → still_tiles z pages ts ≡ ts → still_tiles z pages (touched_by o ts) ≡ touched_by o ts
+touched_kept : (z : SizeSet) (pages : ℕ → Option Mapping) (o : Option Tile) (ts : List Tile) → IsUsed z pages o
+    → still_tiles z pages ts ≡ ts → still_tiles z pages (touched_by o ts) ≡ touched_by o ts
 touched_kept z pages None ts is kept = kept
 touched_kept z pages (Some t) ts is kept =
     let others = all_still (is_tile_in z pages) (λ u. not (same_tile t u)) ts (ap (list_all (is_tile_in z pages)) (sym kept) ∙ all_filtered (is_tile_in z pages) ts) in
     filter-all (is_tile_in z pages) (touched t ts) (all_taken (is_tile_in z pages) image_room (t ∷ filter (λ u. not (same_tile t u)) ts) (ap (λ b. b && list_all (is_tile_in z pages) (filter (λ u. not (same_tile t u)) ts)) is ∙ others))
 
 -- one processor used a tile, or none
-pub touched_if : (z : SizeSet) (pages : ℕ → Option Mapping) (here : Bool) (o : Option Tile) (ts : List Tile) → IsUsed z pages o → still_tiles z pages ts ≡ ts → still_tiles z pages (touched_by (if here then o else None) ts) ≡ touched_by (if here then o else None) ts
+pub touched_if : (z : SizeSet) (pages : ℕ → Option Mapping) (here : Bool) (o : Option Tile) (ts : List Tile) → IsUsed z pages o
+    → still_tiles z pages ts ≡ ts
+    → still_tiles z pages (touched_by (if here then o else None) ts) ≡ touched_by (if here then o else None) ts
 touched_if z pages true o ts is kept = touched_kept z pages o ts is kept
 touched_if z pages false o ts is kept = kept
 

@@ -141,7 +141,8 @@ module _ (z : SizeSet) where
   abbrev PlacesSized : Option Placing → Type 0
   PlacesSized o = IfSome o (λ p. KeepsSizes p.layout)
 
-  placed_sized : (stamp space page : ℕ) (want : Want) (l : Layout) (o : Option Reservation) → IsSized o → KeepsSizes l → PlacesSized (placing_in stamp space page want l o)
+  placed_sized : (stamp space page : ℕ) (want : Want) (l : Layout) (o : Option Reservation) → IsSized o → KeepsSizes l
+      → PlacesSized (placing_in stamp space page want l o)
   placed_sized stamp space page want l (Some r) one keeps =
       record { sizes = keeps.sizes; kept = All-set IsSized l.records r.frame _ one keeps.kept }
   placed_sized stamp space page want l None one keeps =
@@ -226,5 +227,6 @@ frames_keep_sizes g history =
 pub sizes-history : (g : Given) (history : List Entry) → (frames_at g history).sizes ≡ g.sizes
 sizes-history g history = (frames_keep_sizes g history).sizes
 
-pub has_size-history : (g : Given) (history : List Entry) (id : ℕ) (r : Reservation) → record_at (layout_of (frames_at g history)) id ≡ Some r → has_size g.sizes r.size ≡ true
+pub has_size-history : (g : Given) (history : List Entry) (id : ℕ) (r : Reservation)
+    → record_at (layout_of (frames_at g history)) id ≡ Some r → has_size g.sizes r.size ≡ true
 has_size-history g history id r is = sized_at g.sizes (layout_of (frames_at g history)) id r (frames_keep_sizes g history) is

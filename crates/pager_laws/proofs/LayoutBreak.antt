@@ -55,13 +55,16 @@ pub Settles-split : (l : Layout) (id : ℕ) (r : Reservation) → IsLaid l → r
 Settles-split l id r laid is = Settles-parted (part_size l.sizes r) l id r laid is (part_size-most l.sizes r)
 
 -- a part that is kept stands in the split layout
-pub record_at-part : (k : ℕ) (l : Layout) (id : ℕ) (r : Reservation) → IsLaid l → record_at l id ≡ Some r → (i : ℕ) → k ≤ r.size → i < part_count k r → kept_at k (is_used l.used) r i ≡ Some (part_at k r i) → record_at (parted k r l) (part_at k r i).frame ≡ Some (part_at k r i)
+pub record_at-part : (k : ℕ) (l : Layout) (id : ℕ) (r : Reservation) → IsLaid l → record_at l id ≡ Some r → (i : ℕ) → k ≤ r.size
+    → i < part_count k r → kept_at k (is_used l.used) r i ≡ Some (part_at k r i)
+    → record_at (parted k r l) (part_at k r i).frame ≡ Some (part_at k r i)
 record_at-part k l id r laid is i le one kept = parted_at k (is_used l.used) r l.records le (placed_own l id r laid is) (part_count k r) i one (omega arith) ∙ kept
 
 -- Breaking.
 
 -- where no part is empty each is kept
-pub kept_each : (k : ℕ) (used : ℕ → Bool) (r : Reservation) (i : ℕ) → i < part_count k r → has_empty used r k ≡ false → kept_at k used r i ≡ Some (part_at k r i)
+pub kept_each : (k : ℕ) (used : ℕ → Bool) (r : Reservation) (i : ℕ) → i < part_count k r → has_empty used r k ≡ false
+    → kept_at k used r i ≡ Some (part_at k r i)
 kept_each k used r i one none = elim (kept_at-cases k used r i) [
   | inl empty ↦
       let all = range_with_len 0 (part_count k r) in
@@ -111,7 +114,8 @@ goes_on_large z used r p goes = elim (cases_lt 0 (part_size z r)) [
 ]
 
 -- a reservation broken over some levels
-pub Settles-break_over : (levels : ℕ) (l : Layout) (id : ℕ) (r : Reservation) → IsLaid l → record_at l id ≡ Some r → Settles l (split_on (goes_on_at l.sizes (is_used l.used)) levels r l)
+pub Settles-break_over : (levels : ℕ) (l : Layout) (id : ℕ) (r : Reservation) → IsLaid l → record_at l id ≡ Some r
+    → Settles l (split_on (goes_on_at l.sizes (is_used l.used)) levels r l)
 Settles-break_over zero l id r laid is = Settles-same l laid
 Settles-break_over (suc n) l id r laid is =
     let z = l.sizes in
@@ -156,7 +160,8 @@ Falls-narrows z frame r p goes splits = elim (cases_lt 0 (part_size z r)) [
 ]
 
 -- as many levels as the size are enough
-pub split_on-enough : (next : Reservation → Option Reservation) → Falls next → (a b : ℕ) (r : Reservation) (l : Layout) → 0 < r.size → r.size ≤ a → r.size ≤ b → split_on next a r l ≡ split_on next b r l
+pub split_on-enough : (next : Reservation → Option Reservation) → Falls next → (a b : ℕ) (r : Reservation) (l : Layout) → 0 < r.size
+    → r.size ≤ a → r.size ≤ b → split_on next a r l ≡ split_on next b r l
 unfolding Falls
 split_on-enough next falls zero b r l splits low high = absurd (omega arith)
 split_on-enough next falls (suc a) zero r l splits low high = absurd (omega arith)
@@ -178,7 +183,8 @@ pub record Narrows (old new : Layout) (frame : ℕ) : Type 0 where
   pub one : alone.size ≡ 0
 
 -- the part that a narrowing names is one of the parts, and has the frame
-pub part_with-has : (k : ℕ) (l : Layout) (id frame : ℕ) (r : Reservation) → k ≤ r.size → has_frame frame (Some r) ≡ true → (i : ℕ) × (i < part_count k r) × (part_at k r i ≡ part_with k frame r) × (has_frame frame (Some (part_at k r i)) ≡ true)
+pub part_with-has : (k : ℕ) (l : Layout) (id frame : ℕ) (r : Reservation) → k ≤ r.size → has_frame frame (Some r) ≡ true
+    → (i : ℕ) × (i < part_count k r) × (part_at k r i ≡ part_with k frame r) × (has_frame frame (Some (part_at k r i)) ≡ true)
 part_with-has k l id frame r le has =
     let at = which_part k r le frame has in
     let bounds = has_frame_bounds frame (part_at k r at.0) at.2 in
@@ -186,7 +192,8 @@ part_with-has k l id frame r le has =
     (at.0, at.1, ap (part_at k r) (sym index), at.2)
 
 -- a reservation of one frame is narrowed already
-Narrows-one : (l : Layout) (id frame : ℕ) (r : Reservation) → r.size ≡ 0 → IsLaid l → record_at l id ≡ Some r → has_frame frame (Some r) ≡ true → Narrows l l frame
+Narrows-one : (l : Layout) (id frame : ℕ) (r : Reservation) → r.size ≡ 0 → IsLaid l → record_at l id ≡ Some r
+    → has_frame frame (Some r) ≡ true → Narrows l l frame
 Narrows-one l id frame r none laid is has =
     let bounds = has_frame_bounds frame r has in
     let one : 8 ^ r.size ≡ 1 = ap (λ m. 8 ^ m) none in
@@ -194,7 +201,8 @@ Narrows-one l id frame r none laid is has =
     record { settles = Settles-same l laid; alone = r; is = ap (record_at l) here ∙ is; one = none }
 
 -- a reservation narrowed over enough levels
-pub Narrows-narrow_over : (levels : ℕ) (l : Layout) (id frame : ℕ) (r : Reservation) → r.size ≤ levels → IsLaid l → record_at l id ≡ Some r → has_frame frame (Some r) ≡ true → is_used l.used frame ≡ true → Narrows l (split_on (narrows_to l.sizes frame) levels r l) frame
+pub Narrows-narrow_over : (levels : ℕ) (l : Layout) (id frame : ℕ) (r : Reservation) → r.size ≤ levels → IsLaid l → record_at l id ≡ Some r
+    → has_frame frame (Some r) ≡ true → is_used l.used frame ≡ true → Narrows l (split_on (narrows_to l.sizes frame) levels r l) frame
 Narrows-narrow_over zero l id frame r size laid is has used = Narrows-one l id frame r (omega arith) laid is has
 Narrows-narrow_over (suc n) l id frame r size laid is has used =
     let z = l.sizes in
@@ -222,5 +230,6 @@ Narrows-narrow_over (suc n) l id frame r size laid is has used =
     ]
 
 -- narrowing down to a used frame leaves a reservation of this frame alone
-pub Narrows-narrow : (l : Layout) (id frame : ℕ) (r : Reservation) → IsLaid l → record_at l id ≡ Some r → has_frame frame (Some r) ≡ true → is_used l.used frame ≡ true → Narrows l (narrow_layout frame r l) frame
+pub Narrows-narrow : (l : Layout) (id frame : ℕ) (r : Reservation) → IsLaid l → record_at l id ≡ Some r → has_frame frame (Some r) ≡ true
+    → is_used l.used frame ≡ true → Narrows l (narrow_layout frame r l) frame
 Narrows-narrow l id frame r laid is has used = Narrows-narrow_over r.size l id frame r (omega arith) laid is has used

@@ -34,7 +34,8 @@ pub record WasPlaced (old new : Layout) (space page frame : ℕ) : Type 0 where
   pub pages : (s p : ℕ) → frame_in new s p ≡ cond (eqb space s && eqb p page) (Some frame) (frame_in old s p)
 
 -- a reservation that may be put into the layout places the page
-WasPlaced-put : (l : Layout) (space page : ℕ) (q : Reservation) (free : List Bool) → MayPut l space page q free → WasPlaced l (put l q (frame_for page q) free) space page (frame_for page q)
+WasPlaced-put : (l : Layout) (space page : ℕ) (q : Reservation) (free : List Bool) → MayPut l space page q free
+    → WasPlaced l (put l q (frame_for page q) free) space page (frame_for page q)
 WasPlaced-put l space page q free may = record {
   laid = IsLaid-put l space page q free may;
   long = may.long;
@@ -49,7 +50,8 @@ WasPlaced-put l space page q free may = record {
 }
 
 -- the reservation that has the page may stand in its place with another stamp
-pub MayPut-stamped : (l : Layout) (stamp space page id : ℕ) (r : Reservation) → IsLaid l → record_at l id ≡ Some r → covers space page r ≡ true → frame_in l space page ≡ None → MayPut l space page (stamped r stamp) l.free
+pub MayPut-stamped : (l : Layout) (stamp space page id : ℕ) (r : Reservation) → IsLaid l → record_at l id ≡ Some r
+    → covers space page r ≡ true → frame_in l space page ≡ None → MayPut l space page (stamped r stamp) l.free
 MayPut-stamped l stamp space page id r laid is has none =
     let placed = laid.placed id r is in
     let named = placed.named in
@@ -72,7 +74,8 @@ MayPut-stamped l stamp space page id r laid is has none =
     }
 
 -- The reservation that a choice of free frames makes with an extent of pages that no other one has, may be put into the layout.
-module _ (l : Layout) (stamp space page : ℕ) (found : Found) (laid : IsLaid l) (is : choice l.free found.size ≡ Some found.first) (misses : Misses l space page found.size) where
+module _ (l : Layout) (stamp space page : ℕ) (found : Found) (laid : IsLaid l) (is : choice l.free found.size ≡ Some found.first)
+    (misses : Misses l space page found.size) where
   abbrev made : Reservation
   made = new_reservation stamp space page found
 
@@ -191,7 +194,9 @@ Misses-settled l from space page size settles misses id p r is has low high =
     misses was.0 p was.1 was.2 was.3 low high
 
 -- an extent that is found places the page
-WasPlaced-reserved : (l : Layout) (stamp space page : ℕ) (want : Want) (found : Found) → IsLaid l → covering space page l.records ≡ None → largest_extent (preferred_in l space page want) l ≡ Some found → WasPlaced l (reserved stamp space page found).layout space page (reserved stamp space page found).frame
+WasPlaced-reserved : (l : Layout) (stamp space page : ℕ) (want : Want) (found : Found) → IsLaid l → covering space page l.records ≡ None
+    → largest_extent (preferred_in l space page want) l ≡ Some found
+    → WasPlaced l (reserved stamp space page found).layout space page (reserved stamp space page found).frame
 WasPlaced-reserved l stamp space page want found laid none is =
     let size = preferred_in l space page want in
     let at = IsFound-largest_extent l size found laid is in
@@ -199,7 +204,8 @@ WasPlaced-reserved l stamp space page want found laid none is =
     let may = MayPut-reserved found.layout stamp space page found at.settles.laid at.is (Misses-settled l found.layout space page found.size at.settles misses) in
     WasPlaced-settled l found.layout _ space page _ at.settles (WasPlaced-put found.layout space page _ _ may)
 
-pub WasPlaced-placing : (l : Layout) (stamp space page : ℕ) (want : Want) (place : Placing) → IsLaid l → frame_in l space page ≡ None → placing stamp space page want l ≡ Some place → WasPlaced l place.layout space page place.frame
+pub WasPlaced-placing : (l : Layout) (stamp space page : ℕ) (want : Want) (place : Placing) → IsLaid l → frame_in l space page ≡ None
+    → placing stamp space page want l ≡ Some place → WasPlaced l place.layout space page place.frame
 WasPlaced-placing l stamp space page want place laid none is =
     elim (covering space page l.records) as (λ o. covering space page l.records ≡ o → placing_in stamp space page want l o ≡ Some place → WasPlaced l place.layout space page place.frame) [
       | Some r ↦ λ here h.
@@ -213,7 +219,8 @@ WasPlaced-placing l stamp space page want place laid none is =
     ] refl is
 
 -- there is no place exactly where no frame is free and every reservation is full
-pub full-placing : (l : Layout) (stamp space page : ℕ) (want : Want) → IsLaid l → frame_in l space page ≡ None → placing stamp space page want l ≡ None → is_full l ≡ true
+pub full-placing : (l : Layout) (stamp space page : ℕ) (want : Want) → IsLaid l → frame_in l space page ≡ None
+    → placing stamp space page want l ≡ None → is_full l ≡ true
 full-placing l stamp space page want laid none is =
     elim (covering space page l.records) as (λ o. placing_in stamp space page want l o ≡ None → is_full l ≡ true) [
       | Some r ↦ λ h. absurd (none-some (populated stamp page l r) (sym h))
@@ -226,7 +233,8 @@ full-placing l stamp space page want laid none is =
           ] refl h
     ] is
 
-pub placing-full : (l : Layout) (stamp space page : ℕ) (want : Want) → IsLaid l → frame_in l space page ≡ None → is_full l ≡ true → placing stamp space page want l ≡ None
+pub placing-full : (l : Layout) (stamp space page : ℕ) (want : Want) → IsLaid l → frame_in l space page ≡ None → is_full l ≡ true
+    → placing stamp space page want l ≡ None
 placing-full l stamp space page want laid none full =
     let all = EachFull-from l full in
     elim (covering space page l.records) as (λ o. covering space page l.records ≡ o → placing_in stamp space page want l o ≡ None) [

@@ -49,7 +49,8 @@ pub record Replaces (old new : Layout) (r : Reservation) (at : ℕ) : Type 0 whe
   pub one_frame : (f id other : ℕ) → has_frame f (Some r) ≡ true → has_frame f (record_at new id) ≡ true → has_frame f (record_at new other) ≡ true → id ≡ other
   pub not_free : (f id : ℕ) → has_frame f (Some r) ≡ true → is_free new f ≡ true → has_frame f (record_at new id) ≡ true → ⊥
   pub places : (f : ℕ) → has_frame f (Some r) ≡ true → is_used new.used f ≡ true → (id : ℕ) × (has_frame f (record_at new id) ≡ true)
-  pub one_page : (id other s p : ℕ) (q t : Reservation) → record_at new id ≡ Some q → record_at new other ≡ Some t → covers s p q ≡ true → covers s p t ≡ true → covers s p r ≡ true → id ≡ other
+  pub one_page : (id other s p : ℕ) (q t : Reservation) → record_at new id ≡ Some q → record_at new other ≡ Some t → covers s p q ≡ true
+      → covers s p t ≡ true → covers s p r ≡ true → id ≡ other
 
 -- who has a frame
 pub holder : (f : ℕ) (o : Option Reservation) → has_frame f o ≡ true → (q : Reservation) × (o ≡ Some q) × (has_frame f (Some q) ≡ true)

@@ -25,7 +25,8 @@ pub record Settles (old new : Layout) : Type 0 where
   pub within : (frame : ℕ) → IsIn new frame ↔ IsIn old frame
   pub pages : (space page : ℕ) → frame_in new space page ≡ frame_in old space page
   -- a reservation has no page that none had before
-  pub covered : (id space page : ℕ) (r : Reservation) → record_at new id ≡ Some r → covers space page r ≡ true → (other : ℕ) × (q : Reservation) × (record_at old other ≡ Some q) × (covers space page q ≡ true)
+  pub covered : (id space page : ℕ) (r : Reservation) → record_at new id ≡ Some r → covers space page r ≡ true
+      → (other : ℕ) × (q : Reservation) × (record_at old other ≡ Some q) × (covers space page q ≡ true)
 
 -- a reservation is in its place at its own first frame
 pub placed_own : (l : Layout) (id : ℕ) (r : Reservation) → IsLaid l → record_at l id ≡ Some r → IsPlaced (length l.records) r.frame r
@@ -37,7 +38,8 @@ pub record IsPartAt (k : ℕ) (l : Layout) (r : Reservation) (j i : ℕ) : Type 
   pub at : j ≡ (part_at k r i).frame
   pub filled : is_empty_at k (is_used l.used) r i ≡ false
 
-module _ (k : ℕ) (l new : Layout) (id : ℕ) (r : Reservation) (laid : IsLaid l) (is : record_at l id ≡ Some r) (le : k ≤ r.size) (split : IsSplit k l new r) where
+module _ (k : ℕ) (l new : Layout) (id : ℕ) (r : Reservation) (laid : IsLaid l) (is : record_at l id ≡ Some r) (le : k ≤ r.size)
+    (split : IsSplit k l new r) where
   -- the reservation is kept at its first frame
   pub named : r.frame ≡ id
   named = (laid.placed id r is).named
@@ -64,7 +66,8 @@ module _ (k : ℕ) (l new : Layout) (id : ℕ) (r : Reservation) (laid : IsLaid 
   part_stands i one filled = split.parts i one ∙ cond-false _ _ _ filled
 
   -- a record that stands then stood before and isn't the reservation, or is a part with a used place
-  pub who_stands : (j : ℕ) (q : Reservation) → record_at new j ≡ Some q → ((j ≢ id) × (record_at l j ≡ Some q)) ⊎ ((i : ℕ) × IsPartAt k l r j i × (part_at k r i ≡ q))
+  pub who_stands : (j : ℕ) (q : Reservation) → record_at new j ≡ Some q
+      → ((j ≢ id) × (record_at l j ≡ Some q)) ⊎ ((i : ℕ) × IsPartAt k l r j i × (part_at k r i ≡ q))
   who_stands j q stands = elim (find_part k r (part_count k r) j) [
     | inl at ↦ elim (cases_Bool (is_empty_at k (is_used l.used) r at.0)) [
       | inl empty ↦
@@ -84,7 +87,8 @@ module _ (k : ℕ) (l new : Layout) (id : ℕ) (r : Reservation) (laid : IsLaid 
   whole_covers s p q i one same has = covers_whole k s p i r le one (ap (covers s p) same ∙ has)
 
   -- a frame of the reservation is one of a part then
-  pub part_holds : (f j : ℕ) → has_frame f (Some r) ≡ true → has_frame f (record_at new j) ≡ true → (i : ℕ) × IsPartAt k l r j i × (has_frame f (Some (part_at k r i)) ≡ true)
+  pub part_holds : (f j : ℕ) → has_frame f (Some r) ≡ true → has_frame f (record_at new j) ≡ true
+      → (i : ℕ) × IsPartAt k l r j i × (has_frame f (Some (part_at k r i)) ≡ true)
   part_holds f j inside has =
       let w = holder f (record_at new j) has in
       elim (who_stands j w.0 w.1) [
@@ -93,14 +97,16 @@ module _ (k : ℕ) (l new : Layout) (id : ℕ) (r : Reservation) (laid : IsLaid 
       ]
 
   -- and a page of it is one of a part
-  pub part_has_page : (j s p : ℕ) (q : Reservation) → covers s p r ≡ true → record_at new j ≡ Some q → covers s p q ≡ true → (i : ℕ) × IsPartAt k l r j i × (part_at k r i ≡ q) × (covers s p (part_at k r i) ≡ true)
+  pub part_has_page : (j s p : ℕ) (q : Reservation) → covers s p r ≡ true → record_at new j ≡ Some q → covers s p q ≡ true
+      → (i : ℕ) × IsPartAt k l r j i × (part_at k r i ≡ q) × (covers s p (part_at k r i) ≡ true)
   part_has_page j s p q inside stands has = elim (who_stands j q stands) [
     | inl still ↦ absurd (still.0 (region.apart s p j q still.1 has inside))
     | inr part ↦ (part.0, part.1, part.2, ap (covers s p) part.2 ∙ has)
   ]
 
   -- a used frame of the reservation is one of a part that stands
-  pub used_stands : (f : ℕ) → has_frame f (Some r) ≡ true → is_used l.used f ≡ true → (i : ℕ) × (has_frame f (Some (part_at k r i)) ≡ true) × (record_at new (part_at k r i).frame ≡ Some (part_at k r i))
+  pub used_stands : (f : ℕ) → has_frame f (Some r) ≡ true → is_used l.used f ≡ true
+      → (i : ℕ) × (has_frame f (Some (part_at k r i)) ≡ true) × (record_at new (part_at k r i).frame ≡ Some (part_at k r i))
   used_stands f has used =
       let part = which_part k r le f has in
       (part.0, part.2, split.parts part.0 part.1 ∙ used_part k r (is_used l.used) f part.0 used part.2)
@@ -200,7 +206,8 @@ module _ (k : ℕ) (l new : Layout) (id : ℕ) (r : Reservation) (laid : IsLaid 
   ]
 
   -- no reservation has a page that none had before
-  pub covered_split : (j s p : ℕ) (q : Reservation) → record_at new j ≡ Some q → covers s p q ≡ true → (other : ℕ) × (t : Reservation) × (record_at l other ≡ Some t) × (covers s p t ≡ true)
+  pub covered_split : (j s p : ℕ) (q : Reservation) → record_at new j ≡ Some q → covers s p q ≡ true
+      → (other : ℕ) × (t : Reservation) × (record_at l other ≡ Some t) × (covers s p t ≡ true)
   covered_split j s p q stands has = elim (who_stands j q stands) [
     | inl still ↦ (j, q, still.1, has)
     | inr part ↦ (id, r, is, whole_covers s p q part.0 part.1.below part.2 has)

@@ -44,7 +44,10 @@ pub record IsKept (g : Given) (history : List Entry) : Type 0 where
 -- Entries that don't name the frames.
 
 -- what such an entry is
-alone : (P : What → Type 0) (space : Option ℕ) (what : What) → IsOn space false what → ((number : ℕ) (call : Call) (answered : Answered) → P (Answer number call answered)) → ((page : ℕ) (written : Bool) → P (Out page written)) → ((page : ℕ) (writing : Bool) (count : ℕ) → P (Failed page writing count)) → P what
+alone : (P : What → Type 0) (space : Option ℕ) (what : What) → IsOn space false what
+    → ((number : ℕ) (call : Call) (answered : Answered) → P (Answer number call answered))
+    → ((page : ℕ) (written : Bool) → P (Out page written)) → ((page : ℕ) (writing : Bool) (count : ℕ) → P (Failed page writing count))
+    → P what
 alone P space (Answer number call answered) names a o f = a number call answered
 alone P space (Out page written) names a o f = o page written
 alone P space (Failed page writing count) names a o f = f page writing count
@@ -66,7 +69,8 @@ base-alone base space what names p =
     alone (λ w. base_after base false w p ≡ base p) space what names (λ number call answered. base-unnamed base call p) (λ page written. refl) (λ page writing count. refl)
 
 -- and its processor its frame
-owns-alone : (st : FrameState) (c : ℕ) (space : Option ℕ) (what : What) → IsOn space false what → (p q : Progress) → progress_after p space what ≡ Some q → OwnsBy st c p.doing → OwnsBy st c q.doing
+owns-alone : (st : FrameState) (c : ℕ) (space : Option ℕ) (what : What) → IsOn space false what → (p q : Progress)
+    → progress_after p space what ≡ Some q → OwnsBy st c p.doing → OwnsBy st c q.doing
 owns-alone st c space what names =
     alone (λ w. (p q : Progress) → progress_after p space w ≡ Some q → OwnsBy st c p.doing → OwnsBy st c q.doing) space what names
     (λ number call answered p q. owns-answer st st c (Keeps-same st c) p q number call answered.reply)
@@ -91,7 +95,8 @@ record GoesOn (st after : FrameState) (c : ℕ) (space : Option ℕ) (what : Wha
   pub other : (s p : ℕ) → is_that s space ≡ false → frame_of after s p ≡ frame_of st s p
 
 -- the pages of a space that pass a test have this frame then, or none, and all others keep theirs
-module _ (st after : FrameState) (space : ℕ) (test : ℕ → Bool) (frame : Option ℕ) (pages : (s p : ℕ) → frame_of after s p ≡ cond (eqb space s && test p) frame (frame_of st s p)) where
+module _ (st after : FrameState) (space : ℕ) (test : ℕ → Bool) (frame : Option ℕ)
+    (pages : (s p : ℕ) → frame_of after s p ≡ cond (eqb space s && test p) frame (frame_of st s p)) where
   named_pages : (base : ℕ → Option ℕ) (s p : ℕ) → Some space ≡ Some s → base p ≡ frame_of st s p → cond (test p) frame (base p) ≡ frame_of after s p
   named_pages base s p same now =
       ap (cond (test p) frame) now ∙ sym (pages s p ∙ ap (λ b. cond (b && test p) frame (frame_of st s p)) (eq-eqb space s (same_Some space s same)))
@@ -108,7 +113,9 @@ record Takes (st : FrameState) (space page frame : ℕ) (after : FrameState) : T
   pub keeps : (d : ℕ) → Keeps st after d
   pub pages : (s p : ℕ) → frame_of after s p ≡ cond (eqb space s && eqb p page) (Some frame) (frame_of st s p)
 
-Takes-from : (frames processors : ℕ) (st : FrameState) (space page frame : ℕ) (want : Want) → IsSound frames processors st → frame_of st space page ≡ None → IsSomeAnd (take_frame st space page want) (λ t. t.frame ≡ frame) → Takes st space page frame (counted (state_taken st (take_frame st space page want)))
+Takes-from : (frames processors : ℕ) (st : FrameState) (space page frame : ℕ) (want : Want) → IsSound frames processors st
+    → frame_of st space page ≡ None → IsSomeAnd (take_frame st space page want) (λ t. t.frame ≡ frame)
+    → Takes st space page frame (counted (state_taken st (take_frame st space page want)))
 Takes-from frames processors st space page frame want sound none takes =
     elim (take_frame st space page want) as (λ o. take_frame st space page want ≡ o → IsSomeAnd o (λ t. t.frame ≡ frame) → Takes st space page frame (counted (state_taken st o))) [
       | None ↦ λ _ no. absurd no
@@ -121,7 +128,9 @@ Takes-from frames processors st space page frame want sound none takes =
     ] refl takes
 
 -- an answer that names the frames is of an evict, and its page gives its frame up
-GoesOn-answer : (frames processors : ℕ) (st : FrameState) (c space number : ℕ) (call : Call) (answered : Answered) → IsSound frames processors st → AllowsAnswer st space call → GoesOn st (counted (moved_by_answer st space call)) c (Some space) (Answer number call answered)
+GoesOn-answer : (frames processors : ℕ) (st : FrameState) (c space number : ℕ) (call : Call) (answered : Answered)
+    → IsSound frames processors st → AllowsAnswer st space call
+    → GoesOn st (counted (moved_by_answer st space call)) c (Some space) (Answer number call answered)
 GoesOn-answer frames processors st c space number (Evict t page) answered sound allowed =
     let after = give_page st space page in
     let keeps : (d : ℕ) → Keeps st (counted after) d = λ d. Keeps-move st after d (Keeps-give_page frames processors st space page allowed.0 d sound allowed.1) in
@@ -144,7 +153,8 @@ GoesOn-answer frames processors st c space number (Sync t page) answered sound a
 frame_of-claimed : (st : FrameState) (frame : ℕ) (claim : Option ℕ) (s p : ℕ) → frame_of (claimed st frame claim) s p ≡ frame_of st s p
 frame_of-claimed st frame claim s p = ap (λ l. frame_in l s p) (layout_of-claimed st frame claim)
 
-GoesOn-moved : (frames processors : ℕ) (st : FrameState) (mark c : ℕ) (space : Option ℕ) (what : What) → IsSound frames processors st → FramesAllow st mark c space what → IsOn space true what → GoesOn st (counted (moved st c space what)) c space what
+GoesOn-moved : (frames processors : ℕ) (st : FrameState) (mark c : ℕ) (space : Option ℕ) (what : What) → IsSound frames processors st
+    → FramesAllow st mark c space what → IsOn space true what → GoesOn st (counted (moved st c space what)) c space what
 GoesOn-moved frames processors st mark c None (Answer number call answered) sound allowed names = absurd (none-some _ names)
 GoesOn-moved frames processors st mark c (Some s) (Answer number call answered) sound allowed names = GoesOn-answer frames processors st c s number call answered sound allowed
 GoesOn-moved frames processors st mark c space (Out page written) sound allowed names = absurd allowed
@@ -245,7 +255,8 @@ GoesOn-moved frames processors st mark c space (Rest short) sound allowed names 
 -- One entry more.
 
 -- an entry that keeps the order comes after some progress
-pub progress_before : (before : Option Progress) (e : Entry) (q : Progress) → progress_by before e ≡ Some q → (p : Progress) × (before ≡ Some p) × (progress_after p e.space e.what ≡ Some q)
+pub progress_before : (before : Option Progress) (e : Entry) (q : Progress) → progress_by before e ≡ Some q
+    → (p : Progress) × (before ≡ Some p) × (progress_after p e.space e.what ≡ Some q)
 progress_before None e q goes = absurd (none-some q goes)
 progress_before (Some p) e q goes = (p, refl, goes)
 
@@ -255,7 +266,11 @@ names-is None s h = absurd (false≢true h)
 names-is (Some t) s h = ap Some (eqb-true t s h)
 
 -- every processor owns what its place says after an entry, where its own processor does and the others keep what they have
-owns-more : (g : Given) (h : List Entry) (e : Entry) (after : FrameState) → ((c : ℕ) (p : Progress) → progress_at g h c ≡ Some p → OwnsBy (frames_at g h) c p.doing) → ((p q : Progress) → progress_after p e.space e.what ≡ Some q → OwnsBy (frames_at g h) e.processor p.doing → OwnsBy after e.processor q.doing) → ((d : ℕ) → d ≢ e.processor → Keeps (frames_at g h) after d) → (c : ℕ) (q : Progress) → progress_at g (h ++ e ∷ []) c ≡ Some q → OwnsBy after c q.doing
+owns-more : (g : Given) (h : List Entry) (e : Entry) (after : FrameState)
+    → ((c : ℕ) (p : Progress) → progress_at g h c ≡ Some p → OwnsBy (frames_at g h) c p.doing)
+    → ((p q : Progress) → progress_after p e.space e.what ≡ Some q → OwnsBy (frames_at g h) e.processor p.doing → OwnsBy after e.processor q.doing)
+    → ((d : ℕ) → d ≢ e.processor → Keeps (frames_at g h) after d) → (c : ℕ) (q : Progress) → progress_at g (h ++ e ∷ []) c ≡ Some q
+    → OwnsBy after c q.doing
 owns-more g h e after owned own others c q goes =
     elim (is_of c e) as (λ b. is_of c e ≡ b → OwnsBy after c q.doing) [
       | true ↦ λ mine.
@@ -268,7 +283,9 @@ owns-more g h e after owned own others c q goes =
     ] refl
 
 -- each entry that may follow keeps what is kept
-IsKept-more : (g : Given) (h : List Entry) (c : ℕ) (space : Option ℕ) (frames : Bool) (what : What) → IsKept g h → MayFollow g h (record { processor = c; space = space; frames = frames; what = what }) → IsKept g (h ++ record { processor = c; space = space; frames = frames; what = what } ∷ [])
+IsKept-more : (g : Given) (h : List Entry) (c : ℕ) (space : Option ℕ) (frames : Bool) (what : What) → IsKept g h
+    → MayFollow g h (record { processor = c; space = space; frames = frames; what = what })
+    → IsKept g (h ++ record { processor = c; space = space; frames = frames; what = what } ∷ [])
 IsKept-more g h c space false what kept may =
     let e : Entry = record { processor = c; space = space; frames = false; what = what } in
     let st = frames_at g h in
@@ -345,7 +362,8 @@ pub Agrees-legal : (g : Given) (history : List Entry) → IsLegal g history → 
 Agrees-legal g history legal = λ s page _. (IsKept-legal g history legal).agrees s page
 
 -- each processor claims and holds what its place says
-pub OwnsBy-legal : (g : Given) (history : List Entry) → IsLegal g history → (c : ℕ) (p : Progress) → c < length g.marks → progress_at g history c ≡ Some p → OwnsBy (frames_at g history) c p.doing
+pub OwnsBy-legal : (g : Given) (history : List Entry) → IsLegal g history → (c : ℕ) (p : Progress) → c < length g.marks
+    → progress_at g history c ≡ Some p → OwnsBy (frames_at g history) c p.doing
 OwnsBy-legal g history legal c p known is = (IsKept-legal g history legal).owns c p is
 
 -- where each list is whole nobody claims or holds a frame

@@ -5,7 +5,8 @@ use Rattle.pager_model.specs.declared.entry.Entry.{Entry}
 use Rattle.pager_model.specs.Legal.{MayFollow, AllFollow, IsLegal}
 use Rattle.pager_model.specs.Settings.{Given}
 
-AllFollow-at : (g : Given) (first before after : List Entry) (e : Entry) → AllFollow g first (before ++ e ∷ after) → AllFollow g first before × MayFollow g (first ++ before) e
+AllFollow-at : (g : Given) (first before after : List Entry) (e : Entry) → AllFollow g first (before ++ e ∷ after)
+    → AllFollow g first before × MayFollow g (first ++ before) e
 AllFollow-at g first [] after e all = (tt, subst (λ l. MayFollow g l e) (sym (append-nil first)) all.0)
 AllFollow-at g first (x ∷ before) after e all =
     let rest = AllFollow-at g (first ++ x ∷ []) before after e all.1 in

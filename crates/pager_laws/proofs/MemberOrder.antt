@@ -1,9 +1,7 @@
--- Members go into a list in any order, and out again.
-use Rattle.std.proofs.Common.{◌≡◌, ◌≢◌, true, false, not, cond, eqb, List, [], ◌∷◌, refl, sym, ap, ◌∙◌}
-use Rattle.std.specs.List.{All}
-use Rattle.std.proofs.lemmas.Bool.{false≢true, eq-eqb, ne_eqb, and_from, and_right, cond-true, cond-false}
-use Rattle.std.proofs.lemmas.List.Elements.{All-head, All-tail}
-use Rattle.pager_model.specs.Ages.{Member, is_before, same_member, with_member, without_member}
+-- Members go into a list in any order.
+use Rattle.std.proofs.Common.{◌≡◌, true, false, cond, List, [], ◌∷◌, refl, sym, ap, ◌∙◌}
+use Rattle.std.proofs.lemmas.Bool.{false≢true, cond-true, cond-false}
+use Rattle.pager_model.specs.Ages.{Member, is_before, with_member}
 use Rattle.pager_model.proofs.AgeOrder.{is_before-other, is_before-later, is_before-same}
 
 -- two members before a list stand in their order, whichever goes in first
@@ -25,7 +23,8 @@ pub with_member-behind : (new m : Member) (ms : List Member) → is_before new m
 with_member-behind new m ms behind = cond-false _ _ _ behind
 
 -- one member is before the head, and one isn't: both go in where they would alone
-one_before : (a b m : Member) (ms : List Member) → is_before a m ≡ true → is_before b m ≡ false → with_member a (with_member b (m ∷ ms)) ≡ with_member b (with_member a (m ∷ ms))
+one_before : (a b m : Member) (ms : List Member) → is_before a m ≡ true → is_before b m ≡ false
+    → with_member a (with_member b (m ∷ ms)) ≡ with_member b (with_member a (m ∷ ms))
 one_before a b m ms before behind =
     let later : is_before b a ≡ false = elim (is_before b a) as (λ v. is_before b a ≡ v → v ≡ false) [
       | true ↦ λ is. absurd (false≢true (sym behind ∙ is_before-later b a m is before))
@@ -61,34 +60,3 @@ with_member-swap a b (m ∷ ms) =
             ∙ ap (with_member b) (sym (with_member-behind a m ms a_behind))
       ] refl
     ] refl
-
-same_member-self : (m : Member) → same_member m m ≡ true
-same_member-self m = and_from _ _ (eq-eqb m.stamp m.stamp refl) (eq-eqb m.frame m.frame refl)
-
-same_member-other : (gone m : Member) → m.frame ≢ gone.frame → same_member gone m ≡ false
-same_member-other gone m other = and_right (eqb gone.stamp m.stamp) _ (ne_eqb _ _ (λ same. other (sym same)))
-
--- the member that goes out is the first, or another is
-without_member-here : (m : Member) (ms : List Member) → without_member m (m ∷ ms) ≡ without_member m ms
-without_member-here m ms = cond-false _ _ _ (ap not (same_member-self m))
-
-without_member-behind : (gone m : Member) (ms : List Member) → m.frame ≢ gone.frame → without_member gone (m ∷ ms) ≡ m ∷ without_member gone ms
-without_member-behind gone m ms other = cond-true _ _ _ (ap not (same_member-other gone m other))
-
--- nothing goes out of a list without a member of the frame
-pub without_member-none : (gone : Member) (ms : List Member) → All (λ m. m.frame ≢ gone.frame) ms → without_member gone ms ≡ ms
-without_member-none gone [] others = refl
-without_member-none gone (m ∷ ms) others =
-    without_member-behind gone m ms (All-head (λ n. n.frame ≢ gone.frame) m ms others)
-    ∙ ap (λ rest. m ∷ rest) (without_member-none gone ms (All-tail (λ n. n.frame ≢ gone.frame) m ms others))
-
--- a member that went into a list without one of its frame goes out of it again
-pub without_member-with : (new : Member) (ms : List Member) → All (λ m. m.frame ≢ new.frame) ms → without_member new (with_member new ms) ≡ ms
-without_member-with new [] others = without_member-here new []
-without_member-with new (m ∷ ms) others =
-    let other = All-head (λ n. n.frame ≢ new.frame) m ms others in
-    let rest = All-tail (λ n. n.frame ≢ new.frame) m ms others in
-    elim (is_before new m) as (λ v. without_member new (cond v (new ∷ (m ∷ ms)) (m ∷ with_member new ms)) ≡ m ∷ ms) [
-      | true ↦ without_member-here new (m ∷ ms) ∙ without_member-none new (m ∷ ms) others
-      | false ↦ without_member-behind new m (with_member new ms) other ∙ ap (λ tail. m ∷ tail) (without_member-with new ms rest)
-    ]

@@ -48,7 +48,8 @@ is_before-else a b other behind = elim (cases_Bool (is_before b a)) [
 ]
 
 -- where the first of a list is of another frame than a member that went in, it is before this member
-first_before : (P : Member → Type 0) (new : Member) (ms : List Member) (id : ℕ) → All P (with_member new ms) → new.frame ≢ id → oldest_in (with_member new ms) ≡ Some id → (m : Member) × P m × (m.frame ≡ id) × (is_before m new ≡ true)
+first_before : (P : Member → Type 0) (new : Member) (ms : List Member) (id : ℕ) → All P (with_member new ms) → new.frame ≢ id
+    → oldest_in (with_member new ms) ≡ Some id → (m : Member) × P m × (m.frame ≡ id) × (is_before m new ≡ true)
 first_before P new [] id all other found = absurd (other (same_Some new.frame id found))
 first_before P new (m ∷ ms) id all other found = elim (cases_Bool (is_before new m)) [
   | inl before ↦ absurd (other (same_Some new.frame id (sym (ap oldest_in (with_member-here new m ms before)) ∙ found)))
@@ -59,7 +60,9 @@ first_before P new (m ∷ ms) id all other found = elim (cases_Bool (is_before n
 ]
 
 -- the first reservation of a list is before every other one of the list
-pub oldest_in-before : (z : SizeSet) (used : List Bool) (k : ℕ) (records : List (Option Reservation)) (id other : ℕ) (r q : Reservation) → ArePlaced records → oldest_in (list_of z used k records) ≡ Some id → get_or records id None ≡ Some r → get_or records other None ≡ Some q → yield_in z (is_used used) q ≡ Some k → other ≢ id → is_before (member_of r) (member_of q) ≡ true
+pub oldest_in-before : (z : SizeSet) (used : List Bool) (k : ℕ) (records : List (Option Reservation)) (id other : ℕ) (r q : Reservation)
+    → ArePlaced records → oldest_in (list_of z used k records) ≡ Some id → get_or records id None ≡ Some r
+    → get_or records other None ≡ Some q → yield_in z (is_used used) q ≡ Some k → other ≢ id → is_before (member_of r) (member_of q) ≡ true
 oldest_in-before z used k records id other r q placed found is stands yields apart =
     let IsOf : Member → Type 0 = λ m. (s : Reservation) → get_or records m.frame None ≡ Some s → m ≡ member_of s in
     let each : All IsOf (list_of z used k records) =
@@ -80,7 +83,8 @@ oldest_from-in l k (suc count) id found =
     ] refl found
 
 -- the reservation that is broken for a size is the oldest of its list
-pub IsOldest-to_break : (st : FrameState) (size id : ℕ) (r : Reservation) → IsLaid (layout_of st) → to_break (layout_of st) size ≡ Some id → record_at (layout_of st) id ≡ Some r → IsOldest st r
+pub IsOldest-to_break : (st : FrameState) (size id : ℕ) (r : Reservation) → IsLaid (layout_of st) → to_break (layout_of st) size ≡ Some id
+    → record_at (layout_of st) id ≡ Some r → IsOldest st r
 IsOldest-to_break st size id r laid breaks is =
     let l = layout_of st in
     let list = oldest_from-in l size (3 - size) id breaks in
@@ -94,7 +98,8 @@ IsOldest-to_break st size id r laid breaks is =
 -- The others stand.
 
 -- beside the reservation that is broken each stands as it stood
-pub stands_broken : (l : Layout) (id other k : ℕ) (r q : Reservation) → IsLaid l → record_at l id ≡ Some r → yield_in l.sizes (is_used l.used) r ≡ Some k → record_at l other ≡ Some q → other ≢ id → record_at (break_layout r l) other ≡ Some q
+pub stands_broken : (l : Layout) (id other k : ℕ) (r q : Reservation) → IsLaid l → record_at l id ≡ Some r
+    → yield_in l.sizes (is_used l.used) r ≡ Some k → record_at l other ≡ Some q → other ≢ id → record_at (break_layout r l) other ≡ Some q
 stands_broken l id other k r q laid is yields stands apart =
     let breaks = Breaks-break l r k laid (ap (record_at l) (laid.placed id r is).named ∙ is) yields in
     let own = (laid.placed other q stands).named in
@@ -144,7 +149,9 @@ largest_in l (suc size) found is =
     ] is
 
 -- a reservation of the layout that the extent is found in stands beside the new one
-stands_reserved : (stamp space page id : ℕ) (found : Found) (q : Reservation) → IsLaid found.layout → choice found.layout.free found.size ≡ Some found.first → record_at found.layout id ≡ Some q → record_at (reserved stamp space page found).layout id ≡ Some q
+stands_reserved : (stamp space page id : ℕ) (found : Found) (q : Reservation) → IsLaid found.layout
+    → choice found.layout.free found.size ≡ Some found.first → record_at found.layout id ≡ Some q
+    → record_at (reserved stamp space page found).layout id ≡ Some q
 stands_reserved stamp space page id found q laid is stands =
     let l = found.layout in
     let first = found.first in
@@ -155,7 +162,8 @@ stands_reserved stamp space page id found q laid is stands =
     get_or-set_other l.records first id (Some (new_reservation stamp space page found)) None apart ∙ stands
 
 -- a reservation that gets one page more keeps its size, and the others stand
-sized_populated : (l : Layout) (stamp page id : ℕ) (c r : Reservation) → IsLaid l → record_at l id ≡ Some c → record_at l r.frame ≡ Some r → option_map (λ (q : Reservation). q.size) (record_at (populated stamp page l c).layout r.frame) ≡ Some r.size
+sized_populated : (l : Layout) (stamp page id : ℕ) (c r : Reservation) → IsLaid l → record_at l id ≡ Some c → record_at l r.frame ≡ Some r
+    → option_map (λ (q : Reservation). q.size) (record_at (populated stamp page l c).layout r.frame) ≡ Some r.size
 sized_populated l stamp page id c r laid is stood =
     let at : record_at l c.frame ≡ Some c = ap (record_at l) (laid.placed id c is).named ∙ is in
     let size_of : Option Reservation → Option ℕ = option_map (λ (q : Reservation). q.size) in
@@ -170,7 +178,9 @@ sized_populated l stamp page id c r laid is stood =
 -- Takings.
 
 -- a place for a page preempts the oldest of a list alone
-IsOldest-placing : (st : FrameState) (stamp space page : ℕ) (want : Want) (place : Placing) (r : Reservation) → IsLaid (layout_of st) → placing stamp space page want (layout_of st) ≡ Some place → record_at (layout_of st) r.frame ≡ Some r → option_map (λ (q : Reservation). q.size) (record_at place.layout r.frame) ≢ Some r.size → IsOldest st r
+IsOldest-placing : (st : FrameState) (stamp space page : ℕ) (want : Want) (place : Placing) (r : Reservation) → IsLaid (layout_of st)
+    → placing stamp space page want (layout_of st) ≡ Some place → record_at (layout_of st) r.frame ≡ Some r
+    → option_map (λ (q : Reservation). q.size) (record_at place.layout r.frame) ≢ Some r.size → IsOldest st r
 unfolding IsFoundIn
 IsOldest-placing st stamp space page want place r laid is stood gone =
     let l = layout_of st in
@@ -204,7 +214,9 @@ IsOldest-placing st stamp space page want place r laid is stood gone =
     ] refl is
 
 -- so does a taking
-IsOldest-taken : (st : FrameState) (space page : ℕ) (want : Want) (P : Taking → Type 0) (r : Reservation) → IsLaid (layout_of st) → IsSomeAnd (take_frame st space page want) P → IsPreempted st (counted (state_taken st (take_frame st space page want))) r → IsOldest st r
+IsOldest-taken : (st : FrameState) (space page : ℕ) (want : Want) (P : Taking → Type 0) (r : Reservation) → IsLaid (layout_of st)
+    → IsSomeAnd (take_frame st space page want) P → IsPreempted st (counted (state_taken st (take_frame st space page want))) r
+    → IsOldest st r
 IsOldest-taken st space page want P r laid takes preempted =
     elim (take_frame st space page want) as (λ o. take_frame st space page want ≡ o → IsSomeAnd o P → IsPreempted st (counted (state_taken st o)) r → IsOldest st r) [
       | None ↦ λ _ no _. absurd no
@@ -230,7 +242,10 @@ IsOldest-dropped st c r =
     ]
 
 -- each entry by which a page gets a frame preempts the oldest of a list alone
-IsOldest-entry : (g : Given) (h : List Entry) (c : ℕ) (space : Option ℕ) (frames : Bool) (what : What) (r : Reservation) → IsLegal g h → MayFollow g h (record { processor = c; space = space; frames = frames; what = what }) → is_taking what ≡ true → IsPreempted (frames_at g h) (frames_at g (h ++ record { processor = c; space = space; frames = frames; what = what } ∷ [])) r → IsOldest (frames_at g h) r
+IsOldest-entry : (g : Given) (h : List Entry) (c : ℕ) (space : Option ℕ) (frames : Bool) (what : What) (r : Reservation) → IsLegal g h
+    → MayFollow g h (record { processor = c; space = space; frames = frames; what = what }) → is_taking what ≡ true
+    → IsPreempted (frames_at g h) (frames_at g (h ++ record { processor = c; space = space; frames = frames; what = what } ∷ [])) r
+    → IsOldest (frames_at g h) r
 IsOldest-entry g h c space frames (Take page frame want) r legal may taking preempted =
     let e : Entry = record { processor = c; space = space; frames = frames; what = Take page frame want } in
     let st = frames_at g h in

@@ -14,7 +14,8 @@ use Rattle.pager_model.specs.Order.Doing.{Idle, Looking, Filling, Unfilling, Cla
 use Rattle.pager_laws.proofs.Owners.{Keeps, Keeps-owns}
 
 -- where an entry leads, its test holds
-leads_to : (P : Doing → Type 0) (holds : Bool) (made : ℕ) (doing : Doing) (q : Progress) → leads holds made doing ≡ Some q → (holds ≡ true → P doing) → P q.doing
+leads_to : (P : Doing → Type 0) (holds : Bool) (made : ℕ) (doing : Doing) (q : Progress) → leads holds made doing ≡ Some q
+    → (holds ≡ true → P doing) → P q.doing
 leads_to P true made doing q is at = subst (λ (p : Progress). P p.doing) (same_Some (record { made = made; doing = doing }) q is) (at refl)
 leads_to P false made doing q is at = absurd (none-some q is)
 
@@ -31,29 +32,35 @@ module _ (st after : FrameState) (c : ℕ) (keeps : Keeps st after c) where
   owns-idle (Holding purpose victim) call reply may owns = absurd (false≢true may)
   owns-idle doing call reply may owns = keeps.nothing owns
 
-  pub owns-answer : (p q : Progress) (number : ℕ) (call : Call) (reply : Reply) → after_answer p number call reply ≡ Some q → OwnsBy st c p.doing → OwnsBy after c q.doing
+  pub owns-answer : (p q : Progress) (number : ℕ) (call : Call) (reply : Reply) → after_answer p number call reply ≡ Some q
+      → OwnsBy st c p.doing → OwnsBy after c q.doing
   owns-answer p q number call reply is owns =
       leads_to (OwnsBy after c) (eqb number p.made && may_answer p.doing call reply) (p.made + 1) Idle q is (λ may. owns-idle p.doing call reply (and_parts _ _ may).1 owns)
 
-  pub owns-take : (made : ℕ) (doing : Doing) (q : Progress) (space page frame : ℕ) → after_take made doing space page frame ≡ Some q → OwnsBy st c doing → OwnsBy after c q.doing
+  pub owns-take : (made : ℕ) (doing : Doing) (q : Progress) (space page frame : ℕ) → after_take made doing space page frame ≡ Some q
+      → OwnsBy st c doing → OwnsBy after c q.doing
   owns-take made Idle q space page frame is owns = leads_to (OwnsBy after c) true made _ q is (λ _. keeps.nothing owns)
   owns-take made doing q space page frame is owns = absurd (none-some q is)
 
-  pub owns-clear : (made : ℕ) (doing : Doing) (q : Progress) (space first len : ℕ) → after_clear made doing space first len ≡ Some q → OwnsBy st c doing → OwnsBy after c q.doing
+  pub owns-clear : (made : ℕ) (doing : Doing) (q : Progress) (space first len : ℕ) → after_clear made doing space first len ≡ Some q
+      → OwnsBy st c doing → OwnsBy after c q.doing
   owns-clear made Idle q space first len is owns = leads_to (OwnsBy after c) true made _ q is (λ _. keeps.nothing owns)
   owns-clear made doing q space first len is owns = absurd (none-some q is)
 
-  pub owns-out : (made : ℕ) (doing : Doing) (q : Progress) (space page : ℕ) → after_out made doing space page ≡ Some q → OwnsBy st c doing → OwnsBy after c q.doing
+  pub owns-out : (made : ℕ) (doing : Doing) (q : Progress) (space page : ℕ) → after_out made doing space page ≡ Some q → OwnsBy st c doing
+      → OwnsBy after c q.doing
   owns-out made (Claiming purpose victim) q space page is owns = leads_to (OwnsBy after c) _ made _ q is (λ _. Keeps-owns st after c false (Some victim) keeps owns)
   owns-out made doing q space page is owns = absurd (none-some q is)
 
-  pub owns-failure : (made : ℕ) (doing : Doing) (q : Progress) (space page : ℕ) (writing : Bool) (count : ℕ) → after_failure made doing space page writing count ≡ Some q → OwnsBy st c doing → OwnsBy after c q.doing
+  pub owns-failure : (made : ℕ) (doing : Doing) (q : Progress) (space page : ℕ) (writing : Bool) (count : ℕ)
+      → after_failure made doing space page writing count ≡ Some q → OwnsBy st c doing → OwnsBy after c q.doing
   owns-failure made Idle q space page writing count is owns = leads_to (OwnsBy after c) _ made _ q is (λ _. keeps.nothing owns)
   owns-failure made (Claiming purpose victim) q space page writing count is owns = leads_to (OwnsBy after c) _ made _ q is (λ _. Keeps-owns st after c false (Some victim) keeps owns)
   owns-failure made (Filling a frame) q space page writing count is owns = leads_to (OwnsBy after c) _ made _ q is (λ _. keeps.nothing owns)
   owns-failure made doing q space page writing count is owns = absurd (none-some q is)
 
-  pub owns-refusal : (made : ℕ) (doing : Doing) (q : Progress) (wired claimed held : ℕ) → after_refusal made doing wired claimed held ≡ Some q → OwnsBy st c doing → OwnsBy after c q.doing
+  pub owns-refusal : (made : ℕ) (doing : Doing) (q : Progress) (wired claimed held : ℕ) → after_refusal made doing wired claimed held ≡ Some q
+      → OwnsBy st c doing → OwnsBy after c q.doing
   owns-refusal made Idle q wired claimed held is owns = leads_to (OwnsBy after c) true made _ q is (λ _. keeps.nothing owns)
   owns-refusal made doing q wired claimed held is owns = absurd (none-some q is)
 
@@ -62,7 +69,9 @@ module _ (st after : FrameState) (c : ℕ) (keeps : Keeps st after c) where
   owns-rest made doing q short is owns = absurd (none-some q is)
 
   -- a victim's page gives its frame up, and the frame is held
-  pub owns-give : (made : ℕ) (doing : Doing) (q : Progress) (space page frame : ℕ) → after_give made doing space page frame ≡ Some q → ((victim : Victim) → frame ≡ victim.frame → ClaimsOrHolds st c victim → held_by after c ≡ Some victim.frame) → OwnsBy st c doing → OwnsBy after c q.doing
+  pub owns-give : (made : ℕ) (doing : Doing) (q : Progress) (space page frame : ℕ) → after_give made doing space page frame ≡ Some q
+      → ((victim : Victim) → frame ≡ victim.frame → ClaimsOrHolds st c victim → held_by after c ≡ Some victim.frame) → OwnsBy st c doing
+      → OwnsBy after c q.doing
   owns-give made (Unfilling a own count) q space page frame is held owns = leads_to (OwnsBy after c) _ made _ q is (λ _. keeps.nothing owns)
   owns-give made (Emptied purpose victim) q space page frame is held owns =
       leads_to (OwnsBy after c) (is_victim victim space page && eqb frame victim.frame) made (Holding purpose victim) q is
@@ -70,41 +79,49 @@ module _ (st after : FrameState) (c : ℕ) (keeps : Keeps st after c) where
   owns-give made doing q space page frame is held owns = absurd (none-some q is)
 
 -- A processor claims its victim.
-pub owns-claim : (after : FrameState) (c made : ℕ) (doing : Doing) (q : Progress) (space : Option ℕ) (victim : Victim) (need : Option Need) → after_claim made doing space victim need ≡ Some q → ClaimsOrHolds after c victim → OwnsBy after c q.doing
+pub owns-claim : (after : FrameState) (c made : ℕ) (doing : Doing) (q : Progress) (space : Option ℕ) (victim : Victim) (need : Option Need)
+    → after_claim made doing space victim need ≡ Some q → ClaimsOrHolds after c victim → OwnsBy after c q.doing
 owns-claim after c made Idle q (Some space) victim (Some need) is claims = leads_to (OwnsBy after c) true made _ q is (λ _. claims)
 owns-claim after c made (Looking mark evictions) q None victim None is claims = leads_to (OwnsBy after c) _ made _ q is (λ _. claims)
 owns-claim after c made doing q space victim need is claims = absurd (none-some q is)
 
 -- its victim's frame came to its hand
-pub owns-got : (after : FrameState) (c made : ℕ) (doing : Doing) (q : Progress) (frame : ℕ) → after_got made doing frame ≡ Some q → held_by after c ≡ Some frame → OwnsBy after c q.doing
+pub owns-got : (after : FrameState) (c made : ℕ) (doing : Doing) (q : Progress) (frame : ℕ) → after_got made doing frame ≡ Some q
+    → held_by after c ≡ Some frame → OwnsBy after c q.doing
 owns-got after c made (Claiming purpose victim) q frame is holds =
     leads_to (OwnsBy after c) (eqb frame victim.frame) made (Holding purpose victim) q is (λ test. holds ∙ ap Some (eqb-true frame victim.frame test))
 owns-got after c made doing q frame is holds = absurd (none-some q is)
 
 -- Entries after which the processor has nothing.
 
-pub owns-use : (after : FrameState) (c made : ℕ) (doing : Doing) (q : Progress) (space page frame : ℕ) → after_use made doing space page frame ≡ Some q → HasNothing after c → OwnsBy after c q.doing
+pub owns-use : (after : FrameState) (c made : ℕ) (doing : Doing) (q : Progress) (space page frame : ℕ)
+    → after_use made doing space page frame ≡ Some q → HasNothing after c → OwnsBy after c q.doing
 owns-use after c made (Holding (ForAccess a) victim) q space page frame is nothing = leads_to (OwnsBy after c) _ made _ q is (λ _. nothing)
 owns-use after c made doing q space page frame is nothing = absurd (none-some q is)
 
-owns-dropped : (after : FrameState) (c made : ℕ) (purpose : Purpose) (q : Progress) → dropped_for made purpose ≡ Some q → HasNothing after c → OwnsBy after c q.doing
+owns-dropped : (after : FrameState) (c made : ℕ) (purpose : Purpose) (q : Progress) → dropped_for made purpose ≡ Some q → HasNothing after c
+    → OwnsBy after c q.doing
 owns-dropped after c made (ForAccess a) q is nothing = leads_to (OwnsBy after c) true made _ q is (λ _. nothing)
 owns-dropped after c made (ForTurn mark evictions) q is nothing = leads_to (OwnsBy after c) true made _ q is (λ _. nothing)
 
-pub owns-drop : (after : FrameState) (c made : ℕ) (doing : Doing) (q : Progress) (frame : ℕ) → after_drop made doing frame ≡ Some q → HasNothing after c → OwnsBy after c q.doing
+pub owns-drop : (after : FrameState) (c made : ℕ) (doing : Doing) (q : Progress) (frame : ℕ) → after_drop made doing frame ≡ Some q
+    → HasNothing after c → OwnsBy after c q.doing
 owns-drop after c made (Holding purpose victim) q frame is nothing =
     then_leads (OwnsBy after c q.doing) (eqb frame victim.frame) (dropped_for made purpose) q is (λ _ goes. owns-dropped after c made purpose q goes nothing)
 owns-drop after c made doing q frame is nothing = absurd (none-some q is)
 
-owns-lacking : (after : FrameState) (c made : ℕ) (purpose : Purpose) (q : Progress) (space : ℕ) → lacking_for made purpose space ≡ Some q → HasNothing after c → OwnsBy after c q.doing
+owns-lacking : (after : FrameState) (c made : ℕ) (purpose : Purpose) (q : Progress) (space : ℕ) → lacking_for made purpose space ≡ Some q
+    → HasNothing after c → OwnsBy after c q.doing
 owns-lacking after c made (ForAccess a) q space is nothing = leads_to (OwnsBy after c) true made _ q is (λ _. nothing)
 owns-lacking after c made (ForTurn mark evictions) q space is nothing = leads_to (OwnsBy after c) true (made + 1) _ q is (λ _. nothing)
 
-owns-faulted : (after : FrameState) (c made : ℕ) (purpose : Purpose) (q : Progress) (space count : ℕ) → faulted_for made purpose space count ≡ Some q → HasNothing after c → OwnsBy after c q.doing
+owns-faulted : (after : FrameState) (c made : ℕ) (purpose : Purpose) (q : Progress) (space count : ℕ)
+    → faulted_for made purpose space count ≡ Some q → HasNothing after c → OwnsBy after c q.doing
 owns-faulted after c made (ForAccess a) q space count is nothing = leads_to (OwnsBy after c) true made _ q is (λ _. nothing)
 owns-faulted after c made (ForTurn mark evictions) q space count is nothing = leads_to (OwnsBy after c) true (made + 1) _ q is (λ _. nothing)
 
-pub owns-unclaim : (after : FrameState) (c made : ℕ) (doing : Doing) (q : Progress) (space frame : ℕ) → after_unclaim made doing space frame ≡ Some q → HasNothing after c → OwnsBy after c q.doing
+pub owns-unclaim : (after : FrameState) (c made : ℕ) (doing : Doing) (q : Progress) (space frame : ℕ)
+    → after_unclaim made doing space frame ≡ Some q → HasNothing after c → OwnsBy after c q.doing
 owns-unclaim after c made (Claiming purpose victim) q space frame is nothing =
     then_leads (OwnsBy after c q.doing) (eqb space victim.space && eqb frame victim.frame) (lacking_for made purpose space) q is
     (λ _ goes. owns-lacking after c made purpose q space goes nothing)

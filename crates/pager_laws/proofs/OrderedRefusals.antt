@@ -115,7 +115,8 @@ else-rest made doing short = tt
 not_else : (o : Option Progress) (q : Progress) (x : What) → IsElse o → o ≡ Some q → refusal_of q.doing ≡ Some x → ⊥
 not_else o q x other goes is = none-some x (sym (subst IsElse goes other) ∙ is)
 
-by_refusal : (made : ℕ) (doing : Doing) (wired claimed held : ℕ) (q : Progress) (x : What) → after_refusal made doing wired claimed held ≡ Some q → refusal_of q.doing ≡ Some x → Refused wired claimed held ≡ x
+by_refusal : (made : ℕ) (doing : Doing) (wired claimed held : ℕ) (q : Progress) (x : What)
+    → after_refusal made doing wired claimed held ≡ Some q → refusal_of q.doing ≡ Some x → Refused wired claimed held ≡ x
 by_refusal made Idle wired claimed held q x goes is =
     let to : Progress = record { made = made; doing = Refusing wired claimed held } in
     same_Some (Refused wired claimed held) x (ap (λ (p : Progress). refusal_of p.doing) (same_Some to q goes) ∙ is)
@@ -169,7 +170,8 @@ leads_holds : (holds : Bool) (made : ℕ) (doing : Doing) (q : Progress) → lea
 leads_holds true made doing q goes = refl
 leads_holds false made doing q goes = absurd (none-some q goes)
 
-answered_from : (p q : Progress) (number : ℕ) (call : Call) (reply : Reply) (w c h : ℕ) → after_answer p number call reply ≡ Some q → reply ≡ NoFrames w c h → refusal_of p.doing ≡ Some (Refused w c h)
+answered_from : (p q : Progress) (number : ℕ) (call : Call) (reply : Reply) (w c h : ℕ) → after_answer p number call reply ≡ Some q
+    → reply ≡ NoFrames w c h → refusal_of p.doing ≡ Some (Refused w c h)
 answered_from p q number call reply w c h goes same =
     let holds = leads_holds (eqb number p.made && may_answer p.doing call reply) (p.made + 1) Idle q goes in
     from_refusal p.doing call w c h (ap (may_answer p.doing call) (sym same) ∙ (and_parts _ _ holds).1)
@@ -177,18 +179,21 @@ answered_from p q number call reply w c h goes same =
 -- Every legal history.
 
 -- the entry is a refusal, and the frames allow it where it may follow
-allowed_refusal : (g : Given) (h : List Entry) (e : Entry) (wired claimed held : ℕ) → MayFollow g h e → e.what ≡ Refused wired claimed held → HasNothing (frames_at g h) e.processor × IsRefused (frames_at g h) wired claimed held
+allowed_refusal : (g : Given) (h : List Entry) (e : Entry) (wired claimed held : ℕ) → MayFollow g h e → e.what ≡ Refused wired claimed held
+    → HasNothing (frames_at g h) e.processor × IsRefused (frames_at g h) wired claimed held
 allowed_refusal g h e wired claimed held may what =
     let on = subst (IsOn e.space e.frames) what may.parts in
     subst (FramesAllow (frames_at g h) (mark_of g e.processor) e.processor e.space) what (may.by_frames on.1)
 
 -- so no frame can be had there
-none_to_have : (g : Given) (h : List Entry) (e : Entry) (wired claimed held : ℕ) → IsLegal g h → MayFollow g h e → e.what ≡ Refused wired claimed held → NoneToHave g.frames (frames_at g h)
+none_to_have : (g : Given) (h : List Entry) (e : Entry) (wired claimed held : ℕ) → IsLegal g h → MayFollow g h e
+    → e.what ≡ Refused wired claimed held → NoneToHave g.frames (frames_at g h)
 none_to_have g h e wired claimed held legal may what =
     NoneToHave-refused g.frames (length g.marks) (frames_at g h) wired claimed held (IsKept-legal g h legal).sound (allowed_refusal g h e wired claimed held may what).1
 
 -- and its numbers sum to all frames
-out_of_frames : (g : Given) (h : List Entry) (e : Entry) (wired claimed held : ℕ) → IsLegal g h → MayFollow g h e → e.what ≡ Refused wired claimed held → IsOutOfFrames g (frames_at g h) wired claimed held
+out_of_frames : (g : Given) (h : List Entry) (e : Entry) (wired claimed held : ℕ) → IsLegal g h → MayFollow g h e
+    → e.what ≡ Refused wired claimed held → IsOutOfFrames g (frames_at g h) wired claimed held
 out_of_frames g h e wired claimed held legal may what =
     let allowed = allowed_refusal g h e wired claimed held may what in
     IsOutOfFrames-refused g (frames_at g h) e.processor wired claimed held (IsKept-legal g h legal).sound may.processor allowed.0 allowed.1

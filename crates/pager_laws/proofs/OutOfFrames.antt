@@ -18,7 +18,8 @@ use Rattle.pager_laws.proofs.RefusedFrames.{NoneToHave-refused}
 use Rattle.pager_laws.proofs.StateSoundness.{used_if_noted}
 
 -- a kept place is wired or claimed, and not both where no wired place is claimed
-one_kept : (o : Option Used) → is_kept_place o ≡ true → ((c : ℕ) → claim_in o ≡ Some c → is_wired_place o ≡ false) → weight (is_wired_place o) + weight (is_claimed_place o) ≡ 1
+one_kept : (o : Option Used) → is_kept_place o ≡ true → ((c : ℕ) → claim_in o ≡ Some c → is_wired_place o ≡ false)
+    → weight (is_wired_place o) + weight (is_claimed_place o) ≡ 1
 one_kept None kept apart = absurd (false≢true kept)
 one_kept (Some u) kept apart = by_claim u.wired u.claim kept apart
   where
@@ -38,7 +39,8 @@ module _ (frames processors : ℕ) (st : FrameState) (sound : IsSound frames pro
       at (Some u) is = absurd ((sound.held_apart c f holds).1 (inr (sound.laid.places f (used_if_noted st f (λ none. none-some u (sym none ∙ is))))))
 
   -- where none can be had a frame is wired, claimed or held, in one way alone
-  one_way : (f : ℕ) → f < frames → NoneToHave frames st → weight (is_wired_place (used_at st f)) + weight (is_claimed_place (used_at st f)) + count_by (is_that f) st.held ≡ 1
+  one_way : (f : ℕ) → f < frames → NoneToHave frames st
+      → weight (is_wired_place (used_at st f)) + weight (is_claimed_place (used_at st f)) + count_by (is_that f) st.held ≡ 1
   one_way f known none = elim (none f known) [
     | inl holds ↦
         let unused = unused_if_held holds.0 f holds.1 in
@@ -130,7 +132,8 @@ module _ (frames processors : ℕ) (st : FrameState) (sound : IsSound frames pro
       omega (arith, each, sum_by-ones cs, length-range_with_len 0 processors, all_claims, all_holders, own, parts, more_parts)
 
 -- a refusal that the frames allow
-pub IsOutOfFrames-refused : (g : Given) (st : FrameState) (c wired claimed held : ℕ) → IsSound g.frames (length g.marks) st → c < length g.marks → HasNothing st c → IsRefused st wired claimed held → IsOutOfFrames g st wired claimed held
+pub IsOutOfFrames-refused : (g : Given) (st : FrameState) (c wired claimed held : ℕ) → IsSound g.frames (length g.marks) st
+    → c < length g.marks → HasNothing st c → IsRefused st wired claimed held → IsOutOfFrames g st wired claimed held
 IsOutOfFrames-refused g st c wired claimed held sound known nothing refused =
     let none = NoneToHave-refused g.frames (length g.marks) st wired claimed held sound refused in
     let all = all_kept g.frames (length g.marks) st sound none in

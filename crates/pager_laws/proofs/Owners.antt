@@ -21,10 +21,12 @@ use Rattle.pager_laws.proofs.StateSoundness.{used_if_noted, claim_from, claim_ta
 pub record Keeps (st after : FrameState) (c : ℕ) : Type 0 where
   pub nothing : HasNothing st c → HasNothing after c
   pub holds : (f : ℕ) → held_by st c ≡ Some f → held_by after c ≡ Some f
-  pub claims : (f s p : ℕ) → claim_in (used_at st f) ≡ Some c → frame_of st s p ≡ Some f → (held_by after c ≡ Some f) ⊎ ((claim_in (used_at after f) ≡ Some c) × (frame_of after s p ≡ Some f))
+  pub claims : (f s p : ℕ) → claim_in (used_at st f) ≡ Some c → frame_of st s p ≡ Some f
+      → (held_by after c ≡ Some f) ⊎ ((claim_in (used_at after f) ≡ Some c) × (frame_of after s p ≡ Some f))
 
 -- so what it owns it still owns
-pub Keeps-owns : (st after : FrameState) (c : ℕ) (holding : Bool) (victim : Option Victim) → Keeps st after c → OwnsVictim st c holding victim → OwnsVictim after c holding victim
+pub Keeps-owns : (st after : FrameState) (c : ℕ) (holding : Bool) (victim : Option Victim) → Keeps st after c
+    → OwnsVictim st c holding victim → OwnsVictim after c holding victim
 Keeps-owns st after c true None keeps owns = keeps.nothing owns
 Keeps-owns st after c false None keeps owns = keeps.nothing owns
 Keeps-owns st after c true (Some victim) keeps owns = keeps.holds victim.frame owns
@@ -56,7 +58,8 @@ Keeps-counted st c = record { nothing = HasNothing-counted st c; holds = λ f ho
 
 -- Taking.
 
-Keeps-taken : (st : FrameState) (space page : ℕ) (want : Want) (place : Placing) (c : ℕ) → frame_of st space page ≡ None → WasPlaced (layout_of st) place.layout space page place.frame → Keeps st (taken st want place) c
+Keeps-taken : (st : FrameState) (space page : ℕ) (want : Want) (place : Placing) (c : ℕ) → frame_of st space page ≡ None
+    → WasPlaced (layout_of st) place.layout space page place.frame → Keeps st (taken st want place) c
 Keeps-taken st space page want place c none places = record {
   nothing = λ nothing. record {
     holds_none = nothing.holds_none;
@@ -80,7 +83,8 @@ Keeps-taken st space page want place c none places = record {
       inr (ap claim_in (get_or-set_other st.used place.frame f _ None other) ∙ claims, still ∙ is);
 }
 
-pub Keeps-take : (frames processors : ℕ) (st : FrameState) (space page : ℕ) (want : Want) (t : Taking) (c : ℕ) → IsSound frames processors st → frame_of st space page ≡ None → take_frame st space page want ≡ Some t → Keeps st t.state c
+pub Keeps-take : (frames processors : ℕ) (st : FrameState) (space page : ℕ) (want : Want) (t : Taking) (c : ℕ)
+    → IsSound frames processors st → frame_of st space page ≡ None → take_frame st space page want ≡ Some t → Keeps st t.state c
 Keeps-take frames processors st space page want t c sound none takes =
     let found = taking_from st want (placing st.entries space page want (layout_of st)) t takes in
     let places = WasPlaced-placing (layout_of st) st.entries space page want found.0 sound.laid none found.1 in
@@ -89,14 +93,16 @@ Keeps-take frames processors st space page want t c sound none takes =
 -- Giving.
 
 -- who claimed the frame holds it, and nobody else's hand changes
-held_given-own : (o : Option ℕ) (frame : ℕ) (held : List (Option ℕ)) (c : ℕ) → o ≡ Some c → c < length held → get_or (held_given o frame held) c None ≡ Some frame
+held_given-own : (o : Option ℕ) (frame : ℕ) (held : List (Option ℕ)) (c : ℕ) → o ≡ Some c → c < length held
+    → get_or (held_given o frame held) c None ≡ Some frame
 held_given-own o frame held c is known = ap (λ p. get_or (held_given p frame held) c None) is ∙ get_or-set_same held c (Some frame) None known
 
 held_given-other : (o : Option ℕ) (frame : ℕ) (held : List (Option ℕ)) (c : ℕ) → (o ≡ Some c → ⊥) → get_or (held_given o frame held) c None ≡ get_or held c None
 held_given-other None frame held c other = refl
 held_given-other (Some d) frame held c other = get_or-set_other held d c (Some frame) None (λ same. other (ap Some (sym same)))
 
-module _ (frames processors : ℕ) (st : FrameState) (space page frame c : ℕ) (sound : IsSound frames processors st) (is : frame_of st space page ≡ Some frame) where
+module _ (frames processors : ℕ) (st : FrameState) (space page frame c : ℕ) (sound : IsSound frames processors st)
+    (is : frame_of st space page ≡ Some frame) where
   gives : GivesPage st (give_page st space page) frame
   gives = GivesPage-give_page st space page frame sound.laid is
 
@@ -140,7 +146,8 @@ Keeps-give_if_used frames processors st space page c sound = by_place (frame_of 
     by_place None none = subst (λ o. Keeps st (cond (is_some o) (give_page st space page) st) c) (sym none) (Keeps-same st c)
     by_place (Some frame) is = subst (λ o. Keeps st (cond (is_some o) (give_page st space page) st) c) (sym is) (Keeps-give_page frames processors st space page frame c sound is)
 
-pub Keeps-give_each : (frames processors : ℕ) (space : ℕ) (pages : List ℕ) (st : FrameState) (c : ℕ) → IsSound frames processors st → Keeps st (fold (give_if_used space) st pages) c
+pub Keeps-give_each : (frames processors : ℕ) (space : ℕ) (pages : List ℕ) (st : FrameState) (c : ℕ) → IsSound frames processors st
+    → Keeps st (fold (give_if_used space) st pages) c
 Keeps-give_each frames processors space [] st c sound = Keeps-same st c
 Keeps-give_each frames processors space (page ∷ pages) st c sound =
     let next = give_if_used space st page in
@@ -150,7 +157,8 @@ Keeps-give_each frames processors space (page ∷ pages) st c sound =
 -- Claiming.
 
 -- a claim, or the end of one, of a frame that isn't this processor's
-Keeps-reclaimed : (st : FrameState) (frame : ℕ) (claim : Option ℕ) (c : ℕ) → (claim ≡ Some c → ⊥) → (claim_in (used_at st frame) ≡ Some c → ⊥) → Keeps st (claimed st frame claim) c
+Keeps-reclaimed : (st : FrameState) (frame : ℕ) (claim : Option ℕ) (c : ℕ) → (claim ≡ Some c → ⊥)
+    → (claim_in (used_at st frame) ≡ Some c → ⊥) → Keeps st (claimed st frame claim) c
 Keeps-reclaimed st frame claim c not_now not_before = record {
   nothing = λ nothing. record {
     holds_none = nothing.holds_none;
@@ -181,7 +189,8 @@ Keeps-unclaimed st frame d c claims other =
     Keeps-reclaimed st frame None c (λ none. none-some c none) (λ also. other (same_Some c d (sym also ∙ claims)))
 
 -- a processor claims its victim
-pub claims-claimed : (st : FrameState) (space page frame c : ℕ) → IsVictim st space page frame → ClaimsOrHolds (claimed st frame (Some c)) c (record { space = space; page = page; frame = frame })
+pub claims-claimed : (st : FrameState) (space page frame c : ℕ) → IsVictim st space page frame
+    → ClaimsOrHolds (claimed st frame (Some c)) c (record { space = space; page = page; frame = frame })
 claims-claimed st space page frame c victim = record { frame = inr (by_place (used_at st frame) refl, ap (λ l. frame_in l space page) (layout_of-claimed st frame (Some c)) ∙ victim.place) }
   where
     by_place : (o : Option Used) → used_at st frame ≡ o → claim_in (used_at (claimed st frame (Some c)) frame) ≡ Some c
@@ -194,7 +203,8 @@ claims-claimed st space page frame c victim = record { frame = inr (by_place (us
         ap claim_in (get_or-set_same st.used frame (with_claim (Some c) (used_at st frame)) None known) ∙ ap (λ o. claim_in (with_claim (Some c) o)) is
 
 -- a processor whose claim ended has nothing
-pub nothing-unclaimed : (frames processors : ℕ) (st : FrameState) (frame c : ℕ) → IsSound frames processors st → claim_in (used_at st frame) ≡ Some c → HasNothing (claimed st frame None) c
+pub nothing-unclaimed : (frames processors : ℕ) (st : FrameState) (frame c : ℕ) → IsSound frames processors st
+    → claim_in (used_at st frame) ≡ Some c → HasNothing (claimed st frame None) c
 nothing-unclaimed frames processors st frame c sound claims = record {
   holds_none = (sound.claims_known frame c claims).1;
   claims_none = λ f still. elim (claim_claimed st frame None f c still) [
@@ -219,7 +229,8 @@ Keeps-dropped st d c other = by_hand (held_by st d)
         }
 
 -- a processor that dropped its frame has nothing
-pub nothing-dropped : (frames processors : ℕ) (st : FrameState) (c frame : ℕ) → IsSound frames processors st → held_by st c ≡ Some frame → HasNothing (dropped st c) c
+pub nothing-dropped : (frames processors : ℕ) (st : FrameState) (c frame : ℕ) → IsSound frames processors st → held_by st c ≡ Some frame
+    → HasNothing (dropped st c) c
 nothing-dropped frames processors st c frame sound holds =
     let hand : held_by (dropped_in st c (Some frame)) c ≡ None = get_or-set_default st.held c c None refl in
     subst (λ o. HasNothing (dropped_in st c o) c) (sym holds)

@@ -41,7 +41,8 @@ pub record GivesPage (st after : FrameState) (frame : ℕ) : Type 0 where
   pub used : after.used ≡ set st.used frame None
   pub held : after.held ≡ held_given (claim_in (used_at st frame)) frame st.held
 
-GivesPage-given : (st : FrameState) (id frame : ℕ) (r : Reservation) → IsLaid (layout_of st) → record_at (layout_of st) id ≡ Some r → has_frame frame (Some r) ≡ true → is_used (layout_of st).used frame ≡ true → GivesPage st (given st frame r) frame
+GivesPage-given : (st : FrameState) (id frame : ℕ) (r : Reservation) → IsLaid (layout_of st) → record_at (layout_of st) id ≡ Some r
+    → has_frame frame (Some r) ≡ true → is_used (layout_of st).used frame ≡ true → GivesPage st (given st frame r) frame
 GivesPage-given st id frame r laid is has used = record { pages = by_claim (claim_in (used_at st frame)); used = refl; held = refl }
   where
     same : (in_after : ℕ → Type 0) (l : Layout) → Gives (layout_of st) l frame in_after → (s p f : ℕ) → (frame_in (record { sizes = l.sizes; free = l.free; records = l.records; used = map is_some (set st.used frame None) }) s p ≡ Some f) ↔ ((f ≢ frame) × (frame_of st s p ≡ Some f))
@@ -52,7 +53,8 @@ GivesPage-given st id frame r laid is has used = record { pages = by_claim (clai
     by_claim None = same _ _ (Gives-vacate (layout_of st) id frame r laid is has used)
     by_claim (Some c) = same _ _ (Gives-carve (layout_of st) id frame r laid is has used)
 
-pub GivesPage-give_page : (st : FrameState) (space page frame : ℕ) → IsLaid (layout_of st) → frame_of st space page ≡ Some frame → GivesPage st (give_page st space page) frame
+pub GivesPage-give_page : (st : FrameState) (space page frame : ℕ) → IsLaid (layout_of st) → frame_of st space page ≡ Some frame
+    → GivesPage st (give_page st space page) frame
 GivesPage-give_page st space page frame laid is =
     let place = frame_in-found (layout_of st) space page frame is in
     let r = place.reservation in
@@ -63,7 +65,8 @@ GivesPage-give_page st space page frame laid is =
     (GivesPage-given st place.id (frame_for page r) r laid place.is (has_frame_for space page r place.covers_page) used))
 
 -- so the page has no place, and every other page keeps its own
-pub frame_of-give_page : (st : FrameState) (space page frame : ℕ) → IsLaid (layout_of st) → frame_of st space page ≡ Some frame → (s p : ℕ) → frame_of (give_page st space page) s p ≡ cond (eqb space s && eqb p page) None (frame_of st s p)
+pub frame_of-give_page : (st : FrameState) (space page frame : ℕ) → IsLaid (layout_of st) → frame_of st space page ≡ Some frame → (s p : ℕ)
+    → frame_of (give_page st space page) s p ≡ cond (eqb space s && eqb p page) None (frame_of st s p)
 frame_of-give_page st space page frame laid is s p =
     let gives = GivesPage-give_page st space page frame laid is in
     elim (cases_Bool (eqb space s && eqb p page)) [
@@ -87,7 +90,8 @@ frame_of-give_page st space page frame laid is s p =
     ]
 
 -- a page that has a place gives it up
-pub frame_of-give_if_used : (st : FrameState) (space page : ℕ) → IsLaid (layout_of st) → (s p : ℕ) → frame_of (give_if_used space st page) s p ≡ cond (eqb space s && eqb p page) None (frame_of st s p)
+pub frame_of-give_if_used : (st : FrameState) (space page : ℕ) → IsLaid (layout_of st) → (s p : ℕ)
+    → frame_of (give_if_used space st page) s p ≡ cond (eqb space s && eqb p page) None (frame_of st s p)
 frame_of-give_if_used st space page laid s p = by_place (frame_of st space page) refl
   where
     by_place : (o : Option ℕ) → frame_of st space page ≡ o → frame_of (give_if_used space st page) s p ≡ cond (eqb space s && eqb p page) None (frame_of st s p)
@@ -125,7 +129,8 @@ in_range-rest first len p other = elim (cases_lt p first) [
 ]
 
 -- each page of a range gives its place up, where it has one
-pub frame_of-give_each : (frames processors space first len : ℕ) (st : FrameState) → IsSound frames processors st → (s p : ℕ) → frame_of (fold (give_if_used space) st (range_with_len first len)) s p ≡ cond (eqb space s && in_range first len p) None (frame_of st s p)
+pub frame_of-give_each : (frames processors space first len : ℕ) (st : FrameState) → IsSound frames processors st → (s p : ℕ)
+    → frame_of (fold (give_if_used space) st (range_with_len first len)) s p ≡ cond (eqb space s && in_range first len p) None (frame_of st s p)
 frame_of-give_each frames processors space first zero st sound s p = by_space (eqb space s)
   where
     by_space : (b : Bool) → frame_of st s p ≡ cond (b && in_range first 0 p) None (frame_of st s p)

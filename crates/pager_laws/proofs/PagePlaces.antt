@@ -30,7 +30,8 @@ has_frame_for space page r has =
     has_frame_from (frame_for page r) r (omega arith) (omega (arith, at.low, at.high))
 
 -- what is found stands somewhere
-pub covering-found : (s p : ℕ) (rs : List (Option Reservation)) (r : Reservation) → covering s p rs ≡ Some r → (k : ℕ) × (k < length rs) × (get_or rs k None ≡ Some r) × (covers s p r ≡ true)
+pub covering-found : (s p : ℕ) (rs : List (Option Reservation)) (r : Reservation) → covering s p rs ≡ Some r
+    → (k : ℕ) × (k < length rs) × (get_or rs k None ≡ Some r) × (covers s p r ≡ true)
 covering-found s p [] r found = cc
 covering-found s p (None ∷ rs) r found = let w = covering-found s p rs r found in (suc w.0, omega (arith, w.1), w.2, w.3)
 covering-found s p (Some q ∷ rs) r found =
@@ -40,7 +41,8 @@ covering-found s p (Some q ∷ rs) r found =
     ] refl found
 
 -- where none is found, none has the page
-pub covering-none : (s p : ℕ) (rs : List (Option Reservation)) → covering s p rs ≡ None → (k : ℕ) (r : Reservation) → get_or rs k None ≡ Some r → covers s p r ≡ false
+pub covering-none : (s p : ℕ) (rs : List (Option Reservation)) → covering s p rs ≡ None → (k : ℕ) (r : Reservation)
+    → get_or rs k None ≡ Some r → covers s p r ≡ false
 covering-none s p [] none k r is = cc
 covering-none s p (None ∷ rs) none zero r is = cc
 covering-none s p (None ∷ rs) none (suc k) r is = covering-none s p rs none k r is
@@ -74,7 +76,8 @@ pub used_in-unused : (l : Layout) (p : ℕ) (r : Reservation) → is_used l.used
 used_in-unused l p r unused = ap (λ b. cond b (Some (frame_for p r)) None) unused
 
 -- the place of a page of a reservation is the frame that it joins to the page, where this is used
-pub frame_in-is : (l : Layout) (s p id : ℕ) (r : Reservation) → IsLaid l → record_at l id ≡ Some r → covers s p r ≡ true → frame_in l s p ≡ used_in l.used p (Some r)
+pub frame_in-is : (l : Layout) (s p id : ℕ) (r : Reservation) → IsLaid l → record_at l id ≡ Some r → covers s p r ≡ true
+    → frame_in l s p ≡ used_in l.used p (Some r)
 frame_in-is l s p id r laid is has = ap (used_in l.used p) (covering-is l s p id r laid is has)
 
 -- what is a page's place is one in a reservation that has the page
@@ -91,7 +94,8 @@ pub HasPlace-has : (l : Layout) (s p f : ℕ) (place : HasPlace l s p f) → has
 HasPlace-has l s p f place = ap (λ g. has_frame g (Some place.reservation)) place.frame ∙ has_frame_for s p place.reservation place.covers_page
 
 -- a place stays its page's in a layout where the reservation stands and the frame is used
-pub HasPlace-kept : (l m : Layout) (s p f : ℕ) (place : HasPlace l s p f) → record_at m place.id ≡ Some place.reservation → is_used m.used f ≡ true → HasPlace m s p f
+pub HasPlace-kept : (l m : Layout) (s p f : ℕ) (place : HasPlace l s p f) → record_at m place.id ≡ Some place.reservation
+    → is_used m.used f ≡ true → HasPlace m s p f
 HasPlace-kept l m s p f place is used =
     record { id = place.id; reservation = place.reservation; is = is; covers_page = place.covers_page; frame = place.frame; used = used }
 
@@ -116,7 +120,8 @@ frame_in-from l s p f laid has =
     ∙ ap Some (sym has.frame)
 
 -- a page without a place is at no used place of a reservation that has it
-pub frame_in-none : (l : Layout) (s p id : ℕ) (r : Reservation) → IsLaid l → frame_in l s p ≡ None → record_at l id ≡ Some r → covers s p r ≡ true → is_used l.used (frame_for p r) ≡ false
+pub frame_in-none : (l : Layout) (s p id : ℕ) (r : Reservation) → IsLaid l → frame_in l s p ≡ None → record_at l id ≡ Some r
+    → covers s p r ≡ true → is_used l.used (frame_for p r) ≡ false
 frame_in-none l s p id r laid none is has =
     elim (is_used l.used (frame_for p r)) as (λ b. is_used l.used (frame_for p r) ≡ b → b ≡ false) [
       | true ↦ λ used. (let e : Some (frame_for p r) ≡ None = sym (used_in-used l p r used) ∙ sym (frame_in-is l s p id r laid is has) ∙ none in cc)

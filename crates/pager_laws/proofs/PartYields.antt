@@ -18,7 +18,8 @@ use Rattle.pager_model.proofs.RecordFrames.{has_frame_bounds, unused_in, has_emp
 
 -- Extents without a used place.
 
-pub has_empty_some : (used : ℕ → Bool) (r : Reservation) (k : ℕ) → has_empty used r k ≡ true → (j : ℕ) × (j < 8 ^ (r.size - k)) × (none_used used (r.frame + j * 8 ^ k) (8 ^ k) ≡ true)
+pub has_empty_some : (used : ℕ → Bool) (r : Reservation) (k : ℕ) → has_empty used r k ≡ true
+    → (j : ℕ) × (j < 8 ^ (r.size - k)) × (none_used used (r.frame + j * 8 ^ k) (8 ^ k) ≡ true)
 has_empty_some used r k has =
     let n = 8 ^ (r.size - k) in
     let any = Any-from_list_any (λ i. none_used used (r.frame + i * 8 ^ k) (8 ^ k)) (range_with_len 0 n) has in
@@ -143,14 +144,16 @@ yield_in-within z used r = at r.size (omega arith)
     ]
 
 -- what the yield by all four sizes tells of it
-pub yield_in-told : (z : SizeSet) (used : ℕ → Bool) (r : Reservation) (k size : ℕ) → size ≡ size_within z k → yield_of used r ≡ Some k → yield_in z used r ≡ Some size
+pub yield_in-told : (z : SizeSet) (used : ℕ → Bool) (r : Reservation) (k size : ℕ) → size ≡ size_within z k → yield_of used r ≡ Some k
+    → yield_in z used r ≡ Some size
 yield_in-told z used r k size is yields = yield_in-within z used r ∙ ap (option_map (size_within z)) yields ∙ ap Some (sym is)
 
 pub yield_in-not : (z : SizeSet) (used : ℕ → Bool) (r : Reservation) → yield_of used r ≡ None → yield_in z used r ≡ None
 yield_in-not z used r none = yield_in-within z used r ∙ ap (option_map (size_within z)) none
 
 -- a reservation with a used place yields less than all of it
-pub yield_less : (z : SizeSet) (used : ℕ → Bool) (r : Reservation) (k frame : ℕ) → has_frame frame (Some r) ≡ true → used frame ≡ true → yield_in z used r ≡ Some k → k < r.size
+pub yield_less : (z : SizeSet) (used : ℕ → Bool) (r : Reservation) (k frame : ℕ) → has_frame frame (Some r) ≡ true → used frame ≡ true
+    → yield_in z used r ≡ Some k → k < r.size
 yield_less z used r k frame has is yields =
     let widest = IsWidest-from z used r r.size k yields in
     elim (cases_lt k r.size) [
@@ -202,7 +205,8 @@ module _ (used : ℕ → Bool) (r : Reservation) (k m : ℕ) (splits : m ≤ r.s
       (i, one, has_empty-yes used (part_at m r i) k j (mod_below found.0 u pos) (ap (λ a. none_used used a (8 ^ k)) at ∙ found.2))
 
 -- some part of size m has the yield of the whole, where that is smaller
-pub part_as_wide : (z : SizeSet) (used : ℕ → Bool) (r : Reservation) (k m : ℕ) → m ≤ r.size → IsWidest z used r r.size k → k ≤ m → (i : ℕ) × (i < part_count m r) × (yield_in z used (part_at m r i) ≡ Some k)
+pub part_as_wide : (z : SizeSet) (used : ℕ → Bool) (r : Reservation) (k m : ℕ) → m ≤ r.size → IsWidest z used r r.size k → k ≤ m
+    → (i : ℕ) × (i < part_count m r) × (yield_in z used (part_at m r i) ≡ Some k)
 part_as_wide z used r k m splits widest narrow =
     let found = has_empty_in_part used r k m splits narrow widest.has in
     let part = part_at m r found.0 in
@@ -229,7 +233,8 @@ pub same_size_from : (o : Option ℕ) (k : ℕ) → same_size o (Some k) ≡ tru
 same_size_from None k is = absurd (false≢true is)
 same_size_from (Some a) k is = ap Some (eqb-true a k is)
 
-pub lowest_found : (z : SizeSet) (used : ℕ → Bool) (r : Reservation) (k m i : ℕ) → yield_in z used r ≡ Some k → i < part_count m r → yield_in z used (part_at m r i) ≡ Some k
+pub lowest_found : (z : SizeSet) (used : ℕ → Bool) (r : Reservation) (k m i : ℕ) → yield_in z used r ≡ Some k → i < part_count m r
+    → yield_in z used (part_at m r i) ≡ Some k
     → (j : ℕ) × (lowest_as_wide z m used r ≡ Some j) × (j < part_count m r) × (yield_in z used (part_at m r j) ≡ Some k)
 lowest_found z used r k m i is one part =
     let test : ℕ → Bool = λ n. same_size (yield_in z used (part_at m r n)) (yield_in z used r) in
@@ -239,5 +244,6 @@ lowest_found z used r k m i is one part =
     (found.0, found.1, omega (arith, found.2), same_size_from _ k same)
 
 -- the part at which a breaking goes on
-pub goes_on : (z : SizeSet) (m : ℕ) (used : ℕ → Bool) (r : Reservation) (i : ℕ) → has_empty used r m ≡ false → lowest_as_wide z m used r ≡ Some i → goes_on_in z m used r ≡ Some (part_at m r i)
+pub goes_on : (z : SizeSet) (m : ℕ) (used : ℕ → Bool) (r : Reservation) (i : ℕ) → has_empty used r m ≡ false
+    → lowest_as_wide z m used r ≡ Some i → goes_on_in z m used r ≡ Some (part_at m r i)
 goes_on z m used r i none lowest = cond-false _ _ _ none ∙ ap (option_map (part_at m r)) lowest

@@ -20,7 +20,8 @@ count-nowhere p (x ∷ xs) d never =
     omega (arith, head, rest, both)
 
 -- where the element of one index alone passes, one is counted
-pub count-once : {X : Type 0} (p : X → Bool) (xs : List X) (d : X) (k : ℕ) → p d ≡ false → p (get_or xs k d) ≡ true → ((i : ℕ) → p (get_or xs i d) ≡ true → i ≡ k) → count_by p xs ≡ 1
+pub count-once : {X : Type 0} (p : X → Bool) (xs : List X) (d : X) (k : ℕ) → p d ≡ false → p (get_or xs k d) ≡ true
+    → ((i : ℕ) → p (get_or xs i d) ≡ true → i ≡ k) → count_by p xs ≡ 1
 count-once p [] d k past passes only = absurd (false≢true (sym past ∙ passes))
 count-once p (x ∷ xs) d zero past passes only =
     let head : weight (p x) ≡ 1 = ap weight passes in

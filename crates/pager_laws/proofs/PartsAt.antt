@@ -19,7 +19,8 @@ pub part_ends : (k i : ℕ) (r : Reservation) → k ≤ r.size → i < part_coun
 part_ends k i r le lt = omega (arith, part_inside i (8 ^ k) (8 ^ (r.size - k)) lt, eight_split k r.size le)
 
 -- and is an extent of frames and of pages
-pub part_at-placed : (frames k i : ℕ) (r : Reservation) → IsPlaced frames r.frame r → k ≤ r.size → i < part_count k r → IsPlaced frames (part_at k r i).frame (part_at k r i)
+pub part_at-placed : (frames k i : ℕ) (r : Reservation) → IsPlaced frames r.frame r → k ≤ r.size → i < part_count k r
+    → IsPlaced frames (part_at k r i).frame (part_at k r i)
 part_at-placed frames k i r placed le one = record {
   named = refl;
   aligned = (omega (arith, placed.aligned.0, le), aligned_part k r.size r.frame i le placed.aligned.1);
@@ -27,7 +28,8 @@ part_at-placed frames k i r placed le one = record {
   pages_aligned = (omega (arith, placed.aligned.0, le), aligned_part k r.size r.first i le placed.pages_aligned.1);
 }
 
-pub kept_at-cases : (k : ℕ) (used : ℕ → Bool) (r : Reservation) (i : ℕ) → ((kept_at k used r i ≡ None) × (is_empty_at k used r i ≡ true)) ⊎ ((kept_at k used r i ≡ Some (part_at k r i)) × (is_empty_at k used r i ≡ false))
+pub kept_at-cases : (k : ℕ) (used : ℕ → Bool) (r : Reservation) (i : ℕ)
+    → ((kept_at k used r i ≡ None) × (is_empty_at k used r i ≡ true)) ⊎ ((kept_at k used r i ≡ Some (part_at k r i)) × (is_empty_at k used r i ≡ false))
 kept_at-cases k used r i = elim (cases_Bool (is_empty_at k used r i)) [
   | inl empty ↦ inl (cond-true _ _ _ empty, empty)
   | inr filled ↦ inr (cond-false _ _ _ filled, filled)
@@ -39,13 +41,15 @@ kept_at-cases k used r i = elim (cases_Bool (is_empty_at k used r i)) [
 abbrev pub parted_up_to : ℕ → ℕ → (ℕ → Bool) → Reservation → List (Option Reservation) → List (Option Reservation)
 parted_up_to n k used r records = fold (λ rs i. set rs (part_at k r i).frame (kept_at k used r i)) records (range_with_len 0 n)
 
-pub parted_suc : (n k : ℕ) (used : ℕ → Bool) (r : Reservation) (records : List (Option Reservation)) → parted_up_to (suc n) k used r records ≡ set (parted_up_to n k used r records) (part_at k r n).frame (kept_at k used r n)
+pub parted_suc : (n k : ℕ) (used : ℕ → Bool) (r : Reservation) (records : List (Option Reservation))
+    → parted_up_to (suc n) k used r records ≡ set (parted_up_to n k used r records) (part_at k r n).frame (kept_at k used r n)
 parted_suc n k used r records =
     let step : List (Option Reservation) → ℕ → List (Option Reservation) = λ rs i. set rs (part_at k r i).frame (kept_at k used r i) in
     let more : range_with_len 0 (n + 1) ≡ range_with_len 0 n ++ n ∷ [] = range_with_len-more n in
     ap (λ m. parted_up_to m k used r records) (sym (add-one n)) ∙ ap (fold step records) more ∙ fold_push step records (range_with_len 0 n) n
 
-module _ (k : ℕ) (used : ℕ → Bool) (r : Reservation) (records : List (Option Reservation)) (le : k ≤ r.size) (placed : IsPlaced (length records) r.frame r) where
+module _ (k : ℕ) (used : ℕ → Bool) (r : Reservation) (records : List (Option Reservation)) (le : k ≤ r.size)
+    (placed : IsPlaced (length records) r.frame r) where
   pub length-parted : (n : ℕ) → length (parted_up_to n k used r records) ≡ length records
   length-parted zero = refl
   length-parted (suc n) = ap length (parted_suc n k used r records) ∙ length-set (parted_up_to n k used r records) (part_at k r n).frame (kept_at k used r n) ∙ length-parted n

@@ -27,7 +27,8 @@ pub extent_high : (size page : ℕ) → page < extent_start size page + 8 ^ size
 extent_high size page = lt-div-mul-add (eight_pos size)
 
 -- of two extents round a page the smaller one lies inside the larger one
-extent_inside : (k size page : ℕ) → k ≤ size → (extent_start size page ≤ extent_start k page) × (extent_start k page + 8 ^ k ≤ extent_start size page + 8 ^ size)
+extent_inside : (k size page : ℕ) → k ≤ size
+    → (extent_start size page ≤ extent_start k page) × (extent_start k page + 8 ^ k ≤ extent_start size page + 8 ^ size)
 extent_inside k size page le =
     let w = 8 ^ k in
     let u = 8 ^ (size - k) in
@@ -61,7 +62,8 @@ meets_none : (test : ℕ → ℕ → Bool) (page : ℕ) (want : Want) (k : ℕ) 
 meets_none test page want k passes = not-true _ (and_parts _ _ (and_parts _ _ passes).1).1
 
 -- the extent of the preferred size meets none
-pub Misses-fitting : (z : SizeSet) (l : Layout) (space page : ℕ) (want : Want) → covering space page l.records ≡ None → (k : ℕ) → Misses l space page (largest_fitting z (meets_any space l.records) page want k)
+pub Misses-fitting : (z : SizeSet) (l : Layout) (space page : ℕ) (want : Want) → covering space page l.records ≡ None → (k : ℕ)
+    → Misses l space page (largest_fitting z (meets_any space l.records) page want k)
 Misses-fitting z l space page want none zero = Misses-alone l space page none
 Misses-fitting z l space page want none (suc k) =
     let test = meets_any space l.records in
@@ -81,7 +83,8 @@ Misses-smaller l space page k size le misses id p r is has low high =
 -- The preferred size of some sizes.
 
 -- an extent that meets nothing has no smaller one that does
-meets_smaller : (space j k page : ℕ) (o : Option Reservation) → j ≤ k → meets space k (extent_start k page) o ≡ false → meets space j (extent_start j page) o ≡ false
+meets_smaller : (space j k page : ℕ) (o : Option Reservation) → j ≤ k → meets space k (extent_start k page) o ≡ false
+    → meets space j (extent_start j page) o ≡ false
 meets_smaller space j k page None le none = refl
 meets_smaller space j k page (Some r) le none = false_from_ne_true _ (λ is.
     let within = extent_inside j k page le in
@@ -91,7 +94,8 @@ meets_smaller space j k page (Some r) le none = false_from_ne_true _ (λ is.
     let high = ltb-true (extent_start j page) (r.first + 8 ^ r.size) ends.1 in
     false≢true (sym none ∙ and_from _ _ parts.0 (and_from _ _ (lt-ltb r.first (extent_start k page + 8 ^ k) (omega (arith, low, within.1))) (lt-ltb (extent_start k page) (r.first + 8 ^ r.size) (omega (arith, high, within.0))))))
 
-any_smaller : (space j k page : ℕ) (records : List (Option Reservation)) → j ≤ k → meets_any space records k (extent_start k page) ≡ false → meets_any space records j (extent_start j page) ≡ false
+any_smaller : (space j k page : ℕ) (records : List (Option Reservation)) → j ≤ k → meets_any space records k (extent_start k page) ≡ false
+    → meets_any space records j (extent_start j page) ≡ false
 any_smaller space j k page [] le none = refl
 any_smaller space j k page (o ∷ rs) le none =
     let parts = or_parts (meets space k (extent_start k page) o) (meets_any space rs k (extent_start k page)) none in
@@ -101,7 +105,8 @@ any_smaller space j k page (o ∷ rs) le none =
     or_parts true b fails = absurd (false≢true (sym fails))
     or_parts false b fails = (refl, fails)
 
-fits_smaller : (space j k page : ℕ) (records : List (Option Reservation)) (want : Want) → j ≤ k → fits (meets_any space records) page want k ≡ true → fits (meets_any space records) page want j ≡ true
+fits_smaller : (space j k page : ℕ) (records : List (Option Reservation)) (want : Want) → j ≤ k
+    → fits (meets_any space records) page want k ≡ true → fits (meets_any space records) page want j ≡ true
 fits_smaller space j k page records want le passes =
     let within = extent_inside j k page le in
     let both = and_parts _ _ passes in

@@ -45,7 +45,8 @@ not_evictable : (st : FrameState) (wired claimed held frame : ℕ) → IsRefused
 not_evictable st wired claimed held frame refused =
     false_from_ne_true _ (λ may. false≢true (sym refused.no_victim ∙ list_any_at is_evictable st.used frame None (known_evictable st.used frame may) may))
 
-pub NoneToHave-refused : (frames processors : ℕ) (st : FrameState) (wired claimed held : ℕ) → IsSound frames processors st → IsRefused st wired claimed held → NoneToHave frames st
+pub NoneToHave-refused : (frames processors : ℕ) (st : FrameState) (wired claimed held : ℕ) → IsSound frames processors st
+    → IsRefused st wired claimed held → NoneToHave frames st
 NoneToHave-refused frames processors st wired claimed held sound refused frame known =
     let full = EachFull-from (layout_of st) refused.full in
     elim (sound.accounted frame known) [

@@ -40,7 +40,8 @@ one_part_covers k s p i j r by_i by_j =
     ∙ extent_of_frame j w (p - r.first) (omega (arith, in_j.low)) (omega (arith, in_j.low, in_j.high))
 
 -- the part that has the frame of a page has the page
-pub part_covers : (k s p i : ℕ) (r : Reservation) → covers s p r ≡ true → has_frame (frame_for p r) (Some (part_at k r i)) ≡ true → covers s p (part_at k r i) ≡ true
+pub part_covers : (k s p i : ℕ) (r : Reservation) → covers s p r ≡ true → has_frame (frame_for p r) (Some (part_at k r i)) ≡ true
+    → covers s p (part_at k r i) ≡ true
 part_covers k s p i r has in_part =
     let at = CoversPageOf-covers s p r has in
     let within = has_frame_bounds (frame_for p r) (part_at k r i) in_part in
@@ -64,7 +65,8 @@ abbrev pub free_up_to : ℕ → ℕ → (ℕ → Bool) → Reservation → List 
 free_up_to n k used r free = fold (freed_part k used r) free (range_with_len 0 n)
 
 -- one part more
-pub free_up_to-suc : (n k : ℕ) (used : ℕ → Bool) (r : Reservation) (free : List Bool) → free_up_to (suc n) k used r free ≡ freed_part k used r (free_up_to n k used r free) n
+pub free_up_to-suc : (n k : ℕ) (used : ℕ → Bool) (r : Reservation) (free : List Bool)
+    → free_up_to (suc n) k used r free ≡ freed_part k used r (free_up_to n k used r free) n
 free_up_to-suc n k used r free =
     let more : range_with_len 0 (n + 1) ≡ range_with_len 0 n ++ n ∷ [] = range_with_len-more n in
     ap (λ m. free_up_to m k used r free) (sym (add-one n)) ∙ ap (fold (freed_part k used r) free) more ∙ fold_push (freed_part k used r) free (range_with_len 0 n) n
@@ -87,7 +89,8 @@ module _ (k : ℕ) (used : ℕ → Bool) (r : Reservation) (free : List Bool) (l
   ]
 
   -- what one part does to a frame: it becomes free as a frame of an empty part, or it stays as it was
-  pub freed_part_at : (fs : List Bool) (i f : ℕ) → length fs ≡ length free → i < part_count k r → ((is_empty_at k used r i ≡ true) × (has_frame f (Some (part_at k r i)) ≡ true) × (get_or (freed_part k used r fs i) f false ≡ true)) ⊎ ((get_or (freed_part k used r fs i) f false ≡ get_or fs f false) × (is_empty_at k used r i ≡ true → has_frame f (Some (part_at k r i)) ≡ true → ⊥))
+  pub freed_part_at : (fs : List Bool) (i f : ℕ) → length fs ≡ length free → i < part_count k r
+      → ((is_empty_at k used r i ≡ true) × (has_frame f (Some (part_at k r i)) ≡ true) × (get_or (freed_part k used r fs i) f false ≡ true)) ⊎ ((get_or (freed_part k used r fs i) f false ≡ get_or fs f false) × (is_empty_at k used r i ≡ true → has_frame f (Some (part_at k r i)) ≡ true → ⊥))
   freed_part_at fs i f long one = elim (cases_Bool (is_empty_at k used r i)) [
     | inl empty ↦
         let w = 8 ^ k in
@@ -117,7 +120,8 @@ module _ (k : ℕ) (used : ℕ → Bool) (r : Reservation) (free : List Bool) (l
       ∙ length-freed_part (free_up_to n k used r free) n (length-free_up_to n (omega arith)) (omega arith)
 
   -- a frame that is free then was free before, or is one of an empty part
-  pub free_up_to-cases : (n f : ℕ) → n ≤ part_count k r → get_or (free_up_to n k used r free) f false ≡ true → (get_or free f false ≡ true) ⊎ IsEmptied k used r n f
+  pub free_up_to-cases : (n f : ℕ) → n ≤ part_count k r → get_or (free_up_to n k used r free) f false ≡ true
+      → (get_or free f false ≡ true) ⊎ IsEmptied k used r n f
   free_up_to-cases zero f most is = inl is
   free_up_to-cases (suc n) f most is =
       elim (freed_part_at (free_up_to n k used r free) n f (length-free_up_to n (omega arith)) (omega arith)) [
@@ -140,7 +144,8 @@ module _ (k : ℕ) (used : ℕ → Bool) (r : Reservation) (free : List Bool) (l
       ]
 
   -- and so is each frame of an empty part
-  pub free_up_to-part : (n i f : ℕ) → n ≤ part_count k r → i < n → is_empty_at k used r i ≡ true → has_frame f (Some (part_at k r i)) ≡ true → get_or (free_up_to n k used r free) f false ≡ true
+  pub free_up_to-part : (n i f : ℕ) → n ≤ part_count k r → i < n → is_empty_at k used r i ≡ true → has_frame f (Some (part_at k r i)) ≡ true
+      → get_or (free_up_to n k used r free) f false ≡ true
   free_up_to-part zero i f most lt empty has = absurd (omega arith)
   free_up_to-part (suc n) i f most lt empty has =
       ap (λ xs. get_or xs f false) (free_up_to-suc n k used r free)
@@ -165,10 +170,12 @@ pub record IsSplit (k : ℕ) (old new : Layout) (r : Reservation) : Type 0 where
   pub others : (j : ℕ) → ((i : ℕ) → i < part_count k r → j ≡ (part_at k r i).frame → ⊥) → record_at new j ≡ record_at old j
   pub free_cases : (f : ℕ) → is_free new f ≡ true → (is_free old f ≡ true) ⊎ IsEmptied k (is_used old.used) r (part_count k r) f
   pub free_before : (f : ℕ) → is_free old f ≡ true → is_free new f ≡ true
-  pub free_part : (i f : ℕ) → i < part_count k r → is_empty_at k (is_used old.used) r i ≡ true → has_frame f (Some (part_at k r i)) ≡ true → is_free new f ≡ true
+  pub free_part : (i f : ℕ) → i < part_count k r → is_empty_at k (is_used old.used) r i ≡ true → has_frame f (Some (part_at k r i)) ≡ true
+      → is_free new f ≡ true
 
 -- this is what splitting does
-pub IsSplit-parted : (k : ℕ) (l : Layout) (r : Reservation) → length l.records ≡ length l.free → IsPlaced (length l.records) r.frame r → k ≤ r.size → IsSplit k l (parted k r l) r
+pub IsSplit-parted : (k : ℕ) (l : Layout) (r : Reservation) → length l.records ≡ length l.free → IsPlaced (length l.records) r.frame r
+    → k ≤ r.size → IsSplit k l (parted k r l) r
 IsSplit-parted k l r long placed le =
     let used : ℕ → Bool = is_used l.used in
     let within : r.frame + 8 ^ r.size ≤ length l.free = omega (arith, placed.within, long) in

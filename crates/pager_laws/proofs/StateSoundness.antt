@@ -68,17 +68,20 @@ pub record Takes (before : FrameState) (space page : ℕ) (t : Taking) : Type 0 
   pub entries : t.state.entries ≡ before.entries
 
 -- a taking is one at a place that was found
-pub taking_from : (st : FrameState) (want : Want) (o : Option Placing) (t : Taking) → option_map (taking st want) o ≡ Some t → (place : Placing) × (o ≡ Some place) × (taking st want place ≡ t)
+pub taking_from : (st : FrameState) (want : Want) (o : Option Placing) (t : Taking) → option_map (taking st want) o ≡ Some t
+    → (place : Placing) × (o ≡ Some place) × (taking st want place ≡ t)
 taking_from st want None t takes = absurd (none-some t takes)
 taking_from st want (Some place) t takes = (place, refl, same_Some (taking st want place) t takes)
 
 -- the layout after a taking at a place is that of the place
-pub layout_of-taken : (st : FrameState) (space page : ℕ) (want : Want) (place : Placing) → WasPlaced (layout_of st) place.layout space page place.frame → layout_of (taken st want place) ≡ place.layout
+pub layout_of-taken : (st : FrameState) (space page : ℕ) (want : Want) (place : Placing)
+    → WasPlaced (layout_of st) place.layout space page place.frame → layout_of (taken st want place) ≡ place.layout
 layout_of-taken st space page want place places =
     let note : Option Used = Some (record { age = st.entries; wired = want.wired; claim = None }) in
     same_used place.layout (map is_some (set st.used place.frame note)) (map-set is_some st.used place.frame note ∙ sym places.used)
 
-pub Takes-take_frame : (frames processors : ℕ) (st : FrameState) (space page : ℕ) (want : Want) (t : Taking) → IsSound frames processors st → frame_of st space page ≡ None → take_frame st space page want ≡ Some t → Takes st space page t
+pub Takes-take_frame : (frames processors : ℕ) (st : FrameState) (space page : ℕ) (want : Want) (t : Taking) → IsSound frames processors st
+    → frame_of st space page ≡ None → take_frame st space page want ≡ Some t → Takes st space page t
 Takes-take_frame frames processors st space page want t sound none takes =
     let found = taking_from st want (placing st.entries space page want (layout_of st)) t takes in
     let place = found.0 in
@@ -103,7 +106,8 @@ IsSound-counted frames processors st sound = record {
 }
 
 -- a frame that was taken is claimed by nobody, and of those that are claimed the same is noted as before
-still_noted : (st : FrameState) (want : Want) (place : Placing) (f c : ℕ) → claim_in (used_at (taken st want place) f) ≡ Some c → used_at (taken st want place) f ≡ used_at st f
+still_noted : (st : FrameState) (want : Want) (place : Placing) (f c : ℕ) → claim_in (used_at (taken st want place) f) ≡ Some c
+    → used_at (taken st want place) f ≡ used_at st f
 still_noted st want place f c claims =
     let note : Used = record { age = st.entries; wired = want.wired; claim = None } in
     let noted = claim_from (used_at (taken st want place) f) c claims in
@@ -112,11 +116,13 @@ still_noted st want place f c claims =
       | inr there ↦ noted.1 ∙ sym there.1
     ]
 
-pub claim_taken : (st : FrameState) (want : Want) (place : Placing) (f c : ℕ) → claim_in (used_at (taken st want place) f) ≡ Some c → claim_in (used_at st f) ≡ Some c
+pub claim_taken : (st : FrameState) (want : Want) (place : Placing) (f c : ℕ) → claim_in (used_at (taken st want place) f) ≡ Some c
+    → claim_in (used_at st f) ≡ Some c
 claim_taken st want place f c claims = ap claim_in (sym (still_noted st want place f c claims)) ∙ claims
 
 -- the state after a taking at a place
-IsSound-taken : (frames processors : ℕ) (st : FrameState) (space page : ℕ) (want : Want) (place : Placing) → IsSound frames processors st → WasPlaced (layout_of st) place.layout space page place.frame → IsSound frames processors (counted (taken st want place))
+IsSound-taken : (frames processors : ℕ) (st : FrameState) (space page : ℕ) (want : Want) (place : Placing) → IsSound frames processors st
+    → WasPlaced (layout_of st) place.layout space page place.frame → IsSound frames processors (counted (taken st want place))
 IsSound-taken frames processors st space page want place sound places =
     let note : Used = record { age = st.entries; wired = want.wired; claim = None } in
     let age_of : (u : Used) → Some note ≡ Some u → st.entries ≡ u.age = λ u e. ap (λ v. v.age) (same_Some note u e) in
@@ -146,7 +152,8 @@ IsSound-taken frames processors st space page want place sound places =
       claims_unwired = λ f c claims. ap is_wired_place (still_noted st want place f c claims) ∙ sound.claims_unwired f c (claim_taken st want place f c claims);
     }
 
-pub IsSound-take : (frames processors : ℕ) (st : FrameState) (space page : ℕ) (want : Want) (t : Taking) → IsSound frames processors st → frame_of st space page ≡ None → take_frame st space page want ≡ Some t → IsSound frames processors (counted t.state)
+pub IsSound-take : (frames processors : ℕ) (st : FrameState) (space page : ℕ) (want : Want) (t : Taking) → IsSound frames processors st
+    → frame_of st space page ≡ None → take_frame st space page want ≡ Some t → IsSound frames processors (counted t.state)
 IsSound-take frames processors st space page want t sound none takes =
     let found = taking_from st want (placing st.entries space page want (layout_of st)) t takes in
     let places = WasPlaced-placing (layout_of st) st.entries space page want found.0 sound.laid none found.1 in
@@ -168,27 +175,32 @@ given_by claim st frame r =
     }
 
 -- what was given up has no claim, and of the others that are claimed the same is noted as before
-kept_noted : (st : FrameState) (frame f c : ℕ) → claim_in (get_or (set st.used frame None) f None) ≡ Some c → (f ≢ frame) × (get_or (set st.used frame None) f None ≡ used_at st f)
+kept_noted : (st : FrameState) (frame f c : ℕ) → claim_in (get_or (set st.used frame None) f None) ≡ Some c
+    → (f ≢ frame) × (get_or (set st.used frame None) f None ≡ used_at st f)
 kept_noted st frame f c claims =
     let noted = claim_from (get_or (set st.used frame None) f None) c claims in
     let before = unset_cases st.used frame f noted.0 noted.1 in
     (before.0, noted.1 ∙ sym before.1)
 
-pub claim_given : (st : FrameState) (frame f c : ℕ) → claim_in (get_or (set st.used frame None) f None) ≡ Some c → (f ≢ frame) × (claim_in (used_at st f) ≡ Some c)
+pub claim_given : (st : FrameState) (frame f c : ℕ) → claim_in (get_or (set st.used frame None) f None) ≡ Some c
+    → (f ≢ frame) × (claim_in (used_at st f) ≡ Some c)
 claim_given st frame f c claims =
     let kept = kept_noted st frame f c claims in
     (kept.0, ap claim_in (sym kept.1) ∙ claims)
 
 -- and so none of a wired place
-unwired_given : (frames processors : ℕ) (st : FrameState) (frame f c : ℕ) → IsSound frames processors st → claim_in (get_or (set st.used frame None) f None) ≡ Some c → is_wired_place (get_or (set st.used frame None) f None) ≡ false
+unwired_given : (frames processors : ℕ) (st : FrameState) (frame f c : ℕ) → IsSound frames processors st
+    → claim_in (get_or (set st.used frame None) f None) ≡ Some c → is_wired_place (get_or (set st.used frame None) f None) ≡ false
 unwired_given frames processors st frame f c sound claims =
     ap is_wired_place (kept_noted st frame f c claims).1 ∙ sound.claims_unwired f c (claim_given st frame f c claims).1
 
 -- the layout after a frame was given up is the one that the giving makes
-pub layout_of-given : (l : Layout) (st : FrameState) (frame : ℕ) (in_after : ℕ → Type 0) → Gives (layout_of st) l frame in_after → record { sizes = l.sizes; free = l.free; records = l.records; used = map is_some (set st.used frame None) } ≡ l
+pub layout_of-given : (l : Layout) (st : FrameState) (frame : ℕ) (in_after : ℕ → Type 0) → Gives (layout_of st) l frame in_after
+    → record { sizes = l.sizes; free = l.free; records = l.records; used = map is_some (set st.used frame None) } ≡ l
 layout_of-given l st frame in_after gives = same_used l (map is_some (set st.used frame None)) (map-set is_some st.used frame None ∙ sym gives.used)
 
-module _ (frames processors : ℕ) (st : FrameState) (id frame : ℕ) (r : Reservation) (sound : IsSound frames processors st) (is : record_at (layout_of st) id ≡ Some r) (has : has_frame frame (Some r) ≡ true) (noted : used_at st frame ≢ None) where
+module _ (frames processors : ℕ) (st : FrameState) (id frame : ℕ) (r : Reservation) (sound : IsSound frames processors st)
+    (is : record_at (layout_of st) id ≡ Some r) (has : has_frame frame (Some r) ≡ true) (noted : used_at st frame ≢ None) where
   -- the frame is in the layout
   frame_in_layout : IsIn (layout_of st) frame
   frame_in_layout = inr (id, ap (has_frame frame) is ∙ has)
@@ -265,14 +277,17 @@ module _ (frames processors : ℕ) (st : FrameState) (id frame : ℕ) (r : Reser
         claims_unwired = λ f d still. unwired_given frames processors st frame f d sound still;
       }
 
-pub IsSound-given : (frames processors : ℕ) (st : FrameState) (id frame : ℕ) (r : Reservation) → IsSound frames processors st → record_at (layout_of st) id ≡ Some r → has_frame frame (Some r) ≡ true → used_at st frame ≢ None → IsSound frames processors (given st frame r)
+pub IsSound-given : (frames processors : ℕ) (st : FrameState) (id frame : ℕ) (r : Reservation) → IsSound frames processors st
+    → record_at (layout_of st) id ≡ Some r → has_frame frame (Some r) ≡ true → used_at st frame ≢ None
+    → IsSound frames processors (given st frame r)
 IsSound-given frames processors st id frame r sound is has used =
     elim (claim_in (used_at st frame)) as (λ o. claim_in (used_at st frame) ≡ o → IsSound frames processors (given_by o st frame r)) [
       | None ↦ λ unclaimed. IsSound-vacated frames processors st id frame r sound is has used
       | Some c ↦ λ claims. IsSound-carved frames processors st id frame r sound is has used c claims
     ] refl
 
-pub IsSound-give_page : (frames processors : ℕ) (st : FrameState) (space page frame : ℕ) → IsSound frames processors st → frame_of st space page ≡ Some frame → IsSound frames processors (give_page st space page)
+pub IsSound-give_page : (frames processors : ℕ) (st : FrameState) (space page frame : ℕ) → IsSound frames processors st
+    → frame_of st space page ≡ Some frame → IsSound frames processors (give_page st space page)
 IsSound-give_page frames processors st space page frame sound is =
     let place = frame_in-found (layout_of st) space page frame is in
     let r = place.reservation in
@@ -304,14 +319,16 @@ claim_written claim None c claims = absurd (none-some c claims)
 claim_written claim (Some v) c claims = claims
 
 -- a claim changes no age
-age_claimed : (st : FrameState) (frame : ℕ) (claim : Option ℕ) (f : ℕ) (u : Used) → used_at (claimed st frame claim) f ≡ Some u → (v : Used) × (used_at st f ≡ Some v) × (v.age ≡ u.age)
+age_claimed : (st : FrameState) (frame : ℕ) (claim : Option ℕ) (f : ℕ) (u : Used) → used_at (claimed st frame claim) f ≡ Some u
+    → (v : Used) × (used_at st f ≡ Some v) × (v.age ≡ u.age)
 age_claimed st frame claim f u is = elim (set_cases st.used frame f (with_claim claim (used_at st frame)) u is) [
   | inl here ↦ let before = noted_before claim (used_at st frame) u here.1 in (before.0, ap (used_at st) here.0 ∙ before.1, before.2)
   | inr there ↦ (u, there.1, refl)
 ]
 
 -- what is claimed then is the frame, with this claim, or was claimed before
-pub claim_claimed : (st : FrameState) (frame : ℕ) (claim : Option ℕ) (f c : ℕ) → claim_in (used_at (claimed st frame claim) f) ≡ Some c → ((f ≡ frame) × (claim ≡ Some c)) ⊎ ((f ≢ frame) × (claim_in (used_at st f) ≡ Some c))
+pub claim_claimed : (st : FrameState) (frame : ℕ) (claim : Option ℕ) (f c : ℕ) → claim_in (used_at (claimed st frame claim) f) ≡ Some c
+    → ((f ≡ frame) × (claim ≡ Some c)) ⊎ ((f ≢ frame) × (claim_in (used_at st f) ≡ Some c))
 claim_claimed st frame claim f c claims =
     let noted = claim_from (used_at (claimed st frame claim) f) c claims in
     elim (set_cases st.used frame f (with_claim claim (used_at st frame)) noted.0 noted.1) [
@@ -325,7 +342,8 @@ wired_with_claim claim None = refl
 wired_with_claim claim (Some u) = refl
 
 -- what is claimed then is the frame, with this claim and wired as it was, or the same is noted of it as before
-claim_renoted : (st : FrameState) (frame : ℕ) (claim : Option ℕ) (f c : ℕ) → claim_in (used_at (claimed st frame claim) f) ≡ Some c → ((claim ≡ Some c) × (is_wired_place (used_at (claimed st frame claim) f) ≡ is_wired_place (used_at st frame))) ⊎ (used_at (claimed st frame claim) f ≡ used_at st f)
+claim_renoted : (st : FrameState) (frame : ℕ) (claim : Option ℕ) (f c : ℕ) → claim_in (used_at (claimed st frame claim) f) ≡ Some c
+    → ((claim ≡ Some c) × (is_wired_place (used_at (claimed st frame claim) f) ≡ is_wired_place (used_at st frame))) ⊎ (used_at (claimed st frame claim) f ≡ used_at st f)
 claim_renoted st frame claim f c claims =
     let noted = claim_from (used_at (claimed st frame claim) f) c claims in
     elim (set_cases st.used frame f (with_claim claim (used_at st frame)) noted.0 noted.1) [
@@ -346,7 +364,9 @@ unwired_evictable (Some u) may = by_wired u.wired (and_parts (not u.wired) (is_n
     by_wired false is = refl
 
 -- a claim by nobody, or by a processor with nothing, and of a place that isn't wired
-IsSound-reclaimed : (frames processors : ℕ) (st : FrameState) (frame : ℕ) (claim : Option ℕ) → IsSound frames processors st → ((c : ℕ) → claim ≡ Some c → (c < processors) × HasNothing st c × (is_wired_place (used_at st frame) ≡ false)) → IsSound frames processors (claimed st frame claim)
+IsSound-reclaimed : (frames processors : ℕ) (st : FrameState) (frame : ℕ) (claim : Option ℕ) → IsSound frames processors st
+    → ((c : ℕ) → claim ≡ Some c → (c < processors) × HasNothing st c × (is_wired_place (used_at st frame) ≡ false))
+    → IsSound frames processors (claimed st frame claim)
 IsSound-reclaimed frames processors st frame claim sound may = record {
   known = sound.known;
   processors_known = sound.processors_known;
@@ -382,7 +402,8 @@ IsSound-reclaimed frames processors st frame claim sound may = record {
 }
 
 -- a claim of a frame that may be paged out, by a processor with nothing, and the end of one
-pub IsSound-claimed : (frames processors : ℕ) (st : FrameState) (frame c : ℕ) → IsSound frames processors st → c < processors → HasNothing st c → is_evictable (used_at st frame) ≡ true → IsSound frames processors (claimed st frame (Some c))
+pub IsSound-claimed : (frames processors : ℕ) (st : FrameState) (frame c : ℕ) → IsSound frames processors st → c < processors
+    → HasNothing st c → is_evictable (used_at st frame) ≡ true → IsSound frames processors (claimed st frame (Some c))
 IsSound-claimed frames processors st frame c sound known nothing may =
     IsSound-reclaimed frames processors st frame (Some c) sound
     (λ d is. subst (λ e. (e < processors) × HasNothing st e × (is_wired_place (used_at st frame) ≡ false)) (same_Some c d is) (known, nothing, unwired_evictable (used_at st frame) may))
@@ -394,7 +415,8 @@ IsSound-unclaimed frames processors st frame sound =
 -- Dropping.
 
 -- a processor drops the frame that it holds
-IsSound-dropped_in : (frames processors : ℕ) (st : FrameState) (c frame : ℕ) → IsSound frames processors st → held_by st c ≡ Some frame → IsSound frames processors (dropped_in st c (Some frame))
+IsSound-dropped_in : (frames processors : ℕ) (st : FrameState) (c frame : ℕ) → IsSound frames processors st → held_by st c ≡ Some frame
+    → IsSound frames processors (dropped_in st c (Some frame))
 IsSound-dropped_in frames processors st c frame sound holds =
     let apart = sound.held_apart c frame holds in
     let puts = PutsBack-put_back (layout_of st) frame sound.laid (omega (arith, apart.0, sound.known)) apart.1 in
@@ -441,14 +463,16 @@ IsSound-dropped frames processors st c sound =
     ] refl
 
 -- dropping a held frame leaves every page its frame
-pub frame_of-dropped : (frames processors : ℕ) (st : FrameState) (c space page : ℕ) → IsSound frames processors st → frame_of (dropped st c) space page ≡ frame_of st space page
+pub frame_of-dropped : (frames processors : ℕ) (st : FrameState) (c space page : ℕ) → IsSound frames processors st
+    → frame_of (dropped st c) space page ≡ frame_of st space page
 frame_of-dropped frames processors st c space page sound =
     elim (held_by st c) as (λ o. frame_of (dropped_in st c o) space page ≡ frame_of st space page) [ None ↦ refl | Some frame ↦ refl ]
 
 -- Moving.
 
 -- a page that has a frame gives it up
-pub IsSound-give_if_used : (frames processors : ℕ) (st : FrameState) (space page : ℕ) → IsSound frames processors st → IsSound frames processors (give_if_used space st page)
+pub IsSound-give_if_used : (frames processors : ℕ) (st : FrameState) (space page : ℕ) → IsSound frames processors st
+    → IsSound frames processors (give_if_used space st page)
 IsSound-give_if_used frames processors st space page sound = by_place (frame_of st space page) refl
   where
     by_place : (o : Option ℕ) → frame_of st space page ≡ o → IsSound frames processors (give_if_used space st page)
@@ -456,13 +480,16 @@ IsSound-give_if_used frames processors st space page sound = by_place (frame_of 
     by_place (Some frame) is = subst (λ o. IsSound frames processors (cond (is_some o) (give_page st space page) st)) (sym is) (IsSound-give_page frames processors st space page frame sound is)
 
 -- and so does each of a list of pages
-pub IsSound-give_each : (frames processors : ℕ) (space : ℕ) (pages : List ℕ) (st : FrameState) → IsSound frames processors st → IsSound frames processors (fold (give_if_used space) st pages)
+pub IsSound-give_each : (frames processors : ℕ) (space : ℕ) (pages : List ℕ) (st : FrameState) → IsSound frames processors st
+    → IsSound frames processors (fold (give_if_used space) st pages)
 IsSound-give_each frames processors space [] st sound = sound
 IsSound-give_each frames processors space (page ∷ pages) st sound =
     IsSound-give_each frames processors space pages (give_if_used space st page) (IsSound-give_if_used frames processors st space page sound)
 
 -- a taking of some frame
-IsSound-take_some : (frames processors : ℕ) (st : FrameState) (space page : ℕ) (want : Want) (P : Taking → Type 0) → IsSound frames processors st → frame_of st space page ≡ None → IsSomeAnd (take_frame st space page want) P → IsSound frames processors (counted (state_taken st (take_frame st space page want)))
+IsSound-take_some : (frames processors : ℕ) (st : FrameState) (space page : ℕ) (want : Want) (P : Taking → Type 0)
+    → IsSound frames processors st → frame_of st space page ≡ None → IsSomeAnd (take_frame st space page want) P
+    → IsSound frames processors (counted (state_taken st (take_frame st space page want)))
 IsSound-take_some frames processors st space page want P sound none takes =
     elim (take_frame st space page want) as (λ o. take_frame st space page want ≡ o → IsSomeAnd o P → IsSound frames processors (counted (state_taken st o))) [
       | None ↦ λ _ no. absurd no
@@ -470,7 +497,8 @@ IsSound-take_some frames processors st space page want P sound none takes =
     ] refl takes
 
 -- an answer that the frames allow is of an evict
-IsSound-answer : (frames processors : ℕ) (st : FrameState) (space : ℕ) (call : Call) → IsSound frames processors st → AllowsAnswer st space call → IsSound frames processors (counted (moved_by_answer st space call))
+IsSound-answer : (frames processors : ℕ) (st : FrameState) (space : ℕ) (call : Call) → IsSound frames processors st
+    → AllowsAnswer st space call → IsSound frames processors (counted (moved_by_answer st space call))
 IsSound-answer frames processors st space (Evict s page) sound allowed = IsSound-counted frames processors _ (IsSound-give_page frames processors st space page allowed.0 sound allowed.1)
 IsSound-answer frames processors st space (Map s page len kind rights) sound allowed = absurd allowed
 IsSound-answer frames processors st space (Grow s page by) sound allowed = absurd allowed
@@ -481,7 +509,8 @@ IsSound-answer frames processors st space (Store s address word) sound allowed =
 IsSound-answer frames processors st space (Sync s page) sound allowed = absurd allowed
 
 -- Whatever the frames allow keeps them sound.
-pub IsSound-moved : (frames processors : ℕ) (st : FrameState) (mark c : ℕ) (space : Option ℕ) (what : What) → IsSound frames processors st → c < processors → FramesAllow st mark c space what → IsSound frames processors (counted (moved st c space what))
+pub IsSound-moved : (frames processors : ℕ) (st : FrameState) (mark c : ℕ) (space : Option ℕ) (what : What) → IsSound frames processors st
+    → c < processors → FramesAllow st mark c space what → IsSound frames processors (counted (moved st c space what))
 IsSound-moved frames processors st mark c space (Answer number call answered) sound known allowed = IsSound-answer frames processors st (named_space space) call sound allowed
 IsSound-moved frames processors st mark c space (Out page written) sound known allowed = absurd allowed
 IsSound-moved frames processors st mark c space (Failed page writing count) sound known allowed = absurd allowed

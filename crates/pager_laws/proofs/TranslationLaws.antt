@@ -63,7 +63,8 @@ hit_of st c (Some page) hit = of_tile (tile_in st.sizes (pages_of st) page) refl
     of_tile None at is = absurd (false≢true is)
     of_tile (Some t) at is = record { tile = t; at = at; in_image = is }
 
-pub HasHit-answer : (st : SpaceState) (e : Entry) (number : ℕ) (call : Call) (a : Answered) → SpaceAllows st e → e.what ≡ Answer number call a → a.hit ≡ true → HasHit st e.processor (served_page call a.reply)
+pub HasHit-answer : (st : SpaceState) (e : Entry) (number : ℕ) (call : Call) (a : Answered) → SpaceAllows st e
+    → e.what ≡ Answer number call a → a.hit ≡ true → HasHit st e.processor (served_page call a.reply)
 HasHit-answer st e number call a allowed what hit =
     let answer = subst (WhatAllowed st e.frames e.processor) what allowed.1 in
     hit_of st e.processor (served_page call a.reply) (sym answer.hit ∙ hit)

@@ -29,7 +29,8 @@ pub record KeepsPlace (r q : Reservation) (frame : ℕ) : Type 0 where
 pub record Breaks (r : Reservation) (k : ℕ) (before after : Layout) : Type 0 where
   pub laid : IsLaid after
   pub freed : (first : ℕ) × IsFreed r k before after first
-  pub kept : (frame : ℕ) → has_frame frame (Some r) ≡ true → is_used before.used frame ≡ true → (q : Reservation) × (record_at after q.frame ≡ Some q) × KeepsPlace r q frame
+  pub kept : (frame : ℕ) → has_frame frame (Some r) ≡ true → is_used before.used frame ≡ true
+      → (q : Reservation) × (record_at after q.frame ≡ Some q) × KeepsPlace r q frame
   pub used : after.used ≡ before.used
   pub others : (id : ℕ) → (id < r.frame) ⊎ (r.frame + 8 ^ r.size ≤ id) → record_at after id ≡ record_at before id
   pub others_free : (frame : ℕ) → (frame < r.frame) ⊎ (r.frame + 8 ^ r.size ≤ frame) → is_free after frame ≡ is_free before frame

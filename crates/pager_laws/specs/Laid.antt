@@ -26,7 +26,8 @@ pub record IsLaid (l : Layout) : Type 0 where
   -- every reservation has a used place
   pub some_used : (id : ℕ) (r : Reservation) → record_at l id ≡ Some r → (frame : ℕ) × (has_frame frame (Some r) ≡ true) × (is_used l.used frame ≡ true)
   -- no page of a space is in two reservations
-  pub one_cover : (id other space page : ℕ) (r q : Reservation) → record_at l id ≡ Some r → record_at l other ≡ Some q → covers space page r ≡ true → covers space page q ≡ true → id ≡ other
+  pub one_cover : (id other space page : ℕ) (r q : Reservation) → record_at l id ≡ Some r → record_at l other ≡ Some q
+      → covers space page r ≡ true → covers space page q ≡ true → id ≡ other
 
 -- What every state of the frames keeps: each frame is free, a place of one reservation, or held by one processor; every
 -- reservation has a used place, and no page of a space is in two; ages differ; no processor claims or holds two frames, and none a wired one.

@@ -1,15 +1,16 @@
 -- What stays true of a list of members as one goes in or out.
-use Rattle.std.proofs.Common.{◌==◌, ◌||◌, suc, zero, ◌≡◌, ◌≢◌, ◌<◌, ◌≤◌, ℕ, true, false, not, cond, eqb, List, [], ◌∷◌, length, get_or, map, refl, sym, ◌∙◌, arith}
+use Rattle.std.proofs.Common.{◌==◌, ◌||◌, suc, zero, ◌≡◌, ◌≢◌, ◌<◌, ◌≤◌, ℕ, true, false, not, cond, eqb, List, [], ◌∷◌, length, get_or, map, refl, sym, ap, ◌∙◌, arith}
 use Rattle.std.proofs.lemmas.List.{length-map, get_or-map}
 use Rattle.std.specs.List.{All, AllPairs}
 use Rattle.std.proofs.lemmas.List.Elements.{All-cons, All-head, All-tail, All-filter, All-map}
 use Rattle.std.proofs.lemmas.List.Folds.{Any-from_list_any, list_any_at}
 use Rattle.std.proofs.lemmas.List.Kept.{AllPairs-cons, AllPairs-filter}
-use Rattle.std.proofs.lemmas.Bool.{eqb-true, ne_eqb, eq-eqb, or_parts, false≢true}
+use Rattle.std.proofs.lemmas.Bool.{eqb-true, ne_eqb, eq-eqb, or_parts, or_from, false≢true, cond-true, cond-false}
 use Rattle.std.proofs.lemmas.Map.Keys.{IsDistinct-from_apart}
+use Rattle.std.proofs.lemmas.Map.Views.{any-filter_same}
 use Rattle.std.proofs.lemmas.Map.Steps.{length-le_from_distinct_below}
 use Rattle.pager_model.specs.Ages.{Member, Lists, is_before, same_member, with_member, without_member}
-use Rattle.reservation_lists.specs.Kept.{HasRoom, IsInOrder, has_member_of, is_listed}
+use Rattle.reservation_lists.specs.Kept.{HasRoom, IsInOrder, has_member_of, is_listed, without_member_of, without_frame}
 use Rattle.reservation_lists.proofs.StampOrder.{is_before-apart, IsInOrder-tail, all_behind, all_later}
 use Rattle.pager_model.proofs.AgeOrder.{All-with_member}
 
@@ -43,7 +44,8 @@ IsInOrder-with_member new (m ∷ ms) other ordered =
       | false ↦ λ later. AllPairs-cons before m (with_member new ms) (All-with_member (before m) new ms (grind (arith, apart, later)) (all_behind m ms ordered)) rest
     ] refl
 
-frames_apart : (frame : ℕ) (ms : List Member) → All (λ m. m.frame ≢ frame) ms → Differ ms → (i j d : ℕ) → i < j → j < suc (length ms) → eqb (get_or (frame ∷ map (λ (m : Member). m.frame) ms) i d) (get_or (frame ∷ map (λ (m : Member). m.frame) ms) j d) ≡ false
+frames_apart : (frame : ℕ) (ms : List Member) → All (λ m. m.frame ≢ frame) ms → Differ ms → (i j d : ℕ) → i < j → j < suc (length ms)
+    → eqb (get_or (frame ∷ map (λ (m : Member). m.frame) ms) i d) (get_or (frame ∷ map (λ (m : Member). m.frame) ms) j d) ≡ false
 frames_apart frame ms other differ i zero d lt below = absurd (omega arith)
 frames_apart frame ms other differ zero (suc j) d lt below =
     let m : Member = record { stamp = 0; frame = 0 } in
@@ -56,7 +58,8 @@ frames_apart frame ms other differ (suc i) (suc j) d lt below =
     ne_eqb _ _ (λ same. differ i j m (omega arith) (omega arith) (sym at_i ∙ same ∙ at_j))
 
 -- frames that differ and are known leave room for one more that is known and not there
-pub room_for_one : (frames capacity frame : ℕ) (ms : List Member) → HasRoom frames capacity ms → frame < frames → All (λ m. m.frame ≢ frame) ms → length ms < frames
+pub room_for_one : (frames capacity frame : ℕ) (ms : List Member) → HasRoom frames capacity ms → frame < frames
+    → All (λ m. m.frame ≢ frame) ms → length ms < frames
 room_for_one frames capacity frame ms has known other =
     let all : List ℕ = frame ∷ map (λ (m : Member). m.frame) ms in
     let below : All (λ n. n < frames) all =
@@ -68,7 +71,8 @@ room_for_one frames capacity frame ms has known other =
     omega (arith, below found.0 found.1 found.2, found.3, eqb-true q found.1 found.4)) in
     omega arith
 
-pub HasRoom-with_member : (frames capacity more : ℕ) (new : Member) (ms : List Member) → HasRoom frames capacity ms → capacity ≤ more → new.frame < frames → All (λ m. m.frame ≢ new.frame) ms → HasRoom frames more (with_member new ms)
+pub HasRoom-with_member : (frames capacity more : ℕ) (new : Member) (ms : List Member) → HasRoom frames capacity ms → capacity ≤ more
+    → new.frame < frames → All (λ m. m.frame ≢ new.frame) ms → HasRoom frames more (with_member new ms)
 HasRoom-with_member frames capacity more new ms has le known other = record {
   ordered = IsInOrder-with_member new ms other has.ordered;
   room = omega (arith, has.room);
@@ -76,7 +80,8 @@ HasRoom-with_member frames capacity more new ms has le known other = record {
   differ = Differ-with_member new ms other has.differ;
 }
 
-pub HasRoom-without_member : (frames capacity : ℕ) (gone : Member) (ms : List Member) → HasRoom frames capacity ms → HasRoom frames capacity (without_member gone ms)
+pub HasRoom-without_member : (frames capacity : ℕ) (gone : Member) (ms : List Member) → HasRoom frames capacity ms
+    → HasRoom frames capacity (without_member gone ms)
 HasRoom-without_member frames capacity gone ms has = record {
   ordered = AllPairs-filter (λ a b. is_before a b ≡ true) (λ m. not (same_member gone m)) ms has.ordered;
   room = has.room;
@@ -105,3 +110,27 @@ IsUnlisted-from_false frame lists none =
       small = none_of_frame frame lists.small later.0;
       middle = none_of_frame frame lists.middle later.1;
     }
+
+-- a list without a member of the frame stays as it is without one, and so does one that got its only one
+pub without_member_of-none : (frame : ℕ) (ms : List Member) → All (λ m. m.frame ≢ frame) ms → without_member_of frame ms ≡ ms
+without_member_of-none frame [] other = refl
+without_member_of-none frame (m ∷ ms) other =
+    cond-true _ _ _ (ap not (ne_eqb _ _ (All-head (λ n. n.frame ≢ frame) m ms other)))
+    ∙ ap (λ rest. m ∷ rest) (without_member_of-none frame ms (All-tail (λ n. n.frame ≢ frame) m ms other))
+
+pub without_member_of-with : (frame : ℕ) (new : Member) (ms : List Member) → new.frame ≡ frame → All (λ m. m.frame ≢ frame) ms
+    → without_member_of frame (with_member new ms) ≡ ms
+without_member_of-with frame new [] same other = cond-false _ _ _ (ap not (eq-eqb new.frame frame same))
+without_member_of-with frame new (m ∷ ms) same other =
+    elim (is_before new m) as (λ b. without_member_of frame (cond b (new ∷ (m ∷ ms)) (m ∷ with_member new ms)) ≡ m ∷ ms) [
+      | true ↦ cond-false _ _ _ (ap not (eq-eqb new.frame frame same)) ∙ without_member_of-none frame (m ∷ ms) other
+      | false ↦
+          cond-true _ _ _ (ap not (ne_eqb _ _ (All-head (λ n. n.frame ≢ frame) m ms other)))
+          ∙ ap (λ rest. m ∷ rest) (without_member_of-with frame new ms same (All-tail (λ n. n.frame ≢ frame) m ms other))
+    ]
+
+-- the lists without a frame have no member of it
+pub is_listed-without : (frame : ℕ) (lists : Lists) → is_listed frame (without_frame frame lists) ≡ false
+is_listed-without frame lists =
+    let gone = any-filter_same (λ (m : Member). m.frame == frame) (λ m. not (m.frame == frame)) false (λ m has. ap not has) in
+    or_from _ _ (gone lists.base) (or_from _ _ (gone lists.small) (gone lists.middle))

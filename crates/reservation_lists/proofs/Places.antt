@@ -25,7 +25,8 @@ IsPartitionedBy-before member ms ordered = λ i j d le below before.
     ]
 
 -- where the last comes before a member, all do
-pub place_at_end : (member last : Member) (ms : List Member) → IsInOrder ms → slice_get ms (length ms - 1) ≡ Some last → is_before last member ≡ true → place_in member ms ≡ length ms
+pub place_at_end : (member last : Member) (ms : List Member) → IsInOrder ms → slice_get ms (length ms - 1) ≡ Some last
+    → is_before last member ≡ true → place_in member ms ≡ length ms
 place_at_end member last ms ordered at before =
     let within = slice_get_within ms (length ms - 1) last at in
     let ends = subst (λ m. is_before m member ≡ true) (sym (get_or_from_slice_get ms (length ms - 1) last last at)) before in
@@ -52,7 +53,8 @@ without_member-after gone (m ∷ ms) after =
     ∙ ap (λ rest. m ∷ rest) (without_member-after gone ms (All-tail (λ n. is_before gone n ≡ true) m ms after))
 
 -- a member that stands at its place goes out there
-pub without_member_at_place : (gone : Member) (ms : List Member) → IsInOrder ms → slice_get ms (place_in gone ms) ≡ Some gone → without_member gone ms ≡ remove ms (place_in gone ms)
+pub without_member_at_place : (gone : Member) (ms : List Member) → IsInOrder ms → slice_get ms (place_in gone ms) ≡ Some gone
+    → without_member gone ms ≡ remove ms (place_in gone ms)
 without_member_at_place gone [] ordered there = absurd (cc)
 without_member_at_place gone (m ∷ ms) ordered there =
     elim (is_before m gone) as (λ b. is_before m gone ≡ b → slice_get (m ∷ ms) (cond b (1 + place_in gone ms) 0) ≡ Some gone → without_member gone (m ∷ ms) ≡ remove (m ∷ ms) (cond b (1 + place_in gone ms) 0)) [

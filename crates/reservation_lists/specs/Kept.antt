@@ -1,12 +1,18 @@
 -- The lists of reservations as they are kept in memory that is taken once.
-use Rattle.std.specs.Prelude.{ℕ, true, ◌≡◌, ◌≢◌, ◌<◌, ◌≤◌, Bool, ◌||◌, ◌==◌, List, [], All, AllPairs}
+use Rattle.std.specs.Prelude.{ℕ, true, false, ◌≡◌, ◌≢◌, ◌<◌, ◌≤◌, Bool, ◌&&◌, ◌||◌, ◌==◌, not, filter, length, List, [], All, AllPairs, Option, Some, None, IfSome, slice_index_or}
 use Rattle.std.specs.List.{list_any}
-use Rattle.pager_model.specs.Ages.{Member, Lists, is_before}
+use Rattle.pager_model.specs.Ages.{Member, Lists, is_before, same_member}
+use Rattle.reservation_lists.specs.declared.Listed.{Listed}
+use Rattle.reservation_lists.specs.declared.Lists.TheInside.{Inside}
 
 -- the lists, and the number of frames: each list has room for a member of each frame
 pub record KeptLists : Type 0 where
   pub lists : Lists
   pub frames : ℕ
+
+-- the lists as the fields have them
+abbrev pub lists_in : Inside → Lists
+lists_in l = record { base = l.base.items; small = l.small.items; middle = l.middle.items }
 
 abbrev pub no_members : Lists
 no_members = record { base = []; small = []; middle = [] }
@@ -18,6 +24,17 @@ has_member_of frame ms = list_any (λ m. m.frame == frame) ms
 abbrev pub is_listed : ℕ → Lists → Bool
 is_listed frame lists = has_member_of frame lists.base || (has_member_of frame lists.small || has_member_of frame lists.middle)
 
+-- a list, and the lists, without the member of a frame
+abbrev pub without_member_of : ℕ → List Member → List Member
+without_member_of frame ms = filter (λ m. not (m.frame == frame)) ms
+
+abbrev pub without_frame : ℕ → Lists → Lists
+without_frame frame lists = record {
+  base = without_member_of frame lists.base;
+  small = without_member_of frame lists.small;
+  middle = without_member_of frame lists.middle;
+}
+
 -- each member of a list comes before all that stand after it
 abbrev pub IsInOrder : List Member → Type 0
 IsInOrder ms = AllPairs (λ a b. is_before a b ≡ true) ms
@@ -28,3 +45,20 @@ pub record HasRoom (frames capacity : ℕ) (ms : List Member) : Type 0 where
   pub room : frames ≤ capacity
   pub known : All (λ m. m.frame < frames) ms
   pub differ : AllPairs (λ a b. a.frame ≢ b.frame) ms
+
+-- what is kept for a frame tells that the list of the size has a member of it by the stamp
+abbrev pub tells : ℕ → ℕ → Option Listed → Bool
+tells size stamp None = false
+tells size stamp (Some l) = (l.size == size) && (l.stamp == stamp)
+
+-- the list of the size has exactly the members that what is kept for each frame tells
+abbrev pub IsTold : List (Option Listed) → ℕ → List Member → Type 0
+IsTold listed size ms = (m : Member) → list_any (same_member m) ms ≡ tells size m.stamp (slice_index_or listed m.frame None)
+
+-- something is kept for each frame, which tells what members the three lists have, and tells of no other list
+pub record AreTold (frames : ℕ) (listed : List (Option Listed)) (lists : Lists) : Type 0 where
+  pub long : length listed ≡ frames
+  pub known : (frame : ℕ) → IfSome (slice_index_or listed frame None) (λ l. l.size < 3)
+  pub base : IsTold listed 0 lists.base
+  pub small : IsTold listed 1 lists.small
+  pub middle : IsTold listed 2 lists.middle

@@ -2,14 +2,15 @@
 //!
 //! A reservation that isn't full stands in the list of its yield, the largest size of an extent inside it without a used
 //! place. Each list is a vector in order of the stamp and then of the first frame, in memory that `create` took: its first
-//! member is the one to break, and a member's place is searched for by halves.
+//! member is the one to break, and a member's place is searched for by halves. Beside the lists stands for each frame which list
+//! has the reservation that begins at it, and by which stamp; so one is taken out with nothing asked but its first frame.
 #![tactic(auto)]
 
 ghost use Rattle.std.specs.Prelude.{◌≡◌, ◌<◌, ◌≤◌, IfOk, vec_len, vec_capacity, false};
 ghost use Rattle.std.specs.List.{prefix_len};
 ghost use Rattle.pager_model.specs.Ages.{is_before, oldest_in};
 ghost use Rattle.pager_model.specs.Ages.{with_member, without_member, list_at, with_list};
-ghost use Rattle.reservation_lists.specs.Kept.{IsInOrder, no_members, has_member_of, is_listed};
+ghost use Rattle.reservation_lists.specs.Kept.{IsInOrder, no_members, has_member_of, is_listed, without_frame};
 
 use pager_model::{NoMemory, Size};
 use std::alloc::Global;
@@ -77,10 +78,19 @@ fn remove_from(list: &mut Vec<Member>, gone: &Member)
     }
 }
 
+/// The list that has a reservation, and the stamp by which it stands there.
+#[derive(Clone, Copy, Debug)]
+struct Listed {
+    size: Size,
+    stamp: u64,
+}
+
 /// The lists of the sizes below the largest.
 #[derive(Debug, Drop)]
 pub struct Lists {
     frames: u32,
+    /// For each frame what list has the reservation that begins at it, where one has.
+    listed: Vec<Option<Listed>>,
     base: Vec<Member>,
     small: Vec<Member>,
     middle: Vec<Member>,
@@ -88,18 +98,16 @@ pub struct Lists {
 
 impl Model for Lists {
     ghost use Rattle.std.specs.Prelude.{vec_capacity};
-    ghost use Rattle.reservation_lists.specs.Kept.{KeptLists, HasRoom};
+    ghost use Rattle.reservation_lists.specs.Kept.{KeptLists, HasRoom, AreTold, lists_in};
 
     ghost Value = { KeptLists };
 
-    ghost view = { λ l. record {
-      lists = record { base = l.base.items; small = l.small.items; middle = l.middle.items };
-      frames = l.frames;
-    } };
+    ghost view = { λ l. record { lists = lists_in l; frames = l.frames } };
 
     ghost invariant = { λ l. HasRoom l.frames (vec_capacity l.base) l.base.items
         × HasRoom l.frames (vec_capacity l.small) l.small.items
-        × HasRoom l.frames (vec_capacity l.middle) l.middle.items };
+        × HasRoom l.frames (vec_capacity l.middle) l.middle.items
+        × AreTold l.frames l.listed.items (lists_in l) };
 }
 
 impl Lists {
@@ -109,6 +117,7 @@ impl Lists {
     {
         Ok(Lists {
             frames,
+            listed: vec![in alloc; None; frames as usize]?,
             base: Vec::with_capacity(alloc, frames as usize)?,
             small: Vec::with_capacity(alloc, frames as usize)?,
             middle: Vec::with_capacity(alloc, frames as usize)?,
@@ -125,6 +134,7 @@ impl Lists {
               (with_member (record { stamp = stamp; frame = frame }) (list_at self.old.lists size));
         } }
     {
+        self.listed[frame as usize] = Some(Listed { size, stamp });
         let new = Member { stamp, frame };
         match size.level() {
             0 => insert_in(&mut self.base, new),
@@ -133,16 +143,19 @@ impl Lists {
         }
     }
 
-    /// Takes the reservation of this stamp and first frame out of the list of a size, where it stands there.
-    pub fn remove(&mut self, size: Size, stamp: u64, frame: u32)
-        requires { size < 3 }
-        ensures { self.new ≡ record self.old {
-          lists = with_list self.old.lists size
-              (without_member (record { stamp = stamp; frame = frame }) (list_at self.old.lists size));
-        } }
+    /// Takes the reservation of this first frame out of the list that it stands in, where it stands in one.
+    pub fn remove(&mut self, frame: u32)
+        requires known { frame < self.old.frames }
+        ensures { self.new ≡ record self.old { lists = without_frame frame self.old.lists } }
     {
-        let gone = Member { stamp, frame };
-        match size.level() {
+        let Some(listed) = self.listed[frame as usize].take() else {
+            return;
+        };
+        let gone = Member {
+            stamp: listed.stamp,
+            frame,
+        };
+        match listed.size.level() {
             0 => remove_from(&mut self.base, &gone),
             1 => remove_from(&mut self.small, &gone),
             _ => remove_from(&mut self.middle, &gone),

@@ -11,7 +11,9 @@ use Rattle.reservation_lists.proofs.Places.{without_member_at_place, without_mem
 use Rattle.reservation_lists.proofs.remove_from.Goals as goal
 
 -- a comparison with what a list has at a place
-compared : (got : Option (Bor Member)) (ms : List Member) (place : ℕ) (gone : Bor Member) → MatchOption got (length ms ≤ place) (λ x. (place < length ms) × ((d : Member) → x.now ≡ get_or ms place d)) → Decides (option_eq (λ x y. same_member x.now y.now) got (Some gone)) (slice_get ms place ≡ Some gone.now)
+compared : (got : Option (Bor Member)) (ms : List Member) (place : ℕ) (gone : Bor Member)
+    → MatchOption got (length ms ≤ place) (λ x. (place < length ms) × ((d : Member) → x.now ≡ get_or ms place d))
+    → Decides (option_eq (λ x y. same_member x.now y.now) got (Some gone)) (slice_get ms place ≡ Some gone.now)
 compared None ms place gone past =
     let none = slice_get_past ms place past in
     (λ is. absurd (false≢true is), λ at. absurd (cc))

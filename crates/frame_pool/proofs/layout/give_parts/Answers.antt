@@ -12,7 +12,8 @@ use Rattle.pager_laws.proofs.EightParts.{eight_count, parted_free-eight}
 use Rattle.frame_pool.proofs.layout.give_parts.Goals as goal
 
 -- what is told at a place is told of that part
-told_at : (used : ℕ → Bool) (r : Reservation) (parts : List Part) (i : ℕ) (d : Part) → parts ≡ told_parts used r → i < length parts → (i < 8) × (get_or parts i d ≡ told_part used r i)
+told_at : (used : ℕ → Bool) (r : Reservation) (parts : List Part) (i : ℕ) (d : Part) → parts ≡ told_parts used r → i < length parts
+    → (i < 8) × (get_or parts i d ≡ told_part used r i)
 told_at used r parts i d is within =
     let below : i < 8 = omega (arith, ap length is) in
     (below, ap (λ ps. get_or ps i d) is ∙ get_or-map-range_with_len (told_part used r) 0 8 i i d below (omega arith))

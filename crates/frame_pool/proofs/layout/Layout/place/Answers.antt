@@ -43,11 +43,13 @@ put-frame-requires-clause-has c =
     round_page c.in_ok-found.found.size c.args.page c.extent_round-pages.result.first c.extent_round-pages.ensures.first
 
 -- the extent that was found is one of the layout
-finds : (c : After-extent_round-pages) → FindsExtent c.largest_extent.new.self (largest_extent c.preferred-size.result (layout_in c.self.inside)) c.in_ok-found.found.size c.in_ok-found.found.first c.in_ok-found.found.broken
+finds : (c : After-extent_round-pages)
+    → FindsExtent c.largest_extent.new.self (largest_extent c.preferred-size.result (layout_in c.self.inside)) c.in_ok-found.found.size c.in_ok-found.found.first c.in_ok-found.found.broken
 finds c = rw (← c.self.view_is) at c.in_ok-found.ensures.found
 
 -- which is sound with the new reservation
-laid_with : (c : After-extent_round-pages) → IsLaid (with_reservation (record { space = c.args.space; first = c.extent_round-pages.result.first; size = c.in_ok-found.found.size; frame = c.in_ok-found.found.first; stamp = c.args.stamp }) c.args.page c.largest_extent.new.self)
+laid_with : (c : After-extent_round-pages)
+    → IsLaid (with_reservation (record { space = c.args.space; first = c.extent_round-pages.result.first; size = c.in_ok-found.found.size; frame = c.in_ok-found.found.first; stamp = c.args.stamp }) c.args.page c.largest_extent.new.self)
 laid_with c = IsLaid-added (layout_in c.self.inside) c.largest_extent.new.self c.args.stamp c.args.space c.args.page c.args.want.now c.preferred-size.result _ _ _ c.extent_round-pages.result.first (sym c.in_default.ensures) c.preferred-size.ensures (finds c) c.extent_round-pages.ensures.first c.self.invariant.0 (rw (← c.self.view_is) at c.requires.unplaced)
 
 pub put-frame-requires-clause-laid : goal.put-frame-requires-clause-laid

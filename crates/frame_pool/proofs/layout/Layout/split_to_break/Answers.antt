@@ -19,7 +19,8 @@ told : (c : After-level) → c.yields-yields.result ≡ yield_in c.args.self.now
 told c = rw (stood c) at (subst (λ (m : Layout). IfSome (record_at m c.args.id) (λ r. c.yields-yields.result ≡ yield_in m.sizes (is_used m.used) r)) c.self.view_is c.yields-yields.ensures)
 
 -- where it isn't the size of the parts, which are of more than a frame, none of these is empty
-fills : (c : After-level) → same_size c.yields-yields.result (Some c.part_size-size.result) ≡ false → 0 < c.part_size-size.result → Fills c.args.self.now c.split_down.new.self c.args.id c.unwrap-whole.result
+fills : (c : After-level) → same_size c.yields-yields.result (Some c.part_size-size.result) ≡ false → 0 < c.part_size-size.result
+    → Fills c.args.self.now c.split_down.new.self c.args.id c.unwrap-whole.result
 fills c other large =
     let l = c.args.self.now in
     let r = c.unwrap-whole.result in

@@ -14,7 +14,9 @@ use Rattle.frame_pool.proofs.ReservedLayouts.{IsLaid-without_place, given}
 use Rattle.frame_pool.proofs.layout.Layout.vacate.Goals as goal
 
 -- what is left is told of whichever reservation has the frame
-vacated_any : (l old new : Layout) (frame : ℕ) (r : Reservation) → IsLaid l → record_at l r.frame ≡ Some r → has_frame frame (Some r) ≡ true → l ≡ old → new ≡ vacate_layout frame r l → (id : ℕ) → IfSome (record_at old id) (λ q. has_frame frame (Some q) ≡ true → new ≡ vacate_layout frame q old)
+vacated_any : (l old new : Layout) (frame : ℕ) (r : Reservation) → IsLaid l → record_at l r.frame ≡ Some r → has_frame frame (Some r) ≡ true
+    → l ≡ old → new ≡ vacate_layout frame r l → (id : ℕ)
+    → IfSome (record_at old id) (λ q. has_frame frame (Some q) ≡ true → new ≡ vacate_layout frame q old)
 vacated_any l old new frame r laid stood had seen is id = IfSome-from (record_at old id) _ (λ q stands has.
     let same = same_reservation l r.frame r laid stood frame id q had (ap (λ m. record_at m id) seen ∙ stands) has in
     is ∙ ap (λ p. vacate_layout frame p l) same ∙ ap (vacate_layout frame q) seen)

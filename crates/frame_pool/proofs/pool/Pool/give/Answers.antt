@@ -9,7 +9,9 @@ use Rattle.frame_pool.proofs.PoolFields.{frame_noted, give_page-is, IsPool-given
 use Rattle.frame_pool.proofs.pool.Pool.give.Goals as goal
 
 -- the page has no place then, and every other page keeps its own
-places_given : (p : Inside) (space page frame : ℕ) → IsPool p.frames.items p.layout p.used.processors (state_of p) → (old new : FrameState) → state_of p ≡ old → frame_of old space page ≡ Some frame → new ≡ give_page old space page → (s q : ℕ) → frame_of new s q ≡ cond (eqb space s && eqb q page) None (frame_of old s q)
+places_given : (p : Inside) (space page frame : ℕ) → IsPool p.frames.items p.layout p.used.processors (state_of p) → (old new : FrameState)
+    → state_of p ≡ old → frame_of old space page ≡ Some frame → new ≡ give_page old space page → (s q : ℕ)
+    → frame_of new s q ≡ cond (eqb space s && eqb q page) None (frame_of old s q)
 places_given p space page frame pool old new seen is given s q =
     let laid = subst (λ (st : FrameState). IsLaid (layout_of st)) seen pool.sound.laid in
     ap (λ (st : FrameState). frame_of st s q) given ∙ frame_of-give_page old space page frame laid is s q

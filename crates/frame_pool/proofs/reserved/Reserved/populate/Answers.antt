@@ -3,19 +3,22 @@ use Rattle.std.proofs.lemmas.List.{length-replicate}
 use Rattle.pager_model.specs.Layouts.{Layout, frame_for, stamped, record_at}
 use Rattle.pager_model.specs.Records.{Records, is_used}
 use Rattle.reservations.specs.Kept.{with_record, with_used}
+use Rattle.reservation_lists.specs.Kept.{KeptLists}
+use Rattle.reservation_lists.proofs.Members.{is_listed-without}
 use Rattle.pager_laws.specs.Laid.{IsLaid}
 use Rattle.frame_pool.specs.Mapped.{IsMapped}
 use Rattle.frame_pool.specs.ReservedState.{reserved_in}
 use Rattle.frame_pool.proofs.MappedRecords.{IsMapped-alike}
-use Rattle.frame_pool.proofs.LayoutInOrder.{IsLaid-populated, IsInOrder-again, place_has, rest_unlisted}
+use Rattle.frame_pool.proofs.LayoutInOrder.{IsLaid-populated, IsInOrder-again, known_to_lists, place_has}
 use Rattle.frame_pool.proofs.reserved.Reserved.populate.Goals as goal
 
+pub remove-requires : goal.remove-requires
+remove-requires c =
+    let there = rw (← c.self.view_is) at c.requires.there in
+    record { known = known_to_lists (reserved_in c.self.inside) _ c.args.reservation.now c.self.invariant.laid there c.self.inside.lists c.self.inside.map c.self.invariant }
+
 pub enlist-requires-clause-unlisted : goal.enlist-requires-clause-unlisted
-enlist-requires-clause-unlisted c =
-    let r = c.args.reservation.now in
-    let l = reserved_in c.self.inside in
-    let is : record_at l r.frame ≡ Some r = rw (← c.self.view_is) at c.requires.there in
-    rest_unlisted l r.frame r c.self.invariant.laid is c.unlist.new.lists.lists c.unlist.ensures.listed
+enlist-requires-clause-unlisted c = rw c.remove.ensures (is_listed-without c.args.reservation.now.frame c.self.inside.lists.lists)
 
 pub invariant_of-self : goal.invariant_of-self
 invariant_of-self c =
@@ -28,11 +31,11 @@ invariant_of-self c =
     let laid = IsLaid-populated l r c.args.stamp page c.self.invariant.laid is c.requires.has unused in
     let done : c.populate.new.self ≡ with_used (with_record inside.reservations r.frame (Some (stamped r c.args.stamp))) (frame_for page r) true = rw is at c.populate.ensures in
     let m = c.enlist.new.lists.frames in
-    let room : m ≡ inside.lists.frames = c.enlist.ensures.room ∙ c.unlist.ensures.room in
+    let room : m ≡ inside.lists.frames = c.enlist.ensures.room ∙ ap (λ (k : KeptLists). k.frames) c.remove.ensures in
     let after : ℕ → Records → Layout = λ n st. record { sizes = l.sizes; free = replicate n false; records = st.records; used = st.used } in
-    IsInOrder-again l r.frame r c.self.invariant.laid is (frame_for page r) true (Some (stamped r c.args.stamp)) (after m c.populate.new.self) inside.lists c.unlist.new.lists c.enlist.new.lists inside.map inside.map c.self.invariant (place_has r page c.requires.has)
+    IsInOrder-again l r.frame r c.self.invariant.laid is (frame_for page r) true (Some (stamped r c.args.stamp)) (after m c.populate.new.self) inside.lists c.enlist.new.lists inside.map inside.map c.self.invariant (place_has r page c.requires.has)
     (subst (λ n. IsLaid (after n c.populate.new.self)) (sym room) (subst (λ st. IsLaid (after inside.lists.frames st)) (sym done) laid)) refl (length-replicate m false) (ap (λ (st : Records). st.used) done) (ap (λ (st : Records). st.records) done)
-    c.unlist.ensures.room c.enlist.ensures.room c.unlist.ensures.listed c.enlist.ensures.listed
+    room (rw c.remove.ensures at c.enlist.ensures.listed)
     (subst (λ (st : Records). IsMapped inside.map st.records) (sym done) (IsMapped-alike inside.map l.records r.frame r (stamped r c.args.stamp) c.self.invariant.mapped is refl refl refl))
 
 pub frame_for-requires-clause-frames : goal.frame_for-requires-clause-frames

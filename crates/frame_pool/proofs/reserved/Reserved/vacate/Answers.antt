@@ -4,17 +4,20 @@ use Rattle.pager_model.specs.Agreement.{has_frame}
 use Rattle.pager_model.specs.Layouts.{Layout, record_at, is_last}
 use Rattle.pager_model.specs.Records.{Records}
 use Rattle.reservations.specs.Kept.{with_record, with_used}
+use Rattle.reservation_lists.specs.Kept.{KeptLists}
+use Rattle.reservation_lists.proofs.Members.{is_listed-without}
 use Rattle.pager_laws.specs.Laid.{IsLaid}
 use Rattle.frame_pool.specs.Mapped.{IsMapped}
 use Rattle.frame_pool.specs.ReservedChanges.{without_place}
 use Rattle.frame_pool.specs.ReservedState.{reserved_in}
-use Rattle.frame_pool.proofs.LayoutInOrder.{IsInOrder-again, IsInOrder-gone, rest_unlisted}
+use Rattle.frame_pool.proofs.LayoutInOrder.{IsInOrder-again, IsInOrder-gone, known_to_lists}
 use Rattle.frame_pool.proofs.ReservedLayouts.{IsLaid-without_place, vacated}
 use Rattle.frame_pool.proofs.reserved.Reserved.vacate.Goals as goal
-use Rattle.frame_pool.proofs.reserved.Reserved.vacate.Goals.{After-vacate}
+use Rattle.frame_pool.proofs.reserved.Reserved.vacate.Goals.{After-vacate, After-enlist}
 
 -- the reservation stands, and has the frame
-owner : (c : After-vacate) → (record_at (reserved_in c.self.inside) c.unwrap-reservation.result.frame ≡ Some c.unwrap-reservation.result) × (has_frame c.args.frame (Some c.unwrap-reservation.result) ≡ true)
+owner : (c : After-vacate)
+    → (record_at (reserved_in c.self.inside) c.unwrap-reservation.result.frame ≡ Some c.unwrap-reservation.result) × (has_frame c.args.frame (Some c.unwrap-reservation.result) ≡ true)
 owner c = rw (c.unwrap-reservation.ensures, ← c.self.view_is) at c.reservation_of.ensures.found
 
 -- the frame is a used place no more
@@ -29,10 +32,6 @@ tells c =
     let last = rw ((owner c).0, unused c) at c.vacate.ensures.last in
     sym last
 
--- the lists are of as many frames then
-by_room : {n m : ℕ} (l : Layout) (st : Records) → m ≡ n → IsLaid (record { sizes = l.sizes; free = replicate n false; records = st.records; used = st.used }) → IsLaid (record { sizes = l.sizes; free = replicate m false; records = st.records; used = st.used })
-by_room l st same laid = subst (λ k. IsLaid (record { sizes = l.sizes; free = replicate k false; records = st.records; used = st.used })) (sym same) laid
-
 laid_without : (c : After-vacate) → IsLaid (without_place c.args.frame c.unwrap-reservation.result (reserved_in c.self.inside))
 laid_without c = IsLaid-without_place (reserved_in c.self.inside) c.args.frame c.unwrap-reservation.result c.self.invariant.laid (owner c).0 (owner c).1 (rw (← c.self.view_is) at c.requires)
 
@@ -42,15 +41,17 @@ page_at-requires-clause-pages c =
     let found = rw (c.unwrap-reservation.ensures, ← c.self.view_is) at c.reservation_of.ensures.found in
     (c.self.invariant.laid.placed r.frame r found.0).pages_aligned
 
-pub remove-requires-clause-mapped : goal.remove-requires-clause-mapped
-remove-requires-clause-mapped c =
-    subst (λ (st : Records). IsMapped c.self.inside.map st.records) (sym (unused (goal.at.remove-requires-clause-mapped c).After-vacate)) c.self.invariant.mapped
+pub remove-requires : goal.remove-requires
+remove-requires c =
+    let found = rw (c.unwrap-reservation.ensures, ← c.self.view_is) at c.reservation_of.ensures.found in
+    record { known = known_to_lists (reserved_in c.self.inside) _ c.unwrap-reservation.result c.self.invariant.laid found.0 c.self.inside.lists c.self.inside.map c.self.invariant }
+
+pub remove-requires-then-vacate-clause-mapped : goal.remove-requires-then-vacate-clause-mapped
+remove-requires-then-vacate-clause-mapped c =
+    subst (λ (st : Records). IsMapped c.self.inside.map st.records) (sym (unused (goal.at.remove-requires-then-vacate-clause-mapped c).After-vacate)) c.self.invariant.mapped
 
 pub enlist-requires-clause-unlisted : goal.enlist-requires-clause-unlisted
-enlist-requires-clause-unlisted c =
-    let r = c.unwrap-reservation.result in
-    let own = owner (goal.at.enlist-requires-clause-unlisted c).After-vacate in
-    rest_unlisted (reserved_in c.self.inside) r.frame r c.self.invariant.laid own.0 c.unlist.new.lists.lists c.unlist.ensures.listed
+enlist-requires-clause-unlisted c = rw c.remove.ensures (is_listed-without c.unwrap-reservation.result.frame c.self.inside.lists.lists)
 
 pub invariant_of-self : goal.invariant_of-self
 invariant_of-self c =
@@ -60,10 +61,10 @@ invariant_of-self c =
     let r = c.unwrap-reservation.result in
     let gone = c.dissolve.ensures ∙ ap (λ st. with_record st r.frame None) (unused w) in
     let after = vacated l c.args.frame r true c.dissolve.new.self (tells w ∙ c.if-vacate.true) gone in
-    IsInOrder-gone l r.frame r c.self.invariant.laid (owner w).0 c.args.frame _ inside.lists c.unlist.new.lists inside.map c.remove.new.map c.self.invariant (owner w).1
-    (by_room l c.dissolve.new.self c.unlist.ensures.room (subst IsLaid (sym after) (laid_without w))) refl (length-replicate c.unlist.new.lists.frames false) (ap (λ (st : Records). st.used) gone) (ap (λ (st : Records). st.records) gone)
-    c.unlist.ensures.room c.unlist.ensures.listed
-    (subst (λ (st : Records). IsMapped c.remove.new.map st.records) (sym c.dissolve.ensures) c.remove.ensures)
+    rw c.remove.ensures
+    (IsInOrder-gone l r.frame r c.self.invariant.laid (owner w).0 c.args.frame _ inside.lists inside.map c.remove-then-vacate.new.map c.self.invariant (owner w).1
+    (subst IsLaid (sym after) (laid_without w)) refl (length-replicate inside.lists.frames false) (ap (λ (st : Records). st.used) gone) (ap (λ (st : Records). st.records) gone)
+    (subst (λ (st : Records). IsMapped c.remove-then-vacate.new.map st.records) (sym c.dissolve.ensures) c.remove-then-vacate.ensures))
 
 pub returns-then-vacate : goal.returns-then-vacate
 returns-then-vacate c =
@@ -71,7 +72,11 @@ returns-then-vacate c =
     let r = c.unwrap-reservation.result in
     let gone = c.dissolve.ensures ∙ ap (λ st. with_record st r.frame None) (unused w) in
     let last = tells w ∙ c.if-vacate.true in
-    rw (c.unlist.ensures.room, ← c.self.view_is) (record { whole = r; stood = (owner w).0; had = (owner w).1; left = vacated (reserved_in c.self.inside) c.args.frame r true c.dissolve.new.self last gone; frames = (last, refl) })
+    rw (c.remove.ensures, ← c.self.view_is) (record { whole = r; stood = (owner w).0; had = (owner w).1; left = vacated (reserved_in c.self.inside) c.args.frame r true c.dissolve.new.self last gone; frames = (last, refl) })
+
+-- the lists are of as many frames then
+room : (c : After-enlist) → c.enlist.new.lists.frames ≡ c.self.inside.lists.frames
+room c = c.enlist.ensures.room ∙ ap (λ (k : KeptLists). k.frames) c.remove.ensures
 
 pub invariant_of-self-2 : goal.invariant_of-self-2
 invariant_of-self-2 c =
@@ -79,11 +84,13 @@ invariant_of-self-2 c =
     let inside = c.self.inside in
     let l = reserved_in inside in
     let r = c.unwrap-reservation.result in
+    let m = c.enlist.new.lists.frames in
     let after = vacated l c.args.frame r false c.vacate.new.self (tells w ∙ c.if-vacate.false) (unused w) in
-    IsInOrder-again l r.frame r c.self.invariant.laid (owner w).0 c.args.frame false (record_at l r.frame) _ inside.lists c.unlist.new.lists c.enlist.new.lists inside.map inside.map c.self.invariant (owner w).1
-    (by_room l c.vacate.new.self (c.enlist.ensures.room ∙ c.unlist.ensures.room) (subst IsLaid (sym after) (laid_without w))) refl (length-replicate c.enlist.new.lists.frames false) (ap (λ (st : Records). st.used) (unused w))
+    let left : ℕ → Layout = λ n. record { sizes = l.sizes; free = replicate n false; records = c.vacate.new.self.records; used = c.vacate.new.self.used } in
+    IsInOrder-again l r.frame r c.self.invariant.laid (owner w).0 c.args.frame false (record_at l r.frame) (left m) inside.lists c.enlist.new.lists inside.map inside.map c.self.invariant (owner w).1
+    (subst (λ n. IsLaid (left n)) (sym (room (goal.at.invariant_of-self-2 c).After-enlist)) (subst IsLaid (sym after) (laid_without w))) refl (length-replicate m false) (ap (λ (st : Records). st.used) (unused w))
     (ap (λ (st : Records). st.records) (unused w) ∙ sym (set-get_or inside.reservations.records r.frame None))
-    c.unlist.ensures.room c.enlist.ensures.room c.unlist.ensures.listed c.enlist.ensures.listed
+    (room (goal.at.invariant_of-self-2 c).After-enlist) (rw c.remove.ensures at c.enlist.ensures.listed)
     (subst (λ (st : Records). IsMapped inside.map st.records) (sym (unused w)) c.self.invariant.mapped)
 
 pub returns : goal.returns
@@ -91,4 +98,4 @@ returns c =
     let w = (goal.at.returns c).After-vacate in
     let r = c.unwrap-reservation.result in
     let keeps = tells w ∙ c.if-vacate.false in
-    rw (c.enlist.ensures.room, c.unlist.ensures.room, ← c.self.view_is) (record { whole = r; stood = (owner w).0; had = (owner w).1; left = vacated (reserved_in c.self.inside) c.args.frame r false c.vacate.new.self keeps (unused w); frames = keeps })
+    rw (room (goal.at.returns c).After-enlist, ← c.self.view_is) (record { whole = r; stood = (owner w).0; had = (owner w).1; left = vacated (reserved_in c.self.inside) c.args.frame r false c.vacate.new.self keeps (unused w); frames = keeps })
