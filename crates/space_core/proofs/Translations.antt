@@ -268,21 +268,6 @@ untouched_still z range old new ts keeps had =
     alike true tile keeps = refl
     alike false tile keeps = sym (keeps refl)
 
--- an empty range leaves all of them alone
-pub untouched_none : (z : SizeSet) (range : PageRange) (pages : ℕ → Option Mapping) (images : List (List Tile)) → range.length ≡ 0 → map (untouched_tiles z range pages) images ≡ images
-untouched_none z range pages images none = all images
-  where
-    outside : (q : ℕ) → is_touched range q ≡ false
-    outside q = grind (arith, nat_tests)
-
-    one : (ts : List Tile) → untouched_tiles z range pages ts ≡ ts
-    one [] = refl
-    one (t ∷ ts) = cond-true _ _ _ (ap (λ b. not b || is_tile_in z pages t) (outside t.extent.first)) ∙ ap (λ us. t ∷ us) (one ts)
-
-    all : (is : List (List Tile)) → map (untouched_tiles z range pages) is ≡ is
-    all [] = refl
-    all (ts ∷ is) = ap (λ us. us ∷ map (untouched_tiles z range pages) is) (one ts) ∙ ap (λ us. ts ∷ us) (all is)
-
 -- the moves were counted, and each image keeps what they left alone and what is a tile still
 pub retouched_by : (old new : Kept) (moves : Moves) → new.table.sizes ≡ old.table.sizes → AreMovesIn old.table.sizes (mapping_in old.table) (mapping_in new.table) moves
     → new.images ≡ map (untouched_tiles new.table.sizes moves.touched (mapping_in new.table)) old.images → new.promotions ≡ counted_up old.promotions moves.promotions → new.demotions ≡ counted_up old.demotions moves.demotions → Retouches old new

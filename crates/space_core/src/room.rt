@@ -8,7 +8,7 @@ use crate::table::PageTable;
 use pager_model::{NoMemory, Sizes};
 use std::alloc::Global;
 use std::marker::Model;
-use tlb_images::Image;
+use tlb_images::Images;
 
 /// All the memory that a space ever takes, but for that of its store's writes.
 #[derive(Drop)]
@@ -16,7 +16,7 @@ pub struct SpaceRoom {
     /// No page is resident, and none has rights of its own.
     table: PageTable,
     /// For each processor an image without tiles.
-    images: Vec<Image>,
+    images: Images,
 }
 
 impl Model for SpaceRoom {
@@ -26,9 +26,9 @@ impl Model for SpaceRoom {
 
     ghost Value = { Capacity };
 
-    ghost view = { λ r. record { frames = length r.table.frames; processors = length r.images.items; sizes = r.table.sizes } };
+    ghost view = { λ r. record { frames = length r.table.frames; processors = length r.images; sizes = r.table.sizes } };
 
-    ghost invariant = { λ r. IsFresh (length r.table.frames) r.table.sizes r.table × (r.images.items ≡ replicate (length r.images.items) []) };
+    ghost invariant = { λ r. IsFresh (length r.table.frames) r.table.sizes r.table × (r.images ≡ replicate (length r.images) []) };
 }
 
 impl SpaceRoom {
@@ -39,21 +39,19 @@ impl SpaceRoom {
         processors: u32,
         sizes: Sizes,
     ) -> Result<SpaceRoom, NoMemory>
-        requires { frames ≤ most_frames }
+        requires frames { frames ≤ most_frames }
+        requires few { processors ≤ 17 }
         ensures { IfOk result (λ room. room ≡ record { frames = frames; processors = processors; sizes = sizes }) }
     {
         let table = PageTable::create(alloc, frames, sizes)?;
-        let mut images = Vec::with_capacity(alloc, processors as usize)?;
-        for _ in 0..processors {
-            images.push(Image::create())?;
-        }
+        let images = Images::create(alloc, processors)?;
         Ok(SpaceRoom { table, images })
     }
 
     /// The table of its pages, and the images.
-    pub fn into_parts(self) -> (PageTable, Vec<Image>)
+    pub fn into_parts(self) -> (PageTable, Images)
         ensures table { IsFresh self.frames self.sizes result.0 }
-        ensures images { result.1.items ≡ replicate self.processors [] }
+        ensures images { result.1 ≡ replicate self.processors [] }
     {
         (self.table, self.images)
     }

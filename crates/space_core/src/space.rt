@@ -25,7 +25,7 @@ use region_table::Regions;
 use std::marker::Model;
 use store_core::{Store, StoreFailed, WriteRefused};
 use tiles::{Moves, Translation};
-use tlb_images::Image;
+use tlb_images::Images;
 
 /// What a call needs first.
 #[derive(Clone, Copy, Debug, PartialEq, Eq)]
@@ -79,7 +79,7 @@ pub struct Space<S: Store + Send + Drop> {
     paged: Option<u32>,
     store: S,
     /// For each processor the tiles that it used last.
-    images: Vec<Image>,
+    images: Images,
     promotions: u64,
     demotions: u64,
     /// How many large tiles met that range when its clearing began.
@@ -103,7 +103,7 @@ impl<S: Store + Send + Drop> Model for Space<S> {
       paged = s.paged;
       store = S.seen s.store;
       reads = S.reads s.store;
-      images = s.images.items;
+      images = s.images;
       promotions = s.promotions;
       demotions = s.demotions;
       broken = s.broken;
@@ -210,39 +210,45 @@ impl<S: Store + Send + Drop> Space<S> {
         self.follow(moves);
     }
 
-    /// Reads the copy of the pending page in. Where the store's read fails, the error is its count of faults, and the page stays pending.
-    pub fn read_in(&mut self, page: u32) -> Result<(), u64>
+    /// Reads the copy of the pending page in, and tells what the page is mapped by. Where the store's read fails, the error is its count of
+    /// faults, and the page stays pending.
+    pub fn read_in(&mut self, page: u32) -> Result<Translation, u64>
         requires pending { self.old.pending ≡ Some page }
         requires resident { frame_at self.old page ≢ None }
         ensures read { IfOk result (λ _. ReadsIn self.old self.new) }
+        ensures found { IfOk result (IsMappedBy self.new page) }
         ensures failed { IfErr result (λ count. FailsToRead self.old self.new page count) }
     {
-        match self.table.read_copy(page, &mut self.store) {
+        let Some(found) = self.table.translate(page) else {
+            unreachable!()
+        };
+        match self
+            .table
+            .read_copy(page, found.mapping.frame, &mut self.store)
+        {
             Ok(()) => {
                 self.pending = None;
-                Ok(())
+                Ok(found)
             }
             Err(StoreFailed) => Err(self.store.faults()),
         }
     }
 
-    /// Ends a load or a store that is allowed and whose page is resident: its word, or done.
-    pub fn finish(&mut self, processor: u32, call: &Call) -> Answered
+    /// Ends a load or a store that is allowed and whose page is mapped by this: its word, or done.
+    pub fn finish(&mut self, processor: u32, call: &Call, found: Translation) -> Answered
         requires processor { processor < length self.old.images }
         requires space { space_of_call call.now ≡ self.old.number }
         requires resting { IsResting self.old }
         requires can { CanBegin call.now }
         requires allowed { is_allowed self.old call.now ≡ true }
-        requires resident { IfSome (access_page call.now) (λ page. frame_at self.old page ≢ None) }
+        requires found { IfSome (access_page call.now) (λ page. IsMappedBy self.old page found) }
         ensures { Finishes self.old self.new processor call.now result }
     {
-        let Some(page) = accessed_page(call) else {
-            unreachable!()
-        };
-        let Some(found) = self.table.translate(page) else {
-            unreachable!()
-        };
-        self.finish_by(processor, call, found)
+        match *call {
+            Call::Load { address, .. } => self.load(processor, address, found),
+            Call::Store { address, word, .. } => self.store(processor, address, word, found),
+            _ => unreachable!(),
+        }
     }
 
     /// Makes a resident page equal to its copy, and tells whether it was dirty and its copy was written.
@@ -290,14 +296,13 @@ impl<S: Store + Send + Drop> Space<S> {
     {
         let from = self.begin_clearing(range);
         let end = range.first + range.length;
-        let Some(page) = self.table.first_resident(from, end) else {
+        let Some((page, frame)) = self.table.take_next(from, end) else {
             self.scan = end;
             self.demotions = self.demotions.saturating_add(u64::from(self.broken));
-            self.keep_tiles();
+            keep_tiles(&mut self.images, &self.table);
             return None;
         };
         self.scan = page + 1;
-        let (frame, _) = self.table.take(page)?;
         Some((page, frame))
     }
 
@@ -412,7 +417,7 @@ impl<S: Store + Send + Drop> Space<S> {
         match self.look(page, call) {
             Found::Refused(refusal) => Begun::Answered(answered(refusal)),
             Found::Absent(want) => Begun::NeedsFrame { page, want },
-            Found::Resident(found) => Begun::Answered(self.finish_by(processor, call, found)),
+            Found::Resident(found) => Begun::Answered(self.finish(processor, call, found)),
         }
     }
 
@@ -447,23 +452,6 @@ impl<S: Store + Send + Drop> Space<S> {
             return Found::Refused(Reply::Denied);
         }
         Found::Absent(want_in(&region, page, self.regions.next_start(page)))
-    }
-
-    /// Ends a load or a store that is allowed and whose page is mapped by this.
-    fn finish_by(&mut self, processor: u32, call: &Call, found: Translation) -> Answered
-        requires processor { processor < length self.old.images }
-        requires space { space_of_call call.now ≡ self.old.number }
-        requires resting { IsResting self.old }
-        requires can { CanBegin call.now }
-        requires allowed { is_allowed self.old call.now ≡ true }
-        requires found { IfSome (access_page call.now) (λ page. IsMappedBy self.old page found) }
-        ensures { Finishes self.old self.new processor call.now result }
-    {
-        match *call {
-            Call::Load { address, .. } => self.load(processor, address, found),
-            Call::Store { address, word, .. } => self.store(processor, address, word, found),
-            _ => unreachable!(),
-        }
     }
 
     /// Writes the copy of a page where it is dirty, and answers.
@@ -554,7 +542,7 @@ impl<S: Store + Send + Drop> Space<S> {
         ensures { Finishes self.old self.new processor (Call.Load self.old.number address) result }
     {
         let word = self.table.word_by(found.mapping.frame, word_of(address));
-        self.touch(processor, found.tile, Reply::Value(word))
+        self.touch(processor, &found.tile, Reply::Value(word))
     }
 
     /// Writes the word of a page that is mapped by this, and whose tiles change where it was clean.
@@ -570,7 +558,7 @@ impl<S: Store + Send + Drop> Space<S> {
         let index = word_of(address);
         if found.mapping.dirty {
             self.table.write_word_by(number, index, word);
-            return self.touch(processor, found.tile, Reply::Done);
+            return self.touch(processor, &found.tile, Reply::Done);
         }
         let page = page_of(address);
         let hit = self.has_translation(processor, found.tile);
@@ -579,7 +567,7 @@ impl<S: Store + Send + Drop> Space<S> {
         let Some(then) = self.table.translate(page) else {
             unreachable!()
         };
-        let answered = self.touch(processor, then.tile, Reply::Done);
+        let answered = self.touch(processor, &then.tile, Reply::Done);
         Answered { hit, ..answered }
     }
 
@@ -588,20 +576,20 @@ impl<S: Store + Send + Drop> Space<S> {
         requires { processor < length self.now.images }
         ensures { result ≡ is_in_image (image_at self.now processor) (Some tile) }
     {
-        self.images[processor as usize].has(Some(tile))
+        self.images.has(processor, Some(tile))
     }
 
     /// The processor used the tile, which comes to the front of its image; the whole answer, a hit where the tile stood there.
-    fn touch(&mut self, processor: u32, tile: Tile, reply: Reply) -> Answered
+    fn touch(&mut self, processor: u32, tile: &Tile, reply: Reply) -> Answered
         requires { processor < length self.old.images }
-        ensures touched { Touches self.old self.new processor (Some tile) }
+        ensures touched { Touches self.old self.new processor (Some tile.now) }
         ensures answered { result ≡ record {
           reply = reply;
-          hit = is_in_image (image_at self.old processor) (Some tile);
-          size = Some tile.extent.size;
+          hit = is_in_image (image_at self.old processor) (Some tile.now);
+          size = Some tile.now.extent.size;
         } }
     {
-        let hit = use_tile(self.images.as_mut_slice(), processor, &tile);
+        let hit = self.images.touch(processor, *tile);
         Answered {
             reply,
             hit,
@@ -633,7 +621,7 @@ impl<S: Store + Send + Drop> Space<S> {
         } }
     {
         self.count(moves);
-        keep_untouched(self.images.as_mut_slice(), &self.table, moves.touched);
+        keep_untouched(&mut self.images, &self.table, moves.touched);
     }
 
     /// Counts moves; each count stands still at its type's end.
@@ -645,13 +633,6 @@ impl<S: Store + Send + Drop> Space<S> {
     {
         self.promotions = self.promotions.saturating_add(u64::from(moves.promotions));
         self.demotions = self.demotions.saturating_add(u64::from(moves.demotions));
-    }
-
-    /// Each image keeps what is a tile still.
-    fn keep_tiles(&mut self)
-        ensures { self.new ≡ record self.old { images = map (still_tiles self.old.table.sizes (mapping_in self.old.table)) self.old.images } }
-    {
-        keep_tiles(self.images.as_mut_slice(), &self.table);
     }
 
     /// How many tiles there are of each size.
@@ -683,42 +664,18 @@ impl<S: Store + Send + Drop> Space<S> {
     }
 }
 
-/// The tile comes to the front of the processor's image. Tells whether it stood there.
-fn use_tile(images: &mut [Image], processor: u32, tile: &Tile) -> bool
-    requires { processor < length images.old }
-    ensures touched { images.new ≡ slice_set images.old processor (touched tile.now (slice_index_or images.old processor [])) }
-    ensures hit { result ≡ is_in_image (slice_index_or images.old processor []) (Some tile.now) }
-{
-    images[processor as usize].touch(*tile)
-}
-
 /// Each image keeps what is a tile still.
-fn keep_tiles(images: &mut [Image], table: &PageTable)
+fn keep_tiles(images: &mut Images, table: &PageTable)
     ensures { images.new ≡ map (still_tiles table.now.sizes (mapping_in table.now)) images.old }
 {
-    for image in images.iter_mut() {
-        image.retain(|tile| table.is_tile(tile));
-    }
+    images.retain(|tile| table.is_tile(tile));
 }
 
 /// Each image keeps what begins outside of the range, which isn't asked about, and what is a tile still.
-fn keep_untouched(images: &mut [Image], table: &PageTable, range: PageRange)
+fn keep_untouched(images: &mut Images, table: &PageTable, range: PageRange)
     ensures { images.new ≡ map (untouched_tiles table.now.sizes range (mapping_in table.now)) images.old }
 {
-    if range.length == 0 {
-        return;
-    }
-    for image in images.iter_mut() {
-        image.retain(|tile| !begins_in(tile, range) || table.is_tile(tile));
-    }
-}
-
-/// Whether a tile begins in a range.
-fn begins_in(tile: &Tile, range: PageRange) -> bool
-    ensures { result ≡ is_touched range tile.now.extent.first }
-{
-    let first = tile.extent.first;
-    range.first <= first && first - range.first < range.length
+    images.retain_in(range, |tile| table.is_tile(tile));
 }
 
 /// Written where the page was dirty, and else clean.

@@ -172,9 +172,25 @@ impl PageTable {
         Some((frame, changes.moves(self.sizes)))
     }
 
-    /// Reads the copy of a resident page from the store, once.
-    pub fn read_copy<S: Store>(&mut self, page: u32, store: &mut S) -> Result<(), StoreFailed>
-        requires resident { frame_in self.old page ≢ None }
+    /// Takes the frame of the lowest resident page from `from` on and before `end` away.
+    pub fn take_next(&mut self, from: u32, end: u32) -> Option<(u32, Frame)>
+        requires { end ≤ space_pages }
+        ensures some { IfSome result (λ taken. IsFirstResident self.old from end taken.0 × (frame_in self.old taken.0 ≡ Some taken.1.number) × Maps taken.0 None self.old self.new) }
+        ensures none { IfNone result (NoneFrom self.old from end × (self.new ≡ self.old)) }
+    {
+        let (page, number) = self.pages.take_next(from, end)?;
+        let frame = self.frames[number as usize].take()?;
+        Some((page, frame))
+    }
+
+    /// Reads the copy of the page that has the frame of this number from the store, once.
+    pub fn read_copy<S: Store>(
+        &mut self,
+        page: u32,
+        number: u32,
+        store: &mut S,
+    ) -> Result<(), StoreFailed>
+        requires resident { frame_in self.old page ≡ Some number }
         ensures table { Refills page self.old self.new }
         ensures read { IfOk result (λ _. (words : List ℕ) → (S.seen store.old).tells ≡ true
             → copy_at (S.seen store.old) page ≡ Some words → HasWords self.new page words) }
@@ -183,9 +199,6 @@ impl PageTable {
         ensures rose { OnErr result (Rises (S.seen store.old).faults (S.seen store.new).faults) }
         ensures never_falls { (S.seen store.old).faults ≤ (S.seen store.new).faults }
     {
-        let Some(number) = self.number(page) else {
-            unreachable!()
-        };
         let Some(frame) = &mut self.frames[number as usize] else {
             unreachable!()
         };

@@ -14,7 +14,8 @@ pub end_fits : (r : Resident) (page : ℕ) (e : Entry) → FitsFrames r page e �
 end_fits r page e fits = omega (arith, fits.from, fits.in_space, eight_small e.extent.size fits.low)
 
 -- pages of one entry have one right
-pub keeps_within : (rights : Rights) (r : Resident) (page : ℕ) (e : Entry) → FitsFrames r page e → with_rights rights e.mapping ≡ e.mapping → KeepsRights e.extent.first (e.extent.first + 8 ^ e.extent.size) rights (mapping_at r)
+pub keeps_within : (rights : Rights) (r : Resident) (page : ℕ) (e : Entry) → FitsFrames r page e → with_rights rights e.mapping ≡ e.mapping
+    → KeepsRights e.extent.first (e.extent.first + 8 ^ e.extent.size) rights (mapping_at r)
 keeps_within rights r page e fits same other on before =
     let said = fits.says other on before in
     let has : rights ≡ e.mapping.rights = ap (λ (m : Mapping). m.rights) same in

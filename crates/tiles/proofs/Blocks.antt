@@ -29,7 +29,8 @@ use Rattle.tiles.proofs.TouchedTiles.{outside_block}
 abbrev protected : Bool → Rights → Option Mapping → Option Mapping
 protected b rights m = if b then option_map (with_rights rights) m else m
 
-outside_same : (block first len : ℕ) (rights : Rights) (r s : Resident) → ProtectsInBlock block first len rights r s → OutsideSame block (mapping_at r) (mapping_at s)
+outside_same : (block first len : ℕ) (rights : Rights) (r s : Resident) → ProtectsInBlock block first len rights r s
+    → OutsideSame block (mapping_at r) (mapping_at s)
 outside_same block first len rights r s protects p apart =
     protects.at p ∙ ap (λ b. protected b rights (mapping_at r p)) (no_right (in_range first len p) (eqb (p / 512) block) (ne_eqb (p / 512) block apart))
   where
@@ -45,7 +46,8 @@ right_alike : (a : Bool) (b c : Bool) → b ≡ c → (a && b) ≡ (a && c)
 right_alike a b c e = ap (λ x. a && x) e
 
 -- where no page is resident none has rights
-pub protects_bare : (first from end : ℕ) (rights : Rights) (r s : Resident) → from ≤ end → NoneResident (mapping_at s) from end → ProtectsTo first from rights r s → ProtectsTo first end rights r s
+pub protects_bare : (first from end : ℕ) (rights : Rights) (r s : Resident) → from ≤ end → NoneResident (mapping_at s) from end
+    → ProtectsTo first from rights r s → ProtectsTo first end rights r s
 protects_bare first from end rights r s on none so_far = record {
   frames = so_far.frames;
   at = λ p. elim (cases_lt p from) [
@@ -67,7 +69,8 @@ protects_bare first from end rights r s on none so_far = record {
     right_past false m n h = refl
 
 -- a part of an entry gets rights
-pub protects_part : (size page : ℕ) (rights : Rights) (given : Mapping) (e : Entry) (r s : Resident) → FitsFrames r page e → size ≤ e.extent.size → page % 8 ^ size ≡ 0 → given ≡ with_rights rights (mapping_of e page) → MapsExtent size page given r s
+pub protects_part : (size page : ℕ) (rights : Rights) (given : Mapping) (e : Entry) (r s : Resident) → FitsFrames r page e
+    → size ≤ e.extent.size → page % 8 ^ size ≡ 0 → given ≡ with_rights rights (mapping_of e page) → MapsExtent size page given r s
     → ProtectsTo page (page + 8 ^ size) rights r s
 protects_part size page rights given e r s fits small aligned is maps = record { frames = maps.frames; at = at }
   where
@@ -99,7 +102,8 @@ protects_part size page rights given e r s fits small aligned is maps = record {
     ]
 
 -- a further part gets them
-pub protects_on : (first page end : ℕ) (rights : Rights) (r s t : Resident) → first ≤ page → page ≤ end → ProtectsTo first page rights r s → ProtectsTo page end rights s t → ProtectsTo first end rights r t
+pub protects_on : (first page end : ℕ) (rights : Rights) (r s t : Resident) → first ≤ page → page ≤ end → ProtectsTo first page rights r s
+    → ProtectsTo page end rights s t → ProtectsTo first end rights r t
 protects_on first page end rights r s t from on so_far more = record {
   frames = more.frames ∙ so_far.frames;
   at = λ p. elim (cases_lt p page) [
@@ -124,7 +128,8 @@ protects_on first page end rights r s t from on so_far more = record {
     alike : (a b c : Bool) → b ≡ c → (a && b) ≡ (a && c)
     alike a b c e = ap (λ x. a && x) e
 
-pub outside_part : (block from end : ℕ) (rights : Rights) (r s : Resident) → block * 512 ≤ from → end ≤ block * 512 + 512 → ProtectsTo from end rights r s → OutsideSame block (mapping_at r) (mapping_at s)
+pub outside_part : (block from end : ℕ) (rights : Rights) (r s : Resident) → block * 512 ≤ from → end ≤ block * 512 + 512
+    → ProtectsTo from end rights r s → OutsideSame block (mapping_at r) (mapping_at s)
 outside_part block from end rights r s low high protects p apart =
     let none : (nat_le from p && nat_lt p end) ≡ false = elim (cases_lt p from) [
       | inl before ↦ grind (arith, nat_tests)
@@ -149,7 +154,8 @@ blocks_none first len rights r = record { frames = refl; at = λ p. sym (ap (λ 
       | inr after ↦ let t : first / 512 ≤ p / 512 = omega arith in grind (arith, nat_tests)
     ]
 
-pub blocks_more : (to first len : ℕ) (rights : Rights) (r s t : Resident) → ProtectsBlocks to first len rights r s → ProtectsInBlock to first len rights s t → ProtectsBlocks (to + 1) first len rights r t
+pub blocks_more : (to first len : ℕ) (rights : Rights) (r s t : Resident) → ProtectsBlocks to first len rights r s
+    → ProtectsInBlock to first len rights s t → ProtectsBlocks (to + 1) first len rights r t
 blocks_more to first len rights r s t so_far protects = record {
   frames = protects.frames ∙ so_far.frames;
   at = λ p. elim (cases_eq (p / 512) to) [
@@ -178,14 +184,16 @@ blocks_more to first len rights r s t so_far protects = record {
     lt_more m n h = grind (arith, nat_tests)
 
 -- the pages in the blocks before that one are as before in it
-block_untouched : (to first len : ℕ) (rights : Rights) (r s : Resident) → ProtectsBlocks to first len rights r s → (p : ℕ) → p / 512 ≡ to → mapping_at s p ≡ mapping_at r p
+block_untouched : (to first len : ℕ) (rights : Rights) (r s : Resident) → ProtectsBlocks to first len rights r s → (p : ℕ) → p / 512 ≡ to
+    → mapping_at s p ≡ mapping_at r p
 block_untouched to first len rights r s so_far p e = so_far.at p ∙ ap (λ b. protected b rights (mapping_at r p)) (right_no (in_range first len p) (p / 512) to (omega arith))
   where
     right_no : (a : Bool) (m n : ℕ) → n ≤ m → (a && nat_lt m n) ≡ false
     right_no true m n h = grind (arith, nat_tests)
     right_no false m n h = refl
 
-pub blocks_all : (to first len : ℕ) (rights : Rights) (r s : Resident) → first + len ≤ to * 512 → ProtectsBlocks to first len rights r s → Protects first len rights r s
+pub blocks_all : (to first len : ℕ) (rights : Rights) (r s : Resident) → first + len ≤ to * 512 → ProtectsBlocks to first len rights r s
+    → Protects first len rights r s
 blocks_all to first len rights r s past so_far = record { frames = so_far.frames; at = λ p. so_far.at p ∙ ap (λ b. protected b rights (mapping_at r p)) (all p) }
   where
     all : (p : ℕ) → (in_range first len p && nat_lt (p / 512) to) ≡ in_range first len p
@@ -202,7 +210,8 @@ blocks_all to first len rights r s past so_far = record { frames = so_far.frames
         range_past first len p high = grind (arith, nat_tests)
 
 -- blocks without a resident page of the range may be passed over
-pub blocks_skip : (from to first len : ℕ) (rights : Rights) (r s : Resident) → from ≤ to → ((p : ℕ) → first ≤ p → p < first + len → from ≤ p / 512 → p / 512 < to → mapping_at s p ≡ None)
+pub blocks_skip : (from to first len : ℕ) (rights : Rights) (r s : Resident) → from ≤ to
+    → ((p : ℕ) → first ≤ p → p < first + len → from ≤ p / 512 → p / 512 < to → mapping_at s p ≡ None)
     → ProtectsBlocks from first len rights r s → ProtectsBlocks to first len rights r s
 blocks_skip from to first len rights r s on bare so_far = record { frames = so_far.frames; at = at }
   where
@@ -228,17 +237,22 @@ blocks_skip from to first len rights r s on bare so_far = record { frames = so_f
     ]
 
 -- those up to the first resident page behind a block
-pub blocks_to_next : (from first len page : ℕ) (rights : Rights) (r s : Resident) → IsNextResident (mapping_at s) (max first (from * 512)) (first + len) page → ProtectsBlocks from first len rights r s → ProtectsBlocks (page / 512) first len rights r s
+pub blocks_to_next : (from first len page : ℕ) (rights : Rights) (r s : Resident)
+    → IsNextResident (mapping_at s) (max first (from * 512)) (first + len) page → ProtectsBlocks from first len rights r s
+    → ProtectsBlocks (page / 512) first len rights r s
 blocks_to_next from first len page rights r s next = blocks_skip from (page / 512) first len rights r s (omega (arith, next.from_on)) (λ p low high past before. next.lowest p (omega arith) (omega arith))
 
 -- and all where none is behind one
-pub blocks_end : (from first len : ℕ) (rights : Rights) (r s : Resident) → from ≤ 2048 → first + len ≤ 1048576 → NoneResident (mapping_at s) (max first (from * 512)) (first + len) → ProtectsBlocks from first len rights r s → Protects first len rights r s
+pub blocks_end : (from first len : ℕ) (rights : Rights) (r s : Resident) → from ≤ 2048 → first + len ≤ 1048576
+    → NoneResident (mapping_at s) (max first (from * 512)) (first + len) → ProtectsBlocks from first len rights r s
+    → Protects first len rights r s
 blocks_end from first len rights r s few known none so_far =
     blocks_all 2048 first len rights r s known (blocks_skip from 2048 first len rights r s few (λ p low high past before. none p (omega arith) high) so_far)
 
 -- ---- the moves
 
-pub moves_more : (z : SizeSet) (to first len : ℕ) (rights : Rights) (r s t : Resident) (so_far more all : Moves) → ProtectsBlocks to first len rights r s → ProtectsInBlock to first len rights s t → AreMovesIn z (mapping_at r) (mapping_at s) so_far
+pub moves_more : (z : SizeSet) (to first len : ℕ) (rights : Rights) (r s t : Resident) (so_far more all : Moves)
+    → ProtectsBlocks to first len rights r s → ProtectsInBlock to first len rights s t → AreMovesIn z (mapping_at r) (mapping_at s) so_far
     → AreMovesIn z (mapping_at s) (mapping_at t) more → all.promotions ≡ so_far.promotions + more.promotions → all.demotions ≡ so_far.demotions + more.demotions → IsInSpace all.touched
     → ((p : ℕ) → is_touched all.touched p ≡ false → (is_touched so_far.touched p ≡ false) × (is_touched more.touched p ≡ false)) → AreMovesIn z (mapping_at r) (mapping_at t) all
 moves_more z to first len rights r s t so_far more all before protects moved moves promoted demoted in_range touched =
@@ -251,7 +265,8 @@ moves_more z to first len rights r s t so_far more all before protects moved mov
       outside = λ u is out. let neither = touched u.extent.first out in moves.outside u (moved.outside u is neither.0) neither.1;
     }
 
-pub moves_fit : (z : SizeSet) (to first len : ℕ) (rights : Rights) (r s t : Resident) (so_far more : Moves) → ProtectsBlocks to first len rights r s → ProtectsInBlock to first len rights s t → AreMovesIn z (mapping_at r) (mapping_at s) so_far
+pub moves_fit : (z : SizeSet) (to first len : ℕ) (rights : Rights) (r s t : Resident) (so_far more : Moves)
+    → ProtectsBlocks to first len rights r s → ProtectsInBlock to first len rights s t → AreMovesIn z (mapping_at r) (mapping_at s) so_far
     → AreMovesIn z (mapping_at s) (mapping_at t) more → (so_far.promotions + more.promotions ≤ 1048576) × (so_far.demotions + more.demotions ≤ 1048576)
 moves_fit z to first len rights r s t so_far more before protects moved moves =
     let untouched = block_untouched to first len rights r s before in
@@ -285,7 +300,8 @@ eighth_alone : (z : SizeSet) (old new : ℕ → Option Mapping) (q : ℕ) → q 
 eighth_alone z old new q apart = promoted_test z old new q ∙ not_eighth q (size_by z old q) (size_by z new q) (by_small z new q) apart
 
 -- eight pages more
-count_eight : (z : SizeSet) (old new : ℕ → Option Mapping) (from i : ℕ) → from % 8 ≡ 0 → count (is_promoted_in z old new) from (8 * (i + 1)) ≡ count (is_promoted_in z old new) from (8 * i) + weight (is_grown_at (from + 8 * i) (size_by z old (from + 8 * i)) (size_by z new (from + 8 * i)))
+count_eight : (z : SizeSet) (old new : ℕ → Option Mapping) (from i : ℕ) → from % 8 ≡ 0
+    → count (is_promoted_in z old new) from (8 * (i + 1)) ≡ count (is_promoted_in z old new) from (8 * i) + weight (is_grown_at (from + 8 * i) (size_by z old (from + 8 * i)) (size_by z new (from + 8 * i)))
 count_eight z old new from i whole =
     let f = is_promoted_in z old new in
     let q = from + 8 * i in
@@ -303,7 +319,8 @@ count_eight z old new from i whole =
     apart from i n whole low high e = omega arith
 
 -- the moves of a block are all
-count_block : (z : SizeSet) (old new : ℕ → Option Mapping) (block : ℕ) → block < 2048 → OutsideSame block old new → count (is_promoted_in z old new) (block * 512) 512 ≡ promotions_in z old new
+count_block : (z : SizeSet) (old new : ℕ → Option Mapping) (block : ℕ) → block < 2048 → OutsideSame block old new
+    → count (is_promoted_in z old new) (block * 512) 512 ≡ promotions_in z old new
 count_block z old new block known outside = at 1048576 refl
   where
     none : (q : ℕ) → q / 512 ≢ block → is_promoted_in z old new q ≡ false
@@ -329,13 +346,15 @@ pub record CountsTo (z : SizeSet) (block i : ℕ) (old new : ℕ → Option Mapp
   pub promotions : moves.promotions ≡ count (is_promoted_in z old new) (block * 512) (8 * i)
   pub demotions : moves.demotions ≡ count (is_promoted_in z new old) (block * 512) (8 * i)
 
-pub counts_none : (z : SizeSet) (block : ℕ) (old new : ℕ → Option Mapping) (moves : Moves) → moves.promotions ≡ 0 → moves.demotions ≡ 0 → CountsTo z block 0 old new moves
+pub counts_none : (z : SizeSet) (block : ℕ) (old new : ℕ → Option Mapping) (moves : Moves) → moves.promotions ≡ 0 → moves.demotions ≡ 0
+    → CountsTo z block 0 old new moves
 counts_none z block old new moves p d = record {
   promotions = p ∙ sym (ap (count (is_promoted_in z old new) (block * 512)) {x = 8 * 0} {y = 0} refl ∙ count-zero (is_promoted_in z old new) (block * 512));
   demotions = d ∙ sym (ap (count (is_promoted_in z new old) (block * 512)) {x = 8 * 0} {y = 0} refl ∙ count-zero (is_promoted_in z new old) (block * 512));
 }
 
-pub counts_more : (z : SizeSet) (block i had has : ℕ) (old new : ℕ → Option Mapping) (so_far at all : Moves) → CountsTo z block i old new so_far → had ≡ size_by z old (block * 512 + 8 * i) → has ≡ size_by z new (block * 512 + 8 * i)
+pub counts_more : (z : SizeSet) (block i had has : ℕ) (old new : ℕ → Option Mapping) (so_far at all : Moves)
+    → CountsTo z block i old new so_far → had ≡ size_by z old (block * 512 + 8 * i) → has ≡ size_by z new (block * 512 + 8 * i)
     → at.promotions ≡ (if is_grown_at (block * 512 + 8 * i) had has then 1 else 0) → at.demotions ≡ (if is_grown_at (block * 512 + 8 * i) has had then 1 else 0)
     → all.promotions ≡ so_far.promotions + at.promotions → all.demotions ≡ so_far.demotions + at.demotions → CountsTo z block (i + 1) old new all
 counts_more z block i had has old new so_far at all counts before after promoted demoted p d =
@@ -349,7 +368,8 @@ counts_more z block i had has old new so_far at all counts before after promoted
     }
 
 -- and they are in it
-pub counts_all : (z : SizeSet) (block : ℕ) (old new : ℕ → Option Mapping) (moves : Moves) → block < 2048 → OutsideSame block old new → CountsTo z block 64 old new moves → moves.touched ≡ record { first = block * 512; length = 512 } → AreMovesIn z old new moves
+pub counts_all : (z : SizeSet) (block : ℕ) (old new : ℕ → Option Mapping) (moves : Moves) → block < 2048 → OutsideSame block old new
+    → CountsTo z block 64 old new moves → moves.touched ≡ record { first = block * 512; length = 512 } → AreMovesIn z old new moves
 counts_all z block old new moves known outside counts touched = record {
   promotions = counts.promotions ∙ count_block z old new block known outside;
   demotions = counts.demotions ∙ count_block z new old block known (λ p apart. sym (outside p apart));

@@ -37,7 +37,8 @@ pub record IsOtherPart (level page first part : ℕ) : Type 0 where
   pub other : part ≢ own_part level page
   pub is : first ≡ part_start level page part
 
-other_part : (level page first : ℕ) → suc level ≤ 3 → extent_start level first ≡ first → first / 8 ^ suc level ≡ page / 8 ^ suc level → first / 8 ^ level ≢ page / 8 ^ level → IsOtherPart level page first (first / 8 ^ level % 8)
+other_part : (level page first : ℕ) → suc level ≤ 3 → extent_start level first ≡ first → first / 8 ^ suc level ≡ page / 8 ^ suc level
+    → first / 8 ^ level ≢ page / 8 ^ level → IsOtherPart level page first (first / 8 ^ level % 8)
 other_part zero page first low starts joined apart = record { few = omega arith; other = λ e. apart (omega arith); is = omega arith }
 other_part (suc zero) page first low starts joined apart = record { few = omega arith; other = λ e. apart (omega arith); is = omega arith }
 other_part (suc (suc zero)) page first low starts joined apart = record { few = omega arith; other = λ e. apart (omega arith); is = omega arith }
@@ -63,17 +64,20 @@ own_is_tile pages page t at =
     of-is_tile pages t (largest_tile pages t.extent.first t is.0 (omega (arith, starts.first, is.0.extent.1)))
 
 -- and a tile round a page is its own
-pub tile_is_own : (pages : ℕ → Option Mapping) (page : ℕ) (t : Tile) → is_tile pages t ≡ true → extent_start t.extent.size page ≡ t.extent.first → tile_of pages page ≡ Some t
+pub tile_is_own : (pages : ℕ → Option Mapping) (page : ℕ) (t : Tile) → is_tile pages t ≡ true
+    → extent_start t.extent.size page ≡ t.extent.first → tile_of pages page ≡ Some t
 tile_is_own pages page t is round = largest_tile pages page t (tile_largest pages t.extent.first t (is_tile-of pages t is)).0 round
 
 -- a page of a tile has it
-tile_at : (pages : ℕ → Option Mapping) (page other : ℕ) (t : Tile) → tile_of pages page ≡ Some t → other / 8 ^ t.extent.size ≡ page / 8 ^ t.extent.size → tile_of pages other ≡ Some t
+tile_at : (pages : ℕ → Option Mapping) (page other : ℕ) (t : Tile) → tile_of pages page ≡ Some t
+    → other / 8 ^ t.extent.size ≡ page / 8 ^ t.extent.size → tile_of pages other ≡ Some t
 tile_at pages page other t at same =
     let is = tile_largest pages page t at in
     largest_tile pages other t is.0 (ap (λ n. n * 8 ^ t.extent.size) same ∙ is.1)
 
 -- the tile of a size at a page that begins an extent of it is the part of the larger tile there
-part_is : (level s page : ℕ) (m : Mapping) (large : Tile) → level ≤ s → s ≤ 3 → extent_start level page ≡ page → page % 8 ^ s ≤ m.frame → large ≡ tile_by s page m → tile_by level page m ≡ part_from level page large
+part_is : (level s page : ℕ) (m : Mapping) (large : Tile) → level ≤ s → s ≤ 3 → extent_start level page ≡ page → page % 8 ^ s ≤ m.frame
+    → large ≡ tile_by s page m → tile_by level page m ≡ part_from level page large
 part_is level s page m large below low starts from_frame is =
     let small = starts_below level page (omega arith) in
     let big = starts_below s page low in

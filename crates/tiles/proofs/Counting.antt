@@ -82,7 +82,8 @@ count_pages_most f = at 1048576 refl
     at : (many : ℕ) → many ≡ 1048576 → count_pages f ≤ 1048576
     at many e = omega (arith, count_pages-is f many e, count-most f 0 many)
 
-pub count-sum : (f g h : ℕ → Bool) (from many : ℕ) → ((n : ℕ) → from ≤ n → n < from + many → weight (f n) ≡ weight (g n) + weight (h n)) → count f from many ≡ count g from many + count h from many
+pub count-sum : (f g h : ℕ → Bool) (from many : ℕ) → ((n : ℕ) → from ≤ n → n < from + many → weight (f n) ≡ weight (g n) + weight (h n))
+    → count f from many ≡ count g from many + count h from many
 count-sum f g h from zero each = omega (arith, count-zero f from, count-zero g from, count-zero h from)
 count-sum f g h from (suc many) each =
     omega (

@@ -160,7 +160,8 @@ module _ (z : SizeSet) (pages : ℕ → Option Mapping) (level : ℕ) (low : lev
       whole_extents (suc (suc (suc (suc k)))) n low e = absurd (omega arith)
 
 -- the tiles of one size have so many parts
-parts_counted : (z : SizeSet) (pages : ℕ → Option Mapping) (level : ℕ) → level ≤ 3 → count_pages (begins_part z pages level) ≡ 8 ^ (level - size_within z level) * tiles_of_size pages level
+parts_counted : (z : SizeSet) (pages : ℕ → Option Mapping) (level : ℕ) → level ≤ 3
+    → count_pages (begins_part z pages level) ≡ 8 ^ (level - size_within z level) * tiles_of_size pages level
 parts_counted z pages level low = at 1048576 refl
   where
     at : (all : ℕ) → all ≡ 1048576 → count_pages (begins_part z pages level) ≡ 8 ^ (level - size_within z level) * tiles_of_size pages level
@@ -216,7 +217,8 @@ module _ (z : SizeSet) (pages : ℕ → Option Mapping) (size level : ℕ) where
       turned false false c = refl
 
   -- its parts are those of the size within it
-  counted_more : level ≤ 3 → size_within z level ≡ size → counted_below z pages size (level + 1) ≡ counted_below z pages size level + 8 ^ (level - size) * tiles_of_size pages level
+  counted_more : level ≤ 3 → size_within z level ≡ size
+      → counted_below z pages size (level + 1) ≡ counted_below z pages size level + 8 ^ (level - size) * tiles_of_size pages level
   counted_more low own =
       omega (
         arith,
@@ -270,7 +272,8 @@ count_there of (suc (suc (suc zero))) low = refl
 count_there of (suc (suc (suc (suc level)))) low = absurd (omega arith)
 
 -- the parts of one size more, as they are counted
-pub parts_more : (z : SizeSet) (pages : ℕ → Option Mapping) (whole : List ℕ) (level size wide narrow : ℕ) → level < 4 → size ≡ size_within z level → wide ≡ 8 ^ level → narrow ≡ 8 ^ size
+pub parts_more : (z : SizeSet) (pages : ℕ → Option Mapping) (whole : List ℕ) (level size wide narrow : ℕ) → level < 4
+    → size ≡ size_within z level → wide ≡ 8 ^ level → narrow ≡ 8 ^ size
     → whole ≡ tiles_of_size pages 0 ∷ tiles_of_size pages 1 ∷ tiles_of_size pages 2 ∷ tiles_of_size pages 3 ∷ []
     → counted_below z pages size (level + 1) ≡ counted_below z pages size level + wide / narrow * slice_index whole level
 parts_more z pages whole level size wide narrow low own long short is =

@@ -51,7 +51,8 @@ module _ (z : SizeSet) (pages : ℕ → Option Mapping) (page : ℕ) where
   ]
 
   -- the eligible extent of a smaller size is a part of the larger one
-  part_is : (k size : ℕ) (has : HasExtent pages size page) → k ≤ size → size ≤ 3 → eligible_at pages k page ≡ Some (part_round k page (tile_with size (extent_start size page) has.head))
+  part_is : (k size : ℕ) (has : HasExtent pages size page) → k ≤ size → size ≤ 3
+      → eligible_at pages k page ≡ Some (part_round k page (tile_with size (extent_start size page) has.head))
   part_is k size has le low =
       let part = smaller pages k size page le low has in
       let first = extent_start k page in

@@ -67,12 +67,14 @@ pub record HasExtent (pages : ℕ → Option Mapping) (k page : ℕ) : Type 0 wh
   pub begins : pages (extent_start k page) ≡ Some head
   pub is : IsWhole pages k (extent_start k page) head
 
-pub eligible_is : (pages : ℕ → Option Mapping) (k page : ℕ) (h : HasExtent pages k page) → eligible_at pages k page ≡ Some (tile_with k (extent_start k page) h.head)
+pub eligible_is : (pages : ℕ → Option Mapping) (k page : ℕ) (h : HasExtent pages k page)
+    → eligible_at pages k page ≡ Some (tile_with k (extent_start k page) h.head)
 eligible_is pages k page h =
     ap (eligible_with pages k (extent_start k page)) h.begins
     ∙ ap (λ (b : Bool). cond b (Some (tile_with k (extent_start k page) h.head)) None) (whole_eligible pages k (extent_start k page) h.head h.is)
 
-has_with : (pages : ℕ → Option Mapping) (k first : ℕ) (o : Option Mapping) (t : Tile) → eligible_with pages k first o ≡ Some t → (m : Mapping) × (o ≡ Some m) × IsWhole pages k first m
+has_with : (pages : ℕ → Option Mapping) (k first : ℕ) (o : Option Mapping) (t : Tile) → eligible_with pages k first o ≡ Some t
+    → (m : Mapping) × (o ≡ Some m) × IsWhole pages k first m
 has_with pages k first None t h = absurd (none-some t h)
 has_with pages k first (Some m) t h = (m, refl, eligible_whole pages k first m (cond_some (is_eligible pages k first m) (tile_with k first m) t h).0)
 
@@ -103,7 +105,8 @@ unfolding whole
 whole_alike pages k page other same = ap (λ n. is_some (eligible_with pages k (n * 8 ^ k) (pages (n * 8 ^ k)))) same
 
 -- the mapping of a page in it
-pub page_in : (pages : ℕ → Option Mapping) (k page other : ℕ) (h : HasExtent pages k page) → k ≤ 3 → other / 8 ^ k ≡ page / 8 ^ k → pages other ≡ Some (moved_by (other - extent_start k page) h.head)
+pub page_in : (pages : ℕ → Option Mapping) (k page other : ℕ) (h : HasExtent pages k page) → k ≤ 3 → other / 8 ^ k ≡ page / 8 ^ k
+    → pages other ≡ Some (moved_by (other - extent_start k page) h.head)
 page_in pages k page other h low same =
     let at = range_of_extent (page / 8 ^ k) (8 ^ k) other (eight_pos k) same in
     let e : extent_start k page + (other - extent_start k page) ≡ other = omega (arith, at.0) in
@@ -151,7 +154,8 @@ page_whole pages page m at = record {
 }
 
 -- an extent is eligible by its pages alone
-local_one : (old new : ℕ → Option Mapping) (k page : ℕ) → k ≤ 3 → ((other : ℕ) → other / 8 ^ k ≡ page / 8 ^ k → old other ≡ new other) → whole old k page ≡ true → whole new k page ≡ true
+local_one : (old new : ℕ → Option Mapping) (k page : ℕ) → k ≤ 3 → ((other : ℕ) → other / 8 ^ k ≡ page / 8 ^ k → old other ≡ new other)
+    → whole old k page ≡ true → whole new k page ≡ true
 local_one old new k page low same is =
     let h = whole_has old k page is in
     has_whole new k page (record {
@@ -160,6 +164,7 @@ local_one old new k page low same is =
       is = record { aligned = h.is.aligned; uniform = λ i within. sym (same (extent_start k page + i) (extent_of_frame (page / 8 ^ k) (8 ^ k) (extent_start k page + i) (omega arith) (omega arith))) ∙ h.is.uniform i within };
     })
 
-pub whole_local : (old new : ℕ → Option Mapping) (k page : ℕ) → k ≤ 3 → ((other : ℕ) → other / 8 ^ k ≡ page / 8 ^ k → old other ≡ new other) → whole old k page ≡ whole new k page
+pub whole_local : (old new : ℕ → Option Mapping) (k page : ℕ) → k ≤ 3 → ((other : ℕ) → other / 8 ^ k ≡ page / 8 ^ k → old other ≡ new other)
+    → whole old k page ≡ whole new k page
 whole_local old new k page low same =
     both_ways (whole old k page) (whole new k page) (local_one old new k page low same) (local_one new old k page low (λ other at. sym (same other at)))

@@ -32,10 +32,12 @@ pages_are r = refl
 -- ---- the extent of an entry
 
 -- it says what each of its pages is mapped by
-says : (r : Resident) → AreEntries r → (p other : ℕ) (e : Entry) → entry_at r p ≡ Some e → other / 8 ^ e.extent.size ≡ p / 8 ^ e.extent.size → mapping_at r other ≡ Some (mapping_of e other)
+says : (r : Resident) → AreEntries r → (p other : ℕ) (e : Entry) → entry_at r p ≡ Some e → other / 8 ^ e.extent.size ≡ p / 8 ^ e.extent.size
+    → mapping_at r other ≡ Some (mapping_of e other)
 says r entries p other e at joined = entry_says r other e (same_entry r entries p other e at joined)
 
-says_within : (r : Resident) → AreEntries r → (p other : ℕ) (e : Entry) → entry_at r p ≡ Some e → e.extent.first ≤ other → other < e.extent.first + 8 ^ e.extent.size → mapping_at r other ≡ Some (mapping_of e other)
+says_within : (r : Resident) → AreEntries r → (p other : ℕ) (e : Entry) → entry_at r p ≡ Some e → e.extent.first ≤ other
+    → other < e.extent.first + 8 ^ e.extent.size → mapping_at r other ≡ Some (mapping_of e other)
 says_within r entries p other e at from to =
     let first = first_is r p e entries at in
     says r entries p other e at (extent_of_frame (p / 8 ^ e.extent.size) (8 ^ e.extent.size) other (omega arith) (omega arith))
@@ -124,7 +126,8 @@ counts_are r tiles size = ap count_pages (let tests : (λ p. is_first_of size p 
 
 -- ---- a page is filled, in a frame that no page has
 
-module _ (r : Resident) (kept : ArePages r) (page : ℕ) (given : Mapping) (absent : entry_at r page ≡ None) (known : given.frame < frames_in r) (others : (p : ℕ) → frame_of_page r p ≢ Some given.frame) where
+module _ (r : Resident) (kept : ArePages r) (page : ℕ) (given : Mapping) (absent : entry_at r page ≡ None)
+    (known : given.frame < frames_in r) (others : (p : ℕ) → frame_of_page r p ≢ Some given.frame) where
   bare : (p : ℕ) → entry_at r p ≡ None → is_some (frame_of_page r p) ≡ false
   bare p none = ap (λ (o : Option Mapping). is_some (option_map (λ (m : Mapping). m.frame) o)) (none_says r p none)
 
@@ -132,7 +135,8 @@ module _ (r : Resident) (kept : ArePages r) (page : ℕ) (given : Mapping) (abse
   has p e is = ap (λ (o : Option Mapping). is_some (option_map (λ (m : Mapping). m.frame) o)) (entry_says r p e is)
 
   -- a page has a frame, or is this one
-  one_more : (p : ℕ) (o : Option Entry) → entry_at r p ≡ o → weight (is_some (frame_of_page r p) || eqb p page) ≡ weight (is_some (entry_at r p)) + weight (eqb p page && true)
+  one_more : (p : ℕ) (o : Option Entry) → entry_at r p ≡ o
+      → weight (is_some (frame_of_page r p) || eqb p page) ≡ weight (is_some (entry_at r p)) + weight (eqb p page && true)
   one_more p None none = sums _ _ (eqb p page) (bare p none) (ap is_some none)
     where
       sums : (a b c : Bool) → a ≡ false → b ≡ false → weight (a || c) ≡ weight b + weight (c && true)
@@ -190,7 +194,8 @@ module _ (r : Resident) (kept : ArePages r) (page : ℕ) (given : Mapping) (abse
 
 -- ---- pages keep their frames, or give them up
 
-pub keeps_frames : (r s : Resident) → ArePages r → AreTiles s → frames_in s ≡ frames_in r → ((p n : ℕ) → frame_of_page s p ≡ Some n → frame_of_page r p ≡ Some n) → ArePages s
+pub keeps_frames : (r s : Resident) → ArePages r → AreTiles s → frames_in s ≡ frames_in r
+    → ((p n : ℕ) → frame_of_page s p ≡ Some n → frame_of_page r p ≡ Some n) → ArePages s
 keeps_frames r s kept tiles frames had = record {
   tiles = tiles;
   few = omega (arith, kept.few, frames);
@@ -208,7 +213,8 @@ remove_kept r s page kept tiles maps = keeps_frames r s kept tiles maps.frames h
     ]
 
 -- the pages of a part of an entry have another mapping in their frames
-pub set_kept : (r s : Resident) (size page : ℕ) (given : Mapping) (e : Entry) → ArePages r → entry_at r page ≡ Some e → size ≤ e.extent.size → page % 8 ^ size ≡ 0 → given.frame ≡ (mapping_of e page).frame
+pub set_kept : (r s : Resident) (size page : ℕ) (given : Mapping) (e : Entry) → ArePages r → entry_at r page ≡ Some e → size ≤ e.extent.size
+    → page % 8 ^ size ≡ 0 → given.frame ≡ (mapping_of e page).frame
     → AreTiles s → MapsExtent size page given r s → ArePages s
 set_kept r s size page given e kept at small aligned frame tiles maps = keeps_frames r s kept tiles maps.frames (λ p n is. sym (same p) ∙ is)
   where

@@ -125,7 +125,8 @@ within_size pages page k low passes = elim (cases_lt (size_at pages page) k) [
 ]
 
 -- a number is the size where the extent of that size is eligible and no larger one is
-pub size_is : (pages : ℕ → Option Mapping) (page n : ℕ) → n ≤ 3 → (0 < n → whole pages n page ≡ true) → ((k : ℕ) → n < k → k ≤ 3 → whole pages k page ≡ false) → size_at pages page ≡ n
+pub size_is : (pages : ℕ → Option Mapping) (page n : ℕ) → n ≤ 3 → (0 < n → whole pages n page ≡ true)
+    → ((k : ℕ) → n < k → k ≤ 3 → whole pages k page ≡ false) → size_at pages page ≡ n
 size_is pages page n low passes misses =
     let small = size_small pages page in
     elim (cases_lt (size_at pages page) n) [
@@ -137,7 +138,8 @@ size_is pages page n low passes misses =
     ]
 
 -- pages of one tile have tiles of one size
-pub size_alike : (pages : ℕ → Option Mapping) (page other : ℕ) → other / 8 ^ size_at pages page ≡ page / 8 ^ size_at pages page → size_at pages other ≡ size_at pages page
+pub size_alike : (pages : ℕ → Option Mapping) (page other : ℕ) → other / 8 ^ size_at pages page ≡ page / 8 ^ size_at pages page
+    → size_at pages other ≡ size_at pages page
 size_alike pages page other same =
     let n = size_at pages page in
     let low = size_small pages page in
@@ -155,7 +157,8 @@ pub record IsTileBy (pages : ℕ → Option Mapping) (page size : ℕ) (m : Mapp
   pub is : tile_of pages page ≡ Some (tile_by size page m)
   pub from_frame : page % 8 ^ size ≤ m.frame
 
-by_head : (k page : ℕ) (m head : Mapping) → StartsBelow k page → m ≡ moved_by (page - extent_start k page) head → (tile_with k (extent_start k page) head ≡ tile_by k page m) × (page % 8 ^ k ≤ m.frame)
+by_head : (k page : ℕ) (m head : Mapping) → StartsBelow k page → m ≡ moved_by (page - extent_start k page) head
+    → (tile_with k (extent_start k page) head ≡ tile_by k page m) × (page % 8 ^ k ≤ m.frame)
 by_head k page m head starts e =
     let frames : m.frame ≡ head.frame + (page - extent_start k page) = ap (λ (n : Mapping). n.frame) e in
     let rights : m.rights ≡ head.rights = ap (λ (n : Mapping). n.rights) e in

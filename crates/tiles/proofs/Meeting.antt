@@ -52,7 +52,8 @@ common_page first len size page starts meets =
       | inr from ↦ record { page_in_both = page; joined = refl; inside = bounds_in first len page from m.before_end }
     ]
 
-pub none_common : (first len size page : ℕ) → extent_start size page ≡ page → extent_meets first len size page ≡ false → (p : ℕ) → p / 8 ^ size ≡ page / 8 ^ size → in_range first len p ≡ false
+pub none_common : (first len size page : ℕ) → extent_start size page ≡ page → extent_meets first len size page ≡ false → (p : ℕ)
+    → p / 8 ^ size ≡ page / 8 ^ size → in_range first len p ≡ false
 none_common first len size page starts apart p joined = elim (cases_Bool (in_range first len p)) [
   | inl inside ↦
       let range = in_bounds first len p inside in
@@ -143,7 +144,8 @@ module _ (z : SizeSet) (pages : ℕ → Option Mapping) (first len : ℕ) (some 
         (λ is. bounds_in first len q from (meets_if first len (size_by z pages q) q is).before_end)
         (λ is. if_meets first len (size_by z pages q) q (record { some = some; before_end = (in_bounds first len q is).1; past_first = omega (arith, eight_pos (size_by z pages q)) }))
 
-  each : (q : ℕ) → weight (begins_large_in z pages q && extent_meets first len (tile_size_in z pages q) q) ≡ weight (in_range first len q && begins_large_in z pages q) + weight (eqb q start && begins_before_in z pages first)
+  each : (q : ℕ)
+      → weight (begins_large_in z pages q && extent_meets first len (tile_size_in z pages q) q) ≡ weight (in_range first len q && begins_large_in z pages q) + weight (eqb q start && begins_before_in z pages first)
   each q = elim (cases_lt q first) [
     | inl before ↦ grind (arith, nat_tests, counted_before q before)
     | inr from ↦ ap (λ b. weight (begins_large_in z pages q && b)) (meets_inside q from) ∙ swapped (begins_large_in z pages q) (in_range first len q) _ (none_crosses q from)
@@ -156,7 +158,8 @@ module _ (z : SizeSet) (pages : ℕ → Option Mapping) (first len : ℕ) (some 
       swapped false false c none = omega (arith, ap weight none)
 
   -- the tiles that meet the range are those that begin in it, and the one that crosses its first page
-  tiles_some : first + len ≤ 1048576 → large_tiles_meeting_in z first len pages ≡ large_tiles_begun_in z first len pages + weight (begins_before_in z pages first)
+  tiles_some : first + len ≤ 1048576
+      → large_tiles_meeting_in z first len pages ≡ large_tiles_begun_in z first len pages + weight (begins_before_in z pages first)
   tiles_some known = at 1048576 refl
     where
       at : (many : ℕ) → many ≡ 1048576 → large_tiles_meeting_in z first len pages ≡ large_tiles_begun_in z first len pages + weight (begins_before_in z pages first)
@@ -170,7 +173,8 @@ module _ (z : SizeSet) (pages : ℕ → Option Mapping) (first len : ℕ) (some 
             count-sum (λ q. begins_large_in z pages q && extent_meets first len (tile_size_in z pages q) q) (λ q. in_range first len q && begins_large_in z pages q) (λ q. eqb q start && begins_before_in z pages first) 0 many (λ q low high. each q),
           )
 
-pub tiles_meeting : (z : SizeSet) (pages : ℕ → Option Mapping) (first len : ℕ) → first + len ≤ 1048576 → large_tiles_meeting_in z first len pages ≡ large_tiles_begun_in z first len pages + weight (nat_lt 0 len && begins_before_in z pages first)
+pub tiles_meeting : (z : SizeSet) (pages : ℕ → Option Mapping) (first len : ℕ) → first + len ≤ 1048576
+    → large_tiles_meeting_in z first len pages ≡ large_tiles_begun_in z first len pages + weight (nat_lt 0 len && begins_before_in z pages first)
 tiles_meeting z pages first len known = elim (cases_lt 0 len) [
   | inl some ↦ tiles_some z pages first len some known ∙ ap (λ b. large_tiles_begun_in z first len pages + weight (b && begins_before_in z pages first)) (sym (lt-ltb 0 len some))
   | inr none ↦
@@ -192,7 +196,8 @@ tiles_meeting z pages first len known = elim (cases_lt 0 len) [
         outside first q = grind (arith, nat_tests)
 
 -- no tile meets a range of which no page is resident
-pub meeting_bare : (z : SizeSet) (pages : ℕ → Option Mapping) (first len : ℕ) → NoneResident pages first (first + len) → large_tiles_meeting_in z first len pages ≡ 0
+pub meeting_bare : (z : SizeSet) (pages : ℕ → Option Mapping) (first len : ℕ) → NoneResident pages first (first + len)
+    → large_tiles_meeting_in z first len pages ≡ 0
 meeting_bare z pages first len bare =
     ap count_pages (let tests : (λ q. begins_large_in z pages q && extent_meets first len (tile_size_in z pages q) q) ≡ (λ q. false) = λ i q. apart q i in tests) ∙ count_pages_none
   where

@@ -69,7 +69,8 @@ module _ (z : SizeSet) (old new : ℕ → Option Mapping) where
         }
 
   -- nothing moves where nothing changes
-  pub moves_same : (moves : Moves) → ((p : ℕ) → new p ≡ old p) → moves.promotions ≡ 0 → moves.demotions ≡ 0 → IsInSpace moves.touched → AreMovesIn z old new moves
+  pub moves_same : (moves : Moves) → ((p : ℕ) → new p ≡ old p) → moves.promotions ≡ 0 → moves.demotions ≡ 0 → IsInSpace moves.touched
+      → AreMovesIn z old new moves
   moves_same moves same no_promotion no_demotion in_range = record {
     in_space = in_range;
     outside = λ u is out. ap (λ (pages : ℕ → Option Mapping). is_tile_in z pages u) (let one : new ≡ old = λ i p. same p i in one) ∙ is;
@@ -80,7 +81,8 @@ module _ (z : SizeSet) (old new : ℕ → Option Mapping) where
 -- ---- blocks
 
 -- moves of changes in blocks that lie apart add up
-pub promotions_add : (z : SizeSet) (old mid new : ℕ → Option Mapping) (block : ℕ) → ((p : ℕ) → p / 512 ≡ block → mid p ≡ old p) → OutsideSame block mid new → promotions_in z old new ≡ promotions_in z old mid + promotions_in z mid new
+pub promotions_add : (z : SizeSet) (old mid new : ℕ → Option Mapping) (block : ℕ) → ((p : ℕ) → p / 512 ≡ block → mid p ≡ old p)
+    → OutsideSame block mid new → promotions_in z old new ≡ promotions_in z old mid + promotions_in z mid new
 promotions_add z old mid new block within outside = at 1048576 refl
   where
     each : (q : ℕ) → weight (is_promoted_in z old new q) ≡ weight (is_promoted_in z old mid q) + weight (is_promoted_in z mid new q)
@@ -105,7 +107,8 @@ promotions_add z old mid new block within outside = at 1048576 refl
           count-sum (is_promoted_in z old new) (is_promoted_in z old mid) (is_promoted_in z mid new) 0 many (λ q low high. each q),
         )
 
-pub demotions_add : (z : SizeSet) (old mid new : ℕ → Option Mapping) (block : ℕ) → ((p : ℕ) → p / 512 ≡ block → mid p ≡ old p) → OutsideSame block mid new → demotions_in z old new ≡ demotions_in z old mid + demotions_in z mid new
+pub demotions_add : (z : SizeSet) (old mid new : ℕ → Option Mapping) (block : ℕ) → ((p : ℕ) → p / 512 ≡ block → mid p ≡ old p)
+    → OutsideSame block mid new → demotions_in z old new ≡ demotions_in z old mid + demotions_in z mid new
 demotions_add z old mid new block within outside = at 1048576 refl
   where
     each : (q : ℕ) → weight (is_promoted_in z new old q) ≡ weight (is_promoted_in z mid old q) + weight (is_promoted_in z new mid q)

@@ -34,7 +34,8 @@ count-one f from (suc many) one = elim (cases_Bool (f from)) [
 ]
 
 -- each that passes one test passes one of two others
-count-either : (f g h : ℕ → Bool) (from many : ℕ) → ((n : ℕ) → weight (f n) ≤ weight (g n) + weight (h n)) → count f from many ≤ count g from many + count h from many
+count-either : (f g h : ℕ → Bool) (from many : ℕ) → ((n : ℕ) → weight (f n) ≤ weight (g n) + weight (h n))
+    → count f from many ≤ count g from many + count h from many
 count-either f g h from zero each = omega (arith, count-zero f from)
 count-either f g h from (suc many) each =
     omega (arith, count-suc f from many, count-suc g from many, count-suc h from many, each from, count-either f g h (from + 1) many each)
@@ -61,7 +62,8 @@ count-few numbers pages (suc many) apart =
     omega (arith, last, count-few numbers pages many apart, count-either (λ p. is_below (numbers p) (suc many)) (λ p. is_below (numbers p) many) (λ p. is_number (numbers p) many) 0 pages (λ p. below-suc (numbers p) many))
 
 -- The pages have numbers, and a page is to have one that no other page has.
-module _ (numbers : ℕ → Option ℕ) (many page number : ℕ) (known : number < many) (others : (p : ℕ) → p ≢ page → numbers p ≢ Some number) (within : (p n : ℕ) → numbers p ≡ Some n → n < many) (apart : AreApart numbers) where
+module _ (numbers : ℕ → Option ℕ) (many page number : ℕ) (known : number < many) (others : (p : ℕ) → p ≢ page → numbers p ≢ Some number)
+    (within : (p n : ℕ) → numbers p ≡ Some n → n < many) (apart : AreApart numbers) where
   after : ℕ → Option ℕ
   after p = if eqb p page then Some number else numbers p
 

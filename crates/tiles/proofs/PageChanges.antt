@@ -32,7 +32,8 @@ round_of r kept page (Some t) at =
     let frame : t.frame + 0 < frames_in r = kept.known (t.extent.first + 0) (t.frame + 0) (ap (option_map (λ (m : Mapping). m.frame)) (uniform.1 0 (eight_pos t.extent.size))) in
     record { low = is.0.extent.0; starts = is.1; fits = omega (arith, frame, kept.few, eight_small t.extent.size is.0.extent.0) }
 
-pub turn_of : (r s : Resident) → ArePages r → ArePages s → (page : ℕ) (turn : Turn) → turn.before ≡ tile_of (mapping_at r) page → turn.after ≡ tile_of (mapping_at s) page → IsTurn page r s turn
+pub turn_of : (r s : Resident) → ArePages r → ArePages s → (page : ℕ) (turn : Turn) → turn.before ≡ tile_of (mapping_at r) page
+    → turn.after ≡ tile_of (mapping_at s) page → IsTurn page r s turn
 turn_of r s kept later page turn before after =
     record { before = before; after = after; before_round = round_of r kept page turn.before before; after_round = round_of s later page turn.after after }
 
@@ -97,7 +98,8 @@ came_as : (old new : ℕ → Option Mapping) (tiles others : List Tile) → othe
 came_as old new tiles others e came = record { each = λ t. ap (times t) e ∙ came.each t; few = omega (arith, ap length e, came.few) }
 
 -- the tiles that came, from the page's tile
-pub came_of : (old new : ℕ → Option Mapping) (page : ℕ) (before after : Option Tile) (tiles : List Tile) → OthersSame page old new → before ≡ tile_of old page → after ≡ tile_of new page → HasPieces page before after tiles → Came old new tiles
+pub came_of : (old new : ℕ → Option Mapping) (page : ℕ) (before after : Option Tile) (tiles : List Tile) → OthersSame page old new
+    → before ≡ tile_of old page → after ≡ tile_of new page → HasPieces page before after tiles → Came old new tiles
 came_of old new page before after tiles others had has list = elim (same_or_other before after) [
   | inl same ↦ came_as old new [] tiles (list.same same) (came_none old new page others (sym had ∙ same ∙ has))
   | inr other ↦ came_as old new (pieces page (tile_of old page) (tile_of new page)) tiles
@@ -129,7 +131,8 @@ changes_none r s same =
     }
 
 -- what was a tile is one still where it isn't among those that went
-pub stays_where : (new old : ℕ → Option Mapping) (gone : List Tile) (t : Tile) → Came new old gone → is_tile old t ≡ true → not (list_any (same_tile t) gone) ≡ is_tile new t
+pub stays_where : (new old : ℕ → Option Mapping) (gone : List Tile) (t : Tile) → Came new old gone → is_tile old t ≡ true
+    → not (list_any (same_tile t) gone) ≡ is_tile new t
 stays_where new old gone t went was = by (is_tile new t) refl
   where
     standing : (after : Bool) → is_tile new t ≡ after → times t gone ≡ (if not after then 1 else 0)

@@ -67,7 +67,8 @@ unfolding beside
 beside-own level page large part own =
     ap (λ xs. beside level page large part ++ xs) (cond-true _ _ _ (eq-eqb part (own_part level page) own)) ∙ append-nil (beside level page large part)
 
-pub beside-other : (level page : ℕ) (large : Tile) (part : ℕ) → part ≢ own_part level page → beside level page large (suc part) ≡ beside level page large part ++ piece level page large part ∷ []
+pub beside-other : (level page : ℕ) (large : Tile) (part : ℕ) → part ≢ own_part level page
+    → beside level page large (suc part) ≡ beside level page large part ++ piece level page large part ∷ []
 unfolding beside
 beside-other level page large part other = ap (λ xs. beside level page large part ++ xs) (cond-false _ _ _ (ne_eqb part (own_part level page) other))
 
@@ -80,7 +81,8 @@ part_start-one level page part other e =
 piece-first : (level page part other : ℕ) (large : Tile) → piece level page large part ≡ piece level page large other → part ≡ other
 piece-first level page part other large e = part_start-one level page part other (ap (λ (t : Tile). t.extent.first) e)
 
-beside-misses : (t : Tile) (level page : ℕ) (large : Tile) (n : ℕ) → ((part : ℕ) → part < n → part ≢ own_part level page → t ≢ piece level page large part) → times t (beside level page large n) ≡ 0
+beside-misses : (t : Tile) (level page : ℕ) (large : Tile) (n : ℕ)
+    → ((part : ℕ) → part < n → part ≢ own_part level page → t ≢ piece level page large part) → times t (beside level page large n) ≡ 0
 beside-misses t level page large zero misses = ap (times t) (beside-none level page large)
 beside-misses t level page large (suc n) misses =
     let before = beside-misses t level page large n (λ part below. misses part (omega arith)) in
@@ -91,7 +93,8 @@ beside-misses t level page large (suc n) misses =
           ap (times t) (beside-other level page large n other) ∙ times-append t (beside level page large n) (piece level page large n ∷ []) ∙ omega (arith, before, one)
     ]
 
-beside-hits : (t : Tile) (level page : ℕ) (large : Tile) (n part : ℕ) → part < n → part ≢ own_part level page → t ≡ piece level page large part → times t (beside level page large n) ≡ 1
+beside-hits : (t : Tile) (level page : ℕ) (large : Tile) (n part : ℕ) → part < n → part ≢ own_part level page
+    → t ≡ piece level page large part → times t (beside level page large n) ≡ 1
 beside-hits t level page large zero part below other is = absurd (omega arith)
 beside-hits t level page large (suc n) part below other is = elim (cases_eq n part) [
   | inl here ↦
@@ -148,10 +151,13 @@ part_inside s level page part below low few =
     record { from = within.0; below = within.1 }
 
 -- one part further
-pub more-own : (xs ys : List Tile) (level page : ℕ) (large : Tile) (part : ℕ) → part ≡ own_part level page → ys ≡ xs ++ beside level page large part → ys ≡ xs ++ beside level page large (part + 1)
+pub more-own : (xs ys : List Tile) (level page : ℕ) (large : Tile) (part : ℕ) → part ≡ own_part level page
+    → ys ≡ xs ++ beside level page large part → ys ≡ xs ++ beside level page large (part + 1)
 more-own xs ys level page large part own had = had ∙ ap (λ zs. xs ++ zs) (sym (ap (beside level page large) (add-one part) ∙ beside-own level page large part own))
 
-pub more-other : (xs ys zs : List Tile) (level page : ℕ) (large t : Tile) (part first : ℕ) → part ≢ own_part level page → ys ≡ xs ++ beside level page large part → t ≡ part_from level first large → first ≡ part_start level page part → zs ≡ ys ++ t ∷ [] → zs ≡ xs ++ beside level page large (part + 1)
+pub more-other : (xs ys zs : List Tile) (level page : ℕ) (large t : Tile) (part first : ℕ) → part ≢ own_part level page
+    → ys ≡ xs ++ beside level page large part → t ≡ part_from level first large → first ≡ part_start level page part → zs ≡ ys ++ t ∷ []
+    → zs ≡ xs ++ beside level page large (part + 1)
 more-other xs ys zs level page large t part first other had is starts added =
     added ∙ ap (λ us. us ++ t ∷ []) had ∙ ap (λ u. (xs ++ beside level page large part) ++ u ∷ []) (is ∙ ap (λ n. part_from level n large) starts)
     ∙ append_assoc xs (beside level page large part) (piece level page large part ∷ [])
@@ -163,18 +169,22 @@ pub cut_round-none : (page : ℕ) (large : Tile) (from : ℕ) → cut_round page
 unfolding cut_round
 cut_round-none page large from = refl
 
-pub cut_round-more : (page : ℕ) (large : Tile) (from more : ℕ) → cut_round page large from (suc more) ≡ cut_round page large from more ++ beside (from + more) page large 8
+pub cut_round-more : (page : ℕ) (large : Tile) (from more : ℕ)
+    → cut_round page large from (suc more) ≡ cut_round page large from more ++ beside (from + more) page large 8
 unfolding cut_round
 cut_round-more page large from more = refl
 
-cut-misses : (t : Tile) (page : ℕ) (large : Tile) (from more : ℕ) → ((level part : ℕ) → from ≤ level → level < from + more → part < 8 → part ≢ own_part level page → t ≢ piece level page large part) → times t (cut_round page large from more) ≡ 0
+cut-misses : (t : Tile) (page : ℕ) (large : Tile) (from more : ℕ)
+    → ((level part : ℕ) → from ≤ level → level < from + more → part < 8 → part ≢ own_part level page → t ≢ piece level page large part)
+    → times t (cut_round page large from more) ≡ 0
 cut-misses t page large from zero misses = ap (times t) (cut_round-none page large from)
 cut-misses t page large from (suc more) misses =
     let before = cut-misses t page large from more (λ level part at below. misses level part at (omega arith)) in
     let last = beside-misses t (from + more) page large 8 (λ part few. misses (from + more) part (omega arith) (omega arith) few) in
     ap (times t) (cut_round-more page large from more) ∙ times-append t (cut_round page large from more) (beside (from + more) page large 8) ∙ omega (arith, before, last)
 
-cut-hits : (t : Tile) (page : ℕ) (large : Tile) (from more level part : ℕ) → from ≤ level → level < from + more → part < 8 → part ≢ own_part level page → t ≡ piece level page large part → times t (cut_round page large from more) ≡ 1
+cut-hits : (t : Tile) (page : ℕ) (large : Tile) (from more level part : ℕ) → from ≤ level → level < from + more → part < 8
+    → part ≢ own_part level page → t ≡ piece level page large part → times t (cut_round page large from more) ≡ 1
 cut-hits t page large from zero level part at below few other is = absurd (omega arith)
 cut-hits t page large from (suc more) level part at below few other is = elim (cases_eq level (from + more)) [
   | inl last ↦
@@ -196,7 +206,9 @@ cut-few page large from (suc more) =
     omega (arith, long, cut-few page large from more, (beside-few (from + more) page large 8).past own)
 
 -- one level further
-pub more-level : (xs ys zs : List Tile) (page : ℕ) (large : Tile) (from level : ℕ) → from ≤ level → ys ≡ xs ++ cut_round page large from (level - from) → zs ≡ ys ++ beside level page large 8 → zs ≡ xs ++ cut_round page large from (level + 1 - from)
+pub more-level : (xs ys zs : List Tile) (page : ℕ) (large : Tile) (from level : ℕ) → from ≤ level
+    → ys ≡ xs ++ cut_round page large from (level - from) → zs ≡ ys ++ beside level page large 8
+    → zs ≡ xs ++ cut_round page large from (level + 1 - from)
 more-level xs ys zs page large from level at had added =
     let more : level + 1 - from ≡ suc (level - from) = omega arith in
     let here : level ≡ from + (level - from) = omega arith in
@@ -224,7 +236,9 @@ module _ (old new : ℕ → Option Mapping) (page : ℕ) (others : OthersSame pa
   large_low : (large : Tile) → had ≡ Some large → large.extent.size ≤ 3
   large_low large at = omega (arith, ap size_in at, size_small old page)
 
-  none_cut : (t : Tile) (o : Option Tile) → had ≡ o → ((large : Tile) (level part : ℕ) → had ≡ Some large → size_in own ≤ level → level < large.extent.size → part < 8 → part ≢ own_part level page → t ≢ piece level page large part) → times t (cut_from page o own) ≡ 0
+  none_cut : (t : Tile) (o : Option Tile) → had ≡ o
+      → ((large : Tile) (level part : ℕ) → had ≡ Some large → size_in own ≤ level → level < large.extent.size → part < 8 → part ≢ own_part level page → t ≢ piece level page large part)
+      → times t (cut_from page o own) ≡ 0
   none_cut t None at misses = refl
   none_cut t (Some large) at misses =
       cut-misses t page large (size_in own) (large.extent.size - size_in own) (λ level part from below few other. misses large level part at from (omega (arith, from, below)) few other)

@@ -19,7 +19,8 @@ pub others_back : (old new : ℕ → Option Mapping) (page : ℕ) → OthersSame
 others_back old new page others p n = sym (others p n)
 
 -- an extent without the page is eligible as before
-pub whole_other : (old new : ℕ → Option Mapping) (page k other : ℕ) → OthersSame page old new → k ≤ 3 → other / 8 ^ k ≢ page / 8 ^ k → whole old k other ≡ whole new k other
+pub whole_other : (old new : ℕ → Option Mapping) (page k other : ℕ) → OthersSame page old new → k ≤ 3 → other / 8 ^ k ≢ page / 8 ^ k
+    → whole old k other ≡ whole new k other
 whole_other old new page k other others low apart =
     whole_local old new k other low (λ q same. sym (others q (λ e. apart (sym same ∙ ap (λ n. n / 8 ^ k) e))))
 
@@ -105,7 +106,8 @@ module _ (z : SizeSet) (old new : ℕ → Option Mapping) (page : ℕ) (others :
       swapped false false x y e f = cc
 
 -- so it makes one promotion where the page's tile is larger than it was, and else none
-pub promotions_one : (z : SizeSet) (old new : ℕ → Option Mapping) (page : ℕ) → OthersSame page old new → page < 1048576 → promotions_in z old new ≡ cond (ltb (size_by z old page) (size_by z new page)) 1 0
+pub promotions_one : (z : SizeSet) (old new : ℕ → Option Mapping) (page : ℕ) → OthersSame page old new → page < 1048576
+    → promotions_in z old new ≡ cond (ltb (size_by z old page) (size_by z new page)) 1 0
 promotions_one z old new page others in_space =
     let s = size_by z new page in
     let starts = starts_below s page (by_small z new page) in

@@ -56,7 +56,8 @@ module _ (z : SizeSet) where
   tile_absent_in pages page gone = tile_in-cut z pages page ∙ ap (option_map (cut_to z page)) (tile_absent pages page gone)
 
   -- the tile of a resident page, by its own mapping
-  tile_in_own : (pages : ℕ → Option Mapping) (page : ℕ) (m : Mapping) → pages page ≡ Some m → tile_in z pages page ≡ Some (tile_by (size_by z pages page) page m)
+  tile_in_own : (pages : ℕ → Option Mapping) (page : ℕ) (m : Mapping) → pages page ≡ Some m
+      → tile_in z pages page ≡ Some (tile_by (size_by z pages page) page m)
   tile_in_own pages page m at =
       let k = size_at pages page in
       let own = tile_by_own pages page m at in
@@ -87,7 +88,8 @@ module _ (z : SizeSet) where
   by_absent pages page gone = ap (size_within z) (size_absent pages page gone)
 
   -- pages of one tile have tiles of one size
-  pub by_alike : (pages : ℕ → Option Mapping) (page other : ℕ) → other / 8 ^ size_by z pages page ≡ page / 8 ^ size_by z pages page → size_by z pages other ≡ size_by z pages page
+  pub by_alike : (pages : ℕ → Option Mapping) (page other : ℕ) → other / 8 ^ size_by z pages page ≡ page / 8 ^ size_by z pages page
+      → size_by z pages other ≡ size_by z pages page
   by_alike pages page other same =
       let s = size_at pages page in
       ap (size_within z) (size_alike pages page other (coarser (size_within z s) s other page (within_at_most z s) (size_small pages page) same))
@@ -108,12 +110,14 @@ module _ (z : SizeSet) where
       grind (arith, nat_tests)
 
   -- a page with a tile begins it where it is a multiple of the tile's length
-  pub begins_own : (pages : ℕ → Option Mapping) (page : ℕ) → HasTile pages page (size_at pages page) → begins_at page (tile_in z pages page) ≡ eqb (page % 8 ^ size_by z pages page) 0
+  pub begins_own : (pages : ℕ → Option Mapping) (page : ℕ) → HasTile pages page (size_at pages page)
+      → begins_at page (tile_in z pages page) ≡ eqb (page % 8 ^ size_by z pages page) 0
   begins_own pages page tile =
       ap (begins_at page) (tile_in-cut z pages page ∙ ap (option_map (cut_to z page)) tile.is)
       ∙ starts page (size_by z pages page) (starts_below (size_by z pages page) page (by_small pages page))
 
-  begins_cut : (pages : ℕ → Option Mapping) (page : ℕ) → 0 < size_by z pages page → begins_at page (tile_in z pages page) ≡ eqb (page % 8 ^ size_by z pages page) 0
+  begins_cut : (pages : ℕ → Option Mapping) (page : ℕ) → 0 < size_by z pages page
+      → begins_at page (tile_in z pages page) ≡ eqb (page % 8 ^ size_by z pages page) 0
   begins_cut pages page above = begins_own pages page (none_size pages page (omega (arith, above, within_at_most z (size_at pages page))))
 
   swap : (a b x y : Bool) → (y ≡ true → a ≡ x) → b ≡ y → (a && b) ≡ (y && x)
@@ -146,7 +150,8 @@ module _ (z : SizeSet) where
           ap (λ x. x && eqb (q % 8 ^ b) 0) t
 
   -- a page begins a large tile where its tile is one, and it is a multiple of the tile's length
-  pub large_test : (pages : ℕ → Option Mapping) (page : ℕ) → begins_large_in z pages page ≡ (nat_lt 0 (size_by z pages page) && eqb (page % 8 ^ size_by z pages page) 0)
+  pub large_test : (pages : ℕ → Option Mapping) (page : ℕ)
+      → begins_large_in z pages page ≡ (nat_lt 0 (size_by z pages page) && eqb (page % 8 ^ size_by z pages page) 0)
   large_test pages page =
       let s = size_by z pages page in
       swap (begins_at page (tile_in z pages page)) (ltb 0 (tile_size_in z pages page)) (eqb (page % 8 ^ s) 0) (ltb 0 s)

@@ -14,7 +14,8 @@ use Rattle.tiles.proofs.Largest.{HasTile, tiles, resident_tile, size_is}
 eligible_alike : (pages : ℕ → Option Mapping) (k page other : ℕ) → other / 8 ^ k ≡ page / 8 ^ k → eligible_at pages k other ≡ eligible_at pages k page
 eligible_alike pages k page other same = ap (λ n. eligible_with pages k (n * 8 ^ k) (pages (n * 8 ^ k))) same
 
-tile_is_largest : (pages : ℕ → Option Mapping) (page size : ℕ) (tile : HasTile pages page size) → IsTile pages (tile_with size (extent_start size page) tile.has.head)
+tile_is_largest : (pages : ℕ → Option Mapping) (page size : ℕ) (tile : HasTile pages page size)
+    → IsTile pages (tile_with size (extent_start size page) tile.has.head)
 tile_is_largest pages page size tile =
     let first = extent_start size page in
     let same : first / 8 ^ size ≡ page / 8 ^ size = first_of_extent size page in
@@ -25,7 +26,8 @@ tile_is_largest pages page size tile =
     }
 
 -- the tile of a page is a largest eligible extent round it
-pub tile_largest : (pages : ℕ → Option Mapping) (page : ℕ) (t : Tile) → tile_of pages page ≡ Some t → IsTile pages t × (extent_start t.extent.size page ≡ t.extent.first)
+pub tile_largest : (pages : ℕ → Option Mapping) (page : ℕ) (t : Tile) → tile_of pages page ≡ Some t
+    → IsTile pages t × (extent_start t.extent.size page ≡ t.extent.first)
 tile_largest pages page t at = elim (tiles pages page) [
   | inl none ↦ absurd (none-some t (sym none.is ∙ at))
   | inr tile ↦
@@ -34,7 +36,8 @@ tile_largest pages page t at = elim (tiles pages page) [
 ]
 
 -- and each such extent is the tile of its pages
-pub largest_tile : (pages : ℕ → Option Mapping) (page : ℕ) (t : Tile) → IsTile pages t → extent_start t.extent.size page ≡ t.extent.first → tile_of pages page ≡ Some t
+pub largest_tile : (pages : ℕ → Option Mapping) (page : ℕ) (t : Tile) → IsTile pages t → extent_start t.extent.size page ≡ t.extent.first
+    → tile_of pages page ≡ Some t
 largest_tile pages page t is starts =
     let s = t.extent.size in
     let low : s ≤ 3 = is.extent.0 in
@@ -47,7 +50,8 @@ largest_tile pages page t is starts =
     tile.is ∙ sym (eligible_is pages (size_at pages page) page tile.has) ∙ ap (λ k. eligible_at pages k page) size ∙ here
 
 -- so tiles with a page in common are one
-pub tiles_apart : (pages : ℕ → Option Mapping) (page : ℕ) (t u : Tile) → IsTile pages t → IsTile pages u → extent_start t.extent.size page ≡ t.extent.first → extent_start u.extent.size page ≡ u.extent.first → t ≡ u
+pub tiles_apart : (pages : ℕ → Option Mapping) (page : ℕ) (t u : Tile) → IsTile pages t → IsTile pages u
+    → extent_start t.extent.size page ≡ t.extent.first → extent_start u.extent.size page ≡ u.extent.first → t ≡ u
 tiles_apart pages page t u is_t is_u of_t of_u = same_Some t u (sym (largest_tile pages page t is_t of_t) ∙ largest_tile pages page u is_u of_u)
 
 -- ---- the pages of a tile

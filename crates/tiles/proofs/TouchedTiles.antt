@@ -28,7 +28,8 @@ tile_same old new q same size = by_own (old q) refl
     by_own (Some m) at = (tile_by_own new q m (same ∙ at)).is ∙ ap (λ k. Some (tile_by k q m)) size ∙ sym (tile_by_own old q m at).is
 
 -- the pages of an extent, by their number
-pub range_is : (page level over pages : ℕ) → level ≤ 3 → level ≡ over → pages ≡ 8 ^ level → record { first = page - page % pages; length = pages } ≡ extent_range over page
+pub range_is : (page level over pages : ℕ) → level ≤ 3 → level ≡ over → pages ≡ 8 ^ level
+    → record { first = page - page % pages; length = pages } ≡ extent_range over page
 range_is page level over pages low is long =
     ap (λ n. let r : PageRange = record { first = page - page % n; length = n } in r) long
     ∙ ap (λ n. let r : PageRange = record { first = n; length = 8 ^ level } in r) (sym (starts_below level page low).first)
@@ -66,7 +67,8 @@ module _ (z : SizeSet) (old new : ℕ → Option Mapping) where
 
   -- ---- a block changed
 
-  pub outside_block : (block : ℕ) (range : PageRange) → OutsideSame block old new → range ≡ record { first = block * 512; length = 512 } → KeepsOutsideIn z range old new
+  pub outside_block : (block : ℕ) (range : PageRange) → OutsideSame block old new → range ≡ record { first = block * 512; length = 512 }
+      → KeepsOutsideIn z range old new
   outside_block block range outside is t tile out =
       let q = t.extent.first in
       let apart = outside_apart block 512 q (omega arith) (ap (λ (r : PageRange). in_range r.first r.length q) (sym is) ∙ out) in

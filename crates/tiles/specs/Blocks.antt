@@ -19,7 +19,8 @@ pub record ProtectsTo (first end : ℕ) (rights : Rights) (old new : Resident) :
 -- the resident pages of the range that are in the block have these rights
 pub record ProtectsInBlock (block first len : ℕ) (rights : Rights) (old new : Resident) : Type 0 where
   pub frames : frames_in new ≡ frames_in old
-  pub at : (p : ℕ) → mapping_at new p ≡ (if in_range first len p && (p / 512 == block) then option_map (with_rights rights) (mapping_at old p) else mapping_at old p)
+  pub at : (p : ℕ)
+      → mapping_at new p ≡ (if in_range first len p && (p / 512 == block) then option_map (with_rights rights) (mapping_at old p) else mapping_at old p)
 
 -- the sizes of the tiles by some sizes at the first of each eight pages of the block
 abbrev pub AreSizesOfBlock : SizeSet → ℕ → List ℕ → (ℕ → Option Mapping) → Type 0

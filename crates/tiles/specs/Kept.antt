@@ -54,7 +54,8 @@ pub record FitsFrames (pages : Resident) (page : ℕ) (entry : Entry) : Type 0 w
   pub to : page < entry.extent.first + 8 ^ entry.extent.size
   pub frames : entry.mapping.frame + 8 ^ entry.extent.size ≤ frames_in pages
   pub few : frames_in pages ≤ most_frames
-  pub says : (other : ℕ) → entry.extent.first ≤ other → other < entry.extent.first + 8 ^ entry.extent.size → mapping_at pages other ≡ Some (mapping_of entry other)
+  pub says : (other : ℕ) → entry.extent.first ≤ other → other < entry.extent.first + 8 ^ entry.extent.size
+      → mapping_at pages other ≡ Some (mapping_of entry other)
 
 -- It is the entry of the lowest resident page from one on and before an end, and that page's tile.
 pub record IsNextTile (pages : Resident) (from end : ℕ) (entry : Entry) : Type 0 where

@@ -199,6 +199,20 @@ impl Base {
         Changes::of(page, turn)
     }
 
+    /// The lowest resident page from `from` on and before `end` is resident no more. That page, and the frame that it had.
+    pub fn take_next(&mut self, from: u32, end: u32) -> Option<(u32, u32)>
+        requires { end ≤ space_pages }
+        ensures some { IfSome result (λ taken. IsNextResident (mapping_at self.old) from end taken.0
+            × (frame_of_page self.old taken.0 ≡ Some taken.1) × Maps taken.0 None self.old self.new) }
+        ensures none { IfNone result (NoneResident (mapping_at self.old) from end × (self.new ≡ self.old)) }
+    {
+        let entry = self.pages.next(from, end)?;
+        let page = from.max(entry.extent.first);
+        let frame = entry.mapping_of(page).frame;
+        counted::remove::<Brand>(&mut self.pages, entry, page, Blank::new(1));
+        Some((page, frame))
+    }
+
     /// A page has this dirty flag, where it is resident.
     pub fn after_dirty<L: Ledger>(
         &mut self,

@@ -62,6 +62,18 @@ pub(crate) fn set<L: Ledger>(
     pages.set(entry, size, page, mapping, &mut steps);
 }
 
+/// A page of an entry is resident no more.
+pub(crate) fn remove<L: Ledger>(pages: &mut Pages, entry: Entry, page: u32, blank: Blank)
+    requires name { blank.name ≡ L.name }
+    requires parts { blank.parts ≡ L.parts }
+    requires share { 0 < blank.parts }
+    requires there { entry_at pages.old page ≡ Some entry }
+    ensures { Maps page None pages.old pages.new }
+{
+    let (book, share) = blank.open::<L>();
+    pages.remove(entry, page, &mut Steps::begin(book, share));
+}
+
 /// A page that isn't resident is, with this mapping; no other page has its frame.
 pub fn after_fill<L: Ledger>(base: &mut Base, page: u32, mapping: Mapping, blank: Blank) -> Changes
     requires name { blank.name ≡ L.name }

@@ -1,10 +1,19 @@
-use Rattle.std.proofs.Common.{◌≡◌, ◌∙◌, ap, refl, Some}
+use Rattle.std.proofs.Common.{◌≡◌, ◌∙◌, ℕ, ap, refl, sym, Option, Some}
+use Rattle.pager_model.specs.declared.tile.Mapping.{Mapping}
+use Rattle.pager_model.specs.Tiles.{tile_in}
 use Rattle.space_core.specs.Standing.{Kept}
+use Rattle.space_core.specs.Tables.{mapping_in}
 use Rattle.space_core.proofs.FilledPages.{reads_in, fails_to_read}
 use Rattle.space_core.proofs.SameView.{same_regions}
 use Rattle.space_core.proofs.ServedPages.{same_kept, kept_again, refilled_mapped}
-use Rattle.space_core.proofs.TableLemmas.{frame-same, dirty-same}
+use Rattle.space_core.proofs.TableLemmas.{frame-absent, frame-mapped, frame-same, dirty-same}
 use Rattle.space_core.proofs.space.Space.read_in.Goals as goal
+
+pub unreachable-requires : goal.unreachable-requires
+unreachable-requires g c = (rw (← c.self.view_is) at c.requires.resident) (frame-absent c.self.inside.table c.args.page (sym (rw c.in_default.is at c.translate.ensures.mapping)))
+
+pub read_copy-requires : goal.read_copy-requires
+read_copy-requires g c = record { resident = frame-mapped c.self.inside.table c.args.page c.in-Some.found.mapping (sym c.in-Some.ensures.mapping) }
 
 pub invariant_of-self : goal.invariant_of-self
 invariant_of-self g c =
@@ -24,6 +33,16 @@ returns-in-Ok-clause-read g c =
     rw (← c.self.view_is)
     (reads_in _ _ c.args.page (same_regions _ _ refl e.table.same.count refl refl e.table.same.own) refl refl (record { sizes = e.table.same.sizes; images = refl; promotions = refl; demotions = refl }) pending (rw (← c.self.view_is) at c.requires.resident)
     (c.self.invariant.pending_clean c.args.page pending) e.table e.same e.never_falls e.counted refl c.in-Ok.ensures.read)
+
+-- what is said of each page is as before, so the page's tile is too
+pub returns-in-Ok-clause-found : goal.returns-in-Ok-clause-found
+returns-in-Ok-clause-found g c =
+    let e = c.read_copy.ensures.table in
+    let was = c.in-Some.ensures in
+    record {
+      mapping = e.mapping c.args.page ∙ sym was.mapping;
+      tile = ap (λ z. tile_in z (mapping_in c.read_copy.new.self) c.args.page) e.same.sizes ∙ ap (λ (at : ℕ → Option Mapping). tile_in c.self.inside.table.sizes at c.args.page) (λ i p. e.mapping p i) ∙ sym was.tile;
+    }
 
 pub returns-in-Err-clause-failed : goal.returns-in-Err-clause-failed
 returns-in-Err-clause-failed g c =

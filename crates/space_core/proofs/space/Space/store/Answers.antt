@@ -52,7 +52,7 @@ returns-then-found g c =
     let u = c.write_word_by.new.self in
     let same = same_stored c.self.inside.table u _ _ _ writes dirty in
     rw (c.touch.ensures.answered, ← c.self.view_is, rest.none_pending, rest.none_clearing, rest.none_paged)
-    (stores_same c.self.inside.number c.self.inside.regions c.self.inside.table u _ _ c.self.inside.images.items c.self.inside.images.items
+    (stores_same c.self.inside.number c.self.inside.regions c.self.inside.table u _ _ c.self.inside.images c.self.inside.images
     c.self.inside.promotions c.self.inside.promotions c.self.inside.demotions c.self.inside.demotions c.self.inside.broken
     c.args.address c.args.word (mapped_resident _ _ _ found) writes c.args.processor within may (inl (record { sizes = writes.same.sizes; images = refl; promotions = refl; demotions = refl }, same)) same c.args.found.tile found.tile c.touch.new.self
     (rw (rest.none_pending, rest.none_clearing, rest.none_paged) at c.touch.ensures.touched))
@@ -68,7 +68,7 @@ returns g c =
     let table : c.self-3.inside.table ≡ u = ap (λ (k : Kept). k.table) c.self-3.view_is ∙ rw c.follow.ensures refl in
     let then_is = sym (rw (c.page_of-page.ensures.page, table) at c.in-Some.ensures.tile) in
     rw (c.touch-answered.ensures.answered, c.has_translation-hit.ensures, ← c.self-2.view_is, rest.none_pending, rest.none_clearing, rest.none_paged)
-    (stores c.self-2.inside.number c.self-2.inside.regions c.self-2.inside.table u _ _ c.self-2.inside.images.items (map (untouched_tiles u.sizes c.set_word-moves.result.touched (mapping_in u)) c.self-2.inside.images.items)
+    (stores c.self-2.inside.number c.self-2.inside.regions c.self-2.inside.table u _ _ c.self-2.inside.images (map (untouched_tiles u.sizes c.set_word-moves.result.touched (mapping_in u)) c.self-2.inside.images)
     c.self-2.inside.promotions (counted_up c.self-2.inside.promotions c.set_word-moves.result.promotions) c.self-2.inside.demotions (counted_up c.self-2.inside.demotions c.set_word-moves.result.demotions) c.self-2.inside.broken
     c.args.address c.args.word (mapped_resident _ _ _ found) writes c.args.processor within may (inr (retouched_by _ _ c.set_word-moves.result writes.same.sizes c.set_word-moves.ensures.moves refl refl refl)) c.args.found.tile c.in-Some.then.tile found.tile then_is c.touch-answered.new.self
     (rw (c.follow.ensures, rest.none_pending, rest.none_clearing, rest.none_paged) at c.touch-answered.ensures.touched))

@@ -1,4 +1,4 @@
-use Rattle.std.proofs.Common.{◌≡◌, ◌+◌, ◌*◌, ◌/◌, max, refl, subst, arith}
+use Rattle.std.proofs.Common.{◌+◌, ◌/◌, refl, subst, arith}
 use Rattle.tiles.specs.Resident.{mapping_at, IsNextResident, NoneResident}
 use Rattle.tiles.proofs.Blocks.{ProtectsBlocks, blocks_none, blocks_more, blocks_to_next, blocks_end, moves_more, moves_fit}
 use Rattle.tiles.proofs.MoveCounts.{moves_same}
@@ -12,7 +12,8 @@ loop-page-init c = record {
 }
 
 -- what the blocks before that of the next resident page have
-so_far : (c : goal.After-after_rights_in_block) → ProtectsBlocks (c.in-Some.page / 512) c.args.first c.args.length c.args.rights c.args.self.now c.loop-page.self
+so_far : (c : goal.After-after_rights_in_block)
+    → ProtectsBlocks (c.in-Some.page / 512) c.args.first c.args.length c.args.rights c.args.self.now c.loop-page.self
 so_far c =
     blocks_to_next c.loop-page.from c.args.first c.args.length c.in-Some.page c.args.rights c.args.self.now c.loop-page.self
     (subst (λ from. IsNextResident (mapping_at c.loop-page.self) from (c.args.first + c.args.length) c.in-Some.page) c.max.ensures c.in-Some.ensures.some) c.loop-page.invariant.protects

@@ -24,7 +24,8 @@ found : (c : goal.After-set_places) → IsNextTile c.args.self.now c.loop-entry.
 found c = subst (λ r. IsNextTile r c.loop-entry.from (c.args.block * 512 + 512) c.in-Some.entry) c.self.view_is c.in-Some.ensures.some
 
 -- what stands at a place whose first page is q: the size there, or 0 where it isn't before the end of the places that were filled
-place : (first q i from page end begun past level size before after : ℕ) → q ≡ first + 8 * i → first ≤ from → from ≤ page → page ≤ end → begun ≡ div_ceil (page - first) 8 → past ≡ div_ceil (end - first) 8
+place : (first q i from page end begun past level size before after : ℕ) → q ≡ first + 8 * i → first ≤ from → from ≤ page → page ≤ end
+    → begun ≡ div_ceil (page - first) 8 → past ≡ div_ceil (end - first) 8
     → before ≡ (if nat_lt q from then size else 0) → after ≡ (if nat_le begun i && nat_lt i past then level else before) → (from ≤ q → q < page → size ≡ 0) → (page ≤ q → q < end → size ≡ level)
     → after ≡ (if nat_lt q (first + 8 * past) then size else 0)
 place first q i from page end begun past level size before after is low on more begins ends old new bare there = elim (cases_lt q from) [

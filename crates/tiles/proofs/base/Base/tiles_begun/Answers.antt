@@ -28,7 +28,8 @@ page_in c =
     (omega (arith, c.max-page.ensures, c.min-from.ensures, c.behind.ensures, next.fits.to, next.next.before_end), omega (arith, c.max-page.ensures))
 
 -- the tiles that begin in it, beside those before
-one_more : (c : goal.After-large_begun-count) → count (begins_large_in c.args.sizes (mapping_at c.args.self.now)) c.args.first (c.min-from.result - c.args.first) ≡ count (begins_large_in c.args.sizes (mapping_at c.args.self.now)) c.args.first (c.loop-entry.from - c.args.first) + c.large_begun-count.result
+one_more : (c : goal.After-large_begun-count)
+    → count (begins_large_in c.args.sizes (mapping_at c.args.self.now)) c.args.first (c.min-from.result - c.args.first) ≡ count (begins_large_in c.args.sizes (mapping_at c.args.self.now)) c.args.first (c.loop-entry.from - c.args.first) + c.large_begun-count.result
 one_more c =
     let pages = mapping_at c.args.self.now in
     let e = c.in-Some.entry in

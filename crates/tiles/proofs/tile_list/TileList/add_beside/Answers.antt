@@ -16,7 +16,8 @@ wide c = c.pages-wide.ensures ∙ ap (λ k. 8 ^ k) (c.at_level.ensures ∙ add-o
 own : (c : After-pages-wide) → c.args.page / c.pages-pages.result % 8 ≡ own_part c.args.level c.args.page
 own c = ap (λ n. c.args.page / n % 8) (narrow c)
 
-starts : (c : After-pages-wide) (part : _) → c.args.page / c.pages-wide.result * c.pages-wide.result + part * c.pages-pages.result ≡ part_start c.args.level c.args.page part
+starts : (c : After-pages-wide) (part : _)
+    → c.args.page / c.pages-wide.result * c.pages-wide.result + part * c.pages-pages.result ≡ part_start c.args.level c.args.page part
 starts c part = ap (λ n. c.args.page / n * n + part * c.pages-pages.result) (wide c) ∙ ap (λ n. c.args.page / 8 ^ suc c.args.level * 8 ^ suc c.args.level + part * n) (narrow c)
 
 pub nonzero_div-first : goal.nonzero_div-first

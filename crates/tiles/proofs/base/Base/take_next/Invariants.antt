@@ -1,0 +1,4 @@
+use Rattle.tiles.proofs.base.Base.take_next.Given as goal
+
+abbrev pub ghosts-remove : goal.ghosts-remove
+ghosts-remove a = record { name = a.blank.name; parts = a.blank.parts }
