@@ -1,16 +1,15 @@
 -- A run of the large trace that was made, and the counts of which were written, or a part of them.
-use Rattle.std.proofs.Common.{◌≡◌, ℕ, ◌≤◌, ◌⊎◌, inl, inr, List, Vec, length, map, Option, Some, None, ap, sym, subst, ◌∙◌, arith}
+use Rattle.std.proofs.Common.{◌≡◌, ℕ, ◌≤◌, ◌⊎◌, inl, inr, List, length, map, Option, Some, None, ap, sym, subst, ◌∙◌, arith}
 use Rattle.std.specs.Borrow.{Bor}
-use Rattle.std.specs.declared.alloc.Global.{Global}
 use Rattle.io_core.specs.Faults.{Rose}
 use Rattle.pager_core.specs.declared.run_parts.Gathered.{Gathered}
-use Rattle.pager_model.specs.declared.entry.Numbered.{Numbered}
 use Rattle.pager_model.specs.Legal.{entries_in}
 use Rattle.pager_model.specs.Plans.{Plan}
 use Rattle.pager_model.specs.PrintedText.{summary_text}
 use Rattle.pager_model.specs.Stored.{Stored}
 use Rattle.pager_model.specs.TurnOrders.{IsSeeded}
 use Rattle.replay_core.specs.Replays.{IsReplay, AreItsCounts}
+use Rattle.run_history.specs.Kept.{Kept}
 use Rattle.report_text.specs.Written.{WroteAll, WrotePart}
 use Rattle.pager_command.specs.declared.form.Making.{Making}
 use Rattle.pager_command.specs.declared.outcome.Outcome.{Outcome}
@@ -25,7 +24,7 @@ module _ {K P : Type 0} (taken : K → Option (List ℕ)) (writes : K → ℕ) (
   counted_text large counted history =
       ap summary_text counted
       ∙ ap (λ p. counts_text p (map seen stores) gathered.history.items) large
-      ∙ ap (counts_text (large_trace number) (map seen stores)) (sym (ap (λ (v : Vec Numbered Global). v.items) history))
+      ∙ ap (counts_text (large_trace number) (map seen stores)) (sym (ap (λ (k : Kept). k.items) history))
 
   pub RunsLarge-written : 4 ≤ length stores → plan ≡ large_trace number → IsReplay plan (map seen stores) gathered.history.items (map seen gathered.stores.items) → IsSeeded plan seed (entries_in gathered.history.items) → AreItsCounts plan (map seen stores) gathered.history.items gathered.summary
       → (outcome.status ≡ DONE) ⊎ (outcome.status ≡ WRITE_FAULT) → outcome.refusal ≡ None → outcome.trace ≡ Some plan → outcome.history ≡ gathered.history → outcome.stores ≡ gathered.stores

@@ -17,6 +17,7 @@ use io_core::Sink;
 use pager_model::{NoMemory, Trace};
 use replay_core::{Gathered, replay_turns};
 use report_text::write_summary;
+use run_history::History;
 use std::alloc::Global;
 use store_core::Store;
 use trace_make::{make, write_trace};
@@ -59,7 +60,7 @@ pub fn write_made<K: Sink, S: Store + Send + Drop>(
         status,
         refusal: None,
         trace: Some(trace),
-        history: Vec::new(alloc),
+        history: History::of(Vec::new(alloc)),
         stores,
     }
 }

@@ -4,7 +4,8 @@ ghost use Rattle.std.specs.Prelude.{◌≡◌, ◌⊎◌, [], None, IsOk, IsErr}
 
 use crate::status::{DONE, WRITE_FAULT};
 use io_core::WriteFailed;
-use pager_model::{Numbered, Trace};
+use pager_model::Trace;
+use run_history::History;
 use std::alloc::Global;
 use store_core::Store;
 use trace_reader::TraceFault;
@@ -19,7 +20,7 @@ pub struct Outcome<S: Store + Send + Drop> {
     /// The trace, where it was run, or made and written.
     pub trace: Option<Trace>,
     /// The history of its run.
-    pub history: Vec<Numbered>,
+    pub history: History,
     /// The stores that were handed in, in their order.
     pub stores: Vec<S>,
 }
@@ -41,7 +42,7 @@ pub fn stopped<S: Store + Send + Drop>(
         status,
         refusal,
         trace: None,
-        history: Vec::new(alloc),
+        history: History::of(Vec::new(alloc)),
         stores,
     }
 }

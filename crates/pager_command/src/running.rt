@@ -28,9 +28,10 @@ use crate::status::{DONE, MEMORY, READ_FAULT, REFUSED, USAGE, WRITE_FAULT};
 use contiguity_plan::plan_emptying;
 use io_core::{Sink, Source};
 use miss_curves::curves;
-use pager_model::{NoMemory, Numbered, Size, Trace};
+use pager_model::{NoMemory, Size, Trace};
 use replay_core::{Gathered, replay, replay_file_order, replay_turns};
 use report_text::{Parts, write_curves, write_plan, write_report};
+use run_history::History;
 use std::alloc::Global;
 use std::sync::Wait;
 use std::thread::Threads;
@@ -282,7 +283,7 @@ fn curve_run<K: Sink, S: Store + Send + Drop>(
         stores,
         ..
     } = gathered;
-    let status = write_curves_of(alloc, sink, &trace, history.as_slice());
+    let status = write_curves_of(alloc, sink, &trace, &history);
     Outcome {
         status,
         refusal: None,
@@ -293,16 +294,16 @@ fn curve_run<K: Sink, S: Store + Send + Drop>(
 }
 
 /// Counts the misses of a history at each capacity, writes the curves of them, and answers the status.
-fn write_curves_of<K: Sink>(alloc: Global, sink: &mut K, trace: &Trace, history: &[Numbered]) -> u8
+fn write_curves_of<K: Sink>(alloc: Global, sink: &mut K, trace: &Trace, history: &History) -> u8
     requires one { trace.now.processors ≡ 1 }
-    requires run { (g : Given) × IsRunOf trace.now g (entries_in history.now) }
+    requires run { (g : Given) × IsRunOf trace.now g (entries_in history.now.items) }
     ensures statuses { (result ≡ DONE) ⊎ ((result ≡ WRITE_FAULT) ⊎ (result ≡ MEMORY)) }
     ensures unwritten { result ≡ MEMORY → sink.new ≡ sink.old }
-    ensures wrote { result ≡ DONE → (g : Given) → IsRunOf trace.now g (entries_in history.now)
-        → (tiles : List ℕ) × (pages : List ℕ) × AreCurves g (entries_in history.now) tiles pages
+    ensures wrote { result ≡ DONE → (g : Given) → IsRunOf trace.now g (entries_in history.now.items)
+        → (tiles : List ℕ) × (pages : List ℕ) × AreCurves g (entries_in history.now.items) tiles pages
         × WroteAll (curves_text tiles pages) (K.taken sink.old) (K.taken sink.new) }
-    ensures part { result ≡ WRITE_FAULT → (g : Given) → IsRunOf trace.now g (entries_in history.now)
-        → (tiles : List ℕ) × (pages : List ℕ) × AreCurves g (entries_in history.now) tiles pages
+    ensures part { result ≡ WRITE_FAULT → (g : Given) → IsRunOf trace.now g (entries_in history.now.items)
+        → (tiles : List ℕ) × (pages : List ℕ) × AreCurves g (entries_in history.now.items) tiles pages
         × WrotePart (curves_text tiles pages) (K.taken sink.old) (K.taken sink.new) }
     ensures rose { result ≡ WRITE_FAULT → Rose (K.faults sink.old) (K.faults sink.new) }
 {
@@ -332,7 +333,7 @@ fn plan_run<K: Sink, S: Store + Send + Drop>(
         stores,
         ..
     } = gathered;
-    let status = write_planned(alloc, sink, trace.frames(), history.as_slice(), size);
+    let status = write_planned(alloc, sink, trace.frames(), &history, size);
     Outcome {
         status,
         refusal: None,
@@ -347,18 +348,18 @@ fn write_planned<K: Sink>(
     alloc: Global,
     sink: &mut K,
     frames: u32,
-    history: &[Numbered],
+    history: &History,
     size: Size,
 ) -> u8
     requires frames { frames ≤ 32768 }
-    requires legal { (g : Given) × IsOver frames g (entries_in history.now) }
+    requires legal { (g : Given) × IsOver frames g (entries_in history.now.items) }
     ensures statuses { (result ≡ DONE) ⊎ ((result ≡ WRITE_FAULT) ⊎ (result ≡ MEMORY)) }
     ensures unwritten { result ≡ MEMORY → sink.new ≡ sink.old }
-    ensures wrote { result ≡ DONE → (g : Given) → IsOver frames g (entries_in history.now)
-        → (planned : Option Emptying) × IsPlanned (frames_at g (entries_in history.now)) frames size planned
+    ensures wrote { result ≡ DONE → (g : Given) → IsOver frames g (entries_in history.now.items)
+        → (planned : Option Emptying) × IsPlanned (frames_at g (entries_in history.now.items)) frames size planned
         × WroteAll (plan_text planned) (K.taken sink.old) (K.taken sink.new) }
-    ensures part { result ≡ WRITE_FAULT → (g : Given) → IsOver frames g (entries_in history.now)
-        → (planned : Option Emptying) × IsPlanned (frames_at g (entries_in history.now)) frames size planned
+    ensures part { result ≡ WRITE_FAULT → (g : Given) → IsOver frames g (entries_in history.now.items)
+        → (planned : Option Emptying) × IsPlanned (frames_at g (entries_in history.now.items)) frames size planned
         × WrotePart (plan_text planned) (K.taken sink.old) (K.taken sink.new) }
     ensures rose { result ≡ WRITE_FAULT → Rose (K.faults sink.old) (K.faults sink.new) }
 {
@@ -391,13 +392,7 @@ fn report_run<K: Sink, S: Store + Send + Drop>(
         stores,
         summary,
     } = gathered;
-    let wrote = write_report(
-        sink,
-        trace.processors(),
-        history.as_slice(),
-        &summary,
-        parts,
-    );
+    let wrote = write_report(sink, trace.processors(), &history, &summary, parts);
     Outcome {
         status: status_of_write(wrote),
         refusal: None,

@@ -74,11 +74,13 @@ module _ (f : Flight) (from : Phase) (a : Answered) (was now : Kept) (st : Space
   }
 
   -- one that leaves the frames alone
-  pub Makes-answer : IsReady (in_phase f from) was st → MayEnd f from a false was now st → (frames : FrameState) → Makes (in_phase f from) (in_phase f (Ended a.reply)) was now st frames frames (answer_entry f.processor f.number (call_in f.purpose) a)
+  pub Makes-answer : IsReady (in_phase f from) was st → MayEnd f from a false was now st → (frames : FrameState)
+      → Makes (in_phase f from) (in_phase f (Ended a.reply)) was now st frames frames (answer_entry f.processor f.number (call_in f.purpose) a)
   Makes-answer ready ends frames = Makes-ending false ready ends frames frames (λ named. absurd (false≢true named)) refl
 
 -- Start: the call is answered at once
-MayEnd-begin : (f : Flight) (a : Answered) (was now : Kept) (st : SpaceState) → IsReady (in_phase f Start) was st → BeginsAnswered was now f.processor (call_in f.purpose) a → MayEnd f Start a false was now st
+MayEnd-begin : (f : Flight) (a : Answered) (was now : Kept) (st : SpaceState) → IsReady (in_phase f Start) was st
+    → BeginsAnswered was now f.processor (call_in f.purpose) a → MayEnd f Start a false was now st
 MayEnd-begin f a was now st ready begins = record {
   on = same_Some _ _ ready.under;
   same_space = record { number = begins.same_number; frames = begins.same_frames; processors = begins.same_processors };
@@ -91,7 +93,9 @@ MayEnd-begin f a was now st ready begins = record {
   some = omega arith;
 }
 
-pub start_answered : (f : Flight) (a : Answered) (was now : Kept) → f.phase ≡ Start → BeginsAnswered was now f.processor (call_in f.purpose) a → (st : SpaceState) (frames : FrameState) → IsReady f was st → Makes f (with_phase f (Ended a.reply)) was now st frames frames (answer_entry f.processor f.number (call_in f.purpose) a)
+pub start_answered : (f : Flight) (a : Answered) (was now : Kept) → f.phase ≡ Start
+    → BeginsAnswered was now f.processor (call_in f.purpose) a → (st : SpaceState) (frames : FrameState) → IsReady f was st
+    → Makes f (with_phase f (Ended a.reply)) was now st frames frames (answer_entry f.processor f.number (call_in f.purpose) a)
 start_answered f a was now phase begins st frames =
     by_ready f Start was st refl phase (λ g to. Makes g (to (Ended a.reply)) was now st frames frames (answer_entry f.processor f.number (call_in f.purpose) a))
     (λ ready. Makes-answer f Start a was now st ready (MayEnd-begin f a was now st ready begins) frames)
@@ -109,7 +113,8 @@ pub region_at-has : (regions : List Region) (page : ℕ) (r : Region) → region
 region_at-has regions page r is = find_does (has_page page) regions r is
 
 -- Gone: the region is taken away
-MayEnd-unmap : (f : Flight) (s page first len : ℕ) (a : Answered) (was now : Kept) (st : SpaceState) → call_in f.purpose ≡ Unmap s page → IsReady (in_phase f (Gone first len)) was st → Unmapped was now page a → MayEnd f (Gone first len) a false was now st
+MayEnd-unmap : (f : Flight) (s page first len : ℕ) (a : Answered) (was now : Kept) (st : SpaceState) → call_in f.purpose ≡ Unmap s page
+    → IsReady (in_phase f (Gone first len)) was st → Unmapped was now page a → MayEnd f (Gone first len) a false was now st
 MayEnd-unmap f s page first len a was now st call ready unmapped =
     let is = ready.found.unmapping in
     let r = is.region in
@@ -131,7 +136,9 @@ MayEnd-unmap f s page first len a was now st call ready unmapped =
       some = omega arith;
     }
 
-pub unmap_answered : (f : Flight) (s page first len : ℕ) (a : Answered) (was now : Kept) → f.phase ≡ Gone first len → call_in f.purpose ≡ Unmap s page → Unmapped was now page a → (st : SpaceState) (frames : FrameState) → IsReady f was st → Makes f (with_phase f (Ended a.reply)) was now st frames frames (answer_entry f.processor f.number (call_in f.purpose) a)
+pub unmap_answered : (f : Flight) (s page first len : ℕ) (a : Answered) (was now : Kept) → f.phase ≡ Gone first len
+    → call_in f.purpose ≡ Unmap s page → Unmapped was now page a → (st : SpaceState) (frames : FrameState) → IsReady f was st
+    → Makes f (with_phase f (Ended a.reply)) was now st frames frames (answer_entry f.processor f.number (call_in f.purpose) a)
 unmap_answered f s page first len a was now phase call unmapped st frames =
     by_ready f (Gone first len) was st refl phase (λ g to. Makes g (to (Ended a.reply)) was now st frames frames (answer_entry f.processor f.number (call_in f.purpose) a))
     (λ ready. Makes-answer f (Gone first len) a was now st ready (MayEnd-unmap f s page first len a was now st call ready unmapped) frames)
@@ -167,7 +174,8 @@ alone_plain (Store space address word) reply is alone = alone
 alone_plain call reply is alone = absurd (false≢true is)
 
 -- Late: the access is answered, as it would be if it began now
-MayEnd-late : (f : Flight) (a : Answered) (was now : Kept) (st : SpaceState) → IsReady (in_phase f Late) was st → BeginsAnswered was now f.processor (call_in f.purpose) a → MayEnd f Late a false was now st
+MayEnd-late : (f : Flight) (a : Answered) (was now : Kept) (st : SpaceState) → IsReady (in_phase f Late) was st
+    → BeginsAnswered was now f.processor (call_in f.purpose) a → MayEnd f Late a false was now st
 MayEnd-late f a was now st ready begins = record {
   on = same_Some _ _ ready.under;
   same_space = record { number = begins.same_number; frames = begins.same_frames; processors = begins.same_processors };
@@ -180,13 +188,17 @@ MayEnd-late f a was now st ready begins = record {
   some = omega arith;
 }
 
-pub late_answered : (f : Flight) (a : Answered) (was now : Kept) → f.phase ≡ Late → BeginsAnswered was now f.processor (call_in f.purpose) a → (st : SpaceState) (frames : FrameState) → IsReady f was st → Makes f (with_phase f (Ended a.reply)) was now st frames frames (answer_entry f.processor f.number (call_in f.purpose) a)
+pub late_answered : (f : Flight) (a : Answered) (was now : Kept) → f.phase ≡ Late → BeginsAnswered was now f.processor (call_in f.purpose) a
+    → (st : SpaceState) (frames : FrameState) → IsReady f was st
+    → Makes f (with_phase f (Ended a.reply)) was now st frames frames (answer_entry f.processor f.number (call_in f.purpose) a)
 late_answered f a was now phase begins st frames =
     by_ready f Late was st refl phase (λ g to. Makes g (to (Ended a.reply)) was now st frames frames (answer_entry f.processor f.number (call_in f.purpose) a))
     (λ ready. Makes-answer f Late a was now st ready (MayEnd-late f a was now st ready begins) frames)
 
 -- Fill: the access is served
-MayEnd-fill : (f : Flight) (page frame : ℕ) (a : Answered) (was mid now : Kept) (st : SpaceState) → IsReady (in_phase f (Fill page frame)) was st → ReadsIn was mid → Finishes mid now f.processor (call_in f.purpose) a → MayEnd f (Fill page frame) a false was now st
+MayEnd-fill : (f : Flight) (page frame : ℕ) (a : Answered) (was mid now : Kept) (st : SpaceState)
+    → IsReady (in_phase f (Fill page frame)) was st → ReadsIn was mid → Finishes mid now f.processor (call_in f.purpose) a
+    → MayEnd f (Fill page frame) a false was now st
 MayEnd-fill f page frame a was mid now st ready reads finishes = record {
   on = same_Some _ _ ready.under;
   same_space = same_space-on (same_space reads.same.same) (same_space finishes.same.same);
@@ -199,7 +211,9 @@ MayEnd-fill f page frame a was mid now st ready reads finishes = record {
   some = omega arith;
 }
 
-pub fill_answered : (f : Flight) (page frame : ℕ) (a : Answered) (was mid now : Kept) → f.phase ≡ Fill page frame → ReadsIn was mid → Finishes mid now f.processor (call_in f.purpose) a → (st : SpaceState) (frames : FrameState) → IsReady f was st → Makes f (with_phase f (Ended a.reply)) was now st frames frames (answer_entry f.processor f.number (call_in f.purpose) a)
+pub fill_answered : (f : Flight) (page frame : ℕ) (a : Answered) (was mid now : Kept) → f.phase ≡ Fill page frame → ReadsIn was mid
+    → Finishes mid now f.processor (call_in f.purpose) a → (st : SpaceState) (frames : FrameState) → IsReady f was st
+    → Makes f (with_phase f (Ended a.reply)) was now st frames frames (answer_entry f.processor f.number (call_in f.purpose) a)
 fill_answered f page frame a was mid now phase reads finishes st frames =
     by_ready f (Fill page frame) was st refl phase (λ g to. Makes g (to (Ended a.reply)) was now st frames frames (answer_entry f.processor f.number (call_in f.purpose) a))
     (λ ready. Makes-answer f (Fill page frame) a was now st ready (MayEnd-fill f page frame a was mid now st ready reads finishes) frames)

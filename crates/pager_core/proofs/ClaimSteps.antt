@@ -31,7 +31,8 @@ use Rattle.pager_core.proofs.TakenFrames.{HasNothing-wanting}
 use Rattle.pager_core.proofs.UnchangedSpaces.{unchanged_stands}
 
 -- an access whose page has no frame is needed
-needed : (kept : Kept) (st : SpaceState) (call : Call) (page : ℕ) → StandsFor kept st → access_page call ≡ Some page → is_allowed kept call ≡ true → frame_at kept page ≡ None → IsNeeded st (Some (record { page = page; writing = is_store call }))
+needed : (kept : Kept) (st : SpaceState) (call : Call) (page : ℕ) → StandsFor kept st → access_page call ≡ Some page
+    → is_allowed kept call ≡ true → frame_at kept page ≡ None → IsNeeded st (Some (record { page = page; writing = is_store call }))
 needed kept st call page stands page_is allowed absent =
     let has = allowed_at call page_is allowed in (
       ap (λ rs. is_some (region_at rs page)) stands.beside.regions ∙ has.0,
@@ -102,7 +103,10 @@ module _ (f : Flight) (page : ℕ) (want : Want) (v : Victim) (kept : Kept) (st 
             });
       }
 
-pub victim_claimed : (f : Flight) (page : ℕ) (want : Want) (v : Victim) (kept : Kept) (st : SpaceState) (before : FrameState) → f.phase ≡ Frame page want → OwnsBy before f.processor (row_of f).progress.doing → IsFull before → IsVictim before v.space v.page v.frame → IsReady f kept st → Makes f (in_phase (claiming f) (Out v)) kept kept st before (counted (claimed before v.frame (Some f.processor))) (claim_entry f page v (is_store (call_in f.purpose)))
+pub victim_claimed : (f : Flight) (page : ℕ) (want : Want) (v : Victim) (kept : Kept) (st : SpaceState) (before : FrameState)
+    → f.phase ≡ Frame page want → OwnsBy before f.processor (row_of f).progress.doing → IsFull before
+    → IsVictim before v.space v.page v.frame → IsReady f kept st
+    → Makes f (in_phase (claiming f) (Out v)) kept kept st before (counted (claimed before v.frame (Some f.processor))) (claim_entry f page v (is_store (call_in f.purpose)))
 victim_claimed f page want v kept st before phase owns full victim =
     by_ready f (Frame page want) kept st refl phase (λ g to. Makes g (in_phase (claiming f) (Out v)) kept kept st before (counted (claimed before v.frame (Some f.processor))) (claim_entry f page v (is_store (call_in f.purpose))))
     (λ ready. Makes-claim f page want v kept st before ready (HasNothing-wanting f page want before phase owns) full victim)
@@ -110,7 +114,8 @@ victim_claimed f page want v kept st before phase owns full victim =
 -- Unclaim: the victim's frame is claimed no longer
 
 -- the frame of a page that is resident is claimed by who claims or holds it
-claims_resident : (kept : Kept) (st : FrameState) (c : ℕ) (v : Victim) → AreAgreed kept st → v.space ≡ kept.number → frame_at kept v.page ≡ Some v.frame → ClaimsOrHolds st c v → claim_in (used_at st v.frame) ≡ Some c
+claims_resident : (kept : Kept) (st : FrameState) (c : ℕ) (v : Victim) → AreAgreed kept st → v.space ≡ kept.number
+    → frame_at kept v.page ≡ Some v.frame → ClaimsOrHolds st c v → claim_in (used_at st v.frame) ≡ Some c
 claims_resident kept st c v agree on at owns = elim owns.frame [
   | inl holds ↦
       let place = frame_in-found (layout_of st) kept.number v.page v.frame (sym (agree.pages v.page) ∙ at) in
@@ -168,12 +173,16 @@ module _ (f : Flight) (v : Victim) (frame : ℕ) (kept : Kept) (st : SpaceState)
       }
 
 -- where the claim is given up, its processor claims or holds the victim, any may go on, and the victim's space is that of the step
-at_unclaim : (f : Flight) (v : Victim) (fault : Option ℕ) (kept : Kept) (st : SpaceState) (before : FrameState) → IsReady (with_phase f (Unclaim v fault)) kept st → OwnsBy before f.processor (row_of (with_phase f (Unclaim v fault))).progress.doing
+at_unclaim : (f : Flight) (v : Victim) (fault : Option ℕ) (kept : Kept) (st : SpaceState) (before : FrameState)
+    → IsReady (with_phase f (Unclaim v fault)) kept st → OwnsBy before f.processor (row_of (with_phase f (Unclaim v fault))).progress.doing
     → (v.space ≡ kept.number) × (st.next ≡ Anyone) × ClaimsOrHolds before f.processor v
 at_unclaim f v None kept st before ready owns = (same_Some _ _ ready.under, ready.next, owns)
 at_unclaim f v (Some count) kept st before ready owns = (same_Some _ _ ready.under, ready.next, owns)
 
-pub claim_ended : (f : Flight) (v : Victim) (fault : Option ℕ) (frame : ℕ) (kept : Kept) (st : SpaceState) (before : FrameState) → f.phase ≡ Unclaim v fault → OwnsBy before f.processor (row_of f).progress.doing → claim_in (used_at before frame) ≡ Some f.processor → IsReady f kept st → AreAgreed kept before → Makes f (with_phase f (given_up f.purpose v fault)) kept kept st before (counted (claimed before frame None)) (unclaim_entry f.processor v.space frame)
+pub claim_ended : (f : Flight) (v : Victim) (fault : Option ℕ) (frame : ℕ) (kept : Kept) (st : SpaceState) (before : FrameState)
+    → f.phase ≡ Unclaim v fault → OwnsBy before f.processor (row_of f).progress.doing → claim_in (used_at before frame) ≡ Some f.processor
+    → IsReady f kept st → AreAgreed kept before
+    → Makes f (with_phase f (given_up f.purpose v fault)) kept kept st before (counted (claimed before frame None)) (unclaim_entry f.processor v.space frame)
 claim_ended f v fault frame kept st before phase owns claims ready agree =
     in_its_phase f (Unclaim v fault) phase (λ g. IsReady g kept st → OwnsBy before f.processor (row_of g).progress.doing → Makes g (with_phase f (given_up f.purpose v fault)) kept kept st before (counted (claimed before frame None)) (unclaim_entry f.processor v.space frame))
     (λ is own. (let so = at_unclaim f v fault kept st before is own in Makes-unclaim f v frame kept st before fault is so.0 so.1 agree so.2 claims)) ready owns

@@ -86,7 +86,8 @@ module _ (was kept now : Kept) (before pool after : FrameState) (first len page 
       ]
 
 -- then fewer pages of the range are resident
-pub fewer_resident : (kept now : Kept) (first len page frame : ℕ) → ClearsOne kept now first len page frame → count_by (λ p. is_some (frame_at now p)) (range_with_len first len) < count_by (λ p. is_some (frame_at kept p)) (range_with_len first len)
+pub fewer_resident : (kept now : Kept) (first len page frame : ℕ) → ClearsOne kept now first len page frame
+    → count_by (λ p. is_some (frame_at now p)) (range_with_len first len) < count_by (λ p. is_some (frame_at kept p)) (range_with_len first len)
 fewer_resident kept now first len page frame clears =
     let parts = and_parts (leb first page) (ltb page (first + len)) clears.within in
     let one_more = count-one_more (λ p. is_some (frame_at now p)) (λ p. is_some (frame_at kept p)) page (ap is_some clears.gave.gone) (ap is_some clears.gave.had)
@@ -124,7 +125,8 @@ StandsBut-rest kept st first len resting stands = record {
     closed page = ap (λ o. is_in o page) resting.none_clearing
 
 -- the flight's space is the call's
-pub on_clear : (f : Flight) (first len : ℕ) (was : Kept) (st : SpaceState) → f.phase ≡ Clear first len → IsReady f was st → space_of_call (call_in f.purpose) ≡ was.number
+pub on_clear : (f : Flight) (first len : ℕ) (was : Kept) (st : SpaceState) → f.phase ≡ Clear first len → IsReady f was st
+    → space_of_call (call_in f.purpose) ≡ was.number
 on_clear f first len was st phase = by_ready f (Clear first len) was st refl phase (λ g to. space_of_call (call_in f.purpose) ≡ was.number) (λ ready. same_Some _ _ ready.under)
 
 -- Clear: the pages of the region gave their frames up, and none is left
@@ -188,7 +190,9 @@ module _ (f : Flight) (first len : ℕ) (was kept now : Kept) (before pool : Fra
         in_space = is.in_space;
       }
 
-pub range_cleared : (f : Flight) (first len : ℕ) (was kept now : Kept) (before pool : FrameState) → f.phase ≡ Clear first len → IsClearing was before kept pool first len → ClearsNone kept now first len → (st : SpaceState) → IsReady f was st → Makes f (with_phase f (Gone first len)) was now st before (counted pool) (clear_entry f.processor (space_of_call (call_in f.purpose)) first len)
+pub range_cleared : (f : Flight) (first len : ℕ) (was kept now : Kept) (before pool : FrameState) → f.phase ≡ Clear first len
+    → IsClearing was before kept pool first len → ClearsNone kept now first len → (st : SpaceState) → IsReady f was st
+    → Makes f (with_phase f (Gone first len)) was now st before (counted pool) (clear_entry f.processor (space_of_call (call_in f.purpose)) first len)
 range_cleared f first len was kept now before pool phase so_far clears st =
     by_ready f (Clear first len) was st refl phase (λ g to. Makes g (to (Gone first len)) was now st before (counted pool) (clear_entry f.processor (space_of_call (call_in f.purpose)) first len))
     (λ ready. Makes-clear f first len was kept now before pool st ready so_far clears)

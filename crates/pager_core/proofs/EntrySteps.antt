@@ -30,7 +30,8 @@ abbrev pub KeepsOrRests : Flight → Kept → Type 0
 KeepsOrRests f kept = ((row_of f).keeps ≡ Some kept.number) ⊎ (((row_of f).keeps ≡ None) × ((row_of f).next ≡ Anyone) × IsResting kept)
 
 -- so it does where it keeps its own space alone, which may be another one
-pub keeps_own_if : (new : Flight) (kept : Kept) (own : Option ℕ) (space : ℕ) → (row_of new).keeps ≡ own_if own space → (own_if own space ≡ Some space → space ≡ kept.number) → (row_of new).next ≡ Anyone → IsResting kept → KeepsOrRests new kept
+pub keeps_own_if : (new : Flight) (kept : Kept) (own : Option ℕ) (space : ℕ) → (row_of new).keeps ≡ own_if own space
+    → (own_if own space ≡ Some space → space ≡ kept.number) → (row_of new).next ≡ Anyone → IsResting kept → KeepsOrRests new kept
 keeps_own_if new kept own space keeps at next resting = elim (own_if-cases own space) [
   | inl here ↦ inl (keeps ∙ here ∙ ap Some (at here))
   | inr other ↦ inr (keeps ∙ other, next, resting)
@@ -60,7 +61,8 @@ LeftBy-left new now st left = elim left.keeps [
 ]
 
 -- So it leaves the space by an entry that the space allows.
-pub Leaves-by : {next : Next} (new : Flight) (was now : Kept) (st : SpaceState) (c own : ℕ) (named : Bool) (what : What) → own ≡ was.number → SameSpace was now → st.next ≡ next → MayGoOn next c what → WhatAllowed st named c what
+pub Leaves-by : {next : Next} (new : Flight) (was now : Kept) (st : SpaceState) (c own : ℕ) (named : Bool) (what : What) → own ≡ was.number
+    → SameSpace was now → st.next ≡ next → MayGoOn next c what → WhatAllowed st named c what
     → LeftBy (row_of new).keeps new now (space_after st (record { processor = c; space = Some own; frames = named; what = what })) → LeavesSpace new was now st (record { processor = c; space = Some own; frames = named; what = what })
 Leaves-by new was now st c own named what on same next goes_on allowed left =
     let e : Entry = record { processor = c; space = Some own; frames = named; what = what } in
@@ -71,7 +73,8 @@ Leaves-by new was now st c own named what on same next goes_on allowed left =
       left = subst (LeftBy (row_of new).keeps new now) (sym (cond-true (eqb own was.number) (space_after st e) st (eq-eqb _ _ on))) left;
     }
 
-pub Leaves-on : {next : Next} (new : Flight) (was now : Kept) (st : SpaceState) (c own : ℕ) (named : Bool) (what : What) → own ≡ was.number → SameSpace was now → st.next ≡ next → MayGoOn next c what → WhatAllowed st named c what
+pub Leaves-on : {next : Next} (new : Flight) (was now : Kept) (st : SpaceState) (c own : ℕ) (named : Bool) (what : What) → own ≡ was.number
+    → SameSpace was now → st.next ≡ next → MayGoOn next c what → WhatAllowed st named c what
     → IsLeft new now (space_after st (record { processor = c; space = Some own; frames = named; what = what })) → LeavesSpace new was now st (record { processor = c; space = Some own; frames = named; what = what })
 Leaves-on new was now st c own named what on same next goes_on allowed left =
     Leaves-by new was now st c own named what on same next goes_on allowed (LeftBy-left new now (space_after st (record { processor = c; space = Some own; frames = named; what = what })) left)
@@ -82,6 +85,7 @@ Fits-left new now st None left = left.0
 Fits-left new now st (Some s) left = left.1.fits
 
 -- a call is in no phase of a turn then
-pub calls_left : (f f' : Flight) (was now : Kept) (st : SpaceState) (before after : FrameState) (e : Entry) → Makes f f' was now st before after e → is_of_call f.purpose ≡ true → is_of_turns f'.phase ≡ false
+pub calls_left : (f f' : Flight) (was now : Kept) (st : SpaceState) (before after : FrameState) (e : Entry)
+    → Makes f f' was now st before after e → is_of_call f.purpose ≡ true → is_of_turns f'.phase ≡ false
 calls_left f f' was now st before after e makes is_call =
     of_calls f' (makes.entry.same_work.same_kind ∙ is_call) (Fits-left f' now (after_named was.number st e) (row_of f').keeps makes.space.left)

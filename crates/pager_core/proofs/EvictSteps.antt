@@ -21,7 +21,8 @@ use Rattle.pager_core.proofs.EntrySteps.{same_space}
 use Rattle.pager_core.proofs.Purposes.{in_phase, with_phase, same_work, by_ready}
 
 -- Start: the page is equal to its copy, and gives its frame up next
-Passes-evicting : (f : Flight) (page : ℕ) (written : Bool) (was now : Kept) (st : SpaceState) → IsReady (in_phase f Start) was st → BeginsEvicting was now (call_in f.purpose) page written → Passes (in_phase f Start) (in_phase f (Evict page)) was now st
+Passes-evicting : (f : Flight) (page : ℕ) (written : Bool) (was now : Kept) (st : SpaceState) → IsReady (in_phase f Start) was st
+    → BeginsEvicting was now (call_in f.purpose) page written → Passes (in_phase f Start) (in_phase f (Evict page)) was now st
 Passes-evicting f page written was now st ready begins = record {
   same_work = same_work f Start (Evict page);
   same_space = same_space begins.same.same;
@@ -46,7 +47,9 @@ Passes-evicting f page written was now st ready begins = record {
     on_now : Some (space_of_call (call_in f.purpose)) ≡ Some now.number
     on_now = ready.under ∙ ap Some (sym begins.same.same.number)
 
-pub begin_evicting : (f : Flight) (page : ℕ) (written : Bool) (was now : Kept) → f.phase ≡ Start → BeginsEvicting was now (call_in f.purpose) page written → (st : SpaceState) → IsReady f was st → Passes f (with_phase f (Evict page)) was now st
+pub begin_evicting : (f : Flight) (page : ℕ) (written : Bool) (was now : Kept) → f.phase ≡ Start
+    → BeginsEvicting was now (call_in f.purpose) page written → (st : SpaceState) → IsReady f was st
+    → Passes f (with_phase f (Evict page)) was now st
 begin_evicting f page written was now phase begins st =
     by_ready f Start was st refl phase (λ g to. Passes g (to (Evict page)) was now st) (λ ready. Passes-evicting f page written was now st ready begins)
 
@@ -79,7 +82,9 @@ module _ (f : Flight) (page frame : ℕ) (a : Answered) (was now : Kept) (st : S
       (λ named. subst (AllowsAnswer before (space_of_call (call_in f.purpose))) (sym own) (frame, ap (λ s. frame_of before s page) on ∙ sym (agree.pages page) ∙ evicts.gave.had))
       (ap (λ k. counted (moved_by_answer before (space_of_call (call_in f.purpose)) k)) (sym own))
 
-pub page_evicted : (f : Flight) (page frame : ℕ) (a : Answered) (was now : Kept) (before : FrameState) → f.phase ≡ Evict page → AreAgreed was before → Evicts was now page frame a → (st : SpaceState) → IsReady f was st → Makes f (with_phase f (Ended a.reply)) was now st before (counted (give_page before (space_of_call (call_in f.purpose)) page)) (ending f a true)
+pub page_evicted : (f : Flight) (page frame : ℕ) (a : Answered) (was now : Kept) (before : FrameState) → f.phase ≡ Evict page
+    → AreAgreed was before → Evicts was now page frame a → (st : SpaceState) → IsReady f was st
+    → Makes f (with_phase f (Ended a.reply)) was now st before (counted (give_page before (space_of_call (call_in f.purpose)) page)) (ending f a true)
 page_evicted f page frame a was now before phase agree evicts st =
     by_ready f (Evict page) was st refl phase (λ g to. Makes g (to (Ended a.reply)) was now st before (counted (give_page before (space_of_call (call_in f.purpose)) page)) (ending f a true))
     (λ ready. Makes-evict f page frame a was now st before ready agree evicts)

@@ -57,7 +57,8 @@ kind_on (OfCall call claimed) from to one other kind = calls_in to other
 kind_on (OfTurn mark evictions) from to one other kind = fits_in mark evictions to other (fewer_in mark evictions from one kind)
 
 -- from one phase of an eviction to another
-pub Fits-on : (f : Flight) (from to : Phase) → in_eviction from ≡ true → in_eviction to ≡ true → Fits (with_phase f from) → PhaseFits f.purpose to → Fits (with_phase f to)
+pub Fits-on : (f : Flight) (from to : Phase) → in_eviction from ≡ true → in_eviction to ≡ true → Fits (with_phase f from)
+    → PhaseFits f.purpose to → Fits (with_phase f to)
 Fits-on f from to one other fits phase = record { kind = kind_on f.purpose from to one other fits.kind; can = fits.can; phase = phase }
 
 -- the row of a flight that holds the victim's frame
@@ -110,7 +111,8 @@ pub record IsGivenUp (f : Flight) (v : Victim) (fault : Option ℕ) : Type 0 whe
   pub between : is_between f.purpose (given_up f.purpose v fault) ≡ true
   pub fewer : (row_of (with_phase f (given_up f.purpose v fault))).entries < left_by f.purpose 6 2 4
 
-given_up-row_in : (c n : ℕ) (purpose : Purpose) (v : Victim) (phase : Phase) (fault : Option ℕ) → is_access (call_in purpose) ≡ true → IsGivenUp (flight_in c n purpose phase) v fault
+given_up-row_in : (c n : ℕ) (purpose : Purpose) (v : Victim) (phase : Phase) (fault : Option ℕ) → is_access (call_in purpose) ≡ true
+    → IsGivenUp (flight_in c n purpose phase) v fault
 given_up-row_in c n (OfCall call claimed) v phase None access = record { progress = refl; no_reply = refl; between = refl; fewer = omega arith }
 given_up-row_in c n (OfCall call claimed) v phase (Some count) access = record {
   progress = ap (λ o. Some (at n (faulted (access_of call claimed) v.space count o))) (sym (copies_none call access));
@@ -125,13 +127,15 @@ pub given_up-row : (f : Flight) (v : Victim) (fault : Option ℕ) → is_access 
 given_up-row f v = given_up-row_in f.processor f.number f.purpose v f.phase
 
 -- and it is nearer to its end
-given_up-nearer_in : (c n : ℕ) (purpose : Purpose) (v : Victim) (fault : Option ℕ) → (row_of (flight_in c n purpose (given_up purpose v fault))).steps < (row_of (flight_in c n purpose (Unclaim v fault))).steps
+given_up-nearer_in : (c n : ℕ) (purpose : Purpose) (v : Victim) (fault : Option ℕ)
+    → (row_of (flight_in c n purpose (given_up purpose v fault))).steps < (row_of (flight_in c n purpose (Unclaim v fault))).steps
 given_up-nearer_in c n (OfCall call claimed) v None = omega arith
 given_up-nearer_in c n (OfCall call claimed) v (Some count) = omega arith
 given_up-nearer_in c n (OfTurn mark evictions) v None = omega arith
 given_up-nearer_in c n (OfTurn mark evictions) v (Some count) = omega arith
 
-pub given_up-nearer : (f : Flight) (v : Victim) (fault : Option ℕ) → f.phase ≡ Unclaim v fault → (row_of (with_phase f (given_up f.purpose v fault))).steps < (row_of f).steps
+pub given_up-nearer : (f : Flight) (v : Victim) (fault : Option ℕ) → f.phase ≡ Unclaim v fault
+    → (row_of (with_phase f (given_up f.purpose v fault))).steps < (row_of f).steps
 given_up-nearer f v fault phase =
     in_its_phase f (Unclaim v fault) phase (λ g. (row_of (with_phase f (given_up f.purpose v fault))).steps < (row_of g).steps) (given_up-nearer_in f.processor f.number f.purpose v fault)
 

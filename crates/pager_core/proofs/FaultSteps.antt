@@ -22,13 +22,16 @@ use Rattle.pager_core.proofs.NextFlights.{copies_none, keeps_faulted, own_if-own
 use Rattle.pager_core.proofs.Purposes.{in_phase, with_phase, same_work, by_ready}
 
 -- a store's fault in the call's own space keeps it
-keeps_fault : (f : Flight) (count : ℕ) → (row_of (in_phase f (Fault (space_of_call (call_in f.purpose)) count))).keeps ≡ Some (space_of_call (call_in f.purpose))
+keeps_fault : (f : Flight) (count : ℕ)
+    → (row_of (in_phase f (Fault (space_of_call (call_in f.purpose)) count))).keeps ≡ Some (space_of_call (call_in f.purpose))
 keeps_fault f count =
     let own = space_of_call (call_in f.purpose) in
     keeps_faulted (Some own) (access_in f.purpose) own count (copied_page (call_in f.purpose)) ∙ own_if-own own
 
 -- Start: the write of a sync's or an evict's page failed
-Makes-failing : (f : Flight) (page count : ℕ) (was now : Kept) (st : SpaceState) → IsReady (in_phase f Start) was st → BeginsFailing was now (call_in f.purpose) page count → (frames : FrameState) → Makes (in_phase f Start) (in_phase f (Fault (space_of_call (call_in f.purpose)) count)) was now st frames frames (failed_entry f.processor (space_of_call (call_in f.purpose)) page true count)
+Makes-failing : (f : Flight) (page count : ℕ) (was now : Kept) (st : SpaceState) → IsReady (in_phase f Start) was st
+    → BeginsFailing was now (call_in f.purpose) page count → (frames : FrameState)
+    → Makes (in_phase f Start) (in_phase f (Fault (space_of_call (call_in f.purpose)) count)) was now st frames frames (failed_entry f.processor (space_of_call (call_in f.purpose)) page true count)
 Makes-failing f page count was now st ready begins frames =
     let own = space_of_call (call_in f.purpose) in
     let on : own ≡ was.number = same_Some _ _ ready.under in
@@ -57,13 +60,17 @@ Makes-failing f page count was now st ready begins frames =
           });
     }
 
-pub begin_failed : (f : Flight) (page count : ℕ) (was now : Kept) → f.phase ≡ Start → BeginsFailing was now (call_in f.purpose) page count → (st : SpaceState) (frames : FrameState) → IsReady f was st → Makes f (with_phase f (Fault (space_of_call (call_in f.purpose)) count)) was now st frames frames (failed_entry f.processor (space_of_call (call_in f.purpose)) page true count)
+pub begin_failed : (f : Flight) (page count : ℕ) (was now : Kept) → f.phase ≡ Start → BeginsFailing was now (call_in f.purpose) page count
+    → (st : SpaceState) (frames : FrameState) → IsReady f was st
+    → Makes f (with_phase f (Fault (space_of_call (call_in f.purpose)) count)) was now st frames frames (failed_entry f.processor (space_of_call (call_in f.purpose)) page true count)
 begin_failed f page count was now phase begins st frames =
     by_ready f Start was st refl phase (λ g to. Makes g (to (Fault (space_of_call (call_in f.purpose)) count)) was now st frames frames (failed_entry f.processor (space_of_call (call_in f.purpose)) page true count))
     (λ ready. Makes-failing f page count was now st ready begins frames)
 
 -- Fill: the read failed
-Makes-unfilled : (f : Flight) (page frame count : ℕ) (was now : Kept) (st : SpaceState) → IsReady (in_phase f (Fill page frame)) was st → FailsToRead was now page count → (frames : FrameState) → Makes (in_phase f (Fill page frame)) (in_phase f (Unfill page frame count)) was now st frames frames (failed_entry f.processor (space_of_call (call_in f.purpose)) page false count)
+Makes-unfilled : (f : Flight) (page frame count : ℕ) (was now : Kept) (st : SpaceState) → IsReady (in_phase f (Fill page frame)) was st
+    → FailsToRead was now page count → (frames : FrameState)
+    → Makes (in_phase f (Fill page frame)) (in_phase f (Unfill page frame count)) was now st frames frames (failed_entry f.processor (space_of_call (call_in f.purpose)) page false count)
 Makes-unfilled f page frame count was now st ready fails frames =
     let own = space_of_call (call_in f.purpose) in
     let on : own ≡ was.number = same_Some _ _ ready.under in
@@ -102,7 +109,9 @@ Makes-unfilled f page frame count was now st ready fails frames =
           });
     }
 
-pub fill_failed : (f : Flight) (page frame count : ℕ) (was now : Kept) → f.phase ≡ Fill page frame → FailsToRead was now page count → (st : SpaceState) (frames : FrameState) → IsReady f was st → Makes f (with_phase f (Unfill page frame count)) was now st frames frames (failed_entry f.processor (space_of_call (call_in f.purpose)) page false count)
+pub fill_failed : (f : Flight) (page frame count : ℕ) (was now : Kept) → f.phase ≡ Fill page frame → FailsToRead was now page count
+    → (st : SpaceState) (frames : FrameState) → IsReady f was st
+    → Makes f (with_phase f (Unfill page frame count)) was now st frames frames (failed_entry f.processor (space_of_call (call_in f.purpose)) page false count)
 fill_failed f page frame count was now phase fails st frames =
     by_ready f (Fill page frame) was st refl phase (λ g to. Makes g (to (Unfill page frame count)) was now st frames frames (failed_entry f.processor (space_of_call (call_in f.purpose)) page false count))
     (λ ready. Makes-unfilled f page frame count was now st ready fails frames)
@@ -144,7 +153,9 @@ module _ (f : Flight) (page frame count : ℕ) (was now : Kept) (st : SpaceState
             });
       }
 
-pub frame_unfilled : (f : Flight) (page frame count given : ℕ) (was now : Kept) (before : FrameState) → f.phase ≡ Unfill page frame count → AreAgreed was before → Removes was now page given → (st : SpaceState) → IsReady f was st → Makes f (with_phase f (Fault (space_of_call (call_in f.purpose)) count)) was now st before (counted (give_page before (space_of_call (call_in f.purpose)) page)) (give_entry f.processor (space_of_call (call_in f.purpose)) page given)
+pub frame_unfilled : (f : Flight) (page frame count given : ℕ) (was now : Kept) (before : FrameState) → f.phase ≡ Unfill page frame count
+    → AreAgreed was before → Removes was now page given → (st : SpaceState) → IsReady f was st
+    → Makes f (with_phase f (Fault (space_of_call (call_in f.purpose)) count)) was now st before (counted (give_page before (space_of_call (call_in f.purpose)) page)) (give_entry f.processor (space_of_call (call_in f.purpose)) page given)
 frame_unfilled f page frame count given was now before phase agree removes st =
     by_ready f (Unfill page frame count) was st refl phase (λ g to. Makes g (to (Fault (space_of_call (call_in f.purpose)) count)) was now st before (counted (give_page before (space_of_call (call_in f.purpose)) page)) (give_entry f.processor (space_of_call (call_in f.purpose)) page given))
     (λ ready. Makes-unfill f page frame count was now st before ready agree given removes)

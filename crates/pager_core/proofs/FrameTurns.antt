@@ -20,14 +20,16 @@ use Rattle.pager_core.specs.Steps.{MakesOnFrames}
 use Rattle.pager_core.proofs.Lands.{Lands, own_kept}
 use Rattle.pager_core.proofs.LegalSteps.{space_at-unnamed, victim_placed}
 use Rattle.pager_core.proofs.MachineTurns.{Goes}
-use Rattle.pager_core.proofs.NextFlights.{keeps_under, under_cases}
+use Rattle.pager_core.proofs.NextFlights.{keeps_none, under_cases}
 
 -- what is said of the space of an entry that names none
 no_space : (P : ℕ → Type 0) (o : Option ℕ) → o ≡ None → IfSome o P
 no_space P None is = tt
 no_space P (Some s) is = absurd (none-some s (sym is))
 
-module _ (run : Running) (spaces : List Kept) (pool after : FrameState) (capacity c : ℕ) (f f' : Flight) (e : Entry) (machine : IsMachine run spaces pool capacity) (flies : flight_at run.flights c ≡ Some f) (under : space_under (row_of f).needs ≡ None) (makes : MakesOnFrames f f' pool after e) where
+module _ (run : Running) (spaces : List Kept) (pool after : FrameState) (capacity c : ℕ) (f f' : Flight) (e : Entry)
+    (machine : IsMachine run spaces pool capacity) (flies : flight_at run.flights c ≡ Some f) (under : space_under (row_of f).needs ≡ None)
+    (makes : MakesOnFrames f f' pool after e) where
   same_state : (t : ℕ) → space_at run.given (entries_in run.history ++ e ∷ []) t ≡ space_at run.given (entries_in run.history) t
   same_state t = space_at-unnamed run.given (entries_in run.history) e t makes.no_space
 
@@ -56,9 +58,11 @@ module _ (run : Running) (spaces : List Kept) (pool after : FrameState) (capacit
 
   -- nor did it keep one before
   kept_no : (t : ℕ) → (row_of f).keeps ≡ Some t → ⊥
-  kept_no t keeps = none-some t (sym under ∙ keeps_under f t keeps)
+  kept_no t keeps = none-some t (sym (keeps_none f under) ∙ keeps)
 
-  rest : (t : ℕ) (kept : Kept) → slice_get spaces t ≡ Some kept → ((d : ℕ) (g : Flight) → d ≢ c → flight_at run.flights d ≡ Some g → (row_of g).keeps ≢ Some t) → IsAtRest kept (space_at run.given (entries_in run.history ++ e ∷ []) t)
+  rest : (t : ℕ) (kept : Kept) → slice_get spaces t ≡ Some kept
+      → ((d : ℕ) (g : Flight) → d ≢ c → flight_at run.flights d ≡ Some g → (row_of g).keeps ≢ Some t)
+      → IsAtRest kept (space_at run.given (entries_in run.history ++ e ∷ []) t)
   rest t kept at none =
       subst (IsAtRest kept) (sym (same_state t))
       (machine.rest t kept at
@@ -69,13 +73,12 @@ module _ (run : Running) (spaces : List Kept) (pool after : FrameState) (capacit
         | inr other ↦ none d g other flies' keeps
       ]))
 
-  pub Goes-on_frames : (number : ℕ) (o : Option Flight) → Lands (mark_of run.given c) (jobs_at run.jobs c) f' o → number ≡ length run.history → Goes run spaces spaces pool after c number f f' e o
-  Goes-on_frames number o lands counted = record {
+  pub Goes-on_frames : (o : Option Flight) → Lands (mark_of run.given c) (jobs_at run.jobs c) f' o → Goes run spaces spaces pool after c f f' e o
+  Goes-on_frames o lands = record {
     flies = flies;
     entry = makes.entry;
     fits = makes.fits;
     lands = lands;
-    counted = counted;
     space_in = no_space _ e.space makes.no_space;
     space_allows = no_space _ e.space makes.no_space;
     count = refl;

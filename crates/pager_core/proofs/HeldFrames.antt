@@ -28,12 +28,14 @@ use Rattle.pager_core.proofs.Purposes.{in_phase, with_phase, same_work, by_ready
 use Rattle.pager_core.proofs.TakenFrames.{IsLeft-placed}
 
 -- what stands where a held frame is used: the page of the call's own space lacks a frame
-pub wants_still : (f : Flight) (page : ℕ) (want : Want) (v : Victim) (kept : Kept) (st : SpaceState) → f.phase ≡ Use page want v → IsReady f kept st → (space_of_call (call_in f.purpose) ≡ kept.number) × WantsFrame (call_in f.purpose) kept page want
+pub wants_still : (f : Flight) (page : ℕ) (want : Want) (v : Victim) (kept : Kept) (st : SpaceState) → f.phase ≡ Use page want v
+    → IsReady f kept st → (space_of_call (call_in f.purpose) ≡ kept.number) × WantsFrame (call_in f.purpose) kept page want
 wants_still f page want v kept st phase =
     by_ready f (Use page want v) kept st refl phase (λ g to. (space_of_call (call_in g.purpose) ≡ kept.number) × WantsFrame (call_in g.purpose) kept page want) (λ ready. (same_Some _ _ ready.under, ready.found))
 
 -- A frame that is taken for a page without one, once a held frame is free, is a known one that no page has.
-module _ (kept : Kept) (st : FrameState) (c space page : ℕ) (want : Want) (t : Taking) (agree : AreAgreed kept st) (on : space ≡ kept.number) (absent : frame_at kept page ≡ None) (takes : take_frame (dropped st c) space page want ≡ Some t) where
+module _ (kept : Kept) (st : FrameState) (c space page : ℕ) (want : Want) (t : Taking) (agree : AreAgreed kept st)
+    (on : space ≡ kept.number) (absent : frame_at kept page ≡ None) (takes : take_frame (dropped st c) space page want ≡ Some t) where
   free_sound : IsSound kept.frames (length st.held) (dropped st c)
   free_sound = IsSound-dropped kept.frames (length st.held) st c agree.sound
 
@@ -88,7 +90,11 @@ module _ (f : Flight) (page : ℕ) (want : Want) (v : Victim) (was now : Kept) (
             (places.stands st f.processor want ready.stands) refl);
       }
 
-pub held_used : (f : Flight) (page own frame : ℕ) (want : Want) (v : Victim) (was now : Kept) (before after : FrameState) (t : Taking) → f.phase ≡ Use page want v → own ≡ space_of_call (call_in f.purpose) → frame ≡ t.frame → AreAgreed was before → OwnsBy before f.processor (row_of f).progress.doing → take_frame (dropped before f.processor) own page want ≡ Some t → after ≡ counted t.state → Places was now page t.frame → (st : SpaceState) → IsReady f was st → Makes f (with_phase f (Fill page frame)) was now st before after (use_entry f.processor own page frame want)
+pub held_used : (f : Flight) (page own frame : ℕ) (want : Want) (v : Victim) (was now : Kept) (before after : FrameState) (t : Taking)
+    → f.phase ≡ Use page want v → own ≡ space_of_call (call_in f.purpose) → frame ≡ t.frame → AreAgreed was before
+    → OwnsBy before f.processor (row_of f).progress.doing → take_frame (dropped before f.processor) own page want ≡ Some t
+    → after ≡ counted t.state → Places was now page t.frame → (st : SpaceState) → IsReady f was st
+    → Makes f (with_phase f (Fill page frame)) was now st before after (use_entry f.processor own page frame want)
 held_used f page own frame want v was now before after t phase same numbered agree owns takes counts places st =
     subst (λ n. IsReady f was st → Makes f (with_phase f (Fill page n)) was now st before after (use_entry f.processor own page n want)) (sym numbered)
     (subst (λ u. IsReady f was st → Makes f (with_phase f (Fill page t.frame)) was now st before u (use_entry f.processor own page t.frame want)) (sym counts)

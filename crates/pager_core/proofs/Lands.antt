@@ -102,7 +102,8 @@ under-for spaces c n (Turn low) t can is = absurd (none-some t is)
 going_not : Going ≡ TurnEnded → ⊥
 going_not is = cc
 
-ended_progress_in : (c n mark : ℕ) (own : Option ℕ) (purpose : Purpose) (p : Phase) → has_ended (row_in c n own purpose p).outcome ≡ true → FitsMark mark (job_in purpose) → IsFor purpose p → (row_in c n own purpose p).progress ≡ at_rest mark (n + 1)
+ended_progress_in : (c n mark : ℕ) (own : Option ℕ) (purpose : Purpose) (p : Phase) → has_ended (row_in c n own purpose p).outcome ≡ true
+    → FitsMark mark (job_in purpose) → IsFor purpose p → (row_in c n own purpose p).progress ≡ at_rest mark (n + 1)
 ended_progress_in c n mark own (OfCall call claimed) (Ended reply) ended fits for = ap (λ m. at_rest m (n + 1)) (sym fits)
 ended_progress_in c n mark own (OfTurn low evictions) (Ended reply) ended fits for = absurd for
 ended_progress_in c n mark own (OfCall call claimed) Rested ended fits for = absurd (false≢true (sym for))
@@ -112,14 +113,16 @@ ended_progress_in c n mark own purpose (Unclaim v None) ended fits for = absurd 
 ended_progress_in c n mark own purpose (Unclaim v (Some count)) ended fits for = absurd (false≢true ended)
 ended_progress_in c n mark own purpose p ended fits for = absurd (false≢true ended)
 
-ended_keeps_in : (c n : ℕ) (own : Option ℕ) (purpose : Purpose) (p : Phase) → has_ended (row_in c n own purpose p).outcome ≡ true → (row_in c n own purpose p).keeps ≡ None
+ended_keeps_in : (c n : ℕ) (own : Option ℕ) (purpose : Purpose) (p : Phase) → has_ended (row_in c n own purpose p).outcome ≡ true
+    → (row_in c n own purpose p).keeps ≡ None
 ended_keeps_in c n own purpose (Ended reply) ended = refl
 ended_keeps_in c n own purpose Rested ended = refl
 ended_keeps_in c n own purpose (Unclaim v None) ended = absurd (false≢true ended)
 ended_keeps_in c n own purpose (Unclaim v (Some count)) ended = absurd (false≢true ended)
 ended_keeps_in c n own purpose p ended = absurd (false≢true ended)
 
-pub ended_progress : (f : Flight) (mark : ℕ) → has_ended (row_of f).outcome ≡ true → FitsMark mark (job_in f.purpose) → Fits f → (row_of f).progress ≡ at_rest mark (f.number + 1)
+pub ended_progress : (f : Flight) (mark : ℕ) → has_ended (row_of f).outcome ≡ true → FitsMark mark (job_in f.purpose) → Fits f
+    → (row_of f).progress ≡ at_rest mark (f.number + 1)
 ended_progress f mark ended fits for = ended_progress_in f.processor f.number mark (own_space f.purpose) f.purpose f.phase ended fits for.kind
 
 ended_keeps : (f : Flight) → has_ended (row_of f).outcome ≡ true → (row_of f).keeps ≡ None
@@ -138,7 +141,8 @@ pub record Lands (mark : ℕ) (jobs : List Job) (f : Flight) (o : Option Flight)
   pub goes : ((o ≡ Some f) × ((row_of f).outcome ≡ Going)) ⊎ (o ≡ flight_of f.processor (f.number + 1) jobs)
 
 -- it goes on in its job
-Lands-going : (mark : ℕ) (jobs : List Job) (f : Flight) → slice_get jobs f.number ≡ Some (job_in f.purpose) → (row_of f).outcome ≡ Going → Lands mark jobs f (Some f)
+Lands-going : (mark : ℕ) (jobs : List Job) (f : Flight) → slice_get jobs f.number ≡ Some (job_in f.purpose) → (row_of f).outcome ≡ Going
+    → Lands mark jobs f (Some f)
 Lands-going mark jobs f job going =
     record {
       progress = refl;
@@ -153,7 +157,8 @@ Lands-going mark jobs f job going =
     }
 
 -- or with the next one, where there is one
-module _ (mark : ℕ) (jobs : List Job) (f : Flight) (are : AreOfMark mark jobs) (job : slice_get jobs f.number ≡ Some (job_in f.purpose)) (fits : Fits f) (ended : has_ended (row_of f).outcome ≡ true) where
+module _ (mark : ℕ) (jobs : List Job) (f : Flight) (are : AreOfMark mark jobs) (job : slice_get jobs f.number ≡ Some (job_in f.purpose))
+    (fits : Fits f) (ended : has_ended (row_of f).outcome ≡ true) where
   done : (row_of f).progress ≡ at_rest mark (f.number + 1)
   done = ended_progress f mark ended (are f.number (job_in f.purpose) job) fits
 
@@ -199,7 +204,8 @@ module _ (mark : ℕ) (jobs : List Job) (f : Flight) (are : AreOfMark mark jobs)
 
 -- Either way.
 module _ (mark : ℕ) (jobs : List Job) (f : Flight) (are : AreOfMark mark jobs) (job : slice_get jobs f.number ≡ Some (job_in f.purpose)) (fits : Fits f) where
-  pub Lands-on : (o : Option Flight) → ((row_of f).outcome ≡ Going → o ≡ Some f) → (has_ended (row_of f).outcome ≡ true → o ≡ flight_of f.processor (f.number + 1) jobs) → Lands mark jobs f o
+  pub Lands-on : (o : Option Flight) → ((row_of f).outcome ≡ Going → o ≡ Some f)
+      → (has_ended (row_of f).outcome ≡ true → o ≡ flight_of f.processor (f.number + 1) jobs) → Lands mark jobs f o
   Lands-on o going next = by (row_of f).outcome refl
     where
       ended : has_ended (row_of f).outcome ≡ true → Lands mark jobs f o

@@ -150,7 +150,8 @@ module _ (m : ℕ) (purpose : Purpose) (v : Victim) where
   by_claim n (Looking mark evictions) (Some s) w need goes = absurd (none-some _ goes)
   by_claim n d space w need goes = absurd (none-some _ goes)
 
-  from_any : (p : Progress) (space : Option ℕ) (what : What) → progress_after p space what ≡ there → (need : Option Need) × (what ≡ Claim v.space v.page v.frame need)
+  from_any : (p : Progress) (space : Option ℕ) (what : What) → progress_after p space what ≡ there
+      → (need : Option Need) × (what ≡ Claim v.space v.page v.frame need)
   from_any p space (Claim victim page frame need) goes =
       (need, ap (λ (x : Victim). Claim x.space x.page x.frame need) (by_claim p.made p.doing space (record { space = victim; page = page; frame = frame }) need goes))
   from_any p space (Answer number call answered) goes = not_by (progress_after p space (Answer number call answered)) (claims-leads _ (p.made + 1) Idle refl) goes
@@ -179,7 +180,8 @@ claim_names None space frames on = on.1
 claim_names (Some need) space frames on = on.1
 
 -- so the victim of a flight whose frame was just claimed has it
-pub victim_placed : (f f' : Flight) (before after : FrameState) (e : Entry) (v : Victim) → MakesEntry f f' before after e → f'.phase ≡ OutPhase v → frame_of before v.space v.page ≡ Some v.frame
+pub victim_placed : (f f' : Flight) (before after : FrameState) (e : Entry) (v : Victim) → MakesEntry f f' before after e
+    → f'.phase ≡ OutPhase v → frame_of before v.space v.page ≡ Some v.frame
 victim_placed f f' before after e v entry is =
     let to : (row_of f').progress ≡ at f'.number (Claiming (claims_for f'.purpose) v) = ap (λ p. (row_in f'.processor f'.number (own_space f'.purpose) f'.purpose p).progress) is in
     let claim = from_any f'.number (claims_for f'.purpose) v (row_of f).progress e.space e.what (entry.in_order ∙ ap Some to) in
@@ -187,12 +189,15 @@ victim_placed f f' before after e v entry is =
     let allowed = subst (FramesAllow before (mark_in f.purpose) e.processor e.space) claim.1 (entry.frames_allow (claim_names claim.0 e.space e.frames named)) in
     allowed.1.place
 
-pub victim_resident : (f f' : Flight) (was now : Kept) (st : SpaceState) (before after : FrameState) (e : Entry) (v : Victim) → Makes f f' was now st before after e → f'.phase ≡ OutPhase v → frame_of before v.space v.page ≡ Some v.frame
+pub victim_resident : (f f' : Flight) (was now : Kept) (st : SpaceState) (before after : FrameState) (e : Entry) (v : Victim)
+    → Makes f f' was now st before after e → f'.phase ≡ OutPhase v → frame_of before v.space v.page ≡ Some v.frame
 victim_resident f f' was now st before after e v makes is = victim_placed f f' before after e v makes.entry is
 
 module _ (g : Given) (h : List Entry) (f f' : Flight) (before after : FrameState) (e : Entry) (makes : MakesEntry f f' before after e) where
   -- the entry of a step may follow
-  pub MayFollow-step : IfSome e.space (λ s. s < length g.told) → IfSome e.space (λ s. SpaceAllows (space_at g h s) e) → mark_of g f.processor ≡ mark_in f.purpose → f.processor < length g.marks → before ≡ frames_at g h → progress_at g h f.processor ≡ Some (row_of f).progress → MayFollow g h e
+  pub MayFollow-step : IfSome e.space (λ s. s < length g.told) → IfSome e.space (λ s. SpaceAllows (space_at g h s) e)
+      → mark_of g f.processor ≡ mark_in f.purpose → f.processor < length g.marks → before ≡ frames_at g h
+      → progress_at g h f.processor ≡ Some (row_of f).progress → MayFollow g h e
   MayFollow-step space allows mark processor frames progress =
       record {
         parts = makes.parts;
@@ -210,7 +215,8 @@ module _ (g : Given) (h : List Entry) (f f' : Flight) (before after : FrameState
   frames_at-step frames = makes.frames_after ∙ ap (λ st. after_frames st e) frames ∙ sym (frames_at-after g h e)
 
 -- A step under a space's lock.
-module _ (g : Given) (h : List Entry) (f f' : Flight) (was now : Kept) (before after : FrameState) (e : Entry) (s : ℕ) (makes : Makes f f' was now (space_at g h s) before after e) (at : was.number ≡ s) where
+module _ (g : Given) (h : List Entry) (f f' : Flight) (was now : Kept) (before after : FrameState) (e : Entry) (s : ℕ)
+    (makes : Makes f f' was now (space_at g h s) before after e) (at : was.number ≡ s) where
   pub space_known : s < length g.told → IfSome e.space (λ t. t < length g.told)
   space_known space = both_some e.space (λ t named again. subst (λ n. n < length g.told) (sym (named ∙ at)) space) makes.space.own_space makes.space.own_space
 

@@ -20,6 +20,7 @@ pub mod MachineTurns
 pub mod SpaceTurns
 pub mod FrameTurns
 pub mod SilentSteps
+pub mod Keepers
 pub mod ReadyFlights
 pub mod WholeTurns
 pub mod Laws
@@ -27,3 +28,4 @@ pub mod WholeRuns
 pub mod RunCounts
 pub mod Stores
 pub mod StartMachines
+pub mod ProcessorJobs

@@ -27,7 +27,8 @@ sum_by-same f g a (suc n) same =
     sum_by-cons g a (range_with_len (a + 1) n) ∙ (let e : g a + sum_by g (range_with_len (a + 1) n) ≡ f a + sum_by f (range_with_len (a + 1) n) = omega (arith, first, rest) in e) ∙ sym (sum_by-cons f a (range_with_len (a + 1) n))
 
 -- and with one term lower the sum is lower
-pub sum_by-lower : (f g : ℕ → ℕ) (c a n : ℕ) → a ≤ c → c < a + n → g c < f c → ((k : ℕ) → k ≢ c → g k ≡ f k) → sum_by g (range_with_len a n) < sum_by f (range_with_len a n)
+pub sum_by-lower : (f g : ℕ → ℕ) (c a n : ℕ) → a ≤ c → c < a + n → g c < f c → ((k : ℕ) → k ≢ c → g k ≡ f k)
+    → sum_by g (range_with_len a n) < sum_by f (range_with_len a n)
 sum_by-lower f g c a zero from below lower same = absurd (omega (arith, from, below))
 sum_by-lower f g c a (suc n) from below lower same =
     let cons_g = sum_by-cons g a (range_with_len (a + 1) n) in
@@ -50,12 +51,14 @@ pub enumerate-push : {X : Type 0} (n : ℕ) (xs : List X) (x : X) → enumerate_
 enumerate-push n [] x = ap (λ k. (k, x) ∷ []) (let e : n ≡ n + 0 = omega arith in e)
 enumerate-push n (y ∷ xs) x = ap (λ l. (n, y) ∷ l) (enumerate-push (n + 1) xs x ∙ ap (λ k. enumerate_from (n + 1) xs ++ (k, x) ∷ []) (let e : n + 1 + length xs ≡ n + suc (length xs) = omega arith in e))
 
-pub slice_get-push : {X : Type 0} (xs : List X) (y : X) (i : ℕ) (x : X) → slice_get (xs ++ y ∷ []) i ≡ Some x → (slice_get xs i ≡ Some x) ⊎ ((i ≡ length xs) × (y ≡ x))
+pub slice_get-push : {X : Type 0} (xs : List X) (y : X) (i : ℕ) (x : X) → slice_get (xs ++ y ∷ []) i ≡ Some x
+    → (slice_get xs i ≡ Some x) ⊎ ((i ≡ length xs) × (y ≡ x))
 slice_get-push [] y zero x at = inr (refl, (let e : Some y ≡ Some x = at in cc))
 slice_get-push [] y (suc i) x at = cc
 slice_get-push (z ∷ xs) y zero x at = inl at
 slice_get-push (z ∷ xs) y (suc i) x at = elim (slice_get-push xs y i x at) [ inl before ↦ inl before | inr last ↦ inr (ap suc last.0, last.1) ]
 
-pub map_range-push : {X : Type 0} (f : ℕ → X) (xs xs' : List X) (x : X) (n : ℕ) → xs' ≡ xs ++ x ∷ [] → xs ≡ map f (range_with_len 0 n) → x ≡ f n → xs' ≡ map f (range_with_len 0 (n + 1))
+pub map_range-push : {X : Type 0} (f : ℕ → X) (xs xs' : List X) (x : X) (n : ℕ) → xs' ≡ xs ++ x ∷ [] → xs ≡ map f (range_with_len 0 n)
+    → x ≡ f n → xs' ≡ map f (range_with_len 0 (n + 1))
 map_range-push f xs xs' x n more are is =
     more ∙ ap (λ l. l ++ x ∷ []) are ∙ ap (λ y. map f (range_with_len 0 n) ++ y ∷ []) is ∙ sym (map-range_with_len_more f 0 n n (omega arith))

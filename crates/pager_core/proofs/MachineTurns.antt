@@ -41,17 +41,16 @@ use Rattle.pager_core.proofs.Lands.{Fits-for, Lands, Starts-for, ended_progress,
 use Rattle.pager_core.proofs.NextFlights.{ended_by, made_going, turn_goes_on}
 
 -- one entry more of the actor, after which this is its flight
-abbrev pub run_after : Running → ℕ → ℕ → Entry → Option Flight → Running
-run_after run c number e o =
-    record { given = run.given; jobs = run.jobs; flights = set run.flights c o; history = run.history ++ record { number = number; entry = e } ∷ []; unused = run.unused }
+abbrev pub run_after : Running → ℕ → Entry → Option Flight → Running
+run_after run c e o =
+    record { given = run.given; jobs = run.jobs; flights = set run.flights c o; history = run.history ++ record { number = length run.history; entry = e } ∷ []; unused = run.unused }
 
 -- The actor's flight makes an entry, and this comes of it; the spaces after it are these.
-pub record Goes (run : Running) (spaces spaces' : List Kept) (pool after : FrameState) (c number : ℕ) (f f' : Flight) (e : Entry) (o : Option Flight) : Type 0 where
+pub record Goes (run : Running) (spaces spaces' : List Kept) (pool after : FrameState) (c : ℕ) (f f' : Flight) (e : Entry) (o : Option Flight) : Type 0 where
   pub flies : flight_at run.flights c ≡ Some f
   pub entry : MakesEntry f f' pool after e
   pub fits : Fits f'
   pub lands : Lands (mark_of run.given c) (jobs_at run.jobs c) f' o
-  pub counted : number ≡ length run.history
   -- the entry's space, where it names one, is there and allows it
   pub space_in : IfSome e.space (λ s. s < length run.given.told)
   pub space_allows : IfSome e.space (λ s. SpaceAllows (space_at run.given (entries_in run.history) s) e)
@@ -61,21 +60,25 @@ pub record Goes (run : Running) (spaces spaces' : List Kept) (pool after : Frame
   pub under : (t : ℕ) → space_under (row_of f').needs ≡ Some t → t < length spaces
   pub apart : (t d : ℕ) (g : Flight) → (row_of f').keeps ≡ Some t → d ≢ c → flight_at run.flights d ≡ Some g → (row_of g).keeps ≢ Some t
   -- it is ready in the space that it keeps, as is each other flight, and a space that none keeps is at rest
-  pub own_ready : (t : ℕ) (kept : Kept) → (row_of f').keeps ≡ Some t → slice_get spaces' t ≡ Some kept → IsReady f' kept (space_at run.given (entries_in run.history ++ e ∷ []) t)
-  pub others_ready : (t d : ℕ) (g : Flight) (kept : Kept) → d ≢ c → flight_at run.flights d ≡ Some g → (row_of g).keeps ≡ Some t → slice_get spaces' t ≡ Some kept → IsReady g kept (space_at run.given (entries_in run.history ++ e ∷ []) t)
-  pub rest : (t : ℕ) (kept : Kept) → slice_get spaces' t ≡ Some kept → (row_of f').keeps ≢ Some t → ((d : ℕ) (g : Flight) → d ≢ c → flight_at run.flights d ≡ Some g → (row_of g).keeps ≢ Some t) → IsAtRest kept (space_at run.given (entries_in run.history ++ e ∷ []) t)
+  pub own_ready : (t : ℕ) (kept : Kept) → (row_of f').keeps ≡ Some t → slice_get spaces' t ≡ Some kept
+      → IsReady f' kept (space_at run.given (entries_in run.history ++ e ∷ []) t)
+  pub others_ready : (t d : ℕ) (g : Flight) (kept : Kept) → d ≢ c → flight_at run.flights d ≡ Some g → (row_of g).keeps ≡ Some t
+      → slice_get spaces' t ≡ Some kept → IsReady g kept (space_at run.given (entries_in run.history ++ e ∷ []) t)
+  pub rest : (t : ℕ) (kept : Kept) → slice_get spaces' t ≡ Some kept → (row_of f').keeps ≢ Some t
+      → ((d : ℕ) (g : Flight) → d ≢ c → flight_at run.flights d ≡ Some g → (row_of g).keeps ≢ Some t)
+      → IsAtRest kept (space_at run.given (entries_in run.history ++ e ∷ []) t)
 
 -- Histories.
 
-pub entries-push : (history : List Numbered) (number : ℕ) (e : Entry) → entries_in (history ++ record { number = number; entry = e } ∷ []) ≡ entries_in history ++ e ∷ []
+pub entries-push : (history : List Numbered) (number : ℕ) (e : Entry)
+    → entries_in (history ++ record { number = number; entry = e } ∷ []) ≡ entries_in history ++ e ∷ []
 entries-push history number e = map_push (λ (x : Numbered). x.entry) history (record { number = number; entry = e })
 
-numbered-push : (history : List Numbered) (number : ℕ) (e : Entry) → IsNumbered history → number ≡ length history → IsNumbered (history ++ record { number = number; entry = e } ∷ [])
-numbered-push history number e numbered is =
-    let n : Numbered = record { number = number; entry = e } in
+numbered-push : (history : List Numbered) (e : Entry) → IsNumbered history → IsNumbered (history ++ record { number = length history; entry = e } ∷ [])
+numbered-push history e numbered =
+    let n : Numbered = record { number = length history; entry = e } in
     map_push (λ (x : Numbered). x.number) history n
-    ∙ ap (λ l. l ++ number ∷ []) numbered
-    ∙ ap (λ (k : ℕ). range_with_len 0 (length history) ++ k ∷ []) is
+    ∙ ap (λ l. l ++ length history ∷ []) numbered
     ∙ sym (ap (range_with_len 0) (length_push history n) ∙ range_with_len-more (length history))
 
 -- the answers of the history with one entry more
@@ -106,7 +109,8 @@ calls_taken mark jobs n are zero_is below =
     all_calls (take n jobs) (take_are 0 jobs n (subst (λ m. AreOfMark m jobs) zero_is are)) ∙ length-take-le n jobs below
 
 -- one job more among those that are done
-jobs-more : (jobs : List Job) (n : ℕ) (job : Job) → slice_get jobs n ≡ Some job → calls_among (take (n + 1) jobs) ≡ calls_among (take n jobs) ++ option_to_list (call_of job)
+jobs-more : (jobs : List Job) (n : ℕ) (job : Job) → slice_get jobs n ≡ Some job
+    → calls_among (take (n + 1) jobs) ≡ calls_among (take n jobs) ++ option_to_list (call_of job)
 jobs-more jobs n job at =
     let below = slice_get_within jobs n job at in
     let same : get_or jobs n job ≡ job = get_or_from_slice_get jobs n job job at in
@@ -124,12 +128,17 @@ call_answered (OfCall call claimed) r kind = refl
 call_answered (OfTurn low evictions) r kind = absurd kind
 
 -- and one whose turn ended is of a turn
-turn_ended : (c n : ℕ) (p : Purpose) (phase : Phase) → IsFor p phase → (row_of (record { processor = c; number = n; purpose = p; phase = phase })).outcome ≡ TurnEnded → job_in p ≡ Turn (mark_in p)
+turn_ended : (c n : ℕ) (p : Purpose) (phase : Phase) → IsFor p phase
+    → (row_of (record { processor = c; number = n; purpose = p; phase = phase })).outcome ≡ TurnEnded → job_in p ≡ Turn (mark_in p)
 turn_ended c n (OfCall call claimed) phase kind is = absurd (turn_goes_on (record { processor = c; number = n; purpose = OfCall call claimed; phase = phase }) kind is)
 turn_ended c n (OfTurn low evictions) phase kind is = refl
 
 -- A flight's answer is one more, and its other entries are none.
-module _ (mark : ℕ) (jobs : List Job) (f f' : Flight) (entries : List Entry) (e : Entry) (are : AreOfMark mark jobs) (going : (row_of f).outcome ≡ Going) (number : f'.number ≡ f.number) (job : slice_get jobs f.number ≡ Some (job_in f.purpose)) (same : job_in f'.purpose ≡ job_in f.purpose) (fits : Fits f') (answer : answer_in e.what ≡ answer_made f' (reply_in (row_of f').outcome)) (so_far : answers_in entries ≡ enumerate_from 0 (calls_among (take (row_of f).progress.made jobs))) where
+module _ (mark : ℕ) (jobs : List Job) (f f' : Flight) (entries : List Entry) (e : Entry) (are : AreOfMark mark jobs)
+    (going : (row_of f).outcome ≡ Going) (number : f'.number ≡ f.number) (job : slice_get jobs f.number ≡ Some (job_in f.purpose))
+    (same : job_in f'.purpose ≡ job_in f.purpose) (fits : Fits f')
+    (answer : answer_in e.what ≡ answer_made f' (reply_in (row_of f').outcome))
+    (so_far : answers_in entries ≡ enumerate_from 0 (calls_among (take (row_of f).progress.made jobs))) where
   was : (row_of f).progress.made ≡ f.number
   was = made_going f going
 
@@ -148,7 +157,8 @@ module _ (mark : ℕ) (jobs : List Job) (f f' : Flight) (entries : List Entry) (
   now ended = ap (λ (p : Progress). p.made) (ended_progress f' mark ended (subst (FitsMark mark) (sym same) (are f.number (job_in f.purpose) job)) fits) ∙ ap (λ n. n + 1) number
 
   -- a call's answer is one more
-  call_done : (r : Reply) → (row_of f').outcome ≡ Answered r → answers_in (entries ++ e ∷ []) ≡ enumerate_from 0 (calls_among (take (row_of f').progress.made jobs))
+  call_done : (r : Reply) → (row_of f').outcome ≡ Answered r
+      → answers_in (entries ++ e ∷ []) ≡ enumerate_from 0 (calls_among (take (row_of f').progress.made jobs))
   call_done r is =
       let call : job_in f'.purpose ≡ MakesCall (call_in f'.purpose) = call_answered f'.purpose r (subst (IsFor f'.purpose) (ended_by f' r is) fits.kind) in
       let at : slice_get jobs f.number ≡ Some (MakesCall (call_in f'.purpose)) = job ∙ ap Some (sym same ∙ call) in
@@ -182,18 +192,18 @@ module _ (mark : ℕ) (jobs : List Job) (f f' : Flight) (entries : List Entry) (
 
 -- The step.
 
-module _ (run : Running) (spaces spaces' : List Kept) (pool after : FrameState) (capacity c number : ℕ) (f f' : Flight) (e : Entry) (o : Option Flight) where
+module _ (run : Running) (spaces spaces' : List Kept) (pool after : FrameState) (capacity c : ℕ) (f f' : Flight) (e : Entry) (o : Option Flight) where
   abbrev h : List Entry
   h = entries_in run.history
 
   abbrev new : Running
-  new = run_after run c number e o
+  new = run_after run c e o
 
   abbrev M : Type 0
   M = IsMachine run spaces pool capacity
 
   abbrev G : Type 0
-  G = Goes run spaces spaces' pool after c number f f' e o
+  G = Goes run spaces spaces' pool after c f f' e o
 
   flying : M → G → IsFlying run spaces c f
   flying machine goes = machine.flights c f goes.flies
@@ -278,7 +288,7 @@ module _ (run : Running) (spaces spaces' : List Kept) (pool after : FrameState) 
   -- The spaces after it.
 
   state_after : (t : ℕ) → space_at run.given (h ++ e ∷ []) t ≡ space_at run.given (entries_in new.history) t
-  state_after t = ap (λ l. space_at run.given l t) (sym (entries-push run.history number e))
+  state_after t = ap (λ l. space_at run.given l t) (sym (entries-push run.history (length run.history) e))
 
   can_do : M → G → (d n : ℕ) (job : Job) → slice_get (jobs_at run.jobs d) n ≡ Some job → CanDo (length spaces') job
   can_do machine goes d n job at = subst (λ k. CanDo k job) (sym goes.count) (machine.jobs d n job at)
@@ -338,14 +348,17 @@ module _ (run : Running) (spaces spaces' : List Kept) (pool after : FrameState) 
   own_keeps machine goes t keeps None is = (let none : None ≡ Some t = sym (ap kept_by is) ∙ goes.lands.keeps ∙ keeps in cc)
   own_keeps machine goes t keeps (Some g) is = (g, is, sym (ap kept_by is) ∙ goes.lands.keeps ∙ keeps)
 
-  rest_after : M → G → (t : ℕ) (kept : Kept) → slice_get spaces' t ≡ Some kept → ((d : ℕ) (g : Flight) → flight_at new.flights d ≡ Some g → (row_of g).keeps ≢ Some t) → IsAtRest kept (space_at run.given (entries_in new.history) t)
+  rest_after : M → G → (t : ℕ) (kept : Kept) → slice_get spaces' t ≡ Some kept
+      → ((d : ℕ) (g : Flight) → flight_at new.flights d ≡ Some g → (row_of g).keeps ≢ Some t)
+      → IsAtRest kept (space_at run.given (entries_in new.history) t)
   rest_after machine goes t kept at none =
       subst (IsAtRest kept) (state_after t)
       (goes.rest t kept at
       (λ keeps. (let own = own_keeps machine goes t keeps o refl in none c own.0 (flight_own machine goes ∙ own.1) own.2))
       (λ d g other flies keeps. none d g (flight_other d other ∙ flies) keeps))
 
-  one_keeper_after : M → G → (t d d' : ℕ) (g g' : Flight) → flight_at new.flights d ≡ Some g → flight_at new.flights d' ≡ Some g' → (row_of g).keeps ≡ Some t → (row_of g').keeps ≡ Some t → d ≡ d'
+  one_keeper_after : M → G → (t d d' : ℕ) (g g' : Flight) → flight_at new.flights d ≡ Some g → flight_at new.flights d' ≡ Some g'
+      → (row_of g).keeps ≡ Some t → (row_of g').keeps ≡ Some t → d ≡ d'
   one_keeper_after machine goes t d d' g g' flies flies' keeps keeps' =
       elim (flight_after machine goes d g flies) [
         | inl own ↦ elim (flight_after machine goes d' g' flies') [
@@ -363,10 +376,10 @@ module _ (run : Running) (spaces spaces' : List Kept) (pool after : FrameState) 
 
   pub IsLawful-turn : M → G → IsLawful new
   IsLawful-turn machine goes =
-      let more = sym (entries-push run.history number e) in
+      let more = sym (entries-push run.history (length run.history) e) in
       record {
         legal = subst (IsLegal run.given) more (legal machine goes);
-        numbered = numbered-push run.history number e machine.lawful.numbered goes.counted;
+        numbered = numbered-push run.history e machine.lawful.numbered;
         agrees = subst (Agrees run.given) more (Agrees-legal run.given (h ++ e ∷ []) (legal machine goes));
         progress = λ d below. subst (λ l. progress_at run.given l d ≡ Some (progress_of_actor new d)) more
             (elim (cases_eq d c) [
@@ -407,7 +420,7 @@ module _ (run : Running) (spaces spaces' : List Kept) (pool after : FrameState) 
   pub IsMachine-turn : M → G → IsMachine new spaces' after capacity
   IsMachine-turn machine goes =
       let less = all_left-turn machine goes in
-      let count : length new.history ≡ length run.history + 1 = length_push run.history (record { number = number; entry = e }) in
+      let count : length new.history ≡ length run.history + 1 = length_push run.history (record { number = length run.history; entry = e }) in
       record {
         lawful = IsLawful-turn machine goes;
         marks = machine.marks;
@@ -415,7 +428,7 @@ module _ (run : Running) (spaces spaces' : List Kept) (pool after : FrameState) 
         told = machine.told ∙ sym goes.count;
         faults = machine.faults ∙ sym goes.count;
         known = length-set run.flights c o ∙ machine.known;
-        frames = frames_at-step run.given h f f' pool after e goes.entry machine.frames ∙ ap (frames_at run.given) (sym (entries-push run.history number e));
+        frames = frames_at-step run.given h f f' pool after e goes.entry machine.frames ∙ ap (frames_at run.given) (sym (entries-push run.history (length run.history) e));
         few_jobs = machine.few_jobs;
         few_spaces = subst (λ n. n ≤ 16) (sym goes.count) machine.few_spaces;
         jobs = can_do machine goes;

@@ -47,7 +47,8 @@ ended_by_in c n own purpose (Unclaim v (Some count)) r is = absurd (not_going r 
 ended_by_in c n own purpose p r is = absurd (not_going r (sym is))
 
 -- until it is answered a call isn't counted
-made_going_in : (c n : ℕ) (own : Option ℕ) (purpose : Purpose) (p : Phase) → (row_in c n own purpose p).outcome ≡ Going → (row_in c n own purpose p).progress.made ≡ n
+made_going_in : (c n : ℕ) (own : Option ℕ) (purpose : Purpose) (p : Phase) → (row_in c n own purpose p).outcome ≡ Going
+    → (row_in c n own purpose p).progress.made ≡ n
 made_going_in c n own purpose (Ended reply) is = absurd (not_going reply is)
 made_going_in c n own purpose Rested is = absurd (not_ended is)
 made_going_in c n own purpose (Unclaim v None) is = refl
@@ -73,7 +74,8 @@ pub under_fault : (own : Option ℕ) (a : Access) (space count : ℕ) (o : Optio
 under_fault own a space count o = ap (λ u. space_under (alone u)) (under_faulted own a space count o) ∙ under_alone own
 
 -- its next step is made under some space
-under_some_in : (c n s : ℕ) (purpose : Purpose) (p : Phase) → (row_in c n (Some s) purpose p).outcome ≡ Going → (t : ℕ) × (space_under (row_in c n (Some s) purpose p).needs ≡ Some t)
+under_some_in : (c n s : ℕ) (purpose : Purpose) (p : Phase) → (row_in c n (Some s) purpose p).outcome ≡ Going
+    → (t : ℕ) × (space_under (row_in c n (Some s) purpose p).needs ≡ Some t)
 under_some_in c n s purpose (Ended reply) is = absurd (not_going reply is)
 under_some_in c n s purpose Rested is = absurd (not_ended is)
 under_some_in c n s purpose (Out v) is = (v.space, refl)
@@ -85,7 +87,8 @@ under_some_in c n s purpose (Fault space count) is = (s, under_fault (Some s) (a
 under_some_in c n s purpose p is = (s, refl)
 
 -- which is its call's, or one that it keeps, or that of its victim
-under_cases_in : (c n : ℕ) (own : Option ℕ) (t : ℕ) (purpose : Purpose) (p : Phase) → space_under (row_in c n own purpose p).needs ≡ Some t → (own ≡ Some t) ⊎ (((row_in c n own purpose p).keeps ≡ Some t) ⊎ ((v : Victim) × (p ≡ Out v) × (t ≡ v.space)))
+under_cases_in : (c n : ℕ) (own : Option ℕ) (t : ℕ) (purpose : Purpose) (p : Phase) → space_under (row_in c n own purpose p).needs ≡ Some t
+    → (own ≡ Some t) ⊎ (((row_in c n own purpose p).keeps ≡ Some t) ⊎ ((v : Victim) × (p ≡ Out v) × (t ≡ v.space)))
 under_cases_in c n own t purpose (Ended reply) is = absurd (none-some t is)
 under_cases_in c n own t purpose Rested is = absurd (none-some t is)
 under_cases_in c n own t purpose (Out v) is = inr (inr (v, refl, sym (same_Some v.space t is)))
@@ -121,7 +124,8 @@ own_if-cases (Some own) space = elim (cases_Bool (eqb space own)) [
 ]
 
 -- the space that it keeps is the one that its next step is made under
-keeps_under_in : (c n : ℕ) (own : Option ℕ) (t : ℕ) (purpose : Purpose) (p : Phase) → (row_in c n own purpose p).keeps ≡ Some t → space_under (row_in c n own purpose p).needs ≡ Some t
+keeps_under_in : (c n : ℕ) (own : Option ℕ) (t : ℕ) (purpose : Purpose) (p : Phase) → (row_in c n own purpose p).keeps ≡ Some t
+    → space_under (row_in c n own purpose p).needs ≡ Some t
 keeps_under_in c n own t purpose Start is = absurd (none-some t is)
 keeps_under_in c n own t purpose (Ended reply) is = absurd (none-some t is)
 keeps_under_in c n own t purpose Look is = absurd (none-some t is)
@@ -145,7 +149,8 @@ keeps_under_in c n None t purpose p is = is
 keeps_under_in c n (Some s) t purpose p is = is
 
 -- Where an entry led to, the table of locks tells by the place which space the flight keeps, and which one its next step is made under.
-keeps_by_place_in : (c n : ℕ) (own : Option ℕ) (purpose : Purpose) (p : Phase) → is_between purpose p ≡ true → (row_in c n own purpose p).keeps ≡ keeps_in own (row_in c n own purpose p).progress.doing
+keeps_by_place_in : (c n : ℕ) (own : Option ℕ) (purpose : Purpose) (p : Phase) → is_between purpose p ≡ true
+    → (row_in c n own purpose p).keeps ≡ keeps_in own (row_in c n own purpose p).progress.doing
 keeps_by_place_in c n own purpose (Evict page) between = absurd (false≢true between)
 keeps_by_place_in c n own purpose (Clear first len) between = absurd (false≢true between)
 keeps_by_place_in c n own purpose (Frame page want) between = absurd (false≢true between)
@@ -159,7 +164,9 @@ keeps_by_place_in c n own (OfTurn mark evictions) Look between = refl
 keeps_by_place_in c n own purpose (Use page want v) between = absurd (false≢true between)
 keeps_by_place_in c n own purpose p between = refl
 
-under_by_place_in : (c n : ℕ) (own : Option ℕ) (purpose : Purpose) (p : Phase) → is_between purpose p ≡ true → (row_in c n own purpose p).outcome ≡ Going → space_under (row_in c n own purpose p).needs ≡ under_in own (row_in c n own purpose p).progress.doing
+under_by_place_in : (c n : ℕ) (own : Option ℕ) (purpose : Purpose) (p : Phase) → is_between purpose p ≡ true
+    → (row_in c n own purpose p).outcome ≡ Going
+    → space_under (row_in c n own purpose p).needs ≡ under_in own (row_in c n own purpose p).progress.doing
 under_by_place_in c n own purpose (Ended reply) between is = absurd (not_going reply is)
 under_by_place_in c n own purpose Rested between is = absurd (not_ended is)
 under_by_place_in c n own (OfCall call claimed) Look between is = under_alone own
@@ -177,7 +184,9 @@ copies_none (Store space address word) is = refl
 copies_none call is = absurd (false≢true is)
 
 -- a flight that goes on and keeps no space may go on in any that rests
-anywhere_in : (c n s : ℕ) (purpose : Purpose) (p : Phase) (kept : Kept) → is_of_call purpose ≡ true → s ≡ space_of_call (call_in purpose) → (row_in c n (Some s) purpose p).outcome ≡ Going → (row_in c n (Some s) purpose p).keeps ≡ None → PhaseFits purpose p → IsResting kept → ((row_in c n (Some s) purpose p).next ≡ Anyone) × PhaseStands (call_in purpose) kept p
+anywhere_in : (c n s : ℕ) (purpose : Purpose) (p : Phase) (kept : Kept) → is_of_call purpose ≡ true → s ≡ space_of_call (call_in purpose)
+    → (row_in c n (Some s) purpose p).outcome ≡ Going → (row_in c n (Some s) purpose p).keeps ≡ None → PhaseFits purpose p → IsResting kept
+    → ((row_in c n (Some s) purpose p).next ≡ Anyone) × PhaseStands (call_in purpose) kept p
 anywhere_in c n s purpose (Ended reply) kept calls own is none fits rest = absurd (not_going reply is)
 anywhere_in c n s purpose Rested kept calls own is none fits rest = absurd (not_ended is)
 anywhere_in c n s purpose Look kept calls own is none fits rest = (refl, rest)
@@ -219,10 +228,18 @@ made_going f = made_going_in f.processor f.number (own_space f.purpose) f.purpos
 pub keeps_under : (f : Flight) (t : ℕ) → (row_of f).keeps ≡ Some t → space_under (row_of f).needs ≡ Some t
 keeps_under f t = keeps_under_in f.processor f.number (own_space f.purpose) t f.purpose f.phase
 
+pub keeps_none : (f : Flight) → space_under (row_of f).needs ≡ None → (row_of f).keeps ≡ None
+keeps_none f under = by (row_of f).keeps refl
+  where
+    by : (o : Option ℕ) → (row_of f).keeps ≡ o → (row_of f).keeps ≡ None
+    by None is = is
+    by (Some t) is = absurd (none-some t (sym under ∙ keeps_under f t is))
+
 pub keeps_by_place : (f : Flight) → is_between f.purpose f.phase ≡ true → (row_of f).keeps ≡ keeps_in (own_space f.purpose) (row_of f).progress.doing
 keeps_by_place f = keeps_by_place_in f.processor f.number (own_space f.purpose) f.purpose f.phase
 
-pub under_by_place : (f : Flight) → is_between f.purpose f.phase ≡ true → (row_of f).outcome ≡ Going → space_under (row_of f).needs ≡ under_in (own_space f.purpose) (row_of f).progress.doing
+pub under_by_place : (f : Flight) → is_between f.purpose f.phase ≡ true → (row_of f).outcome ≡ Going
+    → space_under (row_of f).needs ≡ under_in (own_space f.purpose) (row_of f).progress.doing
 under_by_place f = under_by_place_in f.processor f.number (own_space f.purpose) f.purpose f.phase
 
 -- the row of a flight of a call, which has a space of its own
@@ -234,11 +251,14 @@ under_some f is_call =
     subst (λ own. (row_on f own).outcome ≡ Going → (t : ℕ) × (space_under (row_on f own).needs ≡ Some t)) (sym (own_space-is f.purpose is_call))
     (under_some_in f.processor f.number (space_of_call (call_in f.purpose)) f.purpose f.phase)
 
-pub under_cases : (f : Flight) (t : ℕ) → space_under (row_of f).needs ≡ Some t → (own_space f.purpose ≡ Some t) ⊎ (((row_of f).keeps ≡ Some t) ⊎ ((v : Victim) × (f.phase ≡ Out v) × (t ≡ v.space)))
+pub under_cases : (f : Flight) (t : ℕ) → space_under (row_of f).needs ≡ Some t
+    → (own_space f.purpose ≡ Some t) ⊎ (((row_of f).keeps ≡ Some t) ⊎ ((v : Victim) × (f.phase ≡ Out v) × (t ≡ v.space)))
 under_cases f t = under_cases_in f.processor f.number (own_space f.purpose) t f.purpose f.phase
 
 -- a turn that goes on in a space without keeping it is about to page its victim out
-anywhere_turn_in : (c n s mark evictions : ℕ) (p : Phase) (kept : Kept) → TurnFits mark evictions p → space_under (row_in c n None (OfTurn mark evictions) p).needs ≡ Some s → (row_in c n None (OfTurn mark evictions) p).keeps ≡ None → IsResting kept
+anywhere_turn_in : (c n s mark evictions : ℕ) (p : Phase) (kept : Kept) → TurnFits mark evictions p
+    → space_under (row_in c n None (OfTurn mark evictions) p).needs ≡ Some s → (row_in c n None (OfTurn mark evictions) p).keeps ≡ None
+    → IsResting kept
     → ((row_in c n None (OfTurn mark evictions) p).next ≡ Anyone) × PhaseStands (call_in (OfTurn mark evictions)) kept p
 anywhere_turn_in c n s mark evictions (Out v) kept fits under none rest = (refl, rest)
 anywhere_turn_in c n s mark evictions (Write v) kept fits under none rest = absurd (none-some _ (sym none))
@@ -250,12 +270,15 @@ anywhere_turn_in c n s mark evictions Look kept fits under none rest = absurd (n
 anywhere_turn_in c n s mark evictions Rested kept fits under none rest = absurd (none-some s under)
 anywhere_turn_in c n s mark evictions p kept fits under none rest = absurd fits
 
-anywhere_by : (c n s : ℕ) (purpose : Purpose) (p : Phase) (kept : Kept) → space_under (row_in c n (own_space purpose) purpose p).needs ≡ Some s → IsFor purpose p → PhaseFits purpose p → (row_in c n (own_space purpose) purpose p).outcome ≡ Going → (row_in c n (own_space purpose) purpose p).keeps ≡ None → IsResting kept
+anywhere_by : (c n s : ℕ) (purpose : Purpose) (p : Phase) (kept : Kept)
+    → space_under (row_in c n (own_space purpose) purpose p).needs ≡ Some s → IsFor purpose p → PhaseFits purpose p
+    → (row_in c n (own_space purpose) purpose p).outcome ≡ Going → (row_in c n (own_space purpose) purpose p).keeps ≡ None → IsResting kept
     → ((row_in c n (own_space purpose) purpose p).next ≡ Anyone) × PhaseStands (call_in purpose) kept p
 anywhere_by c n s (OfCall call claimed) p kept under kind fits going none rest = anywhere_in c n (space_of_call call) (OfCall call claimed) p kept refl refl going none fits rest
 anywhere_by c n s (OfTurn mark evictions) p kept under kind fits going none rest = anywhere_turn_in c n s mark evictions p kept kind under none rest
 
-pub anywhere : (f : Flight) (kept : Kept) (s : ℕ) → space_under (row_of f).needs ≡ Some s → Fits f → (row_of f).outcome ≡ Going → (row_of f).keeps ≡ None → IsResting kept → ((row_of f).next ≡ Anyone) × PhaseStands (call_in f.purpose) kept f.phase
+pub anywhere : (f : Flight) (kept : Kept) (s : ℕ) → space_under (row_of f).needs ≡ Some s → Fits f → (row_of f).outcome ≡ Going
+    → (row_of f).keeps ≡ None → IsResting kept → ((row_of f).next ≡ Anyone) × PhaseStands (call_in f.purpose) kept f.phase
 anywhere f kept s under fits = anywhere_by f.processor f.number s f.purpose f.phase kept under fits.kind fits.phase
 
 -- A flight that goes on needs some lock, and where it needs no space's that of the frames.
@@ -270,7 +293,8 @@ alone_goes : (own : Option ℕ) → is_over (alone own) ≡ false
 alone_goes None = refl
 alone_goes (Some s) = refl
 
-goes_in : (c n : ℕ) (own : Option ℕ) (purpose : Purpose) (p : Phase) → (row_in c n own purpose p).outcome ≡ Going → is_over (row_in c n own purpose p).needs ≡ false
+goes_in : (c n : ℕ) (own : Option ℕ) (purpose : Purpose) (p : Phase) → (row_in c n own purpose p).outcome ≡ Going
+    → is_over (row_in c n own purpose p).needs ≡ false
 goes_in c n own purpose (Ended reply) is = absurd (not_going reply is)
 goes_in c n own purpose Rested is = absurd (not_ended is)
 goes_in c n own purpose (Unclaim v None) is = refl

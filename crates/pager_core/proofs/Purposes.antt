@@ -62,20 +62,24 @@ of_call-kind (OfTurn mark evictions) Rested only kind = absurd (false≢true onl
 of_call-kind (OfTurn mark evictions) phase only kind = absurd kind
 
 -- less is left of a flight where it is less of a call and of an eviction
-pub left_by-less : (p : Purpose) (call call' eviction eviction' each : ℕ) → call < call' → eviction < eviction' → left_by p call eviction each < left_by p call' eviction' each
+pub left_by-less : (p : Purpose) (call call' eviction eviction' each : ℕ) → call < call' → eviction < eviction'
+    → left_by p call eviction each < left_by p call' eviction' each
 left_by-less (OfCall c claimed) call call' eviction eviction' each less less' = less
 left_by-less (OfTurn mark evictions) call call' eviction eviction' each less less' =
     let more : ℕ = each * (mark - (evictions + 1)) in omega (arith, less')
 
 -- what holds of the call in the phase that it is in, and where it leads to, holds of the flight
-by_phase : (f : Flight) (from : Phase) → is_of_call f.purpose ≡ true → f.phase ≡ from → (P : Flight → (Phase → Flight) → Type 0) → P (in_phase f from) (in_phase f) → P f (with_phase f)
+by_phase : (f : Flight) (from : Phase) → is_of_call f.purpose ≡ true → f.phase ≡ from → (P : Flight → (Phase → Flight) → Type 0)
+    → P (in_phase f from) (in_phase f) → P f (with_phase f)
 by_phase f from of_call is P holds =
     subst (λ p. P (with_phase f p) (with_phase f)) (sym is)
     (subst (λ (u : Purpose). P (record { processor = f.processor; number = f.number; purpose = u; phase = from }) (λ phase. record { processor = f.processor; number = f.number; purpose = u; phase = phase }))
     (sym (of_call-is f.purpose of_call)) holds)
 
 -- so it does where the flight is ready, in a phase that only a call is in
-pub by_ready : (f : Flight) (from : Phase) (kept : Kept) (st : SpaceState) → is_of_calls from ≡ true → f.phase ≡ from → (P : Flight → (Phase → Flight) → Type 0) → (IsReady (in_phase f from) kept st → P (in_phase f from) (in_phase f)) → IsReady f kept st → P f (with_phase f)
+pub by_ready : (f : Flight) (from : Phase) (kept : Kept) (st : SpaceState) → is_of_calls from ≡ true → f.phase ≡ from
+    → (P : Flight → (Phase → Flight) → Type 0) → (IsReady (in_phase f from) kept st → P (in_phase f from) (in_phase f)) → IsReady f kept st
+    → P f (with_phase f)
 by_ready f from kept st only is P holds ready =
     by_phase f from (of_call-kind f.purpose from only (subst (IsFor f.purpose) is ready.fits.kind)) is (λ g to. IsReady g kept st → P g to) holds ready
 

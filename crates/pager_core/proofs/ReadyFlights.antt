@@ -40,7 +40,8 @@ entries-few g h =
     let both = length-filter_both names_frames (λ e. not (names_frames e)) (λ e. refl) h in
     omega (arith, all, both)
 
-module _ (run : Running) (spaces : List Kept) (pool : FrameState) (capacity c : ℕ) (f : Flight) (machine : IsMachine run spaces pool capacity) (flies : flight_at run.flights c ≡ Some f) where
+module _ (run : Running) (spaces : List Kept) (pool : FrameState) (capacity c : ℕ) (f : Flight)
+    (machine : IsMachine run spaces pool capacity) (flies : flight_at run.flights c ≡ Some f) where
   processor_within : c < length run.jobs
   processor_within = (let at = get_or_within run.flights c f flies in let known = machine.known in omega (arith, at, known))
 
@@ -82,7 +83,8 @@ module _ (run : Running) (spaces : List Kept) (pool : FrameState) (capacity c : 
       omega (arith, same, few, count, room)
 
   -- what comes of the flight after a step
-  pub lands_after : (f' : Flight) → f'.number ≡ f.number → job_in f'.purpose ≡ job_in f.purpose → Fits f' → (o : Option Flight) × Lands (mark_of run.given c) (jobs_at run.jobs c) f' o
+  pub lands_after : (f' : Flight) → f'.number ≡ f.number → job_in f'.purpose ≡ job_in f.purpose → Fits f'
+      → (o : Option Flight) × Lands (mark_of run.given c) (jobs_at run.jobs c) f' o
   lands_after f' number job fits =
       lands (mark_of run.given c) (jobs_at run.jobs c) f' (machine.kinds c) (ap (slice_get (jobs_at run.jobs c)) number ∙ (machine.flights c f flies).job ∙ ap Some (sym job)) fits
 
@@ -148,8 +150,8 @@ module _ (run : Running) (spaces : List Kept) (pool : FrameState) (capacity c : 
       room_in f' now after e makes =
           let turns : Turns run spaces pool after c s f f' was now e = record { flies = flies; under = under; at = at; unkept = unkept; makes = makes } in
           let on = lands_after f' makes.entry.same_work.number (job_kept makes.entry.same_work) (fits run spaces pool after capacity c s f f' was now e machine turns) in
-          room_left run spaces (set spaces s now) pool after capacity c (length run.history) f f' e on.0 machine
-          (Goes-in run spaces pool after capacity c s f f' was now e machine turns (length run.history) on.0 on.1 refl)
+          room_left run spaces (set spaces s now) pool after capacity c f f' e on.0 machine
+          (Goes-in run spaces pool after capacity c s f f' was now e machine turns on.0 on.1)
 
   module _ (under : space_under (row_of f).needs ≡ None) where
     -- such a step is made under the frames' lock alone
@@ -159,5 +161,5 @@ module _ (run : Running) (spaces : List Kept) (pool : FrameState) (capacity c : 
     pub room_on_frames : (f' : Flight) (after : FrameState) (e : Entry) → MakesOnFrames f f' pool after e → length run.history < capacity
     room_on_frames f' after e makes =
         let on = lands_after f' makes.entry.same_work.number (job_kept makes.entry.same_work) makes.fits in
-        room_left run spaces spaces pool after capacity c (length run.history) f f' e on.0 machine
-        (Goes-on_frames run spaces pool after capacity c f f' e machine flies under makes (length run.history) on.0 on.1 refl)
+        room_left run spaces spaces pool after capacity c f f' e on.0 machine
+        (Goes-on_frames run spaces pool after capacity c f f' e machine flies under makes on.0 on.1)

@@ -69,7 +69,8 @@ module _ (f : Flight) (phase : Phase) (reply : Reply) (kept : Kept) (st : SpaceS
 -- No frame could be had.
 
 -- an access to a page with a region and the right is lawful
-lawful-access : (region : Option Region) (allowed : Bool) (reply : Reply) → is_some region ≡ true → allowed ≡ true → is_lawful reply ≡ true → is_lawful (access_reply region allowed reply) ≡ true
+lawful-access : (region : Option Region) (allowed : Bool) (reply : Reply) → is_some region ≡ true → allowed ≡ true → is_lawful reply ≡ true
+    → is_lawful (access_reply region allowed reply) ≡ true
 lawful-access None allowed reply has may is = absurd (false≢true has)
 lawful-access (Some r) false reply has may is = absurd (false≢true may)
 lawful-access (Some r) true reply has may is = is
@@ -88,7 +89,9 @@ lawful-allowed kept st (Store space address word) stands is =
     (ap can_write (stands.beside.rights (page_of address) parts.0) ∙ parts.1) refl
 lawful-allowed kept st call stands is = absurd (false≢true is)
 
-Makes-no_frames : (f : Flight) (wired claimed held : ℕ) (kept : Kept) (st : SpaceState) → IsReady (in_phase f (Short wired claimed held)) kept st → (frames : FrameState) → Makes (in_phase f (Short wired claimed held)) (in_phase f (Ended (NoFrames wired claimed held))) kept kept st frames frames (answer_entry f.processor f.number (call_in f.purpose) (refusal (NoFrames wired claimed held)))
+Makes-no_frames : (f : Flight) (wired claimed held : ℕ) (kept : Kept) (st : SpaceState)
+    → IsReady (in_phase f (Short wired claimed held)) kept st → (frames : FrameState)
+    → Makes (in_phase f (Short wired claimed held)) (in_phase f (Ended (NoFrames wired claimed held))) kept kept st frames frames (answer_entry f.processor f.number (call_in f.purpose) (refusal (NoFrames wired claimed held)))
 Makes-no_frames f wired claimed held kept st ready =
     let page = ready.found.0 in
     let lacks = ready.found.1 in
@@ -117,7 +120,8 @@ evict_written None dirty unwired is = absurd (false≢true unwired)
 evict_written (Some r) dirty unwired is = cond-false _ _ _ (not-true (is_wired r) unwired) ∙ cond-true dirty _ _ is
 
 -- so they may meet it where they have to write their page
-MayFail-copying : (kept : Kept) (st : SpaceState) (call : Call) → StandsFor kept st → IsResting kept → IsSome (copied_page call) → ((page : ℕ) → copied_page call ≡ Some page → MustWrite kept call page) → MayFail st call
+MayFail-copying : (kept : Kept) (st : SpaceState) (call : Call) → StandsFor kept st → IsResting kept → IsSome (copied_page call)
+    → ((page : ℕ) → copied_page call ≡ Some page → MustWrite kept call page) → MayFail st call
 MayFail-copying kept st (Sync space page) stands resting is must =
     let here = must page refl in
     sync_written (region_at st.flat.regions page) (st.flat.dirty page)
@@ -131,18 +135,22 @@ MayFail-copying kept st (Evict space page) stands resting is must =
 MayFail-copying kept st call stands resting is must = absurd (false≢true is)
 
 -- and it is their answer: to an access, wherever it failed
-may_fault-access : (call : Call) (claimed : Bool) (space count : ℕ) → is_access call ≡ true → may_answer (faulted (access_of call claimed) space count (copied_page call)) call (StoreFault space count) ≡ true
+may_fault-access : (call : Call) (claimed : Bool) (space count : ℕ) → is_access call ≡ true
+    → may_answer (faulted (access_of call claimed) space count (copied_page call)) call (StoreFault space count) ≡ true
 may_fault-access (Load s address) claimed space count is = and_from _ _ (is_access_of (Load s address) claimed is) (and_from _ _ (eq-eqb space space refl) (eq-eqb count count refl))
 may_fault-access (Store s address word) claimed space count is = and_from _ _ (is_access_of (Store s address word) claimed is) (and_from _ _ (eq-eqb space space refl) (eq-eqb count count refl))
 may_fault-access call claimed space count is = absurd (false≢true is)
 
 -- and to the others in their own space
-may_fault-copying : (call : Call) (claimed : Bool) (space count : ℕ) → space ≡ space_of_call call → IsSome (copied_page call) → may_answer (faulted (access_of call claimed) space count (copied_page call)) call (StoreFault space count) ≡ true
+may_fault-copying : (call : Call) (claimed : Bool) (space count : ℕ) → space ≡ space_of_call call → IsSome (copied_page call)
+    → may_answer (faulted (access_of call claimed) space count (copied_page call)) call (StoreFault space count) ≡ true
 may_fault-copying (Sync s page) claimed space count same is = and_from _ _ (and_from _ _ (eq-eqb s space (sym same)) (eq-eqb page page refl)) (and_from _ _ (eq-eqb space space refl) (eq-eqb count count refl))
 may_fault-copying (Evict s page) claimed space count same is = and_from _ _ (and_from _ _ (eq-eqb s space (sym same)) (eq-eqb page page refl)) (and_from _ _ (eq-eqb space space refl) (eq-eqb count count refl))
 may_fault-copying call claimed space count same is = absurd (false≢true is)
 
-Makes-fault : (f : Flight) (space count : ℕ) (kept : Kept) (st : SpaceState) → IsReady (in_phase f (Fault space count)) kept st → (frames : FrameState) → Makes (in_phase f (Fault space count)) (in_phase f (Ended (StoreFault space count))) kept kept st frames frames (answer_entry f.processor f.number (call_in f.purpose) (refusal (StoreFault space count)))
+Makes-fault : (f : Flight) (space count : ℕ) (kept : Kept) (st : SpaceState) → IsReady (in_phase f (Fault space count)) kept st
+    → (frames : FrameState)
+    → Makes (in_phase f (Fault space count)) (in_phase f (Ended (StoreFault space count))) kept kept st frames frames (answer_entry f.processor f.number (call_in f.purpose) (refusal (StoreFault space count)))
 Makes-fault f space count kept st ready =
     let found = ready.found in
     let meets : MayFail st (call_in f.purpose) × (may_answer (faulted (access_in f.purpose) space count (copied_page (call_in f.purpose))) (call_in f.purpose) (StoreFault space count) ≡ true) = elim ready.fits.phase [
@@ -152,13 +160,16 @@ Makes-fault f space count kept st ready =
     Makes-refusal f (Fault space count) (StoreFault space count) kept st ready (same_Some _ _ (sym (under_fault (Some (space_of_call (call_in f.purpose))) (access_in f.purpose) space count (copied_page (call_in f.purpose))) ∙ ready.under)) found.resting tt refl refl meets.0 refl meets.1 (omega arith)
 
 -- There was no memory.
-Makes-no_memory : (f : Flight) (space : ℕ) (kept : Kept) (st : SpaceState) → IsReady (in_phase f (Lack space)) kept st → (frames : FrameState) → Makes (in_phase f (Lack space)) (in_phase f (Ended NoMemory)) kept kept st frames frames (answer_entry f.processor f.number (call_in f.purpose) (refusal NoMemory))
+Makes-no_memory : (f : Flight) (space : ℕ) (kept : Kept) (st : SpaceState) → IsReady (in_phase f (Lack space)) kept st
+    → (frames : FrameState)
+    → Makes (in_phase f (Lack space)) (in_phase f (Ended NoMemory)) kept kept st frames frames (answer_entry f.processor f.number (call_in f.purpose) (refusal NoMemory))
 Makes-no_memory f space kept st ready =
     Makes-refusal f (Lack space) NoMemory kept st ready (same_Some _ _ ready.under) ready.found tt refl refl
     (MayFail-access st (call_in f.purpose) ready.fits.phase) refl (and_from _ _ (is_access_of (call_in f.purpose) (claimed_in f.purpose) ready.fits.phase) refl) (omega arith)
 
 -- A flight that can't be served answers so.
-pub refused : (f : Flight) (reply : Reply) → Refuses f reply → (kept : Kept) (st : SpaceState) (frames : FrameState) → IsReady f kept st → Makes f (with_phase f (Ended reply)) kept kept st frames frames (answer_entry f.processor f.number (call_in f.purpose) (refusal reply))
+pub refused : (f : Flight) (reply : Reply) → Refuses f reply → (kept : Kept) (st : SpaceState) (frames : FrameState) → IsReady f kept st
+    → Makes f (with_phase f (Ended reply)) kept kept st frames frames (answer_entry f.processor f.number (call_in f.purpose) (refusal reply))
 refused f (NoFrames wired claimed held) phase = λ kept st frames.
     by_ready f (Short wired claimed held) kept st refl phase (λ g to. Makes g (to (Ended (NoFrames wired claimed held))) kept kept st frames frames (answer_entry f.processor f.number (call_in f.purpose) (refusal (NoFrames wired claimed held))))
     (λ ready. Makes-no_frames f wired claimed held kept st ready frames)

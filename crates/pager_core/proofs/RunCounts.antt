@@ -25,7 +25,8 @@ use Rattle.pager_core.specs.Sums.{AreFewer, tiles_in, promotions_in, demotions_i
 -- Sums.
 
 -- a sum over a list is one over its places
-sum_by-places : {X : Type 0} (f : X → ℕ) (g : ℕ → ℕ) (a : ℕ) (xs : List X) → ((s : ℕ) (x : X) → slice_get xs s ≡ Some x → f x ≡ g (a + s)) → sum_by f xs ≡ sum_by g (range_with_len a (length xs))
+sum_by-places : {X : Type 0} (f : X → ℕ) (g : ℕ → ℕ) (a : ℕ) (xs : List X) → ((s : ℕ) (x : X) → slice_get xs s ≡ Some x → f x ≡ g (a + s))
+    → sum_by f xs ≡ sum_by g (range_with_len a (length xs))
 sum_by-places f g a [] are = refl
 sum_by-places f g a (x ∷ xs) are =
     let first : f x ≡ g a = are 0 x refl ∙ ap g (let e : a + 0 ≡ a = omega arith in e) in
@@ -53,13 +54,15 @@ four_fewer most a b c d in_a in_b in_c in_d (suc (suc (suc zero))) = in_d
 four_fewer most a b c d in_a in_b in_c in_d (suc (suc (suc (suc size)))) = omega (arith, in_a)
 
 -- one space's tiles, and those of some of few spaces
-pub own_fewer : (z : SizeSet) (pages : ℕ → Option Mapping) → AreFewer (tile_count_in z pages 0 ∷ tile_count_in z pages 1 ∷ tile_count_in z pages 2 ∷ tile_count_in z pages 3 ∷ []) 1073741824
+pub own_fewer : (z : SizeSet) (pages : ℕ → Option Mapping)
+    → AreFewer (tile_count_in z pages 0 ∷ tile_count_in z pages 1 ∷ tile_count_in z pages 2 ∷ tile_count_in z pages 3 ∷ []) 1073741824
 own_fewer z pages = four_fewer 1073741824 _ _ _ _ (below 0) (below 1) (below 2) (below 3)
   where
     below : (size : ℕ) → tile_count_in z pages size < 1073741824
     below size = (let few = tiles_few z pages size in omega (arith, few))
 
-pub some_fewer : (spaces : List Kept) (n : ℕ) → length spaces ≤ 16 → AreFewer (tiles_in (take n spaces) 0 ∷ tiles_in (take n spaces) 1 ∷ tiles_in (take n spaces) 2 ∷ tiles_in (take n spaces) 3 ∷ []) 1073741824
+pub some_fewer : (spaces : List Kept) (n : ℕ) → length spaces ≤ 16
+    → AreFewer (tiles_in (take n spaces) 0 ∷ tiles_in (take n spaces) 1 ∷ tiles_in (take n spaces) 2 ∷ tiles_in (take n spaces) 3 ∷ []) 1073741824
 some_fewer spaces n few = four_fewer 1073741824 _ _ _ _ (below 0) (below 1) (below 2) (below 3)
   where
     below : (size : ℕ) → tiles_in (take n spaces) size < 1073741824
@@ -89,7 +92,8 @@ part_few : (s : ℕ) (h : List Entry) → length (space_part s h) ≤ length h
 part_few s h = (let both = length-filter_both (names_space s) (λ e. not (names_space s e)) (λ e. refl) h in omega (arith, both))
 
 -- Of spaces at rest after a history of few entries.
-module _ (given : Given) (h : List Entry) (spaces : List Kept) (pool : FrameState) (rest : AreAtRest given h spaces pool) (few : length h ≤ most_in_history) (few_spaces : length spaces ≤ 16) where
+module _ (given : Given) (h : List Entry) (spaces : List Kept) (pool : FrameState) (rest : AreAtRest given h spaces pool)
+    (few : length h ≤ most_in_history) (few_spaces : length spaces ≤ 16) where
   promotions_at : (s : ℕ) → (space_at given h s).promotions ≤ 38280596832649216
   promotions_at s =
       let own = promotions_few (space_part s h) (empty_state given.sizes (is_told given s) (faults_at_entry given s)) in
@@ -103,7 +107,9 @@ module _ (given : Given) (h : List Entry) (spaces : List Kept) (pool : FrameStat
       omega (arith, own, part, few)
 
   -- a count of each space that its state has is the same over all
-  summed : (f : Kept → ℕ) (count : SpaceState → ℕ) → ((s : ℕ) (kept : Kept) → slice_get spaces s ≡ Some kept → f kept ≡ count (space_at given h s)) → sum_by f spaces ≡ over_spaces given h count
+  summed : (f : Kept → ℕ) (count : SpaceState → ℕ)
+      → ((s : ℕ) (kept : Kept) → slice_get spaces s ≡ Some kept → f kept ≡ count (space_at given h s))
+      → sum_by f spaces ≡ over_spaces given h count
   summed f count are =
       sum_by-places f (λ s. count (space_at given h s)) 0 spaces (λ s kept at. are s kept at ∙ ap (λ k. count (space_at given h k)) (let e : s ≡ 0 + s = omega arith in e))
       ∙ ap (λ n. sum_by (λ s. count (space_at given h s)) (range_with_len 0 n)) rest.count

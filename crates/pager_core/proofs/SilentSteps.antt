@@ -48,7 +48,8 @@ SameWork-on first second = record {
 
 module _ (old mid new : Flight) (was here now : Kept) (passed : HasPassed old mid was here) where
   -- one step more, from a state in which the flight was ready
-  pub HasPassed-more : (st : SpaceState) → IsReady old was st → ((st : SpaceState) → IsReady mid here st → Passes mid new here now st) → HasPassed old new was now
+  pub HasPassed-more : (st : SpaceState) → IsReady old was st → ((st : SpaceState) → IsReady mid here st → Passes mid new here now st)
+      → HasPassed old new was now
   HasPassed-more st is passes =
       let one = passes st (passed.ready st is) in
       record {
@@ -62,7 +63,8 @@ module _ (old mid new : Flight) (was here now : Kept) (passed : HasPassed old mi
       }
 
   -- and then the entry
-  pub Makes-passed : (st : SpaceState) (before after : FrameState) (e : Entry) → Makes mid new here now st before after e → Makes old new was now st before after e
+  pub Makes-passed : (st : SpaceState) (before after : FrameState) (e : Entry) → Makes mid new here now st before after e
+      → Makes old new was now st before after e
   Makes-passed st before after e makes =
       let entry = makes.entry in
       let space = makes.space in
@@ -97,13 +99,15 @@ AreAgreed-passed old mid was here frames passed agreed =
     }
 
 -- and the processor owns what it did
-pub OwnsBy-passed : (old mid : Flight) (was here : Kept) (frames : FrameState) → HasPassed old mid was here → OwnsBy frames old.processor (row_of old).progress.doing → OwnsBy frames mid.processor (row_of mid).progress.doing
+pub OwnsBy-passed : (old mid : Flight) (was here : Kept) (frames : FrameState) → HasPassed old mid was here
+    → OwnsBy frames old.processor (row_of old).progress.doing → OwnsBy frames mid.processor (row_of mid).progress.doing
 OwnsBy-passed old mid was here frames passed owns =
     subst (λ c. OwnsBy frames c (row_of mid).progress.doing) (sym passed.same_work.processor)
     (subst (λ (p : Progress). OwnsBy frames old.processor p.doing) (sym passed.same_progress) owns)
 
 -- and the frames know it
-pub known-passed : (old mid : Flight) (was here : Kept) (frames : FrameState) → HasPassed old mid was here → old.processor < length frames.held → mid.processor < length frames.held
+pub known-passed : (old mid : Flight) (was here : Kept) (frames : FrameState) → HasPassed old mid was here
+    → old.processor < length frames.held → mid.processor < length frames.held
 known-passed old mid was here frames passed known = subst (λ c. c < length frames.held) (sym passed.same_work.processor) known
 
 -- and it has an image in the space

@@ -33,7 +33,8 @@ pub record Turns (run : Running) (spaces : List Kept) (pool after : FrameState) 
   pub unkept : IsKeptByOther run.flights c s → ⊥
   pub makes : Makes f f' was now (space_at run.given (entries_in run.history) s) pool after e
 
-module _ (run : Running) (spaces : List Kept) (pool after : FrameState) (capacity c s : ℕ) (f f' : Flight) (was now : Kept) (e : Entry) (machine : IsMachine run spaces pool capacity) (turns : Turns run spaces pool after c s f f' was now e) where
+module _ (run : Running) (spaces : List Kept) (pool after : FrameState) (capacity c s : ℕ) (f f' : Flight) (was now : Kept) (e : Entry)
+    (machine : IsMachine run spaces pool capacity) (turns : Turns run spaces pool after c s f f' was now e) where
   h : List Entry
   h = entries_in run.history
 
@@ -53,7 +54,7 @@ module _ (run : Running) (spaces : List Kept) (pool after : FrameState) (capacit
   left = turns.makes.space.left
 
   -- what the flight keeps is the space that it stepped under
-  keeps_here : (t : ℕ) → (row_of f').keeps ≡ Some t → t ≡ s
+  pub keeps_here : (t : ℕ) → (row_of f').keeps ≡ Some t → t ≡ s
   keeps_here t keeps = (subst (λ x. LeftBy x f' now (after_named was.number (space_at run.given (entries_in run.history) s) e)) keeps left).0 ∙ now_number
 
   pub fits : Fits f'
@@ -101,7 +102,8 @@ module _ (run : Running) (spaces : List Kept) (pool after : FrameState) (capacit
     | inr elsewhere ↦ machine.space_is t kept (at_elsewhere t kept elsewhere at)
   ]
 
-  own_ready : (t : ℕ) (kept : Kept) → (row_of f').keeps ≡ Some t → slice_get (set spaces s now) t ≡ Some kept → IsReady f' kept (space_at run.given (entries_in run.history ++ e ∷ []) t)
+  own_ready : (t : ℕ) (kept : Kept) → (row_of f').keeps ≡ Some t → slice_get (set spaces s now) t ≡ Some kept
+      → IsReady f' kept (space_at run.given (entries_in run.history ++ e ∷ []) t)
   own_ready t kept keeps at =
       let here = keeps_here t keeps in
       let ready = (subst (λ x. LeftBy x f' now (after_named was.number (space_at run.given (entries_in run.history) s) e)) keeps left).1 in
@@ -109,7 +111,8 @@ module _ (run : Running) (spaces : List Kept) (pool after : FrameState) (capacit
       (subst (λ k. IsReady f' k (space_at run.given (entries_in run.history ++ e ∷ []) s)) (space_here kept (subst (λ k. slice_get (set spaces s now) k ≡ Some kept) here at))
       (subst (IsReady f' now) state_here ready))
 
-  others_ready : (t d : ℕ) (g : Flight) (kept : Kept) → d ≢ c → flight_at run.flights d ≡ Some g → (row_of g).keeps ≡ Some t → slice_get (set spaces s now) t ≡ Some kept → IsReady g kept (space_at run.given (entries_in run.history ++ e ∷ []) t)
+  others_ready : (t d : ℕ) (g : Flight) (kept : Kept) → d ≢ c → flight_at run.flights d ≡ Some g → (row_of g).keeps ≡ Some t
+      → slice_get (set spaces s now) t ≡ Some kept → IsReady g kept (space_at run.given (entries_in run.history ++ e ∷ []) t)
   others_ready t d g kept other flies keeps at =
       let elsewhere = keeps_other t d g other flies keeps in
       subst (IsReady g kept) (sym (state_elsewhere t elsewhere)) ((machine.flights d g flies).keeps t kept keeps (at_elsewhere t kept elsewhere at))
@@ -119,7 +122,9 @@ module _ (run : Running) (spaces : List Kept) (pool after : FrameState) (capacit
   rest_here None keeps other = subst (IsAtRest now) state_here (subst (λ x. LeftBy x f' now (after_named was.number (space_at run.given (entries_in run.history) s) e)) keeps left).1
   rest_here (Some t) keeps other = absurd (other (ap Some (keeps_here t keeps)))
 
-  rest : (t : ℕ) (kept : Kept) → slice_get (set spaces s now) t ≡ Some kept → (row_of f').keeps ≢ Some t → ((d : ℕ) (g : Flight) → d ≢ c → flight_at run.flights d ≡ Some g → (row_of g).keeps ≢ Some t) → IsAtRest kept (space_at run.given (entries_in run.history ++ e ∷ []) t)
+  rest : (t : ℕ) (kept : Kept) → slice_get (set spaces s now) t ≡ Some kept → (row_of f').keeps ≢ Some t
+      → ((d : ℕ) (g : Flight) → d ≢ c → flight_at run.flights d ≡ Some g → (row_of g).keeps ≢ Some t)
+      → IsAtRest kept (space_at run.given (entries_in run.history ++ e ∷ []) t)
   rest t kept at own none = elim (cases_eq t s) [
     | inl here ↦
         subst (λ k. IsAtRest kept (space_at run.given (entries_in run.history ++ e ∷ []) k)) (sym here)
@@ -137,13 +142,12 @@ module _ (run : Running) (spaces : List Kept) (pool after : FrameState) (capacit
         ]))
   ]
 
-  pub Goes-in : (number : ℕ) (o : Option Flight) → Lands (mark_of run.given c) (jobs_at run.jobs c) f' o → number ≡ length run.history → Goes run spaces (set spaces s now) pool after c number f f' e o
-  Goes-in number o lands counted = record {
+  pub Goes-in : (o : Option Flight) → Lands (mark_of run.given c) (jobs_at run.jobs c) f' o → Goes run spaces (set spaces s now) pool after c f f' e o
+  Goes-in o lands = record {
     flies = turns.flies;
     entry = turns.makes.entry;
     fits = fits;
     lands = lands;
-    counted = counted;
     space_in = space_known run.given (entries_in run.history) f f' was now pool after e s turns.makes was_number (let in_space = within in let all = machine.told in omega (arith, in_space, all));
     space_allows = space_allows run.given (entries_in run.history) f f' was now pool after e s turns.makes was_number;
     count = length-set spaces s now;

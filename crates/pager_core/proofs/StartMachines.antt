@@ -2,7 +2,7 @@
 use Rattle.std.proofs.Common.{◌≡◌, ℕ, zero, suc, ◌+◌, ◌*◌, ◌<◌, ◌≤◌, Bool, true, false, cond, ◌==◌, not, List, [], ◌∷◌, ◌++◌, length, map, filter, replicate, length-append, get_or, slice_get, Option, Some, None, option_map, refl, ap, sym, subst, ◌∙◌, inl, inr, arith, take, ◌⊎◌}
 use Rattle.std.specs.List.{range_with_len, sum_by, enumerate_from}
 use Rattle.std.proofs.lemmas.Bool.{cases_eq, cases_lt, eq-eqb, ne_eqb}
-use Rattle.std.proofs.lemmas.List.{map_push, get_or_past, length-take-le}
+use Rattle.std.proofs.lemmas.List.{get_or_past, length-take-le}
 use Rattle.std.proofs.lemmas.List.FromFn.{length-map-range_with_len, get_or-map-range_with_len}
 use Rattle.std.proofs.lemmas.List.Filters.{length-filter_both}
 use Rattle.std.proofs.lemmas.List.Folds.{sum_by-replicate}
@@ -33,13 +33,8 @@ use Rattle.pager_core.specs.Machines.{CanDo, CanFly, all_left, entries_of_trace,
 use Rattle.pager_core.specs.Rows.{row_of, is_between}
 use Rattle.pager_core.specs.RunParts.{AreNewSpaces}
 use Rattle.pager_core.specs.Running.{Running, AreOfMark, FitsMark, calls_among, entries_of_job, flight_for, left_behind, jobs_at, flight_at, flight_of, first_flights, progress_by_flight, entries_left, left_at, IsLawful}
-use Rattle.pager_core.proofs.Lists.{sum_by-same, map_range-push}
+use Rattle.pager_core.proofs.Lists.{sum_by-same}
 use Rattle.pager_core.proofs.Lands.{Fits-for, Starts, Starts-for, own-for, under-for}
-
--- What is made one by one.
-
-pub jobs-push : {V : Type 0} (items : V → List Job) (vs vs' : List V) (v : V) (plan : Plan) (n : ℕ) → vs' ≡ vs ++ v ∷ [] → map items vs ≡ map (λ c. jobs_of c plan) (range_with_len 0 n) → items v ≡ jobs_of n plan → map items vs' ≡ map (λ c. jobs_of c plan) (range_with_len 0 (n + 1))
-jobs-push items vs vs' v plan n more are is = map_range-push (λ c. jobs_of c plan) (map items vs) (map items vs') (items v) n (ap (map items) more ∙ map_push items vs v) are is
 
 -- The calls of a processor.
 
@@ -53,13 +48,17 @@ call_on spaces (Store s address word) is = is.0
 call_on spaces (Sync s page) is = is.0
 call_on spaces (Evict s page) is = is.0
 
-first_call : (Q : Call → Type 0) (c : ℕ) (line : Line) (lines : List Line) (call : Call) → Q line.call → ((n : ℕ) → slice_get (calls_of c lines) n ≡ Some call → Q call) → (b : Bool) (n : ℕ) → slice_get (map (λ (l : Line). l.call) (cond b (line ∷ filter (λ (l : Line). l.processor == c) lines) (filter (λ (l : Line). l.processor == c) lines))) n ≡ Some call → Q call
+first_call : (Q : Call → Type 0) (c : ℕ) (line : Line) (lines : List Line) (call : Call) → Q line.call
+    → ((n : ℕ) → slice_get (calls_of c lines) n ≡ Some call → Q call) → (b : Bool) (n : ℕ)
+    → slice_get (map (λ (l : Line). l.call) (cond b (line ∷ filter (λ (l : Line). l.processor == c) lines) (filter (λ (l : Line). l.processor == c) lines))) n ≡ Some call
+    → Q call
 first_call Q c line lines call own rest false n at = rest n at
 first_call Q c line lines call own rest true zero at = subst Q (let e : Some line.call ≡ Some call = at in cc) own
 first_call Q c line lines call own rest true (suc n) at = rest n at
 
 -- what each line's call is, each of theirs is
-pub call_of_line : (Q : Call → Type 0) (c : ℕ) (lines : List Line) → ((i : ℕ) (d : Line) → i < length lines → Q (get_or lines i d).call) → (n : ℕ) (call : Call) → slice_get (calls_of c lines) n ≡ Some call → Q call
+pub call_of_line : (Q : Call → Type 0) (c : ℕ) (lines : List Line) → ((i : ℕ) (d : Line) → i < length lines → Q (get_or lines i d).call)
+    → (n : ℕ) (call : Call) → slice_get (calls_of c lines) n ≡ Some call → Q call
 call_of_line Q c [] all n call at = cc
 call_of_line Q c (line ∷ lines) all n call at =
     first_call Q c line lines call (all 0 line (omega arith)) (λ k there. call_of_line Q c lines (λ i d below. all (suc i) d (omega (arith, below))) k call there) (line.processor == c) n at
@@ -112,7 +111,8 @@ together-few (line ∷ lines) a n = (let more = together-more line lines a n in 
 -- The jobs of a processor: a call of its lines each, or a turn of the daemon's.
 
 -- a processor that has a call is one of those that the lines name
-calls_within : (most c : ℕ) (lines : List Line) → ((i : ℕ) (d : Line) → i < length lines → (get_or lines i d).processor < most) → (n : ℕ) (call : Call) → slice_get (calls_of c lines) n ≡ Some call → c < most
+pub calls_within : (most c : ℕ) (lines : List Line) → ((i : ℕ) (d : Line) → i < length lines → (get_or lines i d).processor < most)
+    → (n : ℕ) (call : Call) → slice_get (calls_of c lines) n ≡ Some call → c < most
 calls_within most c [] all n call at = cc
 calls_within most c (line ∷ lines) all n call at = elim (cases_eq line.processor c) [
   | inl is ↦ subst (λ k. k < most) is (all 0 line (omega arith))
@@ -120,7 +120,8 @@ calls_within most c (line ∷ lines) all n call at = elim (cases_eq line.process
       (sym (ap (λ b. slice_get (map (λ (l : Line). l.call) (cond b (line ∷ filter (λ (l : Line). l.processor == c) lines) (filter (λ (l : Line). l.processor == c) lines))) n) (ne_eqb line.processor c other)) ∙ at)
 ]
 
-at_jobs : (calls : List Call) (turns : List Job) (n : ℕ) (job : Job) → slice_get (map MakesCall calls ++ turns) n ≡ Some job → ((call : Call) × (job ≡ MakesCall call) × (slice_get calls n ≡ Some call)) ⊎ ((m : ℕ) × (slice_get turns m ≡ Some job))
+at_jobs : (calls : List Call) (turns : List Job) (n : ℕ) (job : Job) → slice_get (map MakesCall calls ++ turns) n ≡ Some job
+    → ((call : Call) × (job ≡ MakesCall call) × (slice_get calls n ≡ Some call)) ⊎ ((m : ℕ) × (slice_get turns m ≡ Some job))
 at_jobs [] turns n job at = inr (n, at)
 at_jobs (k ∷ calls) turns zero job at = inl (k, sym (same_Some (MakesCall k) job at), refl)
 at_jobs (k ∷ calls) turns (suc n) job at = at_jobs calls turns n job at
@@ -134,11 +135,13 @@ at_turns (suc n) turn (suc m) job at = at_turns n turn m job at
 abbrev IsDaemonTurn : Plan → ℕ → Job → Type 0
 IsDaemonTurn plan c job = (d : Daemon) × (plan.daemon ≡ Some d) × (c ≡ plan.processors) × (job ≡ Turn d.low)
 
-turn_of : (plan : Plan) (c : ℕ) (job : Job) (o : Option Daemon) → plan.daemon ≡ o → c ≡ plan.processors → (m : ℕ) → slice_get (turns_of o) m ≡ Some job → IsDaemonTurn plan c job
+turn_of : (plan : Plan) (c : ℕ) (job : Job) (o : Option Daemon) → plan.daemon ≡ o → c ≡ plan.processors → (m : ℕ)
+    → slice_get (turns_of o) m ≡ Some job → IsDaemonTurn plan c job
 turn_of plan c job None is here m at = cc
 turn_of plan c job (Some d) is here m at = (d, is, here, at_turns d.turns (Turn d.low) m job at)
 
-job_cases : (plan : Plan) (c n : ℕ) (job : Job) → slice_get (jobs_of c plan) n ≡ Some job → ((call : Call) × (job ≡ MakesCall call) × (slice_get (calls_of c plan.calls) n ≡ Some call)) ⊎ IsDaemonTurn plan c job
+job_cases : (plan : Plan) (c n : ℕ) (job : Job) → slice_get (jobs_of c plan) n ≡ Some job
+    → ((call : Call) × (job ≡ MakesCall call) × (slice_get (calls_of c plan.calls) n ≡ Some call)) ⊎ IsDaemonTurn plan c job
 job_cases plan c n job at = elim (at_jobs (calls_of c plan.calls) (cond (c == plan.processors) (turns_of plan.daemon) []) n job at) [
   | inl call ↦ inl call
   | inr turn ↦ elim (cases_eq c plan.processors) [
@@ -183,7 +186,8 @@ can_do plan has spaces c n job count at = elim (job_cases plan c n job at) [
 
 -- How many entries they make at most.
 
-entries_of_calls : (calls : List Call) (turns : List Job) → sum_by entries_of_job (map MakesCall calls ++ turns) ≡ 8 * length calls + sum_by entries_of_job turns
+entries_of_calls : (calls : List Call) (turns : List Job)
+    → sum_by entries_of_job (map MakesCall calls ++ turns) ≡ 8 * length calls + sum_by entries_of_job turns
 entries_of_calls [] turns = (let e : sum_by entries_of_job turns ≡ 8 * 0 + sum_by entries_of_job turns = omega arith in e)
 entries_of_calls (call ∷ calls) turns =
     let rest = entries_of_calls calls turns in
@@ -228,7 +232,8 @@ once plan a (suc n) =
           omega (arith, all, first, rest)
     ]
 
-sum_by-both : (plan : Plan) (f : ℕ → ℕ) (a n : ℕ) → ((k : ℕ) → f k ≤ 8 * length (calls_of k plan.calls) + turns_at plan k) → sum_by f (range_with_len a n) ≤ 8 * together plan.calls a n + sum_by (turns_at plan) (range_with_len a n)
+sum_by-both : (plan : Plan) (f : ℕ → ℕ) (a n : ℕ) → ((k : ℕ) → f k ≤ 8 * length (calls_of k plan.calls) + turns_at plan k)
+    → sum_by f (range_with_len a n) ≤ 8 * together plan.calls a n + sum_by (turns_at plan) (range_with_len a n)
 sum_by-both plan f a zero at_most = omega arith
 sum_by-both plan f a (suc n) at_most =
     let left = sum_by-cons f a (range_with_len (a + 1) n) in
@@ -238,7 +243,8 @@ sum_by-both plan f a (suc n) at_most =
     let rest = sum_by-both plan f (a + 1) n at_most in
     omega (arith, left, calls, turns, first, rest)
 
-pub entries_in_all : (plan : Plan) (f : ℕ → ℕ) (n : ℕ) → ((k : ℕ) → f k ≤ 8 * length (calls_of k plan.calls) + turns_at plan k) → sum_by f (range_with_len 0 n) ≤ entries_of_trace plan
+pub entries_in_all : (plan : Plan) (f : ℕ → ℕ) (n : ℕ) → ((k : ℕ) → f k ≤ 8 * length (calls_of k plan.calls) + turns_at plan k)
+    → sum_by f (range_with_len 0 n) ≤ entries_of_trace plan
 entries_in_all plan f n at_most =
     let both = sum_by-both plan f 0 n at_most in
     let few = together-few plan.calls 0 n in
@@ -299,11 +305,14 @@ length-used : {X : Type 0} (f : Stored → X) (n : ℕ) (stores : List Stored) �
 length-used f n stores enough = length-map (take n stores) f ∙ length-take-le n stores enough
 
 -- a setting has as many spaces as its trace
-pub length-told : (plan : Plan) (stores : List Stored) → plan.spaces ≤ length stores → (given : Given) → given ≡ setting_over plan stores → length given.told ≡ plan.spaces
+pub length-told : (plan : Plan) (stores : List Stored) → plan.spaces ≤ length stores → (given : Given) → given ≡ setting_over plan stores
+    → length given.told ≡ plan.spaces
 length-told plan stores enough given is = ap (λ (g : Given). length g.told) is ∙ length-used (λ (s : Stored). s.told) plan.spaces stores enough
 
 -- A trace over stores, of which the spaces use the first.
-module _ (plan : Plan) (trace : HasText plan) (stores : List Stored) (enough : plan.spaces ≤ length stores) (unused : List Stored) (jobs : List (List Job)) (are : jobs ≡ map (λ c. jobs_of c plan) (range_with_len 0 (actors plan))) (spaces : List Kept) (new : AreNewSpaces (setting_over plan stores) spaces) where
+module _ (plan : Plan) (trace : HasText plan) (stores : List Stored) (enough : plan.spaces ≤ length stores) (unused : List Stored)
+    (jobs : List (List Job)) (are : jobs ≡ map (λ c. jobs_of c plan) (range_with_len 0 (actors plan))) (spaces : List Kept)
+    (new : AreNewSpaces (setting_over plan stores) spaces) where
   abbrev start : Running
   start = record { given = setting_over plan stores; jobs = jobs; flights = first_flights jobs; history = []; unused = unused }
 
@@ -320,7 +329,8 @@ module _ (plan : Plan) (trace : HasText plan) (stores : List Stored) (enough : p
   jobs_past c past = get_or_past jobs c [] (let all = processors in omega (arith, all, past))
 
   -- what holds of each of a processor's jobs
-  by_jobs : (P : ℕ → Job → Type 0) → ((c n : ℕ) (job : Job) → slice_get (jobs_of c plan) n ≡ Some job → P c job) → (c n : ℕ) (job : Job) → slice_get (jobs_at jobs c) n ≡ Some job → P c job
+  by_jobs : (P : ℕ → Job → Type 0) → ((c n : ℕ) (job : Job) → slice_get (jobs_of c plan) n ≡ Some job → P c job) → (c n : ℕ) (job : Job)
+      → slice_get (jobs_at jobs c) n ≡ Some job → P c job
   by_jobs P holds c n job at = elim (cases_lt c (actors plan)) [
     | inl below ↦ holds c n job (sym (ap (λ l. slice_get l n) (jobs_in c below)) ∙ at)
     | inr past ↦ (let e : None ≡ Some job = sym (ap (λ l. slice_get l n) (jobs_past c past)) ∙ at in cc)
@@ -396,7 +406,8 @@ module _ (plan : Plan) (trace : HasText plan) (stores : List Stored) (enough : p
   all_few : all_left start ≤ entries_of_trace plan
   all_few = entries_in_all plan (left_at start) (length jobs) left_few
 
-  progress_first : (c : ℕ) → c < length jobs → at_rest (mark_of start.given c) 0 ≡ progress_by_flight (mark_of start.given c) (jobs_at jobs c) (flight_at (first_flights jobs) c)
+  progress_first : (c : ℕ) → c < length jobs
+      → at_rest (mark_of start.given c) 0 ≡ progress_by_flight (mark_of start.given c) (jobs_at jobs c) (flight_at (first_flights jobs) c)
   progress_first c below =
       sym (first_progress c (mark_of start.given c) (jobs_at jobs c) (kinds c)) ∙ ap (progress_by_flight (mark_of start.given c) (jobs_at jobs c)) (sym (first_flight c below))
 
@@ -434,7 +445,11 @@ module _ (plan : Plan) (trace : HasText plan) (stores : List Stored) (enough : p
       }
 
 -- whatever its parts are called
-pub IsMachine-started : (plan : Plan) → HasText plan → (stores : List Stored) → plan.spaces ≤ length stores → (run : Running) (spaces : List Kept) (pool : FrameState) (capacity : ℕ) → run.given ≡ setting_over plan stores → run.jobs ≡ map (λ c. jobs_of c plan) (range_with_len 0 (actors plan)) → run.flights ≡ first_flights run.jobs → run.history ≡ [] → AreNewSpaces run.given spaces → pool ≡ start_frames plan.sizes plan.frames (actors plan) → entries_of_trace plan ≤ capacity → IsMachine run spaces pool capacity
+pub IsMachine-started : (plan : Plan) → HasText plan → (stores : List Stored) → plan.spaces ≤ length stores
+    → (run : Running) (spaces : List Kept) (pool : FrameState) (capacity : ℕ) → run.given ≡ setting_over plan stores
+    → run.jobs ≡ map (λ c. jobs_of c plan) (range_with_len 0 (actors plan)) → run.flights ≡ first_flights run.jobs → run.history ≡ []
+    → AreNewSpaces run.given spaces → pool ≡ start_frames plan.sizes plan.frames (actors plan) → entries_of_trace plan ≤ capacity
+    → IsMachine run spaces pool capacity
 IsMachine-started plan trace stores enough run spaces pool capacity given jobs same_flights none new same_pool room =
     let new' = subst (λ (g : Given). AreNewSpaces g spaces) given new in
     let same : run ≡ start plan trace stores enough run.unused run.jobs jobs spaces new' =

@@ -30,7 +30,8 @@ map-reverse f [] = refl
 map-reverse f (x ∷ xs) = ap (map f) (reverse_onto xs x []) ∙ map_push f (reverse xs) x ∙ ap (λ l. l ++ f x ∷ []) (map-reverse f xs) ∙ sym (reverse_onto (map f xs) (f x) [])
 
 -- stores that stand behind others, last first, come before them in their order
-pub in_order : {P : Type 0} (seen : P → Stored) (others all : List P) (own : List Stored) → map seen all ≡ map seen others ++ reverse own → map seen (reverse all) ≡ own ++ map seen (reverse others)
+pub in_order : {P : Type 0} (seen : P → Stored) (others all : List P) (own : List Stored) → map seen all ≡ map seen others ++ reverse own
+    → map seen (reverse all) ≡ own ++ map seen (reverse others)
 in_order seen others all own behind =
     map-reverse seen all
     ∙ ap reverse behind
@@ -39,10 +40,12 @@ in_order seen others all own behind =
     ∙ ap (λ l. own ++ l) (sym (map-reverse seen others))
 
 -- so they do once they are turned round, and there are as many
-pub given_back : {P : Type 0} (seen : P → Stored) (others all turned : List P) (own : List Stored) → turned ≡ reverse all → map seen all ≡ map seen others ++ reverse own → map seen turned ≡ own ++ map seen (reverse others)
+pub given_back : {P : Type 0} (seen : P → Stored) (others all turned : List P) (own : List Stored) → turned ≡ reverse all
+    → map seen all ≡ map seen others ++ reverse own → map seen turned ≡ own ++ map seen (reverse others)
 given_back seen others all turned own is behind = ap (map seen) is ∙ in_order seen others all own behind
 
-pub length-given_back : {P : Type 0} (seen : P → Stored) (others turned : List P) (spaces : List Kept) → map seen turned ≡ map (λ (k : Kept). k.store) spaces ++ map seen (reverse others) → length turned ≡ length spaces + length others
+pub length-given_back : {P : Type 0} (seen : P → Stored) (others turned : List P) (spaces : List Kept)
+    → map seen turned ≡ map (λ (k : Kept). k.store) spaces ++ map seen (reverse others) → length turned ≡ length spaces + length others
 length-given_back seen others turned spaces are =
     let all = ap length are in
     let both = length-append (map (λ (k : Kept). k.store) spaces) (map seen (reverse others)) in
@@ -53,7 +56,9 @@ length-given_back seen others turned spaces are =
     omega (arith, all, both, own, left, same, long)
 
 -- the last of the stores goes to a space that comes behind the others
-pub in_order-more : {P : Type 0} (seen : P → Stored) (all left fewer : List P) (store : P) (spaces more : List Kept) (space : Kept) → map seen all ≡ map seen left ++ reverse (map (λ (k : Kept). k.store) spaces) → left ≡ fewer ++ store ∷ [] → more ≡ spaces ++ space ∷ [] → space.store ≡ seen store → map seen all ≡ map seen fewer ++ reverse (map (λ (k : Kept). k.store) more)
+pub in_order-more : {P : Type 0} (seen : P → Stored) (all left fewer : List P) (store : P) (spaces more : List Kept) (space : Kept)
+    → map seen all ≡ map seen left ++ reverse (map (λ (k : Kept). k.store) spaces) → left ≡ fewer ++ store ∷ []
+    → more ≡ spaces ++ space ∷ [] → space.store ≡ seen store → map seen all ≡ map seen fewer ++ reverse (map (λ (k : Kept). k.store) more)
 in_order-more seen all left fewer store spaces more space behind last pushed is =
     let own = reverse (map (λ (k : Kept). k.store) spaces) in
     let turned : reverse (map (λ (k : Kept). k.store) more) ≡ seen store ∷ own =
@@ -66,7 +71,8 @@ pub turned_back : {P : Type 0} (seen : P → Stored) (xs ys : List P) → ys ≡
 turned_back seen xs ys turned = ap (λ l. map seen (reverse l)) turned ∙ ap (map seen) (reverse-reverse xs)
 
 -- where all but some are left, there was room for those
-pub as_long : {P : Type 0} (seen : P → Stored) (old new : List P) (n : ℕ) → map seen (reverse new) ≡ drop n (map seen (reverse old)) → n ≤ length old → length new + n ≡ length old
+pub as_long : {P : Type 0} (seen : P → Stored) (old new : List P) (n : ℕ) → map seen (reverse new) ≡ drop n (map seen (reverse old))
+    → n ≤ length old → length new + n ≡ length old
 as_long seen old new n left enough =
     let same = ap length left in
     let before = length-map (reverse old) seen in
@@ -83,13 +89,15 @@ slice_get-take (suc n) (x ∷ xs) zero below = refl
 slice_get-take (suc n) (x ∷ xs) (suc i) below = slice_get-take n xs i (omega (arith, below))
 
 -- where the first of a list are those of another, what holds of those there holds of its first
-of_first : {X Y : Type 0} (f : X → Y) (xs : List X) (ys : List Y) (i : ℕ) (P : Y → Type 0) → i < length xs → ((x : X) → slice_get xs i ≡ Some x → P (f x)) → IsSomeAnd (slice_get (map f xs ++ ys) i) P
+of_first : {X Y : Type 0} (f : X → Y) (xs : List X) (ys : List Y) (i : ℕ) (P : Y → Type 0) → i < length xs
+    → ((x : X) → slice_get xs i ≡ Some x → P (f x)) → IsSomeAnd (slice_get (map f xs ++ ys) i) P
 of_first f [] ys i P below all = absurd (omega (arith, below))
 of_first f (x ∷ xs) ys zero P below all = all x refl
 of_first f (x ∷ xs) ys (suc i) P below all = of_first f xs ys i P (omega (arith, below)) all
 
 -- the stores that no space uses are the last
-pub left_over : (spaces : List Kept) (others all : List Stored) (n : ℕ) → all ≡ map (λ (k : Kept). k.store) spaces ++ others → length spaces ≡ n → drop n all ≡ others
+pub left_over : (spaces : List Kept) (others all : List Stored) (n : ℕ) → all ≡ map (λ (k : Kept). k.store) spaces ++ others
+    → length spaces ≡ n → drop n all ≡ others
 left_over spaces others all n are count =
     ap (drop n) are
     ∙ ap (λ m. drop m (map (λ (k : Kept). k.store) spaces ++ others)) (sym (length-map spaces (λ (k : Kept). k.store) ∙ count))
@@ -97,7 +105,8 @@ left_over spaces others all n are count =
 
 -- What is read off the stores one by one.
 
-pub read_more : {X Y : Type 0} (f : X → Y) (xs xs' : List X) (x : X) (ys ys' : List Y) (y : Y) → xs' ≡ xs ++ x ∷ [] → ys' ≡ ys ++ y ∷ [] → ys ≡ map f xs → y ≡ f x → ys' ≡ map f xs'
+pub read_more : {X Y : Type 0} (f : X → Y) (xs xs' : List X) (x : X) (ys ys' : List Y) (y : Y) → xs' ≡ xs ++ x ∷ [] → ys' ≡ ys ++ y ∷ []
+    → ys ≡ map f xs → y ≡ f x → ys' ≡ map f xs'
 read_more f xs xs' x ys ys' y more read are is =
     read ∙ ap (λ l. l ++ y ∷ []) are ∙ ap (λ z. map f xs ++ z ∷ []) is ∙ sym (map_push f xs x) ∙ sym (ap (map f) more)
 
@@ -125,7 +134,10 @@ read_at : {X Y : Type 0} (f : X → Y) (d : Y) (xs : List X) (i : ℕ) (x : X) �
 read_at f d xs i x at = get_or_from_slice_get (map f xs) i (f x) d (slice_get-map f xs i ∙ ap (option_map f) at)
 
 -- rooms for the stores that the setting is over
-pub AreRoomsOver-made : (frames : ℕ) (z : SizeSet) (marks : List ℕ) (stores : List Stored) (given : Given) (rooms : List Capacity) (n processors : ℕ) → given ≡ given_over frames z marks stores → n ≡ length stores → processors ≡ length marks → rooms ≡ replicate n (record { frames = frames; processors = processors; sizes = z }) → Each IsZeroIfTold stores → AreRoomsOver given stores rooms
+pub AreRoomsOver-made : (frames : ℕ) (z : SizeSet) (marks : List ℕ) (stores : List Stored) (given : Given) (rooms : List Capacity) (n processors : ℕ)
+    → given ≡ given_over frames z marks stores → n ≡ length stores → processors ≡ length marks
+    → rooms ≡ replicate n (record { frames = frames; processors = processors; sizes = z }) → Each IsZeroIfTold stores
+    → AreRoomsOver given stores rooms
 AreRoomsOver-made frames z marks stores given rooms n processors is count many are zeros =
     let told_count = length-map stores (λ (s : Stored). s.told) in
     subst (λ (g : Given). AreRoomsOver g stores rooms) (sym is) (record {
@@ -135,7 +147,8 @@ AreRoomsOver-made frames z marks stores given rooms n processors is count many a
     })
 
 -- The start: each space is in one of the rooms and over the store of its number, and what the setting says of the store is so.
-pub are_new : (given : Given) (rooms : List Capacity) (spaces : List Kept) (others all : List Stored) → all ≡ map (λ (k : Kept). k.store) spaces ++ others → length spaces ≡ length rooms
+pub are_new : (given : Given) (rooms : List Capacity) (spaces : List Kept) (others all : List Stored)
+    → all ≡ map (λ (k : Kept). k.store) spaces ++ others → length spaces ≡ length rooms
     → ((room : Capacity) → All (λ r. r ≡ room) rooms → AreNew room spaces)
     → AreRoomsOver given (take (length rooms) all) rooms → AreNewSpaces given spaces
 are_new given rooms spaces others all are count each over =
@@ -157,7 +170,9 @@ pub record AreRoomsTurned {P : Type 0} (seen : P → Stored) (turned : List P) (
   pub enough : length rooms ≤ length turned
   pub over : AreRoomsOver given (take (length rooms) (map seen (reverse turned))) rooms
 
-pub turned_rooms : {P : Type 0} (seen : P → Stored) (stores turned : List P) (given : Given) (rooms : List Capacity) (n : ℕ) → turned ≡ reverse stores → n ≤ length stores → length given.told ≡ n → AreRoomsOver given (take n (map seen stores)) rooms → AreRoomsTurned seen turned given rooms n
+pub turned_rooms : {P : Type 0} (seen : P → Stored) (stores turned : List P) (given : Given) (rooms : List Capacity) (n : ℕ)
+    → turned ≡ reverse stores → n ≤ length stores → length given.told ≡ n → AreRoomsOver given (take n (map seen stores)) rooms
+    → AreRoomsTurned seen turned given rooms n
 turned_rooms seen stores turned given rooms n round within told over =
     let many : length rooms ≡ n = ap length over.rooms_are ∙ length-replicate (length given.told) (record { frames = given.frames; processors = length given.marks; sizes = given.sizes }) ∙ told in
     let long : length turned ≡ length stores = ap length round ∙ length-reverse stores in
@@ -167,7 +182,9 @@ turned_rooms seen stores turned given rooms n round within told over =
       over = subst (λ l. AreRoomsOver given l rooms) (ap (take n) (sym (turned_back seen stores turned round)) ∙ ap (λ m. take m (map seen (reverse turned))) (sym many)) over;
     }
 
-pub AreNew-push : (room : Capacity) (spaces more : List Kept) (space : Kept) → AreNew room spaces → more ≡ spaces ++ space ∷ [] → ((told : Bool) → (told ≡ true → TellsZero space.store) → IsNew room.sizes room.frames room.processors (length spaces) told space.store.faults space) → AreNew room more
+pub AreNew-push : (room : Capacity) (spaces more : List Kept) (space : Kept) → AreNew room spaces → more ≡ spaces ++ space ∷ []
+    → ((told : Bool) → (told ≡ true → TellsZero space.store) → IsNew room.sizes room.frames room.processors (length spaces) told space.store.faults space)
+    → AreNew room more
 AreNew-push room spaces more space are pushed new s kept told at zeros =
     elim (slice_get-push spaces space s kept (subst (λ l. slice_get l s ≡ Some kept) pushed at)) [
       | inl before ↦ are s kept told before zeros

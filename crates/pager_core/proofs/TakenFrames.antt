@@ -30,11 +30,14 @@ place_is_used : (st : FrameState) (space page frame : ℕ) → frame_of st space
 place_is_used st space page frame is = sym (is_used-layout_of st frame) ∙ (frame_in-found (layout_of st) space page frame is).used
 
 -- so where space and frames agree no page has an unused frame
-pub unused_elsewhere : (kept : Kept) (st : FrameState) (frame : ℕ) → AreAgreed kept st → is_some (used_at st frame) ≡ false → (p : ℕ) → frame_at kept p ≡ Some frame → ⊥
+pub unused_elsewhere : (kept : Kept) (st : FrameState) (frame : ℕ) → AreAgreed kept st → is_some (used_at st frame) ≡ false → (p : ℕ)
+    → frame_at kept p ≡ Some frame → ⊥
 unused_elsewhere kept st frame agree unused p is = false≢true (sym unused ∙ place_is_used st kept.number p frame (sym (agree.pages p) ∙ is))
 
 -- once its page has a frame, the access is read in next
-pub IsLeft-placed : (f : Flight) (page frame : ℕ) (want : Want) (was now : Kept) (st : SpaceState) → CanBegin (call_in f.purpose) → space_of_call (call_in f.purpose) ≡ was.number → WantsFrame (call_in f.purpose) was page want → Places was now page frame → StandsFor now st → st.next ≡ Only f.processor → IsLeft (in_phase f (Fill page frame)) now st
+pub IsLeft-placed : (f : Flight) (page frame : ℕ) (want : Want) (was now : Kept) (st : SpaceState) → CanBegin (call_in f.purpose)
+    → space_of_call (call_in f.purpose) ≡ was.number → WantsFrame (call_in f.purpose) was page want → Places was now page frame
+    → StandsFor now st → st.next ≡ Only f.processor → IsLeft (in_phase f (Fill page frame)) now st
 IsLeft-placed f page frame want was now st can on wants places stands next = record {
   fits = record { kind = refl; can = can; phase = tt };
   stands = stands;
@@ -85,16 +88,22 @@ module _ (f : Flight) (page : ℕ) (want : Want) (was now : Kept) (before : Fram
       }
 
 -- what a flight that wants a frame has: nothing
-pub HasNothing-wanting : (f : Flight) (page : ℕ) (want : Want) (before : FrameState) → f.phase ≡ Frame page want → OwnsBy before f.processor (row_of f).progress.doing → HasNothing before f.processor
+pub HasNothing-wanting : (f : Flight) (page : ℕ) (want : Want) (before : FrameState) → f.phase ≡ Frame page want
+    → OwnsBy before f.processor (row_of f).progress.doing → HasNothing before f.processor
 HasNothing-wanting f page want before phase owns =
     subst (λ p. OwnsBy before f.processor (row_of (with_phase f p)).progress.doing) phase owns
 
 -- and the page that it wants one for is of its call's own space
-pub own_wanting : (f : Flight) (page : ℕ) (want : Want) (kept : Kept) (st : SpaceState) → f.phase ≡ Frame page want → IsReady f kept st → space_of_call (call_in f.purpose) ≡ kept.number
+pub own_wanting : (f : Flight) (page : ℕ) (want : Want) (kept : Kept) (st : SpaceState) → f.phase ≡ Frame page want → IsReady f kept st
+    → space_of_call (call_in f.purpose) ≡ kept.number
 own_wanting f page want kept st phase =
     by_ready f (Frame page want) kept st refl phase (λ g to. space_of_call (call_in g.purpose) ≡ kept.number) (λ ready. same_Some _ _ ready.under)
 
-pub frame_taken : (f : Flight) (page own frame : ℕ) (want : Want) (was now : Kept) (before after : FrameState) (t : Taking) → f.phase ≡ Frame page want → own ≡ space_of_call (call_in f.purpose) → frame ≡ t.frame → AreAgreed was before → OwnsBy before f.processor (row_of f).progress.doing → take_frame before own page want ≡ Some t → after ≡ counted t.state → Places was now page t.frame → (st : SpaceState) → IsReady f was st → Makes f (with_phase f (Fill page frame)) was now st before after (take_entry f.processor own page frame want)
+pub frame_taken : (f : Flight) (page own frame : ℕ) (want : Want) (was now : Kept) (before after : FrameState) (t : Taking)
+    → f.phase ≡ Frame page want → own ≡ space_of_call (call_in f.purpose) → frame ≡ t.frame → AreAgreed was before
+    → OwnsBy before f.processor (row_of f).progress.doing → take_frame before own page want ≡ Some t → after ≡ counted t.state
+    → Places was now page t.frame → (st : SpaceState) → IsReady f was st
+    → Makes f (with_phase f (Fill page frame)) was now st before after (take_entry f.processor own page frame want)
 frame_taken f page own frame want was now before after t phase same numbered agree owns takes counts places st =
     subst (λ n. IsReady f was st → Makes f (with_phase f (Fill page n)) was now st before after (take_entry f.processor own page n want)) (sym numbered)
     (subst (λ u. IsReady f was st → Makes f (with_phase f (Fill page t.frame)) was now st before u (take_entry f.processor own page t.frame want)) (sym counts)

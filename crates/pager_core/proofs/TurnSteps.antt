@@ -21,7 +21,8 @@ use Rattle.pager_core.proofs.Purposes.{with_phase}
 abbrev pub turn : ℕ → ℕ → ℕ → ℕ → Phase → Flight
 turn c n mark evictions phase = record { processor = c; number = n; purpose = OfTurn mark evictions; phase = phase }
 
-pub turn-is : (f : Flight) (mark evictions : ℕ) (phase : Phase) → f.purpose ≡ OfTurn mark evictions → f.phase ≡ phase → f ≡ turn f.processor f.number mark evictions phase
+pub turn-is : (f : Flight) (mark evictions : ℕ) (phase : Phase) → f.purpose ≡ OfTurn mark evictions → f.phase ≡ phase
+    → f ≡ turn f.processor f.number mark evictions phase
 turn-is f mark evictions phase purpose is = λ i. record { processor = f.processor; number = f.number; purpose = purpose i; phase = is i }
 
 may_claim : (st : FrameState) (mark : ℕ) → 0 < mark → is_short st mark ≡ true → MayClaim st mark
@@ -35,7 +36,8 @@ of_turn-is (OfTurn mark evictions) is = refl
 abbrev pub claim_entry : ℕ → Victim → Entry
 claim_entry c v = record { processor = c; space = None; frames = true; what = Claim v.space v.page v.frame None }
 
-claims : (c n mark evictions : ℕ) (before : FrameState) (v : Victim) → Fits (turn c n mark evictions Look) → HasNothing before c → IsVictim before v.space v.page v.frame → is_short before mark ≡ true → evictions < mark
+claims : (c n mark evictions : ℕ) (before : FrameState) (v : Victim) → Fits (turn c n mark evictions Look) → HasNothing before c
+    → IsVictim before v.space v.page v.frame → is_short before mark ≡ true → evictions < mark
     → MakesOnFrames (turn c n mark evictions Look) (turn c n mark evictions (Out v)) before (counted (claimed before v.frame (Some c))) (claim_entry c v)
 claims c n mark evictions before v fits nothing victim short fewer = record {
   entry = record {

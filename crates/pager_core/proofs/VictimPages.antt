@@ -30,7 +30,8 @@ module _ (f : Flight) (v : Victim) (was now : Kept) (st : SpaceState) where
   still_victim has same resting = record { resting = resting; place = same.frame v.page ∙ has.place }
 
   -- the page is equal to its copy
-  Makes-out : (written : Bool) → IsReady (with_phase f (Write v)) was st → WritesOut was now v.page written → (frames : FrameState) → Makes (with_phase f (Write v)) (with_phase f (Hand v)) was now st frames frames (out_entry f.processor v.space v.page written)
+  Makes-out : (written : Bool) → IsReady (with_phase f (Write v)) was st → WritesOut was now v.page written → (frames : FrameState)
+      → Makes (with_phase f (Write v)) (with_phase f (Hand v)) was now st frames frames (out_entry f.processor v.space v.page written)
   Makes-out written ready out frames =
       let on : v.space ≡ was.number = same_Some _ _ ready.under in
       record {
@@ -58,7 +59,8 @@ module _ (f : Flight) (v : Victim) (was now : Kept) (st : SpaceState) where
       }
 
   -- the write failed
-  Makes-failed : (count : ℕ) → IsReady (with_phase f (Write v)) was st → FailsToWrite was now v.page count → (frames : FrameState) → Makes (with_phase f (Write v)) (with_phase f (Unclaim v (Some count))) was now st frames frames (failed_entry f.processor v.space v.page true count)
+  Makes-failed : (count : ℕ) → IsReady (with_phase f (Write v)) was st → FailsToWrite was now v.page count → (frames : FrameState)
+      → Makes (with_phase f (Write v)) (with_phase f (Unclaim v (Some count))) was now st frames frames (failed_entry f.processor v.space v.page true count)
   Makes-failed count ready fails frames =
       let on : v.space ≡ was.number = same_Some _ _ ready.under in
       record {
@@ -86,7 +88,8 @@ module _ (f : Flight) (v : Victim) (was now : Kept) (st : SpaceState) where
       }
 
   -- there was no memory
-  Passes-unwritten : IsReady (with_phase f (Write v)) was st → LeavesUnwritten was now v.page → Passes (with_phase f (Write v)) (with_phase f (Unclaim v None)) was now st
+  Passes-unwritten : IsReady (with_phase f (Write v)) was st → LeavesUnwritten was now v.page
+      → Passes (with_phase f (Write v)) (with_phase f (Unclaim v None)) was now st
   Passes-unwritten ready leaves =
       let on : v.space ≡ was.number = same_Some _ _ ready.under in
       record {
@@ -107,17 +110,22 @@ module _ (f : Flight) (v : Victim) (was now : Kept) (st : SpaceState) where
         no_more = (let less = left_by-less f.purpose 6 7 2 3 4 (omega arith) (omega arith) in omega (arith, less));
       }
 
-pub page_written : (f : Flight) (v : Victim) (written : Bool) (was now : Kept) → f.phase ≡ Write v → WritesOut was now v.page written → (st : SpaceState) (frames : FrameState) → IsReady f was st → Makes f (with_phase f (Hand v)) was now st frames frames (out_entry f.processor v.space v.page written)
+pub page_written : (f : Flight) (v : Victim) (written : Bool) (was now : Kept) → f.phase ≡ Write v → WritesOut was now v.page written
+    → (st : SpaceState) (frames : FrameState) → IsReady f was st
+    → Makes f (with_phase f (Hand v)) was now st frames frames (out_entry f.processor v.space v.page written)
 page_written f v written was now phase out st frames =
     in_its_phase f (Write v) phase (λ g. IsReady g was st → Makes g (with_phase f (Hand v)) was now st frames frames (out_entry f.processor v.space v.page written))
     (λ ready. Makes-out f v was now st written ready out frames)
 
-pub write_failed : (f : Flight) (v : Victim) (count : ℕ) (was now : Kept) → f.phase ≡ Write v → FailsToWrite was now v.page count → (st : SpaceState) (frames : FrameState) → IsReady f was st → Makes f (with_phase f (Unclaim v (Some count))) was now st frames frames (failed_entry f.processor v.space v.page true count)
+pub write_failed : (f : Flight) (v : Victim) (count : ℕ) (was now : Kept) → f.phase ≡ Write v → FailsToWrite was now v.page count
+    → (st : SpaceState) (frames : FrameState) → IsReady f was st
+    → Makes f (with_phase f (Unclaim v (Some count))) was now st frames frames (failed_entry f.processor v.space v.page true count)
 write_failed f v count was now phase fails st frames =
     in_its_phase f (Write v) phase (λ g. IsReady g was st → Makes g (with_phase f (Unclaim v (Some count))) was now st frames frames (failed_entry f.processor v.space v.page true count))
     (λ ready. Makes-failed f v was now st count ready fails frames)
 
-pub write_lacks_memory : (f : Flight) (v : Victim) (was now : Kept) → f.phase ≡ Write v → LeavesUnwritten was now v.page → (st : SpaceState) → IsReady f was st → Passes f (with_phase f (Unclaim v None)) was now st
+pub write_lacks_memory : (f : Flight) (v : Victim) (was now : Kept) → f.phase ≡ Write v → LeavesUnwritten was now v.page → (st : SpaceState)
+    → IsReady f was st → Passes f (with_phase f (Unclaim v None)) was now st
 write_lacks_memory f v was now phase leaves st =
     in_its_phase f (Write v) phase (λ g. IsReady g was st → Passes g (with_phase f (Unclaim v None)) was now st)
     (λ ready. Passes-unwritten f v was now st ready leaves)
@@ -150,7 +158,9 @@ module _ (f : Flight) (v : Victim) (frame : ℕ) (was now : Kept) (st : SpaceSta
             (LeftBy-won f v now _ (Hand v) refl ready.fits ready.fits.phase on_now removes.resting (removes.stands st ready.stands f.processor) refl);
       }
 
-pub frame_handed : (f : Flight) (v : Victim) (frame : ℕ) (was now : Kept) (before : FrameState) → f.phase ≡ Hand v → AreAgreed was before → Removes was now v.page frame → (st : SpaceState) → IsReady f was st → Makes f (with_phase f (won f.purpose v)) was now st before (counted (give_page before v.space v.page)) (give_entry f.processor v.space v.page frame)
+pub frame_handed : (f : Flight) (v : Victim) (frame : ℕ) (was now : Kept) (before : FrameState) → f.phase ≡ Hand v → AreAgreed was before
+    → Removes was now v.page frame → (st : SpaceState) → IsReady f was st
+    → Makes f (with_phase f (won f.purpose v)) was now st before (counted (give_page before v.space v.page)) (give_entry f.processor v.space v.page frame)
 frame_handed f v frame was now before phase agree removes st =
     in_its_phase f (Hand v) phase (λ g. IsReady g was st → Makes g (with_phase f (won f.purpose v)) was now st before (counted (give_page before v.space v.page)) (give_entry f.processor v.space v.page frame))
     (λ ready. Makes-hand f v frame was now st before ready agree removes)

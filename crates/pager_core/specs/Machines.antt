@@ -1,5 +1,5 @@
 -- What the fields of a machine keep true.
-use Rattle.std.specs.Prelude.{ℕ, ◌≡◌, ◌≢◌, ◌+◌, ◌*◌, ◌<◌, ◌≤◌, List, length, sum_by, slice_get, Option, Some, None, IfSome}
+use Rattle.std.specs.Prelude.{ℕ, ◌≡◌, ◌≢◌, ◌+◌, ◌*◌, ◌<◌, ◌≤◌, List, length, sum_by, slice_get, slice_index_or, Option, Some, None, IfSome}
 use Rattle.std.specs.List.{range_with_len}
 use Rattle.pager_model.specs.declared.call.Call.{Call}
 use Rattle.pager_model.specs.FrameStates.{FrameState}
@@ -14,7 +14,7 @@ use Rattle.space_core.specs.Standing.{Kept, CanBegin}
 use Rattle.pager_core.specs.declared.flight.Flight.{Flight}
 use Rattle.pager_core.specs.Rows.{own_space, row_of, space_under, Going}
 use Rattle.pager_core.specs.Flights.{Fits, IsReady, IsAtRest}
-use Rattle.pager_core.specs.Running.{Running, AreOfMark, job_in, jobs_at, flight_at, left_at, IsLawful}
+use Rattle.pager_core.specs.Running.{Running, AreOfMark, job_in, jobs_at, flight_at, kept_by, left_at, IsLawful}
 
 -- at most so many entries have a trace's calls and its daemon's turns: eight each of 262,144 calls, and 257 each of 4,096 turns
 abbrev pub most_entries : ℕ
@@ -50,13 +50,26 @@ pub record IsFlying (run : Running) (spaces : List Kept) (c : ℕ) (f : Flight) 
   -- its next step is made under a space that is there, or under the frames' lock alone
   pub under : (s : ℕ) → space_under (row_of f).needs ≡ Some s → s < length spaces
   pub going : (row_of f).outcome ≡ Going
-  pub keeps : (s : ℕ) (kept : Kept) → (row_of f).keeps ≡ Some s → slice_get spaces s ≡ Some kept → IsReady f kept (space_at run.given (entries_in run.history) s)
+  pub keeps : (s : ℕ) (kept : Kept) → (row_of f).keeps ≡ Some s → slice_get spaces s ≡ Some kept
+      → IsReady f kept (space_at run.given (entries_in run.history) s)
 
 -- a space has its number, the run's count of frames, and an image for each processor
 pub record IsSpaceOf (run : Running) (s : ℕ) (kept : Kept) : Type 0 where
   pub number : kept.number ≡ s
   pub frames : kept.frames ≡ run.given.frames
   pub processors : length kept.images ≡ length run.jobs
+
+-- another than this one
+pub record IsOther (keeper : Option ℕ) (actor : ℕ) : Type 0 where
+  pub other : ℕ
+  pub is : keeper ≡ Some other
+  pub differs : other ≢ actor
+
+-- for each of so many spaces the processor whose flight keeps it, where one does
+pub record AreKeepers (flights : List (Option Flight)) (spaces : ℕ) (keepers : List (Option ℕ)) : Type 0 where
+  pub count : length keepers ≡ spaces
+  pub is_keeper : (s c : ℕ) → slice_index_or keepers s None ≡ Some c → kept_by (flight_at flights c) ≡ Some s
+  pub has_keeper : (s c : ℕ) → kept_by (flight_at flights c) ≡ Some s → slice_index_or keepers s None ≡ Some c
 
 -- Its parts are in the middle of a run.
 pub record IsMachine (run : Running) (spaces : List Kept) (pool : FrameState) (capacity : ℕ) : Type 0 where
@@ -76,7 +89,9 @@ pub record IsMachine (run : Running) (spaces : List Kept) (pool : FrameState) (c
   pub flights : (c : ℕ) (f : Flight) → flight_at run.flights c ≡ Some f → IsFlying run spaces c f
   pub space_is : (s : ℕ) (kept : Kept) → slice_get spaces s ≡ Some kept → IsSpaceOf run s kept
   -- where no flight keeps a space, it is at rest
-  pub rest : (s : ℕ) (kept : Kept) → slice_get spaces s ≡ Some kept → ((c : ℕ) (f : Flight) → flight_at run.flights c ≡ Some f → (row_of f).keeps ≢ Some s) → IsAtRest kept (space_at run.given (entries_in run.history) s)
+  pub rest : (s : ℕ) (kept : Kept) → slice_get spaces s ≡ Some kept
+      → ((c : ℕ) (f : Flight) → flight_at run.flights c ≡ Some f → (row_of f).keeps ≢ Some s)
+      → IsAtRest kept (space_at run.given (entries_in run.history) s)
   -- the history has room for what is left
   pub room : length run.history + all_left run ≤ capacity
   pub few : length run.history + all_left run ≤ most_entries

@@ -30,7 +30,8 @@ pub record AreRoomsOver (given : Given) (stores : List Stored) (rooms : List Cap
 -- The new spaces of a setting, in their order.
 pub record AreNewSpaces (given : Given) (spaces : List Kept) : Type 0 where
   pub count : length spaces ≡ length given.told
-  pub new : (s : ℕ) (kept : Kept) → slice_get spaces s ≡ Some kept → IsNew given.sizes given.frames (length given.marks) s (is_told given s) (faults_at_entry given s) kept
+  pub new : (s : ℕ) (kept : Kept) → slice_get spaces s ≡ Some kept
+      → IsNew given.sizes given.frames (length given.marks) s (is_told given s) (faults_at_entry given s) kept
 
 -- After a history no flight is in a space: each space is at rest after its part of it, and the pool is the frames' state after theirs.
 pub record AreAtRest (given : Given) (history : List Entry) (spaces : List Kept) (pool : FrameState) : Type 0 where

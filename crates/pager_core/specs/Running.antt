@@ -155,10 +155,12 @@ pub record IsLawful (run : Running) : Type 0 where
   pub numbered : IsNumbered run.history
   pub agrees : Agrees run.given (entries_in run.history)
   pub progress : (c : ℕ) → c < length run.jobs → progress_at run.given (entries_in run.history) c ≡ Some (progress_of_actor run c)
-  pub answers : (c : ℕ) → c < length run.jobs → answers_in (entries_of c (entries_in run.history)) ≡ enumerate_from 0 (calls_among (take (progress_of_actor run c).made (jobs_at run.jobs c)))
+  pub answers : (c : ℕ) → c < length run.jobs
+      → answers_in (entries_of c (entries_in run.history)) ≡ enumerate_from 0 (calls_among (take (progress_of_actor run c).made (jobs_at run.jobs c)))
   pub between : (c : ℕ) (f : Flight) → flight_at run.flights c ≡ Some f → is_between f.purpose f.phase ≡ true
   pub flying : (c : ℕ) (f : Flight) → flight_at run.flights c ≡ Some f → IsOfJob (jobs_at run.jobs c) f
-  pub one_keeper : (s c d : ℕ) (f g : Flight) → flight_at run.flights c ≡ Some f → flight_at run.flights d ≡ Some g → (row_of f).keeps ≡ Some s → (row_of g).keeps ≡ Some s → c ≡ d
+  pub one_keeper : (s c d : ℕ) (f g : Flight) → flight_at run.flights c ≡ Some f → flight_at run.flights d ≡ Some g
+      → (row_of f).keeps ≡ Some s → (row_of g).keeps ≡ Some s → c ≡ d
 
 -- What holds of a whole run: the history is legal and numbered, each processor's answers are its calls, and its list has led to the end of its
 -- jobs; after it each frame is in one role, none is claimed or held, and spaces and frames agree.

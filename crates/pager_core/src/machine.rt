@@ -1,4 +1,4 @@
-ghost use Rattle.std.specs.Prelude.{◌≡◌, ◌≢◌, ℕ, ◌+◌, ◌*◌, ◌^◌, ◌<◌, ◌≤◌, ◌↔◌, Bool, [], ◌∷◌, ◌++◌, Some, None, IfOk, IfErr, IfSome, IfNone, IsTrue, length, map, drop, take, true, slice_get, vec_capacity, vec_len};
+ghost use Rattle.std.specs.Prelude.{◌≡◌, ◌≢◌, ℕ, ◌+◌, ◌*◌, ◌^◌, ◌<◌, ◌≤◌, ◌↔◌, Bool, [], ◌∷◌, ◌++◌, Some, None, IfOk, IfErr, IfSome, IfNone, IsTrue, length, map, option_map, drop, take, replicate, true, slice_get};
 ghost use Rattle.std.specs.List.{range_with_len};
 ghost use Rattle.pager_model.specs.Agreement.{OwnsBy};
 ghost use Rattle.pager_model.specs.Counts.{counts};
@@ -11,16 +11,17 @@ ghost use Rattle.pager_model.specs.SpaceStates.{SpaceState};
 ghost use Rattle.pager_model.specs.TraceText.{HasText, IsDaemon};
 ghost use Rattle.pager_model.specs.Stores.{setting_over, StoresEnd, AreCapped};
 ghost use Rattle.pager_core.specs.Flights.{IsReady};
-ghost use Rattle.pager_core.specs.Machines.{entries_of_trace, entries_of_turns};
+ghost use Rattle.pager_core.specs.Machines.{IsOther, entries_of_trace, entries_of_turns};
 ghost use Rattle.pager_core.specs.Rows.{Going, has_ended, row_of, space_under};
 ghost use Rattle.pager_core.specs.RunParts.{AreRoomsOver};
-ghost use Rattle.pager_core.specs.Running.{Running, progress_of_actor, flight_at, flight_for, flight_of, first_flights, kept_by, HasEnded, IsKeptByOther, MustWait, OneMore, IsLawful, IsWholeRun};
+ghost use Rattle.pager_core.specs.Running.{Running, progress_of_actor, flight_at, flight_for, flight_of, first_flights, HasEnded, MustWait, OneMore, IsLawful, IsWholeRun};
 ghost use Rattle.pager_core.specs.Steps.{AreAgreed, Makes, Passes};
 
 use crate::flight::{Flight, Needs};
 use crate::run_parts::{Gathered, RunRoom, jobs_by_processor, marks_of};
 use frame_pool::Pool;
-use pager_model::{Daemon, Entry, Job, NoMemory, Numbered, Setting, Trace};
+use pager_model::{Daemon, Entry, Job, NoMemory, Setting, Trace};
+use run_history::History;
 use space_core::Space;
 use std::alloc::Global;
 use std::marker::Model;
@@ -48,16 +49,18 @@ pub struct Machine<S: Store + Send + Drop> {
     // each processor's job that is in progress or comes next
     flights: Vec<Option<Flight>>,
     spaces: Vec<Space<S>>,
+    // for each space the actor whose flight keeps it, where one does
+    keepers: Vec<Option<u32>>,
     // the stores that no space uses, last first, with room for those of the spaces
     stores: Vec<S>,
     pool: Pool,
-    history: Vec<Numbered>,
+    history: History,
 }
 
 impl<S: Store + Send + Drop> Model for Machine<S> {
     ghost use Rattle.std.specs.Prelude.{◌+◌, ◌≤◌, length, map, reverse, vec_capacity, vec_len};
     ghost use Rattle.pager_core.specs.Running.{Running};
-    ghost use Rattle.pager_core.specs.Machines.{IsMachine};
+    ghost use Rattle.pager_core.specs.Machines.{IsMachine, AreKeepers};
 
     ghost Value = { Running };
 
@@ -75,7 +78,7 @@ impl<S: Store + Send + Drop> Model for Machine<S> {
       flights = m.flights.items;
       history = m.history.items;
       unused = map S.seen (reverse m.stores.items);
-    }) m.spaces.items m.pool (vec_capacity m.history) × (vec_len m.stores + length m.spaces.items ≤ vec_capacity m.stores) };
+    }) m.spaces.items m.pool (m.history.room) × (vec_len m.stores + length m.spaces.items ≤ vec_capacity m.stores) × AreKeepers m.flights.items (length m.spaces.items) m.keepers.items };
 }
 
 impl<S: Store + Send + Drop> Machine<S> {
@@ -105,6 +108,7 @@ impl<S: Store + Send + Drop> Machine<S> {
             jobs: parts.jobs,
             flights: parts.flights,
             spaces,
+            keepers: parts.keepers,
             stores,
             pool: room.pool,
             history: parts.history,
@@ -157,7 +161,7 @@ impl<S: Store + Send + Drop> Machine<S> {
         ensures laws { KeepsLaws self.new.given (entries_in self.new.history) }
         ensures never_short { IsNeverShort self.new.given (entries_in self.new.history) }
     {
-        if is_kept_by_other(self.flights.as_slice(), actor, space) {
+        if is_other(self.keepers[space as usize], actor) {
             return Turn::Waits(space);
         }
         let mut flight = flight;
@@ -166,8 +170,8 @@ impl<S: Store + Send + Drop> Machine<S> {
             &mut self.spaces[space as usize],
             &mut self.pool,
         );
-        let number = self.history.len() as u64;
-        self.history.push_reserved(Numbered { number, entry });
+        self.history.push(&entry);
+        self.keepers[space as usize] = keeper(actor, &flight);
         self.flights[actor as usize] = going_on(flight, self.jobs[actor as usize].as_slice());
         Turn::Stepped
     }
@@ -186,8 +190,7 @@ impl<S: Store + Send + Drop> Machine<S> {
     {
         let mut flight = flight;
         let entry = flight.step_frames(&mut self.pool);
-        let number = self.history.len() as u64;
-        self.history.push_reserved(Numbered { number, entry });
+        self.history.push(&entry);
         self.flights[actor as usize] = going_on(flight, self.jobs[actor as usize].as_slice());
         Turn::Stepped
     }
@@ -243,7 +246,8 @@ const ENTRIES_OF_CALL: usize = 8;
 struct Parts<S: Store + Send + Drop> {
     jobs: Vec<Vec<Job>>,
     flights: Vec<Option<Flight>>,
-    history: Vec<Numbered>,
+    keepers: Vec<Option<u32>>,
+    history: History,
     room: RunRoom<S>,
 }
 
@@ -259,24 +263,35 @@ fn parts_of<S: Store + Send + Drop>(
     ensures text { IfOk result (λ _. HasText trace.now) }
     ensures jobs { IfOk result (λ p. map (λ v. v.items) p.jobs.items ≡ map (λ c. jobs_of c trace.now) (range_with_len 0 (actors trace.now))) }
     ensures flights { IfOk result (λ p. p.flights.items ≡ first_flights (map (λ v. v.items) p.jobs.items)) }
-    ensures history { IfOk result (λ p. (p.history.items ≡ []) × (entries_of_trace trace.now ≤ vec_capacity p.history)) }
+    ensures keepers { IfOk result (λ p. p.keepers.items ≡ replicate trace.now.spaces None) }
+    ensures history { IfOk result (λ p. (p.history.items ≡ []) × (entries_of_trace trace.now ≤ p.history.room)) }
     ensures setting { IfOk result (λ p. p.room.setting ≡ setting_over trace.now (map S.seen stores.now)) }
     ensures spaces { IfOk result (λ p. AreRoomsOver p.room.setting (take trace.now.spaces (map S.seen stores.now)) p.room.spaces) }
     ensures pool { IfOk result (λ p. p.room.pool ≡ start_frames trace.now.sizes trace.now.frames (actors trace.now)) }
     ensures capped { IfOk result (λ _. AreCapped trace.now.spaces (map S.seen stores.now)) }
 {
-    let history = Vec::with_capacity(alloc, entries_of_trace(trace))?;
+    let history = History::create(alloc, entries_of_trace(trace))?;
     let jobs = jobs_by_processor(alloc, trace)?;
     let flights = first_of_each(alloc, jobs.as_slice())?;
+    let spaces = trace.spaces();
+    let keepers = no_keepers(alloc, spaces)?;
     let marks = marks_of(alloc, trace)?;
-    let own = &stores[..trace.spaces() as usize];
+    let own = &stores[..spaces as usize];
     let room = RunRoom::create(alloc, trace.frames(), trace.sizes(), marks.as_slice(), own)?;
     Ok(Parts {
         jobs,
         flights,
+        keepers,
         history,
         room,
     })
+}
+
+/// That no flight keeps one of so many spaces.
+fn no_keepers(alloc: Global, spaces: u32) -> Result<Vec<Option<u32>>, NoMemory>
+    ensures { IfOk result (λ keepers. keepers.items ≡ replicate spaces None) }
+{
+    Ok(vec![in alloc; None; spaces as usize]?)
 }
 
 /// At most how many entries the calls of a trace make, and its daemon's turns.
@@ -347,25 +362,23 @@ fn none_flies(flights: &[Option<Flight>]) -> bool
     flights.iter().all(|flight| flight.is_none())
 }
 
-/// Whether the flight of another processor keeps the space.
-fn is_kept_by_other(flights: &[Option<Flight>], actor: u32, space: u32) -> bool
-    ensures { IsTrue result ↔ IsKeptByOther flights.now actor space }
+/// Whether a space's keeper is another than this actor.
+fn is_other(keeper: Option<u32>, actor: u32) -> bool
+    ensures { IsTrue result ↔ IsOther keeper actor }
 {
-    for (other, flight) in flights.iter().enumerate() {
-        if other != actor as usize && keeps(flight, space) {
-            return true;
-        }
+    match keeper {
+        Some(keeper) => keeper != actor,
+        None => false,
     }
-    false
 }
 
-/// Whether the flight keeps the space.
-fn keeps(flight: &Option<Flight>, space: u32) -> bool
-    ensures { IsTrue result ↔ kept_by flight.now ≡ Some space }
+/// The actor, where its flight keeps a space.
+fn keeper(actor: u32, flight: &Flight) -> Option<u32>
+    ensures { result ≡ option_map (λ _. actor) (row_of flight.now).keeps }
 {
-    match flight {
-        Some(flight) => flight.keeps() == Some(space),
-        None => false,
+    match flight.keeps() {
+        Some(_) => Some(actor),
+        None => None,
     }
 }
 

@@ -1,8 +1,9 @@
 //! What a run begins with and what it leaves, whoever makes its entries.
 
 ghost use Rattle.std.specs.Prelude.{◌≡◌, ℕ, ◌+◌, ◌^◌, ◌<◌, ◌≤◌, ◌%◌, [], ◌∷◌, ◌++◌, Some, IfOk, length, map, drop, take, reverse, replicate, true, slice_get, vec_capacity};
-ghost use Rattle.std.specs.List.{range_with_len};
-ghost use Rattle.pager_model.specs.Counts.{counts, hits_in, misses_in, is_hit_in, is_miss_in};
+ghost use Rattle.std.specs.List.{range_with_len, All};
+ghost use Rattle.pager_model.specs.declared.call.Line.{Line};
+ghost use Rattle.pager_model.specs.Counts.{counts};
 ghost use Rattle.pager_model.specs.FrameStates.{start_frames};
 ghost use Rattle.pager_model.specs.Legal.{entries_in};
 ghost use Rattle.pager_model.specs.Settings.{Given};
@@ -16,7 +17,8 @@ ghost use Rattle.pager_core.specs.Sums.{AreFewer, sum_at, tiles_in, promotions_i
 ghost use Rattle.pager_model.specs.Bounds.{most_frames};
 
 use frame_pool::Pool;
-use pager_model::{Daemon, Job, Line, NoMemory, Numbered, Setting, Sizes, Summary, Trace, What};
+use pager_model::{Daemon, Job, Line, NoMemory, Setting, Sizes, Summary, Trace};
+use run_history::History;
 use space_core::{Space, SpaceRoom};
 use std::alloc::Global;
 use std::marker::Model;
@@ -94,6 +96,7 @@ impl<S: Store + Send + Drop> SpaceRooms<S> {
         count: u32,
     ) -> Result<SpaceRooms<S>, NoMemory>
         requires frames { frames ≤ most_frames }
+        requires processors { processors ≤ 17 }
         requires few { count ≤ 16 }
         ensures { IfOk result (λ rooms. rooms ≡ replicate count (record { frames = frames; processors = processors; sizes = sizes })) }
     {
@@ -133,7 +136,7 @@ impl<S: Store + Send + Drop> SpaceRooms<S> {
 /// What a run that ended gives.
 #[derive(Drop)]
 pub struct Gathered<S: Store + Send + Drop> {
-    pub history: Vec<Numbered>,
+    pub history: History,
     /// The stores that were handed in, in their order.
     pub stores: Vec<S>,
     /// The counts of the whole run.
@@ -143,12 +146,7 @@ pub struct Gathered<S: Store + Send + Drop> {
 impl<S: Store + Send + Drop> Gathered<S> {
     /// Counts a run that ended, and takes the stores out of its spaces. Those that no space uses are handed in last first, with room for
     /// the others, and come behind them. Takes no memory.
-    pub fn of(
-        history: Vec<Numbered>,
-        spaces: Vec<Space<S>>,
-        pool: Pool,
-        unused: Vec<S>,
-    ) -> Gathered<S>
+    pub fn of(history: History, spaces: Vec<Space<S>>, pool: Pool, unused: Vec<S>) -> Gathered<S>
         requires rest { (given : Given) × AreAtRest given (entries_in history.items) spaces.items pool }
         requires few { (length history.items ≤ most_in_history) × (length spaces.items ≤ 16) }
         requires room { length unused.items + length spaces.items ≤ vec_capacity unused }
@@ -163,7 +161,7 @@ impl<S: Store + Send + Drop> Gathered<S> {
         let preemptions = pool.preempted();
         let tiles = tiles_of(spaces.as_slice());
         let (promotions, demotions) = moves_of(spaces.as_slice());
-        let (hits, misses) = accesses_in(history.as_slice());
+        let accesses = history.accesses();
         let mut stores = unused;
         give_back(spaces, &mut stores);
         stores.reverse();
@@ -175,8 +173,8 @@ impl<S: Store + Send + Drop> Gathered<S> {
                 promotions,
                 demotions,
                 preemptions,
-                hits,
-                misses,
+                hits: accesses.hits,
+                misses: accesses.misses,
                 free: frames.free,
                 reserved: frames.reserved,
                 used: frames.used,
@@ -262,42 +260,6 @@ fn moves_of<S: Store + Send + Drop>(spaces: &[Space<S>]) -> (u64, u64)
     (promotions, demotions)
 }
 
-/// How many answers of a history are hits, and how many are misses.
-fn accesses_in(history: &[Numbered]) -> (u64, u64)
-    ensures { result ≡ (hits_in (entries_in history.now), misses_in (entries_in history.now)) }
-{
-    let (mut hits, mut misses): (u64, u64) = (0, 0);
-    for numbered in history {
-        if is_hit(&numbered.entry.what) {
-            hits += 1;
-        }
-        if is_miss(&numbered.entry.what) {
-            misses += 1;
-        }
-    }
-    (hits, misses)
-}
-
-/// Whether it is an answer whose page's tile stood in its processor's image.
-fn is_hit(what: &What) -> bool
-    ensures { result ≡ is_hit_in what.now }
-{
-    match what {
-        What::Answer { answered, .. } => answered.size.is_some() && answered.hit,
-        _ => false,
-    }
-}
-
-/// Whether it is an answer with a tile that didn't.
-fn is_miss(what: &What) -> bool
-    ensures { result ≡ is_miss_in what.now }
-{
-    match what {
-        What::Answer { answered, .. } => answered.size.is_some() && !answered.hit,
-        _ => false,
-    }
-}
-
 /// The mark of each processor of a trace: 0 for those that make calls, and the low mark of the daemon, which is the last.
 pub fn marks_of(alloc: Global, trace: &Trace) -> Result<Vec<u32>, NoMemory>
     ensures { IfOk result (λ marks. marks.items ≡ marks_of trace.now) }
@@ -314,47 +276,44 @@ pub fn jobs_by_processor(alloc: Global, trace: &Trace) -> Result<Vec<Vec<Job>>, 
     ensures text { IfOk result (λ _. HasText trace.now) }
     ensures jobs { IfOk result (λ jobs. map (λ v. v.items) jobs.items ≡ map (λ c. jobs_of c trace.now) (range_with_len 0 (actors trace.now))) }
 {
-    let actors = trace.actors();
-    let mut jobs = Vec::with_capacity(alloc, actors as usize)?;
-    for processor in 0..actors {
-        jobs.push(jobs_of(alloc, trace, processor)?)?;
+    let mut jobs = calls_by_processor(alloc, trace.processors(), trace.calls())?;
+    if let Some(daemon) = trace.daemon() {
+        jobs.push(turns_of(alloc, daemon)?)?;
     }
     Ok(jobs)
 }
 
-/// What one processor does.
-fn jobs_of(alloc: Global, trace: &Trace, processor: u32) -> Result<Vec<Job>, NoMemory>
-    ensures { IfOk result (λ jobs. jobs.items ≡ jobs_of processor trace.now) }
+/// To make the calls of each of so many processors, in the order of the lines, which are gone over once.
+fn calls_by_processor(
+    alloc: Global,
+    processors: u32,
+    lines: &[Line],
+) -> Result<Vec<Vec<Job>>, NoMemory>
+    requires within { All (λ (l : Line). l.processor < processors) lines.now }
+    ensures { IfOk result (λ jobs. map (λ v. v.items) jobs.items ≡ map (λ c. map Job.Call (calls_of c lines.now)) (range_with_len 0 processors)) }
 {
-    let mut jobs = jobs_in(alloc, processor, trace.calls())?;
-    if processor == trace.processors() {
-        jobs.append(&mut turns_of(alloc, trace.daemon())?)?;
-    }
-    Ok(jobs)
-}
-
-/// To make one processor's calls, in the order of the lines.
-fn jobs_in(alloc: Global, processor: u32, lines: &[Line]) -> Result<Vec<Job>, NoMemory>
-    ensures { IfOk result (λ jobs. jobs.items ≡ map Job.Call (calls_of processor lines.now)) }
-{
-    let mut jobs = Vec::new(alloc);
+    let mut jobs = no_jobs(alloc, processors)?;
     for line in lines {
-        if line.processor == processor {
-            jobs.push(Job::Call(line.call))?;
-        }
+        jobs[line.processor as usize].push(Job::Call(line.call))?;
+    }
+    Ok(jobs)
+}
+
+/// No job for each of so many processors.
+fn no_jobs(alloc: Global, processors: u32) -> Result<Vec<Vec<Job>>, NoMemory>
+    ensures { IfOk result (λ jobs. map (λ v. v.items) jobs.items ≡ replicate processors []) }
+{
+    let mut jobs = Vec::with_capacity(alloc, processors as usize)?;
+    for _ in 0..processors {
+        jobs.push(Vec::new(alloc))?;
     }
     Ok(jobs)
 }
 
 /// A daemon's turns.
-fn turns_of(alloc: Global, daemon: Option<Daemon>) -> Result<Vec<Job>, NoMemory>
-    ensures { IfOk result (λ jobs. jobs.items ≡ turns_of daemon) }
+fn turns_of(alloc: Global, daemon: Daemon) -> Result<Vec<Job>, NoMemory>
+    ensures { IfOk result (λ jobs. jobs.items ≡ turns_of (Some daemon)) }
 {
-    match daemon {
-        Some(daemon) => {
-            let turn = Job::Turn { mark: daemon.low };
-            Ok(vec![in alloc; turn; daemon.turns as usize]?)
-        }
-        None => Ok(Vec::new(alloc)),
-    }
+    let turn = Job::Turn { mark: daemon.low };
+    Ok(vec![in alloc; turn; daemon.turns as usize]?)
 }

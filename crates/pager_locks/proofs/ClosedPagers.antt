@@ -41,7 +41,8 @@ all_at P xs i x all at = elim (slice_get_cases xs i).1 [
 ]
 
 -- the next space is one more
-pub AreParts-more : (j : JournalName) (k : ℕ) (spaces more : List Kept) (authors grown : List AuthorState) (kept : Kept) (a : AuthorState) → AreParts j k spaces authors → IsLockedSpace j k kept (Some a)
+pub AreParts-more : (j : JournalName) (k : ℕ) (spaces more : List Kept) (authors grown : List AuthorState) (kept : Kept) (a : AuthorState)
+    → AreParts j k spaces authors → IsLockedSpace j k kept (Some a)
     → more ≡ spaces ++ kept ∷ [] → grown ≡ authors ++ a ∷ [] → AreParts j (k + 1) more grown
 AreParts-more j k spaces more authors grown kept a parts locked are are_authors =
     let below : k < length j.setting.told = subst (λ n. n < length j.setting.told) locked.part_is locked.stands.within in
@@ -72,12 +73,15 @@ AreParts-more j k spaces more authors grown kept a parts locked are are_authors 
       ];
     }
 
-pub journals_all : (j : JournalName) (k : ℕ) (spaces : List Kept) (authors all : List AuthorState) (pool : FrameState) (frames : AuthorState) → AreParts j k spaces authors → IsPoolAt j pool frames → all ≡ authors ++ frames ∷ [] → All (λ (a : AuthorState). a.journal ≡ j) all
+pub journals_all : (j : JournalName) (k : ℕ) (spaces : List Kept) (authors all : List AuthorState) (pool : FrameState) (frames : AuthorState)
+    → AreParts j k spaces authors → IsPoolAt j pool frames → all ≡ authors ++ frames ∷ [] → All (λ (a : AuthorState). a.journal ≡ j) all
 journals_all j k spaces authors all pool frames parts pool_at are =
     All-same (λ (a : AuthorState). a.journal ≡ j) all (authors ++ frames ∷ []) are (All-push (λ (a : AuthorState). a.journal ≡ j) authors frames parts.journals pool_at.journal)
 
 -- With all spaces back and the one history, each is at rest after its part.
-pub AreAtRest-closed : (j : JournalName) (spaces : List Kept) (authors all : List AuthorState) (pool : FrameState) (frames : AuthorState) (h : List Entry) → AreParts j 16 spaces authors → length j.setting.told ≤ 16 → IsPoolAt j pool frames → all ≡ authors ++ frames ∷ [] → All (λ (a : AuthorState). IsPartOf a h) all → AreAtRest j.setting h spaces pool
+pub AreAtRest-closed : (j : JournalName) (spaces : List Kept) (authors all : List AuthorState) (pool : FrameState) (frames : AuthorState) (h : List Entry)
+    → AreParts j 16 spaces authors → length j.setting.told ≤ 16 → IsPoolAt j pool frames → all ≡ authors ++ frames ∷ []
+    → All (λ (a : AuthorState). IsPartOf a h) all → AreAtRest j.setting h spaces pool
 AreAtRest-closed j spaces authors all pool frames h parts few pool_at are of =
     let most = parts.no_more in
     let known = parts.known in
@@ -119,7 +123,8 @@ IsNumbered-closed history are =
     ap (λ l. map (λ (n : Numbered). n.number) l) are ∙ numbers_from 0 (entries_in history) ∙ ap (range_with_len 0) (length-map history (λ (n : Numbered). n.entry))
 
 -- Each processor's list is whole where the passes' lists are.
-pub whole_at : (j : JournalName) (passes : List PassState) (h : List Entry) → map (λ (p : PassState). p.processor) passes ≡ range_with_len 0 (length j.setting.marks)
+pub whole_at : (j : JournalName) (passes : List PassState) (h : List Entry)
+    → map (λ (p : PassState). p.processor) passes ≡ range_with_len 0 (length j.setting.marks)
     → All (λ (p : PassState). IsWhole (mark_of j.setting p.processor) (entries_in p.entries)) passes → All (λ (p : PassState). IsOwnOf p h) passes
     → (c : ℕ) → c < length j.setting.marks → IsWhole (mark_of j.setting c) (entries_of c h)
 whole_at j passes h processors whole own c below =

@@ -55,10 +55,12 @@ few_numbered g history met = subst (λ n. n ≤ most_in_history) (length-map his
 abbrev pub AreOfFrames : JournalName → AuthorState → PassState → List Entry → Type 0
 AreOfFrames j frames p h = IsHistory j.setting h × (frames.entries ≡ frames_part h) × IsOwnOf p h
 
-pub met_with_space : (j : JournalName) (space frames : AuthorState) (p : PassState) (h : List Entry) → space.journal ≡ j → AreOfTwo space frames p h → AreOfFrames j frames p h
+pub met_with_space : (j : JournalName) (space frames : AuthorState) (p : PassState) (h : List Entry) → space.journal ≡ j
+    → AreOfTwo space frames p h → AreOfFrames j frames p h
 met_with_space j space frames p h journal met = (subst (λ (x : JournalName). IsHistory x.setting h) journal met.0, met.2, met.3)
 
-pub met_alone : (j : JournalName) (frames : AuthorState) (p : PassState) (h : List Entry) (pool : FrameState) → IsPoolAt j pool frames → AreOf frames p h → AreOfFrames j frames p h
+pub met_alone : (j : JournalName) (frames : AuthorState) (p : PassState) (h : List Entry) (pool : FrameState) → IsPoolAt j pool frames
+    → AreOf frames p h → AreOfFrames j frames p h
 met_alone j frames p h pool pool_at met = (
   subst (λ (x : JournalName). IsHistory x.setting h) pool_at.journal met.0,
   met.1
@@ -67,7 +69,8 @@ met_alone j frames p h pool pool_at met = (
   met.2,
 )
 
-module _ (j : JournalName) (frames : AuthorState) (p : PassState) (h : List Entry) (met : AreOfFrames j frames p h) (pool : FrameState) (pool_at : IsPoolAt j pool frames) where
+module _ (j : JournalName) (frames : AuthorState) (p : PassState) (h : List Entry) (met : AreOfFrames j frames p h) (pool : FrameState)
+    (pool_at : IsPoolAt j pool frames) where
   legal : IsLegal j.setting h
   legal = met.0.legal
 
@@ -85,7 +88,8 @@ module _ (j : JournalName) (frames : AuthorState) (p : PassState) (h : List Entr
       omega (arith, same, few, all)
 
   -- the victim of a claim is of a space that is there
-  pub victim-met : (f f' : Flight) (after : FrameState) (e : Entry) → MakesEntry f f' pool after e → (v : Victim) → f'.phase ≡ OutPhase v → v.space < length j.setting.told
+  pub victim-met : (f f' : Flight) (after : FrameState) (e : Entry) → MakesEntry f f' pool after e → (v : Victim) → f'.phase ≡ OutPhase v
+      → v.space < length j.setting.told
   victim-met f f' after e makes v is =
       let resident = (IsKept-legal j.setting h legal).agrees v.space v.page ∙ ap (λ st. frame_of st v.space v.page) (sym frames_are) ∙ victim_placed f f' pool after e v makes is in
       elim (cases_lt v.space (length j.setting.told)) [

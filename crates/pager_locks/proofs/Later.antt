@@ -48,7 +48,8 @@ module _ (k : ℕ) where
   outs m (Claiming purpose victim) s page = lead _ m (Emptied purpose victim)
   outs m d s page = refl
 
-  fails : (m : ℕ) (d : Doing) (s page : ℕ) (writing : Bool) (count : ℕ) → Moves (after_failure m d s page writing count) (after_failure (k + m) d s page writing count)
+  fails : (m : ℕ) (d : Doing) (s page : ℕ) (writing : Bool) (count : ℕ)
+      → Moves (after_failure m d s page writing count) (after_failure (k + m) d s page writing count)
   fails m Idle s page writing count = lead writing m _
   fails m (Claiming purpose victim) s page writing count = lead _ m (Unwritten purpose victim count)
   fails m (Filling a frame) s page writing count = lead _ m (Unfilling a frame count)
@@ -120,7 +121,8 @@ pub later_none : (p : Progress) → later 0 p ≡ p
 later_none p = ap (λ n. record { made = n; doing = p.doing }) (let e : 0 + p.made ≡ p.made = omega arith in e)
 
 -- so an entry leads on whatever was made before, where an answer comes only where nothing was
-pub leads_later : (k : ℕ) (p q : Progress) (space : Option ℕ) (what : What) → (is_answer what ≡ true → k ≡ 0) → progress_after p space what ≡ Some q → progress_after (later k p) space what ≡ Some (later k q)
+pub leads_later : (k : ℕ) (p q : Progress) (space : Option ℕ) (what : What) → (is_answer what ≡ true → k ≡ 0)
+    → progress_after p space what ≡ Some q → progress_after (later k p) space what ≡ Some (later k q)
 leads_later k p q space what none is = elim (cases_Bool (is_answer what)) [
   | inl answer ↦ subst (λ n. progress_after (later n p) space what ≡ Some (later n q)) (sym (none answer)) (ap (λ x. progress_after x space what) (later_none p) ∙ is ∙ ap Some (sym (later_none q)))
   | inr other ↦ moves k p space what other ∙ ap (option_map (later k)) is

@@ -30,21 +30,27 @@ same_ends (z ∷ xs) (w ∷ ys) x y same =
     (ap₂ (λ a b. a ∷ b) (same_Some z w (ap (λ l. slice_get l 0) same)) rest.0, rest.1)
 
 -- the authors that a journal makes: those of the spaces, and that of the frames
-authors_split : (j : JournalName) (authors : List AuthorState) (rest : List AuthorState) (last : AuthorState) → authors ≡ map (new_author j) (range_with_len 0 (length j.setting.told + 1)) → authors ≡ rest ++ last ∷ [] → (rest ≡ map (new_author j) (range_with_len 0 (length j.setting.told))) × (last ≡ new_author j (length j.setting.told))
+authors_split : (j : JournalName) (authors : List AuthorState) (rest : List AuthorState) (last : AuthorState)
+    → authors ≡ map (new_author j) (range_with_len 0 (length j.setting.told + 1)) → authors ≡ rest ++ last ∷ []
+    → (rest ≡ map (new_author j) (range_with_len 0 (length j.setting.told))) × (last ≡ new_author j (length j.setting.told))
 authors_split j authors rest last are split =
     same_ends rest (map (new_author j) (range_with_len 0 (length j.setting.told))) last (new_author j (length j.setting.told))
     (sym split ∙ are ∙ map-range_with_len_more (new_author j) 0 (length j.setting.told) (length j.setting.told) (omega arith))
 
-pub as_many : (j : JournalName) (spaces : List Kept) (authors : List AuthorState) (pool : FrameState) → AreNewParts j spaces authors pool → length authors ≡ length j.setting.told + 1
+pub as_many : (j : JournalName) (spaces : List Kept) (authors : List AuthorState) (pool : FrameState) → AreNewParts j spaces authors pool
+    → length authors ≡ length j.setting.told + 1
 as_many j spaces authors pool parts = ap length parts.authors_are ∙ length-map (range_with_len 0 (length j.setting.told + 1)) (new_author j) ∙ length-range_with_len 0 (length j.setting.told + 1)
 
-pub IsPoolAt-new : (j : JournalName) (spaces : List Kept) (authors rest : List AuthorState) (last : AuthorState) (pool : FrameState) → AreNewParts j spaces authors pool → authors ≡ rest ++ last ∷ [] → IsPoolAt j pool last
+pub IsPoolAt-new : (j : JournalName) (spaces : List Kept) (authors rest : List AuthorState) (last : AuthorState) (pool : FrameState)
+    → AreNewParts j spaces authors pool → authors ≡ rest ++ last ∷ [] → IsPoolAt j pool last
 IsPoolAt-new j spaces authors rest last pool parts split =
     let is = (authors_split j authors rest last parts.authors_are split).1 in
     subst (IsPoolAt j pool) (sym is) (record { journal = refl; part = refl; state = parts.pool_is })
 
 -- a space and its author at the start
-locked_new : (j : JournalName) (s : ℕ) (kept : Kept) (a : AuthorState) → s < length j.setting.told → IsNew j.setting.sizes j.setting.frames (length j.setting.marks) s (is_told j.setting s) (faults_at_entry j.setting s) kept → a ≡ new_author j s → IsLockedSpace j s kept (Some a)
+locked_new : (j : JournalName) (s : ℕ) (kept : Kept) (a : AuthorState) → s < length j.setting.told
+    → IsNew j.setting.sizes j.setting.frames (length j.setting.marks) s (is_told j.setting s) (faults_at_entry j.setting s) kept
+    → a ≡ new_author j s → IsLockedSpace j s kept (Some a)
 locked_new j s kept a below new is =
     subst (λ x. IsLockedSpace j s kept (Some x)) (sym is)
     (record {
@@ -72,7 +78,9 @@ map_at : {X : Type 0} (f : ℕ → X) (n s : ℕ) (x : X) → s < n → slice_ge
 map_at f n s x below at =
     sym (get_or_from_slice_get (map f (range_with_len 0 n)) s x x at) ∙ get_or-map-range_with_len f 0 n s s x below (omega arith)
 
-pub AreLeft-new : (j : JournalName) (spaces turned : List Kept) (authors rest turned_authors : List AuthorState) (last : AuthorState) (pool : FrameState) → AreNewParts j spaces authors pool → authors ≡ rest ++ last ∷ [] → turned ≡ reverse spaces → turned_authors ≡ reverse rest → AreLeft j 0 turned turned_authors
+pub AreLeft-new : (j : JournalName) (spaces turned : List Kept) (authors rest turned_authors : List AuthorState) (last : AuthorState) (pool : FrameState)
+    → AreNewParts j spaces authors pool → authors ≡ rest ++ last ∷ [] → turned ≡ reverse spaces → turned_authors ≡ reverse rest
+    → AreLeft j 0 turned turned_authors
 AreLeft-new j spaces turned authors rest turned_authors last pool parts split is is_authors =
     let new = parts.spaces_are in
     let own = (authors_split j authors rest last parts.authors_are split).0 in
@@ -92,7 +100,8 @@ AreLeft-new j spaces turned authors rest turned_authors last pool parts split is
     }
 
 -- the next space is the last of those that are left
-pub IsLockedSpace-next : (j : JournalName) (k : ℕ) (spaces fewer : List Kept) (authors less : List AuthorState) (kept : Kept) (a : AuthorState) → AreLeft j k spaces authors → spaces ≡ fewer ++ kept ∷ [] → authors ≡ less ++ a ∷ [] → IsLockedSpace j k kept (Some a)
+pub IsLockedSpace-next : (j : JournalName) (k : ℕ) (spaces fewer : List Kept) (authors less : List AuthorState) (kept : Kept) (a : AuthorState)
+    → AreLeft j k spaces authors → spaces ≡ fewer ++ kept ∷ [] → authors ≡ less ++ a ∷ [] → IsLockedSpace j k kept (Some a)
 IsLockedSpace-next j k spaces fewer authors less kept a left are are_authors =
     let long : length spaces ≡ length fewer + 1 = ap length are ∙ length_push fewer kept in
     let long_authors : length authors ≡ length less + 1 = ap length are_authors ∙ length_push less a in
@@ -106,7 +115,8 @@ IsLockedSpace-next j k spaces fewer authors less kept a left are are_authors =
       | inr past ↦ (let none : length spaces ≡ 0 = ap length (left.none past) in absurd (omega (arith, none, long)))
     ]
 
-pub AreLeft-next : (j : JournalName) (k : ℕ) (spaces fewer : List Kept) (authors less : List AuthorState) (kept : Kept) (a : AuthorState) → AreLeft j k spaces authors → spaces ≡ fewer ++ kept ∷ [] → authors ≡ less ++ a ∷ [] → AreLeft j (k + 1) fewer less
+pub AreLeft-next : (j : JournalName) (k : ℕ) (spaces fewer : List Kept) (authors less : List AuthorState) (kept : Kept) (a : AuthorState)
+    → AreLeft j k spaces authors → spaces ≡ fewer ++ kept ∷ [] → authors ≡ less ++ a ∷ [] → AreLeft j (k + 1) fewer less
 AreLeft-next j k spaces fewer authors less kept a left are are_authors =
     let long : length spaces ≡ length fewer + 1 = ap length are ∙ length_push fewer kept in
     let long_authors : length authors ≡ length less + 1 = ap length are_authors ∙ length_push less a in
@@ -124,7 +134,8 @@ AreLeft-next j k spaces fewer authors less kept a left are are_authors =
     }
 
 -- past the last space none is left
-pub none_left : (j : JournalName) (k : ℕ) (spaces : List Kept) (authors : List AuthorState) → AreLeft j k spaces authors → length j.setting.told ≤ k → (spaces ≡ []) × (authors ≡ [])
+pub none_left : (j : JournalName) (k : ℕ) (spaces : List Kept) (authors : List AuthorState) → AreLeft j k spaces authors
+    → length j.setting.told ≤ k → (spaces ≡ []) × (authors ≡ [])
 none_left j k spaces authors left past =
     let none = left.none past in
     let short : length spaces ≡ 0 = ap length none in
@@ -132,7 +143,8 @@ none_left j k spaces authors left past =
     (none, nil_from_length authors (omega (arith, short, same)))
 
 -- The parts of a run and all authors of the journal that was made for its setting are a pager's.
-pub AreNewParts-made : (j : JournalName) (given : Given) (frames : ℕ) (z : SizeSet) (marks : List ℕ) (stores : List Stored) (spaces : List Kept) (authors : List AuthorState) (pool : FrameState) → j.setting ≡ given → given ≡ given_over frames z marks stores → length spaces ≤ 16 → AreNewSpaces given spaces
+pub AreNewParts-made : (j : JournalName) (given : Given) (frames : ℕ) (z : SizeSet) (marks : List ℕ) (stores : List Stored) (spaces : List Kept) (authors : List AuthorState) (pool : FrameState)
+    → j.setting ≡ given → given ≡ given_over frames z marks stores → length spaces ≤ 16 → AreNewSpaces given spaces
     → authors ≡ map (new_author j) (range_with_len 0 (length given.told + 1)) → pool ≡ start_frames z frames (length marks) → AreNewParts j spaces authors pool
 AreNewParts-made j given frames z marks stores spaces authors pool setting over few new are_authors start =
     record {

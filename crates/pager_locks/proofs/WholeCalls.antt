@@ -53,11 +53,13 @@ unanswered f mark is kind = by (row_of f).outcome refl
     by (Answered r) answered = absurd (no_reply f.purpose mark r is (subst (IsFor f.purpose) (ended_by f r answered) kind))
 
 -- a pass's processor is one of its journal's
-pub known_here : (j : JournalName) (p : PassState) (c : ℕ) → p.journal ≡ j → c ≡ p.processor → c < length p.journal.setting.marks → p.processor < length j.setting.marks
+pub known_here : (j : JournalName) (p : PassState) (c : ℕ) → p.journal ≡ j → c ≡ p.processor → c < length p.journal.setting.marks
+    → p.processor < length j.setting.marks
 known_here j p c journal number known = subst (λ (x : JournalName). p.processor < length x.setting.marks) journal (subst (λ n. n < length p.journal.setting.marks) number known)
 
 -- The flight of a pass's next call, from its start to its end.
-module _ (j : JournalName) (p : PassState) (f : Flight) (may : MayCall j p) (next : IsNextFlight p f) (can : CanFly (length j.setting.told) (call_in f.purpose)) (known : p.processor < length j.setting.marks) where
+module _ (j : JournalName) (p : PassState) (f : Flight) (may : MayCall j p) (next : IsNextFlight p f)
+    (can : CanFly (length j.setting.told) (call_in f.purpose)) (known : p.processor < length j.setting.marks) where
   made : may.whole.0 ≡ f.number
   made = (
       let count : may.whole.0 ≡ 0 + count_by is_numbered_answer p.entries = counted p.entries (at_rest 0 0) (at_rest 0 may.whole.0) refl may.whole.1 in
@@ -104,7 +106,8 @@ module _ (j : JournalName) (p : PassState) (f : Flight) (may : MayCall j p) (nex
   keeps-start = subst (λ (x : Flight). (row_of x).keeps ≡ None) is_start refl
 
   -- and once it is answered, the whole call
-  MakesCall-made : (g : Flight) (q : PassState) (r : Reply) → IsFlying j from g q → (row_of g).outcome ≡ Answered r → MakesCall j.setting p q (call_in f.purpose) r
+  MakesCall-made : (g : Flight) (q : PassState) (r : Reply) → IsFlying j from g q → (row_of g).outcome ≡ Answered r
+      → MakesCall j.setting p q (call_in f.purpose) r
   MakesCall-made g q r flying answered =
       let phase = ended_by g r answered in
       let own : g.processor ≡ f.processor = sym flying.processor ∙ flying.same_processor ∙ sym next.processor in
@@ -136,7 +139,8 @@ module _ (j : JournalName) (p : PassState) (f : Flight) (may : MayCall j p) (nex
         whole = (f.number + 1, all);
       }
 
-  pub MakesCall-ended : (g : Flight) (q : PassState) → IsFlying j from g q → has_ended (row_of g).outcome ≡ true → IsSomeAnd (reply_in (row_of g).outcome) (MakesCall j.setting p q (call_in f.purpose))
+  pub MakesCall-ended : (g : Flight) (q : PassState) → IsFlying j from g q → has_ended (row_of g).outcome ≡ true
+      → IsSomeAnd (reply_in (row_of g).outcome) (MakesCall j.setting p q (call_in f.purpose))
   MakesCall-ended g q flying ended = by (row_of g).outcome refl ended
     where
       by : (o : Outcome) → (row_of g).outcome ≡ o → has_ended o ≡ true → IsSomeAnd (reply_in o) (MakesCall j.setting p q (call_in f.purpose))

@@ -29,7 +29,8 @@ pub record AreLeft (j : JournalName) (from : ℕ) (spaces : List Kept) (authors 
   pub same_count : length authors ≡ length spaces
   pub all : from < length j.setting.told → from + length spaces ≡ length j.setting.told
   pub none : length j.setting.told ≤ from → spaces ≡ []
-  pub each : (i s : ℕ) (kept : Kept) (a : AuthorState) → i + s + 1 ≡ length j.setting.told → slice_get spaces i ≡ Some kept → slice_get authors i ≡ Some a → IsLockedSpace j s kept (Some a)
+  pub each : (i s : ℕ) (kept : Kept) (a : AuthorState) → i + s + 1 ≡ length j.setting.told → slice_get spaces i ≡ Some kept
+      → slice_get authors i ≡ Some a → IsLockedSpace j s kept (Some a)
 
 -- a space, with its author, who is there
 pub record IsPart (j : JournalName) (authors : List AuthorState) (s : ℕ) (kept : Kept) : Type 0 where

@@ -1,12 +1,10 @@
 //! A pager that many threads call.
 
-ghost use Rattle.std.specs.Prelude.{◌≡◌, ◌≤◌, ◌<◌, ◌+◌, ℕ, true, false, IsSomeAnd, [], length, map, sum, vec_capacity, None};
+ghost use Rattle.std.specs.Prelude.{◌≡◌, ◌≤◌, ◌<◌, ◌+◌, true, false, IsSomeAnd, [], length, map, sum, vec_capacity, None};
 ghost use Rattle.std.specs.List.{All, range_with_len};
 ghost use Rattle.journal_core.specs.Clauses.{IsHistory, IsOwnOf};
-ghost use Rattle.journal_core.specs.Journals.{new_author};
 ghost use Rattle.pager_model.specs.Agreement.{NothingHeld};
 ghost use Rattle.pager_model.specs.Counts.{counts};
-ghost use Rattle.pager_model.specs.FrameStates.{start_frames};
 ghost use Rattle.pager_model.specs.Headline.{IsNeverShort};
 ghost use Rattle.pager_model.specs.Laws.{KeepsLawsAllAlong};
 ghost use Rattle.pager_model.specs.Legal.{entries_in, frames_at};
@@ -27,6 +25,7 @@ use frame_pool::Pool;
 use journal_core::{Author, Journal, Pass, close};
 use pager_core::{Flight, Gathered};
 use pager_model::{Call, Reply};
+use run_history::History;
 use space_core::Space;
 use std::marker::{Model, PhantomData};
 use std::sync::{Mutex, Wait};
@@ -198,7 +197,8 @@ impl<N: Named, S: Store + Send + Drop> Pager<N, S> {
         self.spaces.into_parts(&mut spaces, &mut authors);
         let (pool, frames) = self.pool.into_inner().into_parts();
         authors.push_reserved(frames);
-        let history = close(self.journal, authors, passes);
+        let entries = close(self.journal, authors, passes);
+        let history = History::of(entries);
         Gathered::of(history, spaces, pool, stores)
     }
 }

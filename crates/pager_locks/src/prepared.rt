@@ -1,6 +1,6 @@
 //! A pager that isn't opened yet.
 
-ghost use Rattle.std.specs.Prelude.{◌≡◌, ◌<◌, ◌≤◌, ◌+◌, ◌^◌, ◌%◌, ℕ, IfOk, IfErr, length, map, sum};
+ghost use Rattle.std.specs.Prelude.{◌≡◌, ◌<◌, ◌≤◌, ◌+◌, ◌^◌, ◌%◌, IfOk, IfErr, length, map, sum};
 ghost use Rattle.std.specs.List.{All};
 ghost use Rattle.pager_model.specs.Stores.{given_over, AreCapped};
 ghost use Rattle.journal_core.specs.Journals.{new_passes};

@@ -146,8 +146,8 @@ impl Flight {
     {
         let call = self.call();
         match space.read_in(page) {
-            Ok(()) => {
-                let answered = space.finish(self.processor, &call);
+            Ok(found) => {
+                let answered = space.finish(self.processor, &call, found);
                 self.answer(answered)
             }
             Err(count) => {

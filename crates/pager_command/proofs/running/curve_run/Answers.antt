@@ -6,12 +6,9 @@ use Rattle.pager_command.proofs.running.curve_run.Goals as goal
 pub write_curves_of-status-requires-clause-run : goal.write_curves_of-status-requires-clause-run
 write_curves_of-status-requires-clause-run g c =
     let run = c.requires.run in
-    (setting_over c.args.trace run.0, rw c.as_slice.ensures.value (is_run g.S.Store.seen c.args.trace run.0 c.args.gathered run.1))
+    (setting_over c.args.trace run.0, is_run g.S.Store.seen c.args.trace run.0 c.args.gathered run.1)
 
 pub returns : goal.returns
 returns g c = λ stores ran.
     let wrote = c.write_curves_of-status.ensures in
-    EndsRun-curves g.K.Sink.taken g.K.Sink.faults g.S.Store.seen c.args.trace stores c.args.gathered c.args.sink.now _ _ ran wrote.statuses refl refl refl refl wrote.unwritten
-    (rw (← c.as_slice.ensures.value) wrote.wrote)
-    (rw (← c.as_slice.ensures.value) wrote.part)
-    wrote.rose
+    EndsRun-curves g.K.Sink.taken g.K.Sink.faults g.S.Store.seen c.args.trace stores c.args.gathered c.args.sink.now _ _ ran wrote.statuses refl refl refl refl wrote.unwritten wrote.wrote wrote.part wrote.rose

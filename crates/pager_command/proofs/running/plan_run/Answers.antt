@@ -7,12 +7,12 @@ pub write_planned-status-requires-clause-legal : goal.write_planned-status-requi
 write_planned-status-requires-clause-legal g c =
     let run = c.requires.run in
     let over = is_over c.args.trace run.0 c.args.gathered.history.items c.frames.ensures.text run.1.run.legal in
-    (setting_over c.args.trace run.0, rw (c.frames.ensures.frames, c.as_slice.ensures.value) over)
+    (setting_over c.args.trace run.0, rw c.frames.ensures.frames over)
 
 pub returns : goal.returns
 returns g c = λ stores ran.
     let wrote = c.write_planned-status.ensures in
     EndsRun-planned g.K.Sink.taken g.K.Sink.faults g.S.Store.seen c.args.size c.args.trace stores c.args.gathered c.args.sink.now _ _ c.frames.ensures.text ran wrote.statuses refl refl refl refl wrote.unwritten
-    (rw (← c.frames.ensures.frames, ← c.as_slice.ensures.value) wrote.wrote)
-    (rw (← c.frames.ensures.frames, ← c.as_slice.ensures.value) wrote.part)
+    (rw (← c.frames.ensures.frames) wrote.wrote)
+    (rw (← c.frames.ensures.frames) wrote.part)
     wrote.rose

@@ -1,4 +1,4 @@
-use Rattle.std.proofs.Common.{◌≡◌, ℕ, List, length, map, take, slice_get, subst, ap, sym, ◌∙◌, arith}
+use Rattle.std.proofs.Common.{◌≡◌, ℕ, List, length, map, take, replicate, None, slice_get, subst, ap, sym, ◌∙◌, arith}
 use Rattle.std.proofs.lemmas.List.{length-take-le, take-map}
 use Rattle.std.proofs.lemmas.List.FromFn.{length-map-range_with_len}
 use Rattle.std.proofs.Math.ListN.{length-map}
@@ -28,18 +28,21 @@ pub returns-clause-setting : goal.returns-clause-setting
 returns-clause-setting g c =
     let plan = c.args.trace.now in
     let marks : c.as_slice-2.result.now ≡ marks_of plan = c.as_slice-2.ensures.value ∙ c.in_ok-marks.ensures in
-    let own = first g.S.Store.seen c.args.stores.now c.spaces.result plan.spaces c.spaces.ensures.spaces in
+    let own = first g.S.Store.seen c.args.stores.now c.spaces-spaces.result plan.spaces c.spaces-spaces.ensures.spaces in
     c.in_ok-room.ensures.setting
     ∙ (λ i. given_over (c.frames.ensures.frames i) (c.sizes.ensures.sizes i) (marks i) (own i))
 
 pub returns-clause-spaces : goal.returns-clause-spaces
 returns-clause-spaces g c =
     subst (λ l. AreRoomsOver c.in_ok-room.room.setting l c.in_ok-room.room.spaces)
-    (first g.S.Store.seen c.args.stores.now c.spaces.result c.args.trace.now.spaces c.spaces.ensures.spaces) c.in_ok-room.ensures.spaces
+    (first g.S.Store.seen c.args.stores.now c.spaces-spaces.result c.args.trace.now.spaces c.spaces-spaces.ensures.spaces) c.in_ok-room.ensures.spaces
 
 pub returns-clause-capped : goal.returns-clause-capped
 returns-clause-capped g c = λ s store below at.
-    let same = c.spaces.ensures.spaces in
-    let long = length-take-le c.spaces.result c.args.stores.now (omega (arith, same, c.requires.enough)) in
+    let same = c.spaces-spaces.ensures.spaces in
+    let long = length-take-le c.spaces-spaces.result c.args.stores.now (omega (arith, same, c.requires.enough)) in
     c.in_ok-room.ensures.capped s store (omega (arith, long, same, below))
-    (ap (λ l. slice_get l s) (first g.S.Store.seen c.args.stores.now c.spaces.result c.args.trace.now.spaces same) ∙ slice_get-take c.args.trace.now.spaces (map g.S.Store.seen c.args.stores.now) s below ∙ at)
+    (ap (λ l. slice_get l s) (first g.S.Store.seen c.args.stores.now c.spaces-spaces.result c.args.trace.now.spaces same) ∙ slice_get-take c.args.trace.now.spaces (map g.S.Store.seen c.args.stores.now) s below ∙ at)
+
+pub returns-clause-keepers : goal.returns-clause-keepers
+returns-clause-keepers g c = c.in_ok-keepers.ensures ∙ ap (λ n. replicate n None) c.spaces-spaces.ensures.spaces

@@ -1,11 +1,12 @@
 use Rattle.std.proofs.Common.{◌≡◌, length, map, reverse, refl, ap, ◌∙◌, arith}
 use Rattle.std.proofs.Math.ListN.{set, length-map}
 use Rattle.pager_core.specs.Running.{Running}
+use Rattle.run_history.specs.Kept.{Kept}
 use Rattle.pager_laws.proofs.KeptLaws.{KeepsLaws-legal}
 use Rattle.pager_laws.proofs.OrderedRefusals.{IsNeverShort-legal}
 use Rattle.pager_core.proofs.MachineTurns.{Goes}
 use Rattle.pager_core.proofs.ReadyFlights.{number-few, needs-frames, OwnsBy-machine, entries-below, known-machine, room_on_frames}
-use Rattle.pager_core.proofs.WholeTurns.{flies_in, jobs_read, Goes-of_frames, IsMachine-turned, IsLawful-turned, OneMore-turned}
+use Rattle.pager_core.proofs.WholeTurns.{AreKeepers-of_frames, flies_in, jobs_read, Goes-of_frames, IsMachine-turned, IsLawful-turned, OneMore-turned}
 use Rattle.pager_core.proofs.machine.Machine.turn_on_frames.Given.{Over}
 use Rattle.pager_core.proofs.machine.Machine.turn_on_frames.Goals as goal
 
@@ -33,11 +34,11 @@ step_frames-entry-requires-clause-room g c =
     let i = c.self.inside in
     entries-below _ i.spaces.items i.pool _ c.args.actor c.args.flight c.self.invariant.0 (flies_in _ c.args.self.now c.args.actor c.args.flight c.self.view_is c.requires.flies)
 
-pub push_reserved-requires : goal.push_reserved-requires
-push_reserved-requires g c =
+pub push-requires : goal.push-requires
+push-requires g c =
     let i = c.self.inside in
     let room = room_on_frames _ i.spaces.items i.pool _ c.args.actor c.args.flight c.self.invariant.0 (flies_in _ c.args.self.now c.args.actor c.args.flight c.self.view_is c.requires.flies) c.requires.under c.step_frames-entry.new.self c.step_frames-entry.new.pool c.step_frames-entry.result c.step_frames-entry.ensures.entry in
-    omega (arith, room, i.history.ok.0)
+    room
 
 pub going_on-requires : goal.going_on-requires
 going_on-requires g c =
@@ -56,43 +57,46 @@ before g c =
 abbrev after : (g : Over) → goal.After-self-1 g → Running
 after g c =
     let i = c.self.inside in
-    record { given = i.setting; jobs = map (λ v. v.items) i.jobs.items; flights = set i.flights.items c.args.actor c.going_on.result; history = c.push_reserved.new.self.items; unused = map g.S.Store.seen (reverse i.stores.items) }
+    record { given = i.setting; jobs = map (λ v. v.items) i.jobs.items; flights = set i.flights.items c.args.actor c.going_on.result; history = c.push.new.self.items; unused = map g.S.Store.seen (reverse i.stores.items) }
 
 -- what the turn did
-goes : (g : Over) (c : goal.After-self-1 g) → Goes (before g c) c.self.inside.spaces.items c.self.inside.spaces.items c.self.inside.pool c.step_frames-entry.new.pool c.args.actor c.len-number.result c.args.flight c.step_frames-entry.new.self c.step_frames-entry.result c.going_on.result
+goes : (g : Over) (c : goal.After-self-1 g)
+    → Goes (before g c) c.self.inside.spaces.items c.self.inside.spaces.items c.self.inside.pool c.step_frames-entry.new.pool c.args.actor c.args.flight c.step_frames-entry.new.self c.step_frames-entry.result c.going_on.result
 goes g c =
     let i = c.self.inside in
     let run = before g c in
     let jobs : length run.jobs ≡ length c.args.self.now.jobs = ap (λ (r : Running). length r.jobs) c.self.view_is in
     let count = length-map i.jobs.items (λ v. v.items) in
-    Goes-of_frames run i.spaces.items i.pool c.step_frames-entry.new.pool _ c.args.actor c.len-number.result c.args.flight c.step_frames-entry.new.self c.step_frames-entry.result c.going_on.result
-    c.args.self.now c.self.invariant.0 c.self.view_is c.requires.flies c.requires.under (omega (arith, c.len-number.ensures, i.history.ok.0)) c.step_frames-entry.ensures.entry
+    Goes-of_frames run i.spaces.items i.pool c.step_frames-entry.new.pool _ c.args.actor c.args.flight c.step_frames-entry.new.self c.step_frames-entry.result c.going_on.result
+    c.args.self.now c.self.invariant.0 c.self.view_is c.requires.flies c.requires.under c.step_frames-entry.ensures.entry
     c.as_slice.result.now (c.as_slice.ensures.value ∙ jobs_read (λ v. v.items) i.jobs.items c.args.actor c.index.result.now (omega (arith, jobs, count, c.requires.actor)) c.index.ensures) c.going_on.ensures.going c.going_on.ensures.next
 
 pub invariant_of-self : goal.invariant_of-self
 invariant_of-self g c =
     let i = c.self.inside in
     let room = c.self.invariant.1 in (
-      IsMachine-turned (before g c) i.spaces.items i.spaces.items i.pool c.step_frames-entry.new.pool _ c.args.actor c.len-number.result c.args.flight c.step_frames-entry.new.self c.step_frames-entry.result c.going_on.result
+      IsMachine-turned (before g c) i.spaces.items i.spaces.items i.pool c.step_frames-entry.new.pool _ c.args.actor c.args.flight c.step_frames-entry.new.self c.step_frames-entry.result c.going_on.result
           c.self.invariant.0 (goes g c) (after g c) _
-          refl refl refl c.push_reserved.ensures.items refl c.push_reserved.ensures.capacity,
+          refl refl refl (ap (λ (k : Kept). k.items) c.push.ensures) refl (ap (λ (k : Kept). k.room) c.push.ensures),
       room,
+      AreKeepers-of_frames (before g c) i.spaces.items i.pool c.step_frames-entry.new.pool c.self.inside.history.room c.args.actor c.args.flight c.step_frames-entry.new.self c.step_frames-entry.result c.going_on.result
+          c.requires.under c.step_frames-entry.ensures.entry (goes g c) i.keepers.items c.self.invariant.2,
     )
 
 pub returns-clause-stepped : goal.returns-clause-stepped
 returns-clause-stepped g c =
     let i = c.self.inside in (
       refl,
-      OneMore-turned (before g c) i.spaces.items i.spaces.items i.pool c.step_frames-entry.new.pool _ c.args.actor c.len-number.result c.args.flight c.step_frames-entry.new.self c.step_frames-entry.result c.going_on.result
-          c.self.invariant.0 (goes g c) c.args.self.now (after g c) c.self.view_is refl refl c.push_reserved.ensures.items,
+      OneMore-turned (before g c) i.spaces.items i.spaces.items i.pool c.step_frames-entry.new.pool _ c.args.actor c.args.flight c.step_frames-entry.new.self c.step_frames-entry.result c.going_on.result
+          c.self.invariant.0 (goes g c) c.args.self.now (after g c) c.self.view_is refl refl (ap (λ (k : Kept). k.items) c.push.ensures),
     )
 
 pub returns-clause-lawful : goal.returns-clause-lawful
 returns-clause-lawful g c =
     let i = c.self.inside in
-    IsLawful-turned (before g c) i.spaces.items i.spaces.items i.pool c.step_frames-entry.new.pool _ c.args.actor c.len-number.result c.args.flight c.step_frames-entry.new.self c.step_frames-entry.result c.going_on.result
+    IsLawful-turned (before g c) i.spaces.items i.spaces.items i.pool c.step_frames-entry.new.pool _ c.args.actor c.args.flight c.step_frames-entry.new.self c.step_frames-entry.result c.going_on.result
     c.self.invariant.0 (goes g c) (after g c)
-    refl refl refl c.push_reserved.ensures.items refl
+    refl refl refl (ap (λ (k : Kept). k.items) c.push.ensures) refl
 
 pub returns-clause-laws : goal.returns-clause-laws
 returns-clause-laws g c = KeepsLaws-legal _ _ (returns-clause-lawful g c).legal

@@ -1,7 +1,6 @@
 use Rattle.std.proofs.Common.{◌≡◌, ℕ, ◌^◌, ◌<◌, ◌≤◌, List, [], ◌∷◌, length, map, subst, sym, ap, ◌∙◌, arith}
 use Rattle.std.proofs.Math.ListN.{length-map}
 use Rattle.pager_model.specs.declared.entry.Numbered.{Numbered}
-use Rattle.pager_model.specs.Counts.{hits_in, misses_in}
 use Rattle.pager_model.specs.Legal.{entries_in}
 use Rattle.space_core.specs.Standing.{Kept}
 use Rattle.pager_core.specs.RunParts.{most_in_history}
@@ -45,13 +44,11 @@ returns-clause-count g c =
 pub returns-clause-summary : goal.returns-clause-summary
 returns-clause-summary g c = λ given rest.
     let moves = c.moves_of-promotions.ensures in
-    let accesses = c.accesses_in-hits.ensures in
-    let entries = ap entries_in c.as_slice-3.ensures.value in
     counts_are given (entries_in c.args.history.items) c.args.spaces.items c.args.pool rest (few c.args.history.items c.requires.few.0) c.requires.few.1 _ _ _ _ _ _ _ _ _
     (c.tiles_of-tiles.ensures ∙ ap (λ l. tiles_in l 0 ∷ tiles_in l 1 ∷ tiles_in l 2 ∷ tiles_in l 3 ∷ []) c.as_slice.ensures.value)
     (ap (λ (p : ℕ × ℕ). p.0) moves ∙ ap promotions_in c.as_slice-2.ensures.value)
     (ap (λ (p : ℕ × ℕ). p.1) moves ∙ ap demotions_in c.as_slice-2.ensures.value)
     c.preempted-preemptions.ensures
-    (ap (λ (p : ℕ × ℕ). p.0) accesses ∙ ap hits_in entries)
-    (ap (λ (p : ℕ × ℕ). p.1) accesses ∙ ap misses_in entries)
+    c.accesses-accesses.ensures.hits
+    c.accesses-accesses.ensures.misses
     c.counts-frames.ensures.free c.counts-frames.ensures.reserved c.counts-frames.ensures.used

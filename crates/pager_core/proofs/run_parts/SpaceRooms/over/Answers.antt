@@ -42,7 +42,8 @@ loop-room-preserved g c =
 count : (g : Over) (c : goal.After-drop-rooms g) → length c.loop-room.spaces.items ≡ length c.args.self
 count g c = omega (arith, c.loop-room.invariant.count, c.in_default.ensures.cases.0, c.loop-room.rooms.ok.0)
 
-order : (g : Over) (c : goal.After-drop-rooms g) → map g.S.Store.seen (reverse c.args.stores.now.items) ≡ map (λ (k : Kept). k.store) c.loop-room.spaces.items ++ map g.S.Store.seen (reverse c.loop-room.stores.items)
+order : (g : Over) (c : goal.After-drop-rooms g)
+    → map g.S.Store.seen (reverse c.args.stores.now.items) ≡ map (λ (k : Kept). k.store) c.loop-room.spaces.items ++ map g.S.Store.seen (reverse c.loop-room.stores.items)
 order g c = in_order g.S.Store.seen c.loop-room.stores.items c.args.stores.now.items (map (λ (k : Kept). k.store) c.loop-room.spaces.items) c.loop-room.invariant.stores
 
 pub returns-clause-stores : goal.returns-clause-stores

@@ -12,12 +12,15 @@ use Rattle.pager_locks.proofs.OpenedPagers.{AreNewParts-made}
 use Rattle.pager_locks.proofs.prepared.Prepared.create.Goals as goal
 
 -- a space for each store
-told : {P : Type 0} (seen : P → Stored) (frames : ℕ) (z : SizeSet) (marks : List ℕ) (stores slice : List P) (given : Given) → slice ≡ stores → given ≡ given_over frames z marks (map seen slice) → length given.told ≡ length stores
+told : {P : Type 0} (seen : P → Stored) (frames : ℕ) (z : SizeSet) (marks : List ℕ) (stores slice : List P) (given : Given) → slice ≡ stores
+    → given ≡ given_over frames z marks (map seen slice) → length given.told ≡ length stores
 told seen frames z marks stores slice given same is =
     ap (λ (g : Given). length g.told) is ∙ length-map (map seen slice) (λ (s : Stored). s.told) ∙ length-map slice seen ∙ ap length same
 
 -- the rooms of a pager, once its stores are turned round
-rooms_turned : {P : Type 0} (seen : P → Stored) (frames : ℕ) (z : SizeSet) (marks : List ℕ) (stores slice turned : List P) (given : Given) (rooms : List Capacity) → slice ≡ stores → turned ≡ reverse stores → given ≡ given_over frames z marks (map seen slice) → AreRoomsOver given (map seen slice) rooms → AreRoomsTurned seen turned given rooms (length stores)
+rooms_turned : {P : Type 0} (seen : P → Stored) (frames : ℕ) (z : SizeSet) (marks : List ℕ) (stores slice turned : List P) (given : Given) (rooms : List Capacity)
+    → slice ≡ stores → turned ≡ reverse stores → given ≡ given_over frames z marks (map seen slice)
+    → AreRoomsOver given (map seen slice) rooms → AreRoomsTurned seen turned given rooms (length stores)
 rooms_turned seen frames z marks stores slice turned given rooms same round is over =
     let many = length-map stores seen in
     turned_rooms seen stores turned given rooms (length stores) round (omega arith) (told seen frames z marks stores slice given same is)
