@@ -21,7 +21,8 @@ pub record IsPopped (spare rest : List Framed) (frame : Framed) : Type 0 where
   pub lowest : rest ≡ map zero_frame (range_with_len 0 (length rest))
   pub count : length spare ≡ length rest + 1
 
-pub popped : (spare rest : List Framed) (frame : Framed) → spare ≡ map zero_frame (range_with_len 0 (length spare)) → spare ≡ rest ++ frame ∷ [] → IsPopped spare rest frame
+pub popped : (spare rest : List Framed) (frame : Framed) → spare ≡ map zero_frame (range_with_len 0 (length spare))
+    → spare ≡ rest ++ frame ∷ [] → IsPopped spare rest frame
 popped spare rest frame lowest ends =
     let count : length spare ≡ length rest + 1 = ap length ends ∙ length-append rest (frame ∷ []) in
     let at : (i : ℕ) → i < length rest + 1 → get_or spare i frame ≡ zero_frame i = λ i within.
@@ -35,7 +36,8 @@ popped spare rest frame lowest ends =
     }
 
 -- the lowest frames are spare for a space that has begun
-pub lowest_spare : (z : SizeSet) (s : Kept) (spare : List Framed) (n : ℕ) → spare ≡ map zero_frame (range_with_len 0 n) → n ≤ s.frames → length s.images ≡ 2 → IsResting s → StandsFor s (empty_state z false s.store.faults) → HasSpare s spare
+pub lowest_spare : (z : SizeSet) (s : Kept) (spare : List Framed) (n : ℕ) → spare ≡ map zero_frame (range_with_len 0 n) → n ≤ s.frames
+    → length s.images ≡ 2 → IsResting s → StandsFor s (empty_state z false s.store.faults) → HasSpare s spare
 lowest_spare z s spare n lowest count processors resting stands =
     let few : length spare ≡ n = ap length lowest ∙ length-map-range_with_len zero_frame 0 n in
     record {
@@ -54,7 +56,9 @@ rest_spare kept spare rest frame last had =
     record { resting = had.resting; processors = had.processors; state = had.state; stands = had.stands; lowest = last.lowest; few = omega (arith, last, had.few); apart = λ p number has. omega (arith, last, had.apart p number has) }
 
 -- frames are still spare where no page has another
-pub still_spare : (old new : Kept) (spare : List Framed) (state : SpaceState) → IsResting new → StandsFor new state → new.frames ≡ old.frames → length new.images ≡ length old.images → ((p number : ℕ) → frame_at new p ≡ Some number → frame_at old p ≡ Some number) → HasSpare old spare → HasSpare new spare
+pub still_spare : (old new : Kept) (spare : List Framed) (state : SpaceState) → IsResting new → StandsFor new state
+    → new.frames ≡ old.frames → length new.images ≡ length old.images
+    → ((p number : ℕ) → frame_at new p ≡ Some number → frame_at old p ≡ Some number) → HasSpare old spare → HasSpare new spare
 still_spare old new spare state resting stands count processors kept had =
     record { resting = resting; processors = processors ∙ had.processors; state = state; stands = stands; lowest = had.lowest; few = omega (arith, had.few, count); apart = λ p number has. had.apart p number (kept p number has) }
 
@@ -73,7 +77,8 @@ pub record ClearsBut (first len : ℕ) (old new : Kept) : Type 0 where
   pub stands : (st : SpaceState) → StandsFor old st → StandsBut first len new st
 
 -- one more page does
-pub clears_one_more : (first len page frame : ℕ) (old mid new : Kept) → ClearsBut first len old mid → ClearsOne mid new first len page frame → ClearsBut first len old new
+pub clears_one_more : (first len page frame : ℕ) (old mid new : Kept) → ClearsBut first len old mid → ClearsOne mid new first len page frame
+    → ClearsBut first len old new
 clears_one_more first len page frame old mid new so_far one =
     record {
       same_number = one.gave.same.number ∙ so_far.same_number;
@@ -90,7 +95,8 @@ range_again first len old new same range =
     record { region = range.region; at = ap (λ (rs : List Region). region_at rs first) same.regions ∙ range.at; first_is = range.first_is; length_is = range.length_is; in_space = range.in_space }
 
 -- no page of the range is resident any more, so its region can be taken away
-pub may_unmap : (first len : ℕ) (mid new : Kept) → IsRange mid first len → ClearsNone mid new first len → (r : Region) × (region_at new.regions first ≡ Some r) × (new.clearing ≡ Some (range_of r.first r.length)) × NoneResident new r.first r.length
+pub may_unmap : (first len : ℕ) (mid new : Kept) → IsRange mid first len → ClearsNone mid new first len
+    → (r : Region) × (region_at new.regions first ≡ Some r) × (new.clearing ≡ Some (range_of r.first r.length)) × NoneResident new r.first r.length
 may_unmap first len mid new range none =
     (range.region, ap (λ (rs : List Region). region_at rs first) none.same.same.regions ∙ range.at, rw (range.first_is, range.length_is) none.clearing, rw (range.first_is, range.length_is) none.none)
 
@@ -99,7 +105,8 @@ left_base true o number h = absurd (none-some number h)
 left_base false o number h = h
 
 -- an unmap leaves the spare frames spare
-pub spare_unmapped : (first len : ℕ) (old mid cleared new : Kept) (a : Answered) (spare : List Framed) → ClearsBut first len old mid → ClearsNone mid cleared first len → Unmapped cleared new first a → HasSpare old spare → HasSpare new spare
+pub spare_unmapped : (first len : ℕ) (old mid cleared new : Kept) (a : Answered) (spare : List Framed) → ClearsBut first len old mid
+    → ClearsNone mid cleared first len → Unmapped cleared new first a → HasSpare old spare → HasSpare new spare
 spare_unmapped first len old mid cleared new a spare so_far none unmapped had =
     let stands = unmapped.stands _ (none.stands _ 0 (so_far.stands had.state had.stands)) 0 0 in
     still_spare old new spare _ unmapped.resting stands (unmapped.same_frames ∙ none.same.same.frames ∙ so_far.same_frames)

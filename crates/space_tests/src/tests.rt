@@ -143,7 +143,7 @@ fn serve(
             };
             space.place(page, frame);
             match space.read_in(page) {
-                Ok(()) => Ok((space.finish(processor, call), None)),
+                Ok(found) => Ok((space.finish(processor, call, found), None)),
                 Err(count) => Ok((answered(fault!(count)), Some(space.remove(page).number()))),
             }
         }

@@ -1,5 +1,6 @@
 //! Each crate's tests in a module: worked rows, and calls beside a slow plain copy.
 
+mod histories;
 mod history;
 mod reader;
 mod stores;

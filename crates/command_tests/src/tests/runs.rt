@@ -5,7 +5,8 @@ ghost use Rattle.std.specs.Prelude.{◌<◌};
 use io_core::{MemorySink, MemorySource, Source};
 use itoa::Buffer;
 use pager_command::{DONE, Outcome, WRITE_FAULT, run};
-use pager_model::{Numbered, What};
+use pager_model::{Entry, Numbered, What};
+use run_history::History;
 use std::process::Abort;
 use std::sync::Wait;
 use std::thread::Threads;
@@ -111,14 +112,29 @@ fn next_byte(source: &mut MemorySource) -> Option<u8> {
 }
 
 /// The page and the frame of the last taking.
-fn last_taken(history: &[Numbered]) -> Option<(u32, u32)> {
+fn last_taken(history: &History) -> Option<(u32, u32)> {
     let mut taken = None;
-    for numbered in history {
-        if let What::Take { page, frame, .. } = numbered.entry.what {
-            taken = Some((page, frame));
-        }
+    for place in 0..history.len() {
+        taken = taken_at(history, place).or(taken);
     }
     taken
+}
+
+/// The page and the frame of a taking, where the entry at this place is one.
+fn taken_at(history: &History, place: usize) -> Option<(u32, u32)> {
+    let numbered = history.get(place);
+    match numbered {
+        Some(
+            Numbered {
+                entry: Entry {
+                    what: What::Take { page, frame, .. },
+                    ..
+                },
+                ..
+            },
+        ) => Some((page, frame)),
+        _ => None,
+    }
 }
 
 /// How a run ended that left its source and its sink so.

@@ -1,7 +1,8 @@
 //! The lines of a run's report, as the recorded histories have them: an entry without its number, which is proved to be its place.
 use io_core::MemorySink;
-use pager_model::{Numbered, Summary};
+use pager_model::Summary;
 use report_text::{Parts, write_report};
+use run_history::History;
 use std::alloc::Global;
 use std::process::Abort;
 use std::str::Lines;
@@ -13,7 +14,7 @@ const MOST_BYTES: usize = 131_072;
 /// The lines of a history and of its counts. The answers, which come first, are asked for of no processor: the history has them too.
 pub(super) fn report_of(
     alloc: Global,
-    history: &[Numbered],
+    history: &History,
     summary: &Summary,
 ) -> Result<String, Fail> {
     let room = Vec::with_capacity(alloc, MOST_BYTES)?;

@@ -4,6 +4,7 @@ ghost use Rattle.std.specs.Prelude.{◌^◌, ◌<◌};
 
 use super::printed::{read_text, run_threads};
 use pager_model::{Generator, Numbered, Reply, What};
+use run_history::History;
 use std::alloc::{AllocError, Global};
 use std::process::Abort;
 use std::sync::Wait;
@@ -194,30 +195,43 @@ fn meets_failure(rt: &impl Abort, failure: &mut Option<Failure>, numbered: &Numb
 }
 
 /// Asserts that the entries have the numbers from 0 on, and that each failure that is answered is one of its own call. How many are.
-fn count_failures(rt: &impl Abort, history: &[Numbered]) -> u32 {
+fn count_failures(rt: &impl Abort, history: &History) -> u32 {
     let mut failures = [None; MOST_PROCESSORS];
     let mut answered = 0u32;
-    for (place, numbered) in history.iter().enumerate() {
-        assert_eq!(rt; numbered.number, place as u64);
+    for place in 0..history.len() {
+        let numbered = entry_at(rt, history, place);
         let Some(failure) = failures.get_mut(numbered.entry.processor as usize) else {
             panic!(rt; "another processor");
         };
-        if meets_failure(rt, failure, numbered) {
+        if meets_failure(rt, failure, &numbered) {
             answered = answered.saturating_add(1);
         }
     }
     answered
 }
 
+/// The entry at a place, which is its number.
+fn entry_at(rt: &impl Abort, history: &History, place: usize) -> Numbered {
+    let numbered = history.get(place).expect(rt, "an entry");
+    assert_eq!(rt; numbered.number, place as u64);
+    numbered
+}
+
+/// Whether an entry ends a turn of this processor.
+fn ends_turn(daemon: u32, numbered: Option<Numbered>) -> bool {
+    match numbered {
+        Some(Numbered { entry, .. }) => {
+            let ends = matches!(entry.what, What::Rest { .. } | What::Unclaim { .. });
+            ends && entry.processor == daemon
+        }
+        None => false,
+    }
+}
+
 /// How many turns of this processor have ended.
-fn turns_of(daemon: u32, history: &[Numbered]) -> usize {
-    history
-        .iter()
-        .filter(|numbered| numbered.entry.processor == daemon)
-        .filter(|numbered| matches!(
-            numbered.entry.what,
-            What::Rest { .. } | What::Unclaim { .. }
-        ))
+fn turns_of(daemon: u32, history: &History) -> usize {
+    (0..history.len())
+        .filter(|place| ends_turn(daemon, history.get(*place)))
         .count()
 }
 
@@ -226,7 +240,7 @@ fn run_drawn<R: Abort + Threads + Wait + Sync>(
     rt: &R,
     alloc: Global,
     seed: u64,
-) -> Result<(Vec<Numbered>, Shape), Fail> {
+) -> Result<(History, Shape), Fail> {
     let mut random = Generator::of(seed);
     let shape = draw_shape(&mut random);
     let text = draw_text(alloc, shape, &mut random)?;
@@ -242,10 +256,10 @@ fn a_failure_is_answered_where_the_call_met_it_beside_a_daemon_too(
 ) -> Result<(), Fail> {
     for seed in 0..RUNS {
         let (history, shape) = run_drawn(&rt, rt.alloc(), seed)?;
-        let answered = count_failures(&rt, history.as_slice());
+        let answered = count_failures(&rt, &history);
         // The first read of each store fails.
         assert!(rt; answered >= shape.spaces, "seed {seed}");
-        let turns = turns_of(shape.processors, history.as_slice());
+        let turns = turns_of(shape.processors, &history);
         let wanted = if shape.daemon { TURNS } else { 0 };
         assert_eq!(rt; turns, wanted, "seed {seed}");
     }

@@ -60,11 +60,10 @@ pub(super) fn printed<S: Store + Send + Drop, R: Threads + Wait + Sync>(
     let gathered = run_threads(rt, alloc, &trace, stores)?;
     let room = Vec::with_capacity(alloc, MOST_BYTES)?;
     let mut sink = MemorySink::of(room, MOST_BYTES, Vec::new(alloc));
-    let history = gathered.history.as_slice();
     write_report(
         &mut sink,
         trace.processors(),
-        history,
+        &gathered.history,
         &gathered.summary,
         Parts::Answers,
     )?;

@@ -7,6 +7,7 @@ use pager_model::{
     Answered, Call, Entry, Kind, Need, Numbered, Reply, Rights, Size, Summary, Want, What,
 };
 use report_text::{Parts, write_curves, write_report};
+use run_history::History;
 use std::alloc::Global;
 use std::process::Abort;
 
@@ -18,7 +19,7 @@ const MAP: Call = Call::Map {
     rights: Rights::Read,
 };
 
-const LOAD: Call = Call::Load {
+pub(super) const LOAD: Call = Call::Load {
     space: 0,
     address: 0,
 };
@@ -64,7 +65,7 @@ fn entry_at(number: u64, frames: bool, what: What) -> Numbered {
 }
 
 /// A call's answer, with the size of a level.
-fn answer(number: u32, call: Call, reply: Reply, hit: bool, level: Option<u8>) -> What {
+pub(super) fn answer(number: u32, call: Call, reply: Reply, hit: bool, level: Option<u8>) -> What {
     let answered = Answered {
         reply,
         hit,
@@ -94,9 +95,20 @@ fn small_history() -> [Numbered; 3] {
     ]
 }
 
+/// The history of these entries.
+fn history_of(rt: &impl Abort, alloc: Global, entries: &[Numbered]) -> History {
+    History::of(entries.to_vec(alloc).expect(rt, NO_MEMORY))
+}
+
 /// Writes the small run.
-fn write_small<K: Sink>(sink: &mut K, parts: Parts) -> Result<(), WriteFailed> {
-    write_report(sink, 1, &small_history(), &SUMMARY, parts)
+fn write_small<K: Sink>(
+    rt: &impl Abort,
+    alloc: Global,
+    sink: &mut K,
+    parts: Parts,
+) -> Result<(), WriteFailed> {
+    let history = history_of(rt, alloc, &small_history());
+    write_report(sink, 1, &history, &SUMMARY, parts)
 }
 
 /// The text of the small run.
@@ -115,7 +127,7 @@ fn small_text(rt: &impl Abort, alloc: Global, parts: Parts) -> Vec<u8> {
 /// as many as it takes.
 fn small_within(rt: &impl Abort, alloc: Global, limit: usize, parts: Parts) -> (bool, bool) {
     let mut sink = sink_of(rt, alloc, limit, 0);
-    let wrote = write_small(&mut sink, parts).is_ok();
+    let wrote = write_small(rt, alloc, &mut sink, parts).is_ok();
     let text = small_text(rt, alloc, parts);
     let bytes = sink.bytes();
     (
@@ -151,7 +163,7 @@ fn small_failing(
     text: &[u8],
 ) -> (bool, Option<usize>) {
     let mut sink = Slow::of(sink_of(rt, alloc, 300, failing), 16);
-    let wrote = write_small(&mut sink, Parts::AnswersAndHistory).is_ok();
+    let wrote = write_small(rt, alloc, &mut sink, Parts::AnswersAndHistory).is_ok();
     let bytes = sink.bytes();
     (wrote, text.starts_with(bytes).then_some(bytes.len()))
 }
@@ -177,11 +189,11 @@ fn each_write_that_fails_leaves_what_went_before(rt: HostRuntime) {
 }
 
 /// An entry of 13 bytes.
-const GOT: What = What::Got { frame: 7 };
+pub(super) const GOT: What = What::Got { frame: 7 };
 
 /// Writes a run with 400 entries, whose lines have 13 bytes, and answers whether all was written and how many bytes there are.
 fn write_many(rt: &impl Abort, alloc: Global, failing: u64) -> (bool, usize) {
-    let history = [of_the_frames(GOT); 400];
+    let history = history_of(rt, alloc, &[of_the_frames(GOT); 400]);
     let mut sink = sink_of(rt, alloc, 10_000, failing);
     let wrote = write_report(&mut sink, 1, &history, &SUMMARY, Parts::AnswersAndHistory);
     (wrote.is_ok(), sink.bytes().len())
@@ -214,12 +226,13 @@ fn has_lines(
     rt: &impl Abort,
     alloc: Global,
     processors: u32,
-    history: &[Numbered],
+    entries: &[Numbered],
     parts: Parts,
     lines: &[u8],
 ) -> bool {
     let mut sink = sink_of(rt, alloc, 1_000, 0);
-    let wrote = write_report(&mut sink, processors, history, &SUMMARY, parts);
+    let history = history_of(rt, alloc, entries);
+    let wrote = write_report(&mut sink, processors, &history, &SUMMARY, parts);
     wrote.is_ok() && sink.bytes().strip_prefix(lines) == Some(COUNTS)
 }
 
@@ -277,7 +290,7 @@ fn each_reply_has_its_line(rt: HostRuntime) {
 }
 
 /// Entry 12, of processor 3.
-fn entry_of_3(space: Option<u32>, frames: bool, what: What) -> Numbered {
+pub(super) fn entry_of_3(space: Option<u32>, frames: bool, what: What) -> Numbered {
     let entry = Entry {
         processor: 3,
         space,
@@ -287,12 +300,12 @@ fn entry_of_3(space: Option<u32>, frames: bool, what: What) -> Numbered {
     Numbered { number: 12, entry }
 }
 
-fn of_the_frames(what: What) -> Numbered {
+pub(super) fn of_the_frames(what: What) -> Numbered {
     entry_of_3(None, true, what)
 }
 
 /// A load's answer on space 2, which names the frames where it says so.
-fn loaded(frames: bool) -> Numbered {
+pub(super) fn loaded(frames: bool) -> Numbered {
     let what = answer(7, LOAD, Reply::Value(5), true, Some(3));
     entry_of_3(Some(2), frames, what)
 }
@@ -314,7 +327,7 @@ fn each_answer_in_a_history_has_its_line(rt: HostRuntime) {
 }
 
 /// The space that an entry names, whether it names the frames, and what happened.
-const ENTRIES: [(Option<u32>, bool, What); 17] = [
+pub(super) const ENTRIES: [(Option<u32>, bool, What); 17] = [
     (
         Some(2),
         false,
@@ -438,30 +451,30 @@ const WIDE: Want = Want {
 const ENTRY_LINES: &[u8] =
     b"12 3 s2 out 6 written\n12 3 s2 out 6 clean\n12 3 s2 failed 6 read 1\n12 3 s2 failed 6 write 2\n12 3 s2+f take 6 7 0 8 8 0\n12 3 s2+f use 6 7 6 518 64 1\n12 3 s2+f give 6 7\n12 3 s2+f clear 6 8\n12 3 s2+f claim 1 4 5 for 9 read\n12 3 s2+f claim 1 4 5 for 9 write\n12 3 s2+f unclaim 7\n12 3 f claim 1 4 5\n12 3 f drop 7\n12 3 f got 7\n12 3 f refused 500 10 2\n12 3 f rest 0\n12 3 f rest 1\n";
 
-/// The history of these entries.
-fn history_of(
+/// These entries, each numbered 12.
+fn numbered_of(
     rt: &impl Abort,
     alloc: Global,
     entries: &[(Option<u32>, bool, What)],
 ) -> Vec<Numbered> {
-    let mut history = Vec::new(alloc);
+    let mut numbered = Vec::new(alloc);
     for &(space, frames, what) in entries {
-        history
+        numbered
             .push(entry_of_3(space, frames, what))
             .expect(rt, NO_MEMORY);
     }
-    history
+    numbered
 }
 
 #[test]
 fn each_entry_has_its_line(rt: HostRuntime) {
-    let history = history_of(&rt, rt.alloc(), &ENTRIES);
+    let entries = numbered_of(&rt, rt.alloc(), &ENTRIES);
     assert!(rt;
         has_lines(
             &rt,
             rt.alloc(),
             1,
-            &history,
+            &entries,
             Parts::AnswersAndHistory,
             ENTRY_LINES
         )

@@ -8,10 +8,10 @@ use reservation_lists::Lists;
 use std::alloc::{AllocError, Global};
 use std::process::Abort;
 
-/// How many frames the drawn members have, each at most once.
+/// How many frames there are.
 const DRAWN: u32 = 4096;
 
-/// The lists, with a mark for each frame that ever had a member.
+/// The lists, with a mark for each frame that has a member.
 #[derive(Drop)]
 struct Marked {
     lists: Lists,
@@ -36,7 +36,7 @@ impl Marked {
         })
     }
 
-    /// Puts a member in, whose frame never had one.
+    /// Puts a member in, whose frame has none.
     #[tactic(auto, using(crate::proofs::MarkedMembers::unmarked_unlisted))]
     fn put(&mut self, level: u8, stamp: u64, frame: u32)
         requires level { level < 3 }
@@ -47,7 +47,7 @@ impl Marked {
         self.marks[frame as usize] = true;
     }
 
-    /// Puts a member in, where its frame never had one.
+    /// Puts a member in, where its frame has none.
     fn insert(&mut self, row: Row) -> bool {
         if row.level >= 3 || row.frame >= DRAWN || is_marked(self.marks.as_slice(), row.frame) {
             return false;
@@ -56,10 +56,11 @@ impl Marked {
         true
     }
 
-    /// Takes a member out, where it is in.
-    fn remove(&mut self, row: Row) {
-        if row.level < 3 {
-            self.lists.remove(size(row.level), row.stamp, row.frame);
+    /// Takes the member of a frame out, where it has one.
+    fn remove(&mut self, frame: u32) {
+        if frame < DRAWN {
+            self.lists.remove(frame);
+            self.marks[frame as usize] = false;
         }
     }
 
@@ -70,7 +71,7 @@ impl Marked {
 }
 
 /// A row of the plain list.
-#[derive(Clone, Copy, PartialEq, Eq)]
+#[derive(Clone, Copy)]
 struct Row {
     level: u8,
     stamp: u64,
@@ -92,7 +93,7 @@ impl Beside {
         })
     }
 
-    /// Puts a row into both, where its frame never had one.
+    /// Puts a row into both, where its frame has none.
     fn insert(&mut self, row: Row) -> Result<(), AllocError> {
         if self.lists.insert(row) {
             self.rows.push(row)?;
@@ -100,9 +101,9 @@ impl Beside {
         Ok(())
     }
 
-    fn remove(&mut self, row: Row) {
-        self.lists.remove(row);
-        self.rows.retain(|kept| *kept != row);
+    fn remove(&mut self, frame: u32) {
+        self.lists.remove(frame);
+        self.rows.retain(|row| row.frame != frame);
     }
 
     /// The oldest row of a size in the plain list.
@@ -111,13 +112,13 @@ impl Beside {
         of_size.min_by_key(|row| (row.stamp, row.frame)).copied()
     }
 
-    /// A row to take out: that of the drawn number, or the drawn one, which most likely no list has.
-    fn chosen(&self, number: u32, drawn: Row) -> Row {
+    /// A frame to take out: that of the row of the drawn number, or the drawn one, which most likely has no member.
+    fn chosen(&self, number: u32, drawn: Row) -> u32 {
         let listed = match number {
             0 => self.oldest(drawn.level),
             _ => self.rows.get(number as usize).copied(),
         };
-        listed.unwrap_or(drawn)
+        listed.unwrap_or(drawn).frame
     }
 
     /// Whether both have the same oldest member of a size.
@@ -165,34 +166,48 @@ fn orders_its_members_as_a_plain_list_does(rt: HostRuntime) {
     assert!(rt; goes_alike(&mut both, 2_000).expect(&rt, NO_MEMORY));
 }
 
-/// Steps on new lists, each with a level, a stamp and a frame: a member that is put in or taken out, and the oldest, which is taken out, where
-/// there is one.
-static STEPS: [&str; 4] = [
+/// Steps on new lists: `in` with a level, a stamp and a frame puts a member in, `out` with a frame takes one out, and `next` with a level
+/// takes the oldest out, which is that of the frame, or none.
+static STEPS: [&str; 7] = [
     // The oldest comes first, whatever the order of insertion.
-    "in 0 30 2, in 0 10 8, in 0 40 0, in 0 20 63, next 0 10 8, next 0 20 63, next 0 30 2, next 0 40 0, next 0 - -",
+    "in 0 30 2, in 0 10 8, in 0 40 0, in 0 20 63, next 0 8, next 0 63, next 0 2, next 0 0, next 0 -",
     // Of equal stamps the lowest frame comes first.
-    "in 1 5 24, in 1 5 8, in 1 4 40, in 1 5 16, next 1 4 40, next 1 5 8, next 1 5 16, next 1 5 24, next 1 - -",
+    "in 1 5 24, in 1 5 8, in 1 4 40, in 1 5 16, next 1 40, next 1 8, next 1 16, next 1 24, next 1 -",
     // Each size has a list of its own.
-    "in 0 3 1, in 1 2 8, in 2 1 0, next 1 2 8, next 1 - -, next 2 1 0, next 2 - -, next 0 3 1, next 0 - -",
-    // A removal takes only the member of that stamp and frame.
-    "in 0 7 1, in 0 7 2, out 0 7 1, out 0 6 2, out 1 7 2, next 0 7 2, next 0 - -",
+    "in 0 3 1, in 1 2 8, in 2 1 0, next 1 8, next 1 -, next 2 0, next 0 1, next 0 -",
+    // A removal takes only the member of that frame, from whichever list it is in.
+    "in 0 7 1, in 1 7 2, in 2 7 3, in 0 7 4, out 1, out 2, out 3, next 1 -, next 2 -, next 0 4, next 0 -",
+    // A frame that stands in no list changes none, whether it never stood in one or went out before.
+    "out 2, in 0 7 1, in 1 7 8, out 2, out 4095, next 0 1, out 1, next 0 -, next 1 8",
+    // A member that comes in again stands by its new stamp, and goes out by that one.
+    "in 0 7 1, in 0 8 2, out 1, in 0 9 1, next 0 2, next 0 1, in 0 3 1, in 0 2 2, in 0 4 3, out 1, next 0 2, next 0 3, next 0 -",
+    // Or in another list.
+    "in 0 7 1, out 1, in 2 6 1, next 0 -, out 1, next 2 -, in 1 5 1, next 2 -, next 1 1, next 1 -",
 ];
 
 impl Marked {
+    /// Takes the oldest of a size out, and tells its frame.
+    fn take_oldest(&mut self, level: u8) -> Option<u32> {
+        let oldest = self.oldest(level)?;
+        self.remove(oldest);
+        Some(oldest)
+    }
+
     /// Whether a step goes as its row says.
     fn goes(&mut self, step: &str) -> bool {
-        let [call, level, stamp, frame, ..] = words(step);
-        let row = Row {
-            level: level_of(level),
-            stamp: u64::from(count(stamp)),
-            frame: count(frame),
-        };
+        let [call, first, second, third, ..] = words(step);
         if call == "in" {
-            return self.insert(row);
+            return self.insert(Row {
+                level: level_of(first),
+                stamp: u64::from(count(second)),
+                frame: count(third),
+            });
         }
-        let oldest = self.oldest(row.level);
-        self.remove(row);
-        call == "out" || oldest == number(frame)
+        if call == "out" {
+            self.remove(count(first));
+            return true;
+        }
+        self.take_oldest(level_of(first)) == number(second)
     }
 }
 

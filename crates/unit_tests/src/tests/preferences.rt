@@ -1,5 +1,5 @@
 //! The level of the preferred size, in worked rows.
-ghost use Rattle.std.specs.Prelude.{◌<◌, ◌≤◌};
+ghost use Rattle.std.specs.Prelude.{◌<◌};
 
 use pager_model::{Extent, Want};
 use size_policy::preferred;

@@ -1,5 +1,5 @@
 //! Reservations: their frames, their used places, and what they can give back.
-ghost use Rattle.std.specs.Prelude.{◌≡◌, ℕ, ◌<◌, ◌≤◌, ◌+◌, ◌^◌, true, false, IfOk, IsSomeAnd, length};
+ghost use Rattle.std.specs.Prelude.{◌≡◌, ℕ, ◌<◌, ◌≤◌, ◌+◌, ◌^◌, true, false, IsSomeAnd, length};
 ghost use Rattle.pager_model.specs.Records.{is_used, none_used};
 ghost use Rattle.pager_model.specs.Agreement.{has_frame};
 ghost use Rattle.pager_model.specs.Layouts.{frame_for};

@@ -8,13 +8,15 @@ use Rattle.text_tests.specs.Samples.{mapped, small, taking}
 use Rattle.text_tests.proofs.tests.history.map_and_take.Goals as goal
 
 -- the first call is answered
-maps : (j : JournalName) (p : PassState) (e : Entry) → j.setting ≡ small → p ≡ new_pass j 0 2 → e ≡ mapped → KeepsOrder p.journal.setting (entries_in p.entries) e
+maps : (j : JournalName) (p : PassState) (e : Entry) → j.setting ≡ small → p ≡ new_pass j 0 2 → e ≡ mapped
+    → KeepsOrder p.journal.setting (entries_in p.entries) e
 maps j p e setting pass is =
     subst (λ (x : Entry). KeepsOrder p.journal.setting (entries_in p.entries) x) (sym is)
     (subst (λ (q : PassState). KeepsOrder q.journal.setting (entries_in q.entries) mapped) (sym pass) (subst (λ (g : Given). KeepsOrder g [] mapped) (sym setting) (at_rest 0 1, refl)))
 
 -- a frame is taken for the second
-takes : (j : JournalName) (p q : PassState) (n : ℕ) (d e : Entry) → j.setting ≡ small → p ≡ new_pass j 0 2 → q ≡ kept p n d → d ≡ mapped → e ≡ taking → KeepsOrder q.journal.setting (entries_in q.entries) e
+takes : (j : JournalName) (p q : PassState) (n : ℕ) (d e : Entry) → j.setting ≡ small → p ≡ new_pass j 0 2 → q ≡ kept p n d → d ≡ mapped
+    → e ≡ taking → KeepsOrder q.journal.setting (entries_in q.entries) e
 takes j p q n d e setting pass more before is =
     subst (λ (x : Entry). KeepsOrder q.journal.setting (entries_in q.entries) x) (sym is)
     (subst (λ (r : PassState). KeepsOrder r.journal.setting (entries_in r.entries) taking) (sym (more ∙ ap₂ (λ (r : PassState) (x : Entry). kept r n x) pass before))

@@ -8,7 +8,8 @@ use Rattle.text_tests.specs.Samples.{watched, rest}
 use Rattle.text_tests.proofs.tests.history.rest_at_once.Goals as goal
 
 -- the turn begins and ends with the rest
-rests : (j : JournalName) (p : PassState) (e : Entry) → j.setting ≡ watched → p ≡ new_pass j 1 1 → e ≡ rest → KeepsOrder p.journal.setting (entries_in p.entries) e
+rests : (j : JournalName) (p : PassState) (e : Entry) → j.setting ≡ watched → p ≡ new_pass j 1 1 → e ≡ rest
+    → KeepsOrder p.journal.setting (entries_in p.entries) e
 rests j p e setting pass is =
     subst (λ (x : Entry). KeepsOrder p.journal.setting (entries_in p.entries) x) (sym is)
     (subst (λ (q : PassState). KeepsOrder q.journal.setting (entries_in q.entries) rest) (sym pass) (subst (λ (g : Given). KeepsOrder g [] rest) (sym setting) (at_rest 2 1, refl)))
