@@ -9,7 +9,9 @@ use Rattle.bit_set.specs.Bits.{HasInWord, LacksWord, IsNextInWord, IsFirstFrom}
 use Rattle.bit_set.specs.Summaries.{Sums, AreLevels}
 
 -- a bit is put, and the bit of its word says whether the word has one then
-pub Sums-put : (below above : List Bool) (n : ℕ) (b some : Bool) → Sums below above → n < length below → n / 64 < length above → OnTrue some (HasInWord (set below n b) (n / 64)) → OnFalse some (LacksWord (set below n b) (n / 64)) → Sums (set below n b) (set above (n / 64) some)
+pub Sums-put : (below above : List Bool) (n : ℕ) (b some : Bool) → Sums below above → n < length below → n / 64 < length above
+    → OnTrue some (HasInWord (set below n b) (n / 64)) → OnFalse some (LacksWord (set below n b) (n / 64))
+    → Sums (set below n b) (set above (n / 64) some)
 Sums-put below above n b some sums low high has lacks = record { up = up; down = down }
   where
     up : (i : ℕ) → get_or (set below n b) i false ≡ true → get_or (set above (n / 64) some) (i / 64) false ≡ true
@@ -49,7 +51,8 @@ no_next set n None empty found = found
 no_next set n (Some m) empty found = absurd (false≢true (sym empty))
 
 -- and else the first one of the first later word that has one
-pub first_above : (below above : List Bool) (n word : ℕ) (next : Option ℕ) → Sums below above → IsNextInWord below n None → IsFirstFrom above (n / 64 + 1) (Some word) → IsNextInWord below (word * 64) next → IsFirstFrom below n next
+pub first_above : (below above : List Bool) (n word : ℕ) (next : Option ℕ) → Sums below above → IsNextInWord below n None
+    → IsFirstFrom above (n / 64 + 1) (Some word) → IsNextInWord below (word * 64) next → IsFirstFrom below n next
 first_above below above n word None sums here later next =
     let some = sums.down word later.1 in
     absurd (false≢true (sym (next some.0 (omega (arith, some.1)) (omega (arith, some.1))) ∙ some.2))

@@ -46,7 +46,9 @@ bits_of-replicate n =
     get_or-bits_of (replicate n 0) i ∙ (not_in_zero (replicate n 0) i (get_or-alike n (i / 64) 0) ∙ sym (get_or-alike (64 * n) i false)))
 
 -- a word that differs from the one before in one bit puts one number in or out
-pub bits_of-set : (words : List ℕ) (n word : ℕ) (b : Bool) → n < 64 * length words → bit_at word (n % 64) ≡ cond b 1 0 → ((k : ℕ) → k < 64 → k ≢ n % 64 → bit_at word k ≡ bit_at (get_or words (n / 64) 0) k) → bits_of (set words (n / 64) word) ≡ set (bits_of words) n b
+pub bits_of-set : (words : List ℕ) (n word : ℕ) (b : Bool) → n < 64 * length words → bit_at word (n % 64) ≡ cond b 1 0
+    → ((k : ℕ) → k < 64 → k ≢ n % 64 → bit_at word k ≡ bit_at (get_or words (n / 64) 0) k)
+    → bits_of (set words (n / 64) word) ≡ set (bits_of words) n b
 bits_of-set words n word b inside at others =
     ext_get_or false _ _ lengths (λ i _. elim (cases_eq i n) [ inl same ↦ here i same | inr other ↦ there i other ])
   where
@@ -87,11 +89,14 @@ bits_of-set words n word b inside at others =
         ∙ (sym (get_or-bits_of words i) ∙ sym (get_or-set_other (bits_of words) n i b false other)))))
 
 -- the bit of a number by its word and place there
-in_by_place : (words : List ℕ) (n word place : ℕ) (b : Bool) → n / 64 ≡ word → n % 64 ≡ place → bit_at (get_or words word 0) place ≡ cond b 1 0 → get_or (bits_of words) n false ≡ b
+in_by_place : (words : List ℕ) (n word place : ℕ) (b : Bool) → n / 64 ≡ word → n % 64 ≡ place
+    → bit_at (get_or words word 0) place ≡ cond b 1 0 → get_or (bits_of words) n false ≡ b
 in_by_place words n word place b at_word at_place at = in_by_bit words n b (rw (at_word, at_place) at)
 
 -- the next number in a word, by the lowest bit of the word from its place on
-pub next_by_lowest : (words : List ℕ) (n place : ℕ) → n % 64 ≤ place → place < 64 → bit_at (get_or words (n / 64) 0) place ≡ 1 → ((k : ℕ) → n % 64 ≤ k → k < place → bit_at (get_or words (n / 64) 0) k ≡ 0) → IsNextInWord (bits_of words) n (Some (n / 64 * 64 + place))
+pub next_by_lowest : (words : List ℕ) (n place : ℕ) → n % 64 ≤ place → place < 64 → bit_at (get_or words (n / 64) 0) place ≡ 1
+    → ((k : ℕ) → n % 64 ≤ k → k < place → bit_at (get_or words (n / 64) 0) k ≡ 0)
+    → IsNextInWord (bits_of words) n (Some (n / 64 * 64 + place))
 next_by_lowest words n place low high set none = (
   omega arith,
   omega arith,
@@ -119,7 +124,8 @@ lacks_by_word words word at n same =
 pub word_of_bit : (words : List ℕ) (set : List Bool) (n : ℕ) → bits_of words ≡ set → n < length set → n / 64 < length words
 word_of_bit words set n is inside = omega (arith, length-bits_of words, ap length is)
 
-pub word_written : (words after : List ℕ) (set_before : List Bool) (n bits : ℕ) → bits_of words ≡ set_before → n < length set_before → after ≡ set words (n / 64) bits → get_or after (n / 64) 0 ≡ bits
+pub word_written : (words after : List ℕ) (set_before : List Bool) (n bits : ℕ) → bits_of words ≡ set_before → n < length set_before
+    → after ≡ set words (n / 64) bits → get_or after (n / 64) 0 ≡ bits
 word_written words after set_before n bits is inside written =
     ap (λ ws. get_or ws (n / 64) 0) written ∙ get_or-set_same words (n / 64) bits 0 (word_of_bit words set_before n is inside)
 

@@ -19,7 +19,8 @@ none_from word bit rest j h =
     from_shr word bit j 0 h (ap (λ n. bit_at n (j - bit)) rest ∙ bit_at-zero (j - bit))
 
 -- it is as far on as the rest has zeros at its end
-pub lowest_is_set : (word bit : ℕ) → word < 2 ^ 64 → (word / 2 ^ bit ≡ 0 → ⊥) → (bit + trailing_zeros w64 (word / 2 ^ bit) < 64) × (bit_at word (bit + trailing_zeros w64 (word / 2 ^ bit)) ≡ 1)
+pub lowest_is_set : (word bit : ℕ) → word < 2 ^ 64 → (word / 2 ^ bit ≡ 0 → ⊥)
+    → (bit + trailing_zeros w64 (word / 2 ^ bit) < 64) × (bit_at word (bit + trailing_zeros w64 (word / 2 ^ bit)) ≡ 1)
 lowest_is_set word bit fits rest =
     let left = word / 2 ^ bit in
     let zeros = trailing_zeros w64 left in
@@ -30,7 +31,8 @@ lowest_is_set word bit fits rest =
       | inr past ↦ absurd (omega (arith, set, bit_at_above word 64 (bit + zeros) fits past))
     ]
 
-pub lowest_is_first : (word bit : ℕ) → word < 2 ^ 64 → (word / 2 ^ bit ≡ 0 → ⊥) → (j : ℕ) → bit ≤ j → j < bit + trailing_zeros w64 (word / 2 ^ bit) → bit_at word j ≡ 0
+pub lowest_is_first : (word bit : ℕ) → word < 2 ^ 64 → (word / 2 ^ bit ≡ 0 → ⊥) → (j : ℕ) → bit ≤ j
+    → j < bit + trailing_zeros w64 (word / 2 ^ bit) → bit_at word j ≡ 0
 lowest_is_first word bit fits rest j low high =
     let left = word / 2 ^ bit in
     let found = bit_at-trailing_zeros w64 left (omega arith) (omega (arith, shr_le word bit)) in

@@ -1,6 +1,6 @@
 //! A run of words as a set of numbers: one level of the set and of its summaries.
 
-ghost use Rattle.std.specs.Prelude.{◌≡◌, ◌+◌, ◌*◌, ◌/◌, ◌<◌, ◌≤◌, ◌^◌, false, length, replicate, slice_index_or, slice_set, IfOk};
+ghost use Rattle.std.specs.Prelude.{◌≡◌, ◌+◌, ◌*◌, ◌/◌, ◌<◌, false, length, replicate, slice_index_or, slice_set, IfOk};
 ghost use Rattle.std.specs.Bool.{OnTrue, OnFalse};
 ghost use Rattle.bit_set.specs.Bits.{HasInWord, LacksWord, IsNextInWord};
 

@@ -14,7 +14,8 @@ use Rattle.pager_model.proofs.FreeRanges.{length-with_range, with_range_inside, 
 
 -- ---- which frames have a block
 
-has_block-at : (nodes : List Bool) (order count frame n : ℕ) → order ≤ n → n < order + count → is_block nodes n frame ≡ true → has_block nodes order count frame ≡ true
+has_block-at : (nodes : List Bool) (order count frame n : ℕ) → order ≤ n → n < order + count → is_block nodes n frame ≡ true
+    → has_block nodes order count frame ≡ true
 unfolding has_block
 has_block-at nodes order zero frame n low high is = absurd (omega arith)
 has_block-at nodes order (suc count) frame n low high is =
@@ -23,7 +24,8 @@ has_block-at nodes order (suc count) frame n low high is =
       | inr other ↦ or_right _ _ (has_block-at nodes (order + 1) count frame n (omega arith) (omega arith) is)
     ]
 
-block_of : (nodes : List Bool) (order count frame : ℕ) → has_block nodes order count frame ≡ true → (n : ℕ) × (n < order + count) × (is_block nodes n frame ≡ true)
+block_of : (nodes : List Bool) (order count frame : ℕ) → has_block nodes order count frame ≡ true
+    → (n : ℕ) × (n < order + count) × (is_block nodes n frame ≡ true)
 unfolding has_block
 block_of nodes order zero frame has = absurd (false≢true has)
 block_of nodes order (suc count) frame has =
@@ -62,7 +64,8 @@ length-free_with nodes frames order frame = length-map-range_with_len _ 0 frames
 free_at : List Bool → ℕ → ℕ → ℕ → Bool
 free_at nodes order frame other = same_block order frame other || is_free nodes other
 
-get_or-free_with : (nodes : List Bool) (frames order frame other : ℕ) → other < frames → get_or (free_with nodes frames order frame) other false ≡ free_at nodes order frame other
+get_or-free_with : (nodes : List Bool) (frames order frame other : ℕ) → other < frames
+    → get_or (free_with nodes frames order frame) other false ≡ free_at nodes order frame other
 unfolding free_with free_at
 get_or-free_with nodes frames order frame other h =
     get_or-map-range_with_len (free_at nodes order frame) 0 frames other other false h (zero-add other)
@@ -79,7 +82,8 @@ free_at-from_free : (nodes : List Bool) (order frame other : ℕ) → is_free no
 unfolding free_at
 free_at-from_free nodes order frame other is = or_right _ _ is
 
-free_at-cases : (nodes : List Bool) (order frame other : ℕ) → free_at nodes order frame other ≡ true → (other / 2 ^ order ≡ frame / 2 ^ order) ⊎ ((n : ℕ) × (n ≤ 9) × (is_block nodes n other ≡ true))
+free_at-cases : (nodes : List Bool) (order frame other : ℕ) → free_at nodes order frame other ≡ true
+    → (other / 2 ^ order ≡ frame / 2 ^ order) ⊎ ((n : ℕ) × (n ≤ 9) × (is_block nodes n other ≡ true))
 unfolding free_at
 free_at-cases nodes order frame other free =
     elim (or_cases _ _ free) [
@@ -90,7 +94,8 @@ free_at-cases nodes order frame other free =
 -- ---- one node put in or out
 
 -- a node is written: the blocks that have it are as written, the others as before
-is_block-set : (nodes : List Bool) (x : ℕ) (v : Bool) (n frame : ℕ) → x < length nodes → ((node n frame ≡ x) × (is_block (set nodes x v) n frame ≡ v)) ⊎ ((node n frame ≢ x) × (is_block (set nodes x v) n frame ≡ is_block nodes n frame))
+is_block-set : (nodes : List Bool) (x : ℕ) (v : Bool) (n frame : ℕ) → x < length nodes
+    → ((node n frame ≡ x) × (is_block (set nodes x v) n frame ≡ v)) ⊎ ((node n frame ≢ x) × (is_block (set nodes x v) n frame ≡ is_block nodes n frame))
 is_block-set nodes x v n frame h =
     elim (cases_eq (node n frame) x) [
       | inl same ↦ inl (same, ap (λ y. get_or (set nodes x v) y false) same ∙ get_or-set_same nodes x v false h)
@@ -197,7 +202,8 @@ AreBlocks-insert nodes frames n frame free hand apart = record { size = size; on
 -- ---- the moves
 
 -- a block in the set comes into the hand
-pub lift : (nodes : List Bool) (frames n frame : ℕ) → frames ≤ 32768 → AreBlocks nodes frames → n ≤ 9 → frame < 32768 → is_block nodes n frame ≡ true → InHand (set nodes (node n frame) false) frames n frame (free_in nodes frames)
+pub lift : (nodes : List Bool) (frames n frame : ℕ) → frames ≤ 32768 → AreBlocks nodes frames → n ≤ 9 → frame < 32768
+    → is_block nodes n frame ≡ true → InHand (set nodes (node n frame) false) frames n frame (free_in nodes frames)
 lift nodes frames n frame most blocks small known is = record {
   order_up_to_9 = small;
   known = known;
@@ -248,7 +254,8 @@ lift nodes frames n frame most blocks small known is = record {
         ∙ (both_ways _ _ (there any (omega arith)) (back any (omega arith)) ∙ sym (get_or-free_in nodes frames any low))
 
 -- the block in hand is joined with its buddy, which goes out of the set
-pub join : (nodes : List Bool) (frames n frame other : ℕ) (free : List Bool) → frames ≤ 32768 → InHand nodes frames n frame free → n < 9 → IsBuddy n frame other → is_block nodes n other ≡ true → InHand (set nodes (node n other) false) frames (n + 1) frame free
+pub join : (nodes : List Bool) (frames n frame other : ℕ) (free : List Bool) → frames ≤ 32768 → InHand nodes frames n frame free → n < 9
+    → IsBuddy n frame other → is_block nodes n other ≡ true → InHand (set nodes (node n other) false) frames (n + 1) frame free
 join nodes frames n frame other free most hand small buddy is = record {
   order_up_to_9 = omega arith;
   known = hand.known;
@@ -313,7 +320,8 @@ join nodes frames n frame other free most hand small buddy is = record {
         ∙ (both_ways _ _ (there any (omega arith)) (back any (omega arith)) ∙ sym (get_or-free_with nodes frames n frame any low))
 
 -- the block in hand is cut: the half without the frame goes into the set
-pub cut : (nodes : List Bool) (frames n frame other : ℕ) (free : List Bool) → frames ≤ 32768 → InHand nodes frames (n + 1) frame free → IsBuddy n frame other → InHand (set nodes (node n other) true) frames n frame free
+pub cut : (nodes : List Bool) (frames n frame other : ℕ) (free : List Bool) → frames ≤ 32768 → InHand nodes frames (n + 1) frame free
+    → IsBuddy n frame other → InHand (set nodes (node n other) true) frames n frame free
 cut nodes frames n frame other free most hand buddy = record {
   order_up_to_9 = omega (arith, hand.order_up_to_9);
   known = hand.known;
@@ -379,7 +387,8 @@ cut nodes frames n frame other free most hand buddy = record {
         ∙ (both_ways _ _ (there any (omega arith)) (back any (omega arith)) ∙ sym (get_or-free_with nodes frames (n + 1) frame any low))
 
 -- the block in hand goes in: the free frames are those in the set then
-pub put : (nodes : List Bool) (frames n frame : ℕ) (free : List Bool) → frames ≤ 32768 → InHand nodes frames n frame free → free_in (set nodes (node n frame) true) frames ≡ free
+pub put : (nodes : List Bool) (frames n frame : ℕ) (free : List Bool) → frames ≤ 32768 → InHand nodes frames n frame free
+    → free_in (set nodes (node n frame) true) frames ≡ free
 put nodes frames n frame free most hand =
     ext_get_or false _ _ (length-free_in changed frames ∙ sym (length-free_with nodes frames n frame)) same ∙ hand.free_is
   where
@@ -424,7 +433,8 @@ unfolding free_at
 free_at-others nodes n frame any other = ap (λ b. b || is_free nodes any) (ne_eqb _ _ other)
 
 -- without the block in hand the free frames are those of the list but its range
-pub taken : (nodes : List Bool) (frames n first : ℕ) (free : List Bool) → frames ≤ 32768 → InHand nodes frames n first free → first / 2 ^ n * 2 ^ n ≡ first → free_in nodes frames ≡ with_range free first (2 ^ n) false
+pub taken : (nodes : List Bool) (frames n first : ℕ) (free : List Bool) → frames ≤ 32768 → InHand nodes frames n first free
+    → first / 2 ^ n * 2 ^ n ≡ first → free_in nodes frames ≡ with_range free first (2 ^ n) false
 taken nodes frames n first free most hand start =
     ext_get_or false _ _ (length-free_in nodes frames ∙ sym (length-with_range free first (2 ^ n) false fits ∙ long)) same
   where
@@ -509,7 +519,8 @@ one_buddy n frame a b here there = elim (halves n frame a b here there.1) [
 ]
 
 -- the block in hand goes in where its buddy is out, or where it is of the largest order
-pub put_beside : (nodes : List Bool) (frames n frame other : ℕ) (free : List Bool) → frames ≤ 32768 → InHand nodes frames n frame free → IsBuddy n frame other → is_block nodes n other ≡ false
+pub put_beside : (nodes : List Bool) (frames n frame other : ℕ) (free : List Bool) → frames ≤ 32768 → InHand nodes frames n frame free
+    → IsBuddy n frame other → is_block nodes n other ≡ false
     → AreBlocks (set nodes (node n frame) true) frames × (free_in (set nodes (node n frame) true) frames ≡ free)
 put_beside nodes frames n frame other free most hand buddy out = (
   AreBlocks-insert nodes frames n frame free hand (λ any h beside. ap (λ x. get_or nodes x false) (node_of_same n any other (one_buddy n frame other any buddy beside)) ∙ out),
@@ -536,7 +547,9 @@ unfolding free_in
 free_in-none nodes = refl
 
 -- the next block of the largest order comes into the hand
-pub next_largest : (nodes : List Bool) (block : ℕ) → 512 * (block + 1) ≤ 32768 → AreBlocks nodes (512 * block) → free_in nodes (512 * block) ≡ replicate (512 * block) true → InHand nodes (512 * (block + 1)) 9 (512 * block) (replicate (512 * (block + 1)) true)
+pub next_largest : (nodes : List Bool) (block : ℕ) → 512 * (block + 1) ≤ 32768 → AreBlocks nodes (512 * block)
+    → free_in nodes (512 * block) ≡ replicate (512 * block) true
+    → InHand nodes (512 * (block + 1)) 9 (512 * block) (replicate (512 * (block + 1)) true)
 next_largest nodes block most blocks free = record {
   order_up_to_9 = omega arith;
   known = omega arith;

@@ -15,7 +15,9 @@ use Rattle.buddy_extents.proofs.Runs.{NoneBefore, lowest_block-first, lowest_blo
 use Rattle.buddy_extents.proofs.BlockMoves.{is_free-block, is_free-none, length-free_in, get_or-free_in}
 
 -- where a block isn't in, nor one round it, some frame of it isn't free
-pub some_not_free : (nodes : List Bool) (frames : ℕ) → AreBlocks nodes frames → (n frame : ℕ) → n ≤ 9 → frame < 32768 → ((m : ℕ) → n ≤ m → m ≤ 9 → is_block nodes m frame ≡ false) → (any : ℕ) × (any < 32768) × (any / 2 ^ n ≡ frame / 2 ^ n) × (is_free nodes any ≡ false)
+pub some_not_free : (nodes : List Bool) (frames : ℕ) → AreBlocks nodes frames → (n frame : ℕ) → n ≤ 9 → frame < 32768
+    → ((m : ℕ) → n ≤ m → m ≤ 9 → is_block nodes m frame ≡ false)
+    → (any : ℕ) × (any < 32768) × (any / 2 ^ n ≡ frame / 2 ^ n) × (is_free nodes any ≡ false)
 some_not_free nodes frames blocks zero frame small known none =
     (frame, known, refl, is_free-none nodes frame (λ m h. none m (omega arith) h))
 some_not_free nodes frames blocks (suc n) frame small known none =
@@ -55,7 +57,8 @@ some_not_free nodes frames blocks (suc n) frame small known none =
     ]
 
 -- the frames of a run are free, by the nodes
-free_of_run : (nodes : List Bool) (frames first count : ℕ) → run_free (free_in nodes frames) first count ≡ true → (any : ℕ) → first ≤ any → any < first + count → is_free nodes any ≡ true
+free_of_run : (nodes : List Bool) (frames first count : ℕ) → run_free (free_in nodes frames) first count ≡ true → (any : ℕ) → first ≤ any
+    → any < first + count → is_free nodes any ≡ true
 free_of_run nodes frames first count run any low high =
     let free = run_free_frames (free_in nodes frames) first count run any low high in
     elim (cases_lt any frames) [
@@ -64,7 +67,8 @@ free_of_run nodes frames first count run any low high =
     ]
 
 -- the part of an order of a block that is in is a free run
-pub run_of_block : (nodes : List Bool) (frames : ℕ) → AreBlocks nodes frames → (n m first : ℕ) → n ≤ m → m ≤ 9 → first < 32768 → is_block nodes m first ≡ true → run_free (free_in nodes frames) (block_start n first) (2 ^ n) ≡ true
+pub run_of_block : (nodes : List Bool) (frames : ℕ) → AreBlocks nodes frames → (n m first : ℕ) → n ≤ m → m ≤ 9 → first < 32768
+    → is_block nodes m first ≡ true → run_free (free_in nodes frames) (block_start n first) (2 ^ n) ≡ true
 run_of_block nodes frames blocks n m first order small known is =
     run_free_from (free_in nodes frames) (block_start n first) (2 ^ n) (λ i h.
     let frame = block_start n first + i in
@@ -74,7 +78,8 @@ run_of_block nodes frames blocks n m first order small known is =
     get_or-free_in nodes frames frame (blocks.within frame m here small at) ∙ is_free-block nodes frame m small at)
 
 -- where the block of the next order is free, neither of its halves is in
-larger_not_free : (nodes : List Bool) (frames : ℕ) → AreBlocks nodes frames → (n first : ℕ) → n < 9 → first < 32768 → is_block nodes n first ≡ true → block_free (free_in nodes frames) first (n + 1) ≡ false
+larger_not_free : (nodes : List Bool) (frames : ℕ) → AreBlocks nodes frames → (n first : ℕ) → n < 9 → first < 32768
+    → is_block nodes n first ≡ true → block_free (free_in nodes frames) first (n + 1) ≡ false
 larger_not_free nodes frames blocks n first small known is =
     false_from_ne_true _ (λ run.
     let other = bit_xor first (2 ^ n) in
@@ -90,7 +95,8 @@ larger_not_free nodes frames blocks n first small known is =
     false≢true (sym some.3 ∙ free_of_run nodes frames (block_start (n + 1) first) (2 ^ (n + 1)) run some.0 range.0 range.1))
 
 -- the blocks in the set are the maximal free ones
-pub maximal_is_block : (nodes : List Bool) (frames : ℕ) → frames ≤ 32768 → AreBlocks nodes frames → (n first : ℕ) → n ≤ 9 → first < 32768 → block_start n first ≡ first → is_maximal (free_in nodes frames) n first ≡ is_block nodes n first
+pub maximal_is_block : (nodes : List Bool) (frames : ℕ) → frames ≤ 32768 → AreBlocks nodes frames → (n first : ℕ) → n ≤ 9 → first < 32768
+    → block_start n first ≡ first → is_maximal (free_in nodes frames) n first ≡ is_block nodes n first
 maximal_is_block nodes frames most blocks n first small known start = both_ways _ _ there back
   where
     free : List Bool
@@ -150,7 +156,8 @@ least_none free low (suc count) none =
     ap (λ o. option_or o (least_block free (low + 1) count)) (none low (omega arith) (omega arith))
     ∙ least_none free (low + 1) count (λ n from to. none n (omega arith) (omega arith))
 
-least_at : (free : List Bool) (low n f d : ℕ) → low + d ≡ n → n ≤ 9 → ((m : ℕ) → low ≤ m → m < n → lowest_block free m ≡ None) → lowest_block free n ≡ Some f → least_block free low (10 - low) ≡ Some f
+least_at : (free : List Bool) (low n f d : ℕ) → low + d ≡ n → n ≤ 9 → ((m : ℕ) → low ≤ m → m < n → lowest_block free m ≡ None)
+    → lowest_block free n ≡ Some f → least_block free low (10 - low) ≡ Some f
 least_at free low n f zero sum small none at =
     let same : low ≡ n = omega arith in
     least_here free low f (omega arith) (ap (lowest_block free) same ∙ at)
@@ -159,7 +166,8 @@ least_at free low n f (suc d) sum small none at =
     ∙ least_at free (low + 1) n f d (omega arith) small (λ m from to. none m (omega arith) to) at
 
 -- the block of the first node from those of an order on is the lowest of the least order that has one
-pub first_is_least : (nodes : List Bool) (frames : ℕ) → frames ≤ 32768 → AreBlocks nodes frames → (low n x : ℕ) → n ≤ 9 → IsFirstFrom nodes (first_node low) (Some x) → low ≤ n → first_node n ≤ x → x < first_node (n + 1)
+pub first_is_least : (nodes : List Bool) (frames : ℕ) → frames ≤ 32768 → AreBlocks nodes frames → (low n x : ℕ) → n ≤ 9
+    → IsFirstFrom nodes (first_node low) (Some x) → low ≤ n → first_node n ≤ x → x < first_node (n + 1)
     → least_block (free_in nodes frames) low (10 - low) ≡ Some ((x - first_node n) * 2 ^ n)
 first_is_least nodes frames most blocks low n x small found order from to =
     least_at free low n first (n - low) (omega arith) small lower here

@@ -30,16 +30,20 @@ order_from low n x a b from to = elim (cases_lt n low) [
   | inr more ↦ more
 ]
 
-pub first_choice : (nodes : List Bool) (frames k n x : ℕ) → frames ≤ 32768 → AreBlocks nodes frames → k ≤ 3 → n ≤ 9 → IsFirstFrom nodes (first_node (3 * k)) (Some x) → first_node n ≤ x → x < first_node (n + 1) → choice (free_in nodes frames) k ≡ Some ((x - first_node n) * 2 ^ n)
+pub first_choice : (nodes : List Bool) (frames k n x : ℕ) → frames ≤ 32768 → AreBlocks nodes frames → k ≤ 3 → n ≤ 9
+    → IsFirstFrom nodes (first_node (3 * k)) (Some x) → first_node n ≤ x → x < first_node (n + 1)
+    → choice (free_in nodes frames) k ≡ Some ((x - first_node n) * 2 ^ n)
 first_choice nodes frames k n x most blocks small order found from to =
     first_is_least nodes frames most blocks (3 * k) n x order found (order_from (3 * k) n x (omega arith) order found.0 to) from to
 
-pub no_choice_left : (nodes : List Bool) (frames k : ℕ) → frames ≤ 32768 → AreBlocks nodes frames → k ≤ 3 → IsFirstFrom nodes (first_node (3 * k)) None → choice (free_in nodes frames) k ≡ None
+pub no_choice_left : (nodes : List Bool) (frames k : ℕ) → frames ≤ 32768 → AreBlocks nodes frames → k ≤ 3
+    → IsFirstFrom nodes (first_node (3 * k)) None → choice (free_in nodes frames) k ≡ None
 no_choice_left nodes frames k most blocks small none =
     none_is_least nodes frames most blocks (3 * k) (omega arith) none
 
 -- there is a choice where there is a first node
-pub choice_is_some : (nodes : List Bool) (frames k : ℕ) (first : Option ℕ) → frames ≤ 32768 → AreBlocks nodes frames → k ≤ 3 → IsFirstFrom nodes (first_node (3 * k)) first → is_some first ≡ is_some (choice (free_in nodes frames) k)
+pub choice_is_some : (nodes : List Bool) (frames k : ℕ) (first : Option ℕ) → frames ≤ 32768 → AreBlocks nodes frames → k ≤ 3
+    → IsFirstFrom nodes (first_node (3 * k)) first → is_some first ≡ is_some (choice (free_in nodes frames) k)
 choice_is_some nodes frames k None most blocks small none = ap is_some (sym (no_choice_left nodes frames k most blocks small none))
 choice_is_some nodes frames k (Some x) most blocks small found =
     let at = order_by_zeros x (known_node nodes frames (first_node (3 * k)) x blocks found) in
@@ -48,7 +52,8 @@ choice_is_some nodes frames k (Some x) most blocks small found =
 -- ---- a taking
 
 -- what is chosen is in
-counted_without : (nodes : List Bool) (frames k n x : ℕ) → frames ≤ 32768 → AreBlocks nodes frames → k ≤ 3 → n ≤ 9 → IsFirstFrom nodes (first_node (3 * k)) (Some x) → first_node n ≤ x → x < first_node (n + 1)
+counted_without : (nodes : List Bool) (frames k n x : ℕ) → frames ≤ 32768 → AreBlocks nodes frames → k ≤ 3 → n ≤ 9
+    → IsFirstFrom nodes (first_node (3 * k)) (Some x) → first_node n ≤ x → x < first_node (n + 1)
     → count_by (λ free. free) (with_range (free_in nodes frames) ((x - first_node n) * 2 ^ n) (8 ^ k) false) + 8 ^ k ≡ count_by (λ free. free) (free_in nodes frames)
 counted_without nodes frames k n x most blocks small order found from to =
     let free = free_in nodes frames in
@@ -56,7 +61,8 @@ counted_without nodes frames k n x most blocks small order found from to =
     let chosen = first_choice nodes frames k n x most blocks small order found from to in
     free_count-take free first (8 ^ k) (omega (arith, choice_within free k first chosen)) (run_free-choice free k first chosen)
 
-pub enough_free : (nodes : List Bool) (frames count k n x : ℕ) → IsFree nodes frames count → k ≤ 3 → n ≤ 9 → IsFirstFrom nodes (first_node (3 * k)) (Some x) → first_node n ≤ x → x < first_node (n + 1) → 8 ^ k ≤ count
+pub enough_free : (nodes : List Bool) (frames count k n x : ℕ) → IsFree nodes frames count → k ≤ 3 → n ≤ 9
+    → IsFirstFrom nodes (first_node (3 * k)) (Some x) → first_node n ≤ x → x < first_node (n + 1) → 8 ^ k ≤ count
 enough_free nodes frames count k n x is_free small order found from to =
     omega (arith, counted_without nodes frames k n x is_free.most is_free.blocks small order found from to, is_free.counted)
 
@@ -65,7 +71,8 @@ pub record IsTaken (nodes new : List Bool) (frames count k first : ℕ) : Type 0
   pub chosen : choice (free_in nodes frames) k ≡ Some first
   pub free : free_in new frames ≡ with_range (free_in nodes frames) first (8 ^ k) false
 
-pub take_by_nodes : (nodes new : List Bool) (frames count k n x : ℕ) → IsFree nodes frames count → k ≤ 3 → n ≤ 9 → IsFirstFrom nodes (first_node (3 * k)) (Some x) → first_node n ≤ x → x < first_node (n + 1)
+pub take_by_nodes : (nodes new : List Bool) (frames count k n x : ℕ) → IsFree nodes frames count → k ≤ 3 → n ≤ 9
+    → IsFirstFrom nodes (first_node (3 * k)) (Some x) → first_node n ≤ x → x < first_node (n + 1)
     → ((all : ℕ) (free : List Bool) → all ≤ 32768 → InHand (set nodes x false) all n ((x - first_node n) * 2 ^ n) free → InHand new all (3 * k) ((x - first_node n) * 2 ^ n) free)
     → IsTaken nodes new frames count k ((x - first_node n) * 2 ^ n)
 take_by_nodes nodes new frames count k n x is_free small order found from to cut =

@@ -88,7 +88,8 @@ two_halves a b c ab cb apart = elim (cases_eq a b) [
   | inr other ↦ inr (omega arith)
 ]
 
-pub halves : (order frame other any : ℕ) → IsBuddy order frame other → any / 2 ^ (order + 1) ≡ frame / 2 ^ (order + 1) → (any / 2 ^ order ≡ frame / 2 ^ order) ⊎ (any / 2 ^ order ≡ other / 2 ^ order)
+pub halves : (order frame other any : ℕ) → IsBuddy order frame other → any / 2 ^ (order + 1) ≡ frame / 2 ^ (order + 1)
+    → (any / 2 ^ order ≡ frame / 2 ^ order) ⊎ (any / 2 ^ order ≡ other / 2 ^ order)
 halves order frame other any buddy same =
     two_halves (any / 2 ^ order) (frame / 2 ^ order) (other / 2 ^ order)
     (sym (next_block order any) ∙ (same ∙ next_block order frame))

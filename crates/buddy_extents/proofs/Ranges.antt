@@ -14,7 +14,8 @@ pub Holds-from_run : (free : List Bool) (first count : ℕ) → run_free free fi
 Holds-from_run free first count run = (run_free_exactly free first count).0 run
 
 -- a range may be set to what it holds
-pub with_range_same : (free : List Bool) (first count : ℕ) (value : Bool) → first + count ≤ length free → Holds free first count value → with_range free first count value ≡ free
+pub with_range_same : (free : List Bool) (first count : ℕ) (value : Bool) → first + count ≤ length free → Holds free first count value
+    → with_range free first count value ≡ free
 with_range_same free first count value h held =
     ext_get_or false _ _ (length-with_range free first count value h) (λ frame _.
     range_cases first count (λ k. get_or (with_range free first count value) k false ≡ get_or free k false)
@@ -22,7 +23,8 @@ with_range_same free first count value h held =
     (λ k low high. with_range_inside free first count value h k low high ∙ sym (held k low high)) frame)
 
 -- what a range held before goes back into it
-pub with_range_back : (free : List Bool) (first count : ℕ) (value other : Bool) → first + count ≤ length free → Holds free first count value → with_range (with_range free first count other) first count value ≡ free
+pub with_range_back : (free : List Bool) (first count : ℕ) (value other : Bool) → first + count ≤ length free → Holds free first count value
+    → with_range (with_range free first count other) first count value ≡ free
 with_range_back free first count value other h held =
     let changed = with_range free first count other in
     let long = length-with_range free first count other h in
@@ -36,11 +38,13 @@ pub run_within : (free : List Bool) (first count : ℕ) → first ≤ length fre
 run_within free first zero h run = omega arith
 run_within free first (suc n) h run = run_free_within free first (suc n) run (omega arith)
 
-pub give_after_take : (free : List Bool) (first count : ℕ) → first ≤ length free → run_free free first count ≡ true → with_range (with_range free first count false) first count true ≡ free
+pub give_after_take : (free : List Bool) (first count : ℕ) → first ≤ length free → run_free free first count ≡ true
+    → with_range (with_range free first count false) first count true ≡ free
 give_after_take free first count h run =
     with_range_back free first count true false (run_within free first count h run) (Holds-from_run free first count run)
 
-pub take_after_give : (free : List Bool) (first count : ℕ) → first + count ≤ length free → Holds free first count false → with_range (with_range free first count true) first count false ≡ free
+pub take_after_give : (free : List Bool) (first count : ℕ) → first + count ≤ length free → Holds free first count false
+    → with_range (with_range free first count true) first count false ≡ free
 take_after_give free first count h held = with_range_back free first count false true h held
 
 -- how many frames are free
@@ -55,17 +59,20 @@ free_count-replicate (suc n) true =
     sum_by-cons (λ is_free. cond is_free 1 0) true (replicate n true) ∙ (ap (λ m. 1 + m) (free_count-replicate n true) ∙ sum)
 free_count-replicate (suc n) false = free_count-replicate n false
 
-pub free_count-with_range : (free : List Bool) (first count : ℕ) (value : Bool) → free_count (with_range free first count value) ≡ (free_count (take first free) + cond value count 0) + free_count (drop (first + count) free)
+pub free_count-with_range : (free : List Bool) (first count : ℕ) (value : Bool)
+    → free_count (with_range free first count value) ≡ (free_count (take first free) + cond value count 0) + free_count (drop (first + count) free)
 free_count-with_range free first count value =
     sum_by-append _ (take first free ++ replicate count value) (drop (first + count) free)
     ∙ ap (λ n. n + free_count (drop (first + count) free)) (sum_by-append _ (take first free) (replicate count value) ∙ ap (λ n. free_count (take first free) + n) (free_count-replicate count value))
 
-pub free_count-take : (free : List Bool) (first count : ℕ) → first ≤ length free → run_free free first count ≡ true → free_count (with_range free first count false) + count ≡ free_count free
+pub free_count-take : (free : List Bool) (first count : ℕ) → first ≤ length free → run_free free first count ≡ true
+    → free_count (with_range free first count false) + count ≡ free_count free
 free_count-take free first count h run =
     let same = with_range_same free first count true (run_within free first count h run) (Holds-from_run free first count run) in
     omega (arith, ap free_count same, free_count-with_range free first count true, free_count-with_range free first count false)
 
-pub free_count-give : (free : List Bool) (first count : ℕ) → first + count ≤ length free → Holds free first count false → free_count (with_range free first count true) ≡ free_count free + count
+pub free_count-give : (free : List Bool) (first count : ℕ) → first + count ≤ length free → Holds free first count false
+    → free_count (with_range free first count true) ≡ free_count free + count
 free_count-give free first count h held =
     let same = with_range_same free first count false h held in
     omega (arith, ap free_count same, free_count-with_range free first count true, free_count-with_range free first count false)

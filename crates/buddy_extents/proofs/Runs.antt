@@ -19,7 +19,8 @@ abbrev pub NoneBefore : List Bool → ℕ → ℕ → Type 0
 NoneBefore free order block = (f : ℕ) → f < block * 2 ^ order → is_maximal free order f ≡ false
 
 -- the first one from 0 on is the lowest
-pub lowest_block-first : (free : List Bool) (order block first : ℕ) → NoneBefore free order block → first ≡ block * 2 ^ order → is_maximal free order first ≡ true → lowest_block free order ≡ Some first
+pub lowest_block-first : (free : List Bool) (order block first : ℕ) → NoneBefore free order block → first ≡ block * 2 ^ order
+    → is_maximal free order first ≡ true → lowest_block free order ≡ Some first
 lowest_block-first free order block first none at is =
     let within = run_free_within free first (2 ^ order) (and_parts _ _ (and_parts _ _ is).1).0 (pow_pos order) in
     find_first (is_maximal free order) 0 (length free) first (λ k _ below. none k (omega arith)) (omega arith) (omega (arith, within, pow_pos order)) is

@@ -1,6 +1,6 @@
 //! The node of each block: a number by its order and by any frame that it has.
 
-ghost use Rattle.std.specs.Prelude.{◌≡◌, ◌≢◌, ◌+◌, ◌-◌, ◌*◌, ◌/◌, ◌^◌, ◌<◌, ◌≤◌};
+ghost use Rattle.std.specs.Prelude.{◌≡◌, ◌+◌, ◌-◌, ◌*◌, ◌^◌, ◌<◌, ◌≤◌};
 ghost use Rattle.buddy_extents.specs.Blocks.{first_node, node, IsBuddy};
 ghost use Rattle.pager_model.specs.Bounds.{most_frames};
 

@@ -29,7 +29,8 @@ number_within (suc (suc (suc zero))) page other h on before = omega arith
 number_within (suc (suc (suc (suc height)))) page other h on before = absurd (omega arith)
 
 -- and those behind them in the next ones
-pub number_behind : (height page other : ℕ) → height ≤ 3 → page + rest_at height page ≤ other → number_at height page + 1 + (number_at height other - number_at height (page + rest_at height page)) ≡ number_at height other
+pub number_behind : (height page other : ℕ) → height ≤ 3 → page + rest_at height page ≤ other
+    → number_at height page + 1 + (number_at height other - number_at height (page + rest_at height page)) ≡ number_at height other
 number_behind zero page other h behind = omega arith
 number_behind (suc zero) page other h behind = omega arith
 number_behind (suc (suc zero)) page other h behind = omega arith
@@ -53,7 +54,8 @@ pub first_place : {V : Type 0} (t : Arena V) (height place from end : ℕ) → A
 first_place t height place from end order some = order from (omega arith) some ∙ ap Some (omega arith)
 
 -- the parts of that extent
-pub parts_in_order : {V : Type 0} (t : Arena V) (height place page stop node first : ℕ) → height < 3 → stop ≤ page + rest_at height page → place_of t height page ≡ Some place → (spot_at t place).node ≡ Some node → first ≡ t.roots + 8 * node + part_at (height + 1) page
+pub parts_in_order : {V : Type 0} (t : Arena V) (height place page stop node first : ℕ) → height < 3 → stop ≤ page + rest_at height page
+    → place_of t height page ≡ Some place → (spot_at t place).node ≡ Some node → first ≡ t.roots + 8 * node + part_at (height + 1) page
     → AreInOrder t (height + 1) first page stop
 parts_in_order t height place page stop node first low within at leads is other on before =
     let same = number_within height page other (omega arith) on (omega arith) in
@@ -63,7 +65,8 @@ parts_in_order t height place page stop node first low within at leads is other 
     ∙ ap Some (omega (arith, same, up, number_step height other low, number_step height page low, is, ap (λ h. part_at h page) (add-one height), ap (λ h. number_at h page) (add-one height), ap (λ h. number_at h other) (add-one height))))
 
 -- the extents behind it
-pub rest_in_order : {V : Type 0} (t : Arena V) (height place page stop end : ℕ) → height ≤ 3 → page ≤ stop → (stop < end → stop ≡ page + rest_at height page) → AreInOrder t height place page end → AreInOrder t height (place + 1) stop end
+pub rest_in_order : {V : Type 0} (t : Arena V) (height place page stop end : ℕ) → height ≤ 3 → page ≤ stop
+    → (stop < end → stop ≡ page + rest_at height page) → AreInOrder t height place page end → AreInOrder t height (place + 1) stop end
 rest_in_order t height place page stop end low forward full order other on before =
     let whole = full (omega arith) in
     order other (omega arith) before ∙ ap Some (omega (arith, number_behind height page other low (omega arith), ap (number_at height) whole))
@@ -71,14 +74,16 @@ rest_in_order t height place page stop end low forward full order other on befor
 -- ---- rows
 
 -- the row of the extent of a height round a page is the value at its place
-pub row_at : {V : Type 0} (t : Arena V) (height place page other : ℕ) → height ≤ 3 → place_of t height page ≡ Some place → number_at height other ≡ number_at height page → row t (3 - height) other ≡ (spot_at t place).value
+pub row_at : {V : Type 0} (t : Arena V) (height place page other : ℕ) → height ≤ 3 → place_of t height page ≡ Some place
+    → number_at height other ≡ number_at height page → row t (3 - height) other ≡ (spot_at t place).value
 unfolding row
 row_at t height place page other low at same =
     let back : 3 - (3 - height) ≡ height = omega arith in
     ap (λ h. (spot_of t h other).value) back ∙ ap (λ s. s.value) (spot_some t height other place (place_alike t height other page low same ∙ at))
 
 -- no smaller extent has a row in one that isn't split
-no_part_row : {V : Type 0} (t : Arena V) → IsTree t → (height place page size other : ℕ) → height ≤ 3 → place_of t height page ≡ Some place → (spot_at t place).node ≡ None → number_at height other ≡ number_at height page → size < 3 - height → row t size other ≡ None
+no_part_row : {V : Type 0} (t : Arena V) → IsTree t → (height place page size other : ℕ) → height ≤ 3 → place_of t height page ≡ Some place
+    → (spot_at t place).node ≡ None → number_at height other ≡ number_at height page → size < 3 - height → row t size other ≡ None
 unfolding is_split
 no_part_row t tree height place page size other low at bare same less = elim (cases_Option (row t size other)) [
   | inl none ↦ none
@@ -90,14 +95,17 @@ no_part_row t tree height place page size other low at bare same less = elim (ca
 ]
 
 -- and none up to its own size has one, where it has none itself
-pub no_row_within : {V : Type 0} (t : Arena V) → IsTree t → (height place page size other : ℕ) → height ≤ 3 → place_of t height page ≡ Some place → (spot_at t place).value ≡ None → (spot_at t place).node ≡ None → number_at height other ≡ number_at height page → size ≤ 3 - height → row t size other ≡ None
+pub no_row_within : {V : Type 0} (t : Arena V) → IsTree t → (height place page size other : ℕ) → height ≤ 3
+    → place_of t height page ≡ Some place → (spot_at t place).value ≡ None → (spot_at t place).node ≡ None
+    → number_at height other ≡ number_at height page → size ≤ 3 - height → row t size other ≡ None
 no_row_within t tree height place page size other low at none bare same most = elim (cases_lt size (3 - height)) [
   | inl less ↦ no_part_row t tree height place page size other low at bare same less
   | inr not ↦ ap (λ k. row t k other) {x = size} {y = 3 - height} (omega arith) ∙ (row_at t height place page other low at same ∙ none)
 ]
 
 -- there is none up to the size of a height's extents, where they have none themselves and their parts have none
-pub no_rows_up : {V : Type 0} (t : Arena V) (height from end : ℕ) → NoRows t (3 - (height + 1)) from end → ((page : ℕ) → from ≤ page → page < end → row t (3 - height) page ≡ None) → NoRows t (3 - height) from end
+pub no_rows_up : {V : Type 0} (t : Arena V) (height from end : ℕ) → NoRows t (3 - (height + 1)) from end
+    → ((page : ℕ) → from ≤ page → page < end → row t (3 - height) page ≡ None) → NoRows t (3 - height) from end
 no_rows_up t height from end parts none size page most on before = elim (cases_lt size (3 - height)) [
   | inl less ↦ parts size page (omega arith) on before
   | inr not ↦ ap (λ k. row t k page) {x = size} {y = 3 - height} (omega arith) ∙ none page on before
@@ -111,7 +119,8 @@ no_rows_on t top from page end so_far more size other most on before = elim (cas
 ]
 
 -- the next row in the parts of an extent, where it has none itself and there is none before it
-pub next_up : {V : Type 0} (t : Arena V) (height from page stop end : ℕ) (found : Row V) → IsNextRow t (3 - (height + 1)) page stop found → from ≤ page → stop ≤ end → NoRows t (3 - height) from page
+pub next_up : {V : Type 0} (t : Arena V) (height from page stop end : ℕ) (found : Row V) → IsNextRow t (3 - (height + 1)) page stop found
+    → from ≤ page → stop ≤ end → NoRows t (3 - height) from page
     → ((other : ℕ) → page ≤ other → other < stop → row t (3 - height) other ≡ None) → IsNextRow t (3 - height) from end found
 next_up t height from page stop end found next on before so_far none = record {
   from_on = omega (arith, next.from_on);
@@ -128,7 +137,8 @@ next_up t height from page stop end found next on before so_far none = record {
 -- ---- looks
 
 -- a look more, and those at the parts
-pub looks_more : (height from page stop old had new : ℕ) → height ≤ 3 → from ≤ page → page < stop → had ≤ old + (4 - height) * (page - from) → new ≤ had + 1 + (4 - (height + 1)) * (stop - page) → new ≤ old + (4 - height) * (stop - from)
+pub looks_more : (height from page stop old had new : ℕ) → height ≤ 3 → from ≤ page → page < stop → had ≤ old + (4 - height) * (page - from)
+    → new ≤ had + 1 + (4 - (height + 1)) * (stop - page) → new ≤ old + (4 - height) * (stop - from)
 looks_more zero from page stop old had new h on some so_far more = omega arith
 looks_more (suc zero) from page stop old had new h on some so_far more = omega arith
 looks_more (suc (suc zero)) from page stop old had new h on some so_far more = omega arith
@@ -136,14 +146,16 @@ looks_more (suc (suc (suc zero))) from page stop old had new h on some so_far mo
 looks_more (suc (suc (suc (suc height)))) from page stop old had new h on some so_far more = absurd (omega arith)
 
 -- a root that isn't split has no node
-pub no_root_node : {V : Type 0} (t : Arena V) (height page place node : ℕ) → height ≡ 0 → place_of t height page ≡ Some place → (spot_at t place).node ≡ Some node → is_split t 3 page ≡ false → ⊥
+pub no_root_node : {V : Type 0} (t : Arena V) (height page place node : ℕ) → height ≡ 0 → place_of t height page ≡ Some place
+    → (spot_at t place).node ≡ Some node → is_split t 3 page ≡ false → ⊥
 unfolding is_split
 no_root_node t height page place node root at leads bare =
     let spot = spot_some t 0 page place (ap (λ h. place_of t h page) (sym root) ∙ at) in
     false≢true (sym bare ∙ (ap (λ s. is_some s.node) spot ∙ ap is_some leads))
 
 -- those of a walk that has come to the end, or hasn't begun
-pub looks_all : (height from end page old new : ℕ) → (page ≤ end) ⊎ (page ≡ from) → new ≤ old + (4 - height) * (page - from) → new ≤ old + (4 - height) * (end - from)
+pub looks_all : (height from end page old new : ℕ) → (page ≤ end) ⊎ (page ≡ from) → new ≤ old + (4 - height) * (page - from)
+    → new ≤ old + (4 - height) * (end - from)
 looks_all height from end page old new (inl within) cost =
     let less : page - from ≤ end - from = omega arith in
     omega (arith, cost, mul-le-mul_left (4 - height) less)
@@ -152,7 +164,8 @@ looks_all height from end page old new (inr none) cost =
     omega (arith, cost, ap (λ n. (4 - height) * n) nothing)
 
 -- a page leads to no node
-pub above_pages : {V : Type 0} (t : Arena V) → IsTree t → (height page place node : ℕ) → height ≤ 3 → place_of t height page ≡ Some place → (spot_at t place).node ≡ Some node → height < 3
+pub above_pages : {V : Type 0} (t : Arena V) → IsTree t → (height page place node : ℕ) → height ≤ 3 → place_of t height page ≡ Some place
+    → (spot_at t place).node ≡ Some node → height < 3
 above_pages t tree height page place node small at leads = elim (cases_lt height 3) [
   | inl less ↦ less
   | inr last ↦ absurd (let none = tree.nodes.pages_whole page place (ap (λ h. place_of t h page) {x = 3} {y = height} (omega arith) ∙ at) in cc)

@@ -71,7 +71,8 @@ turn_out : (made : ℕ) (doing : Doing) (s page : ℕ) → in_turn doing ≡ tru
 turn_out made (Claiming purpose v) s page t = stays_led _ made (Emptied purpose v) t
 turn_out made doing s page t = stays_none
 
-turn_failure : (made : ℕ) (doing : Doing) (s page : ℕ) (writing : Bool) (count : ℕ) → in_turn doing ≡ true → Stays (after_failure made doing s page writing count)
+turn_failure : (made : ℕ) (doing : Doing) (s page : ℕ) (writing : Bool) (count : ℕ) → in_turn doing ≡ true
+    → Stays (after_failure made doing s page writing count)
 turn_failure made Idle s page writing count t = absurd (true≢false (sym t))
 turn_failure made (Claiming purpose v) s page writing count t = stays_led _ made (Unwritten purpose v count) t
 turn_failure made (Filling a frame) s page writing count t = absurd (true≢false (sym t))
@@ -90,7 +91,8 @@ turn_clear : (made : ℕ) (doing : Doing) (s first len : ℕ) → in_turn doing 
 turn_clear made Idle s first len t = absurd (true≢false (sym t))
 turn_clear made doing s first len t = stays_none
 
-turn_claim : (made : ℕ) (doing : Doing) (space : Option ℕ) (v : Victim) (need : Option Need) → in_turn doing ≡ true → Stays (after_claim made doing space v need)
+turn_claim : (made : ℕ) (doing : Doing) (space : Option ℕ) (v : Victim) (need : Option Need) → in_turn doing ≡ true
+    → Stays (after_claim made doing space v need)
 turn_claim made Idle space v need t = absurd (true≢false (sym t))
 turn_claim made (Looking mark evictions) None v None t = stays_led _ made (Claiming (ForTurn mark evictions) v) refl
 turn_claim made (Looking mark evictions) None v (Some need) t = stays_none
@@ -154,7 +156,8 @@ from_none : (es : List Entry) → progress_from None es ≡ None
 from_none [] = refl
 from_none (e ∷ es) = from_none es
 
-stays_from : (es : List Entry) (o : Option Progress) → Stays o → ((p : Progress) → in_turn p.doing ≡ true → Stays (progress_from (Some p) es)) → Stays (progress_from o es)
+stays_from : (es : List Entry) (o : Option Progress) → Stays o
+    → ((p : Progress) → in_turn p.doing ≡ true → Stays (progress_from (Some p) es)) → Stays (progress_from o es)
 stays_from es None s on = λ q h. absurd (none-some q (sym (from_none es) ∙ h))
 stays_from es (Some p) s on = on p (s p refl)
 
@@ -165,7 +168,8 @@ turn_steps (e ∷ es) p t = stays_from es (progress_after p e.space e.what) (tur
 -- Marks.
 
 -- a processor behind those that make calls is the daemon
-daemon_mark : (n : ℕ) (d : Option Daemon) (c : ℕ) → IsDaemon d → n ≤ c → c < length (replicate n 0 ++ daemon_marks d) → (m : ℕ) × (slice_index_or (replicate n 0 ++ daemon_marks d) c 0 ≡ suc m)
+daemon_mark : (n : ℕ) (d : Option Daemon) (c : ℕ) → IsDaemon d → n ≤ c → c < length (replicate n 0 ++ daemon_marks d)
+    → (m : ℕ) × (slice_index_or (replicate n 0 ++ daemon_marks d) c 0 ≡ suc m)
 daemon_mark zero None c is low high = absurd (omega arith)
 daemon_mark zero (Some d) zero is low high = (d.low - 1, omega (arith, is.0.0))
 daemon_mark zero (Some d) (suc c) is low high = absurd (omega arith)
@@ -177,7 +181,8 @@ daemon_mark (suc n) d (suc c) is low high = daemon_mark n d c is (omega arith) (
 abbrev OfLine : ℕ → ℕ × Call → Type 0
 OfLine spaces answer = IsCall spaces answer.1
 
-lines_of : (processors spaces n c : ℕ) (lines : List Line) → AllByRecursion (IsLine processors spaces) lines → AllByRecursion (OfLine spaces) (enumerate_from n (calls_of c lines))
+lines_of : (processors spaces n c : ℕ) (lines : List Line) → AllByRecursion (IsLine processors spaces) lines
+    → AllByRecursion (OfLine spaces) (enumerate_from n (calls_of c lines))
 lines_of processors spaces n c [] all = tt
 lines_of processors spaces n c (l ∷ lines) all =
     elim (cases_Bool (l.processor == c)) [
@@ -193,10 +198,12 @@ all_behind : {A : Type 0} (P : A → Type 0) (xs ys : List A) → AllByRecursion
 all_behind P [] ys all = all
 all_behind P (x ∷ xs) ys all = all_behind P xs ys all.1
 
-first_answer : (P : ℕ × Call → Type 0) (e : Entry) (after : List Entry) (number : ℕ) (call : Call) (answered : Answered) → e.what ≡ Answer number call answered → AllByRecursion P (answers_in (e ∷ after)) → P (number, call)
+first_answer : (P : ℕ × Call → Type 0) (e : Entry) (after : List Entry) (number : ℕ) (call : Call) (answered : Answered)
+    → e.what ≡ Answer number call answered → AllByRecursion P (answers_in (e ∷ after)) → P (number, call)
 first_answer P e after number call answered is all = (rw is at all).0
 
-answer_among : (P : ℕ × Call → Type 0) (c : ℕ) (before after : List Entry) (e : Entry) (number : ℕ) (call : Call) (answered : Answered) → e.what ≡ Answer number call answered → is_of c e ≡ true
+answer_among : (P : ℕ × Call → Type 0) (c : ℕ) (before after : List Entry) (e : Entry) (number : ℕ) (call : Call) (answered : Answered)
+    → e.what ≡ Answer number call answered → is_of c e ≡ true
     → AllByRecursion P (answers_in (entries_of c (before ++ e ∷ after))) → P (number, call)
 answer_among P c before after e number call answered is own all =
     let split : answers_in (entries_of c (before ++ e ∷ after)) ≡ answers_in (entries_of c before) ++ answers_in (e ∷ entries_of c after) =
@@ -204,7 +211,8 @@ answer_among P c before after e number call answered is own all =
     ∙ filter_map-append (λ (x : Entry). answer_in x.what) (entries_of c before) (e ∷ entries_of c after) in
     first_answer P e (entries_of c after) number call answered is (all_behind P (answers_in (entries_of c before)) (answers_in (e ∷ entries_of c after)) (subst (AllByRecursion P) split all))
 
-module _ (plan : Plan) (g : Given) (before after : List Entry) (e : Entry) (text : HasText plan) (marks : g.marks ≡ marks_of plan) (legal : IsLegal g (before ++ e ∷ after)) (shows : Shows plan (before ++ e ∷ after)) where
+module _ (plan : Plan) (g : Given) (before after : List Entry) (e : Entry) (text : HasText plan) (marks : g.marks ≡ marks_of plan)
+    (legal : IsLegal g (before ++ e ∷ after)) (shows : Shows plan (before ++ e ∷ after)) where
   may : MayFollow g before e
   may = (IsLegal-at g before after e legal).1
 

@@ -29,7 +29,8 @@ abbrev pub IsRound : ℕ → ℕ → PageRange → Type 0
 IsRound first len blocks = (p q : ℕ) → in_range first len p ≡ true → q / 512 ≡ p / 512 → is_touched blocks q ≡ true
 
 -- a change within the range is one of the blocks round it
-pub changes_blocks : (first len : ℕ) (blocks : PageRange) (old new : Resident) → IsRound first len blocks → ((p : ℕ) → in_range first len p ≡ false → mapping_at new p ≡ mapping_at old p)
+pub changes_blocks : (first len : ℕ) (blocks : PageRange) (old new : Resident) → IsRound first len blocks
+    → ((p : ℕ) → in_range first len p ≡ false → mapping_at new p ≡ mapping_at old p)
     → IsChange old new (Range blocks)
 changes_blocks first len blocks old new round others = (
   λ p out. beside p out p refl,
@@ -55,7 +56,8 @@ pub record ClearsTo (first from : ℕ) (old new : ℕ → Option Mapping) : Type
   pub before : (p : ℕ) → p < first → new p ≡ old p
   pub behind : (p : ℕ) → from ≤ p → new p ≡ old p
 
-pub clears_more : (first from end page : ℕ) (old mid : ℕ → Option Mapping) (r s : Resident) → mid ≡ mapping_at r → ClearsTo first from old mid → IsNextResident mid from end page → Maps page None r s → ClearsTo first (page + 1) old (mapping_at s)
+pub clears_more : (first from end page : ℕ) (old mid : ℕ → Option Mapping) (r s : Resident) → mid ≡ mapping_at r
+    → ClearsTo first from old mid → IsNextResident mid from end page → Maps page None r s → ClearsTo first (page + 1) old (mapping_at s)
 clears_more first from end page old mid r s is so_far next maps =
     let at : (p : ℕ) → mapping_at s p ≡ (if p == page then None else mid p) = λ p. maps.at p ∙ ap (λ (f : ℕ → Option Mapping). if p == page then None else f p) (sym is) in
     let low = so_far.from_on in
@@ -73,7 +75,8 @@ clears_more first from end page old mid r s is so_far next maps =
       behind = λ p b. at p ∙ cond-false _ _ _ (ne_eqb p page (λ e. omega (arith, b, e))) ∙ so_far.behind p (omega (arith, b, high));
     }
 
-pub clears_all : (first from len : ℕ) (old new : ℕ → Option Mapping) → ClearsTo first from old new → from ≤ first + len → NoneResident new from (first + len) → Clears first len old new
+pub clears_all : (first from len : ℕ) (old new : ℕ → Option Mapping) → ClearsTo first from old new → from ≤ first + len
+    → NoneResident new from (first + len) → Clears first len old new
 clears_all first from len old new so_far low none p =
     elim (cases_Bool (in_range first len p)) [
       | inl ins ↦

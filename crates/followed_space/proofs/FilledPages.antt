@@ -36,7 +36,8 @@ not_cleared Anyone c page what other go was = was
 not_cleared (Only d) c page what other go was = was
 not_cleared (AfterClear d first len) c page what other go was = other first len go.1
 
-clean_absent : (st : SpaceState) (c page : ℕ) (what : What) → ((first len : ℕ) → IsUnmapAnswer first len what → ⊥) → MayGoOn st.next c what → KeepsCopies st → st.base page ≡ None → st.flat.dirty page ≡ false
+clean_absent : (st : SpaceState) (c page : ℕ) (what : What) → ((first len : ℕ) → IsUnmapAnswer first len what → ⊥) → MayGoOn st.next c what
+    → KeepsCopies st → st.base page ≡ None → st.flat.dirty page ≡ false
 clean_absent st c page what other go copies absent =
     elim (cases_Bool (st.flat.dirty page)) [
       | inl is ↦ elim (copies.dirty page is) [
@@ -80,7 +81,8 @@ fills_by frames st c b (UseHeld p f want) page frame h go allowed copies unused 
     })
 fills_by frames st c b what page frame h go allowed copies unused = cc
 
-pub fills : (kept : Followed) (st : SpaceState) (e : Entry) (page frame : ℕ) → filled e.what ≡ Some (page, frame) → IsNext kept st e → Fills (frames_in kept.pages) st e.frames e.what page frame
+pub fills : (kept : Followed) (st : SpaceState) (e : Entry) (page frame : ℕ) → filled e.what ≡ Some (page, frame) → IsNext kept st e
+    → Fills (frames_in kept.pages) st e.frames e.what page frame
 fills kept st e page frame h next = fills_by (frames_in kept.pages) st e.processor e.frames e.what page frame h next.allowed.0 next.allowed.1 next.copies next.unused
 
 mapped : (o : Option ℕ) (r : Option Region) (x y : Rights) (d : Bool) (frame : ℕ) (region : Region) → o ≡ Some frame → r ≡ Some region → x ≡ y → d ≡ false

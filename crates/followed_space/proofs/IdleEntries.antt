@@ -8,7 +8,8 @@ use Rattle.pager_model.specs.SpaceStates.{SpaceState, base_after, flat_after, sp
 use Rattle.followed_space.specs.Follows.{Followed, Follows, Keeps, is_idle}
 use Rattle.followed_space.proofs.Keeping.{keeps_same}
 
-keeps_idle : (kept : Followed) (f : Flat) (b : ℕ → Option ℕ) (frames : Bool) (what : What) → is_idle what ≡ true → Keeps kept f b → Keeps kept (flat_after f what) (base_after b frames what)
+keeps_idle : (kept : Followed) (f : Flat) (b : ℕ → Option ℕ) (frames : Bool) (what : What) → is_idle what ≡ true → Keeps kept f b
+    → Keeps kept (flat_after f what) (base_after b frames what)
 keeps_idle kept f b frames (Failed page true count) h k = keeps_same kept f (lost f page) b b k refl (λ p. refl) (λ p. refl) (λ p. refl)
 keeps_idle kept f b frames (Failed page false count) h k = keeps_same kept f f b b k refl (λ p. refl) (λ p. refl) (λ p. refl)
 keeps_idle kept f b frames (Claim victim page frame need) h k = keeps_same kept f f b b k refl (λ p. refl) (λ p. refl) (λ p. refl)

@@ -13,7 +13,8 @@ use Rattle.tiles.specs.Resident.{mapping_at, with_flag}
 abbrev pub frame_in : Option Mapping → Option ℕ
 frame_in o = option_map (λ (m : Mapping). m.frame) o
 
-pub mapping_same : (o q : Option ℕ) (r s : Option Region) (x y : Rights) (d e : Bool) → o ≡ q → r ≡ s → x ≡ y → d ≡ e → mapping_with o r x d ≡ mapping_with q s y e
+pub mapping_same : (o q : Option ℕ) (r s : Option Region) (x y : Rights) (d e : Bool) → o ≡ q → r ≡ s → x ≡ y → d ≡ e
+    → mapping_with o r x d ≡ mapping_with q s y e
 mapping_same o q r s x y d e h i j k = rw (h, i, j, k) refl
 
 -- a page that no region has isn't resident

@@ -26,7 +26,8 @@ record Puts (st : SpaceState) (b : Bool) (what : What) (page frame : ℕ) : Type
   absent : st.base page ≡ None
   base : (p : ℕ) → base_after st.base b what p ≡ (if p == page then Some frame else st.base p)
 
-puts : (st : SpaceState) (b : Bool) (c : ℕ) (what : What) (page frame : ℕ) → filled what ≡ Some (page, frame) → WhatAllowed st b c what → Puts st b what page frame
+puts : (st : SpaceState) (b : Bool) (c : ℕ) (what : What) (page frame : ℕ) → filled what ≡ Some (page, frame) → WhatAllowed st b c what
+    → Puts st b what page frame
 puts st b c (Take p f want) page frame h allowed = subst (λ (x : ℕ × ℕ). Puts st b (Take p f want) x.0 x.1) (same_Some _ _ h) (record { absent = allowed.1; base = λ q. refl })
 puts st b c (UseHeld p f want) page frame h allowed = subst (λ (x : ℕ × ℕ). Puts st b (UseHeld p f want) x.0 x.1) (same_Some _ _ h) (record { absent = allowed.1; base = λ q. refl })
 puts st b c what page frame h allowed = cc
@@ -61,7 +62,8 @@ unused_next g history e s page frame legal may on h allowed =
           other (sym (one_page (layout_of (frames_at g after)) s page s p frame kept.sound.laid here there).1);
     }
 
-fills_unused : (frames : ℕ) (st : SpaceState) (o : Option (ℕ × ℕ)) → ((page frame : ℕ) → o ≡ Some (page, frame) → IsUnused frames st frame) → FillsUnused frames st o
+fills_unused : (frames : ℕ) (st : SpaceState) (o : Option (ℕ × ℕ)) → ((page frame : ℕ) → o ≡ Some (page, frame) → IsUnused frames st frame)
+    → FillsUnused frames st o
 fills_unused frames st None h = tt
 fills_unused frames st (Some x) h = h x.0 x.1 refl
 

@@ -60,7 +60,9 @@ module _ (regions : List Region) (own : RightsTree) (page len : ℕ) (kind : Kin
   pub map_owned : OwnInRegions mapped own
   map_owned p h = owned p (mapped-none new regions p free h)
 
-  rights_mapped : (f : ℕ → Rights) → ((p : ℕ) → is_some (region_at regions p) ≡ true → f p ≡ rights_by (rights_of own p) (region_at regions p)) → (p : ℕ) → is_some (region_at mapped p) ≡ true → (if in_range page len p then rights else f p) ≡ rights_by (rights_of own p) (region_at mapped p)
+  rights_mapped : (f : ℕ → Rights)
+      → ((p : ℕ) → is_some (region_at regions p) ≡ true → f p ≡ rights_by (rights_of own p) (region_at regions p)) → (p : ℕ)
+      → is_some (region_at mapped p) ≡ true → (if in_range page len p then rights else f p) ≡ rights_by (rights_of own p) (region_at mapped p)
   rights_mapped f before p is =
       elim (cases_Bool (has_page p new)) [
         | inl has ↦
@@ -110,7 +112,9 @@ module _ (regions : List Region) (own : RightsTree) (page by : ℕ) (ordered : I
   same_mapping None x d = refl
   same_mapping (Some n) x d = refl
 
-  rights_grown : (f : ℕ → Rights) → ((p : ℕ) → is_some (region_at regions p) ≡ true → f p ≡ rights_by (rights_of own p) (region_at regions p)) → (p : ℕ) → is_some (region_at larger p) ≡ true → (if in_range (end_of r) by p then r.rights else f p) ≡ rights_by (rights_of own p) (region_at larger p)
+  rights_grown : (f : ℕ → Rights) → ((p : ℕ) → is_some (region_at regions p) ≡ true → f p ≡ rights_by (rights_of own p) (region_at regions p))
+      → (p : ℕ) → is_some (region_at larger p) ≡ true
+      → (if in_range (end_of r) by p then r.rights else f p) ≡ rights_by (rights_of own p) (region_at larger p)
   rights_grown f before p is =
       elim (cases_Bool (in_range (end_of r) by p)) [
         | inl new ↦
@@ -214,7 +218,8 @@ protect_found regions page len ordered h = at_region (region_at regions page) re
         let within = leb-true _ _ h in
         record { region = r; at = at; within = within; in_space = omega (arith, within, (found_from 0 regions ordered.in_order page r at).in_space) }
 
-module _ (regions : List Region) (own given : RightsTree) (page len : ℕ) (rights : Rights) (ordered : IsTable regions) (r : Region) (at : region_at regions page ≡ Some r)
+module _ (regions : List Region) (own given : RightsTree) (page len : ℕ) (rights : Rights) (ordered : IsTable regions) (r : Region)
+    (at : region_at regions page ≡ Some r)
     (within : page + len ≤ end_of r) (gives : (p : ℕ) → rights_of given p ≡ (if in_range page len p then Some rights else rights_of own p)) where
   pub protect_owned : OwnInRegions regions own → OwnInRegions regions given
   protect_owned owned p none =

@@ -11,7 +11,7 @@ ghost use Rattle.pager_model.specs.SpaceStates.{SpaceState, empty_state, space_a
 ghost use Rattle.pager_model.specs.Tiles.{tile_in, is_tile_in};
 ghost use Rattle.page_rights.specs.Rights.{rights_of};
 ghost use Rattle.tiles.specs.Cleared.{Clears};
-ghost use Rattle.tiles.specs.Resident.{Maps, frames_in, mapping_at, with_flag};
+ghost use Rattle.tiles.specs.Resident.{frames_in, mapping_at, with_flag};
 ghost use Rattle.tiles.specs.Touched.{IsInSpace, is_touched};
 ghost use Rattle.followed_space.specs.Changed.{IsChange};
 ghost use Rattle.followed_space.specs.Follows.{AnswersBy, Follows, IsNext, MapsOne, Serves, filled, rights_by};

@@ -1,5 +1,5 @@
 //! A source and a sink in memory, which fail where they are told to.
-ghost use Rattle.std.specs.Prelude.{◌≡◌, ℕ, ◌+◌, ◌-◌, ◌^◌, ◌<◌, ◌≤◌, ◌↔◌, ◌⊎◌, min, List, [], ◌++◌, length, take, drop, Some, IfOk, OnErr, IsErr, Contains, vec_len, vec_capacity};
+ghost use Rattle.std.specs.Prelude.{◌≡◌, ◌+◌, ◌-◌, ◌^◌, ◌<◌, ◌≤◌, ◌↔◌, ◌⊎◌, min, [], ◌++◌, length, take, drop, Some, IfOk, OnErr, IsErr, Contains, vec_len, vec_capacity};
 ghost use Rattle.io_core.specs.Faults.{one_more, Rose};
 
 use super::reading::{ReadFailed, Source};

@@ -46,19 +46,22 @@ names_by spaces part space frames = if part == spaces then frames else is_that p
 abbrev OnlyBy : ℕ → ℕ → Option ℕ → Bool → Type 0
 OnlyBy spaces part space frames = IfSome space (λ s. (s ≡ part) × (s < spaces)) × (frames ≡ true → part ≡ spaces)
 
-named_by : (spaces part : ℕ) (space : Option ℕ) (frames : Bool) → OnlyBy spaces part space frames → (space ≡ None → frames ≡ true) → names_by spaces part space frames ≡ true
+named_by : (spaces part : ℕ) (space : Option ℕ) (frames : Bool) → OnlyBy spaces part space frames → (space ≡ None → frames ≡ true)
+    → names_by spaces part space frames ≡ true
 named_by spaces part None frames only some = let f = some refl in rw (eq-eqb part spaces (only.1 f)) f
 named_by spaces part (Some s) frames only some =
     let other : part ≡ spaces → ⊥ = λ is. absurd (omega (arith, only.0.0, only.0.1)) in
     rw (ne_eqb part spaces other) (eq-eqb s part only.0.0)
 
-only_by_at : (spaces part other : ℕ) (space : Option ℕ) (frames : Bool) (b : Bool) → eqb other spaces ≡ b → OnlyBy spaces part space frames → names_by spaces other space frames ≡ true → other ≡ part
+only_by_at : (spaces part other : ℕ) (space : Option ℕ) (frames : Bool) (b : Bool) → eqb other spaces ≡ b → OnlyBy spaces part space frames
+    → names_by spaces other space frames ≡ true → other ≡ part
 only_by_at spaces part other space frames true is only names = let f = rw is at names in eqb-true other spaces is ∙ sym (only.1 f)
 only_by_at spaces part other None frames false is only names = absurd (true≢false (sym (rw is at names)))
 only_by_at spaces part other (Some s) frames false is only names = let f = rw is at names in sym (eqb-true s other f) ∙ only.0.0
 
 -- no other part is named
-only_by : (spaces part other : ℕ) (space : Option ℕ) (frames : Bool) → OnlyBy spaces part space frames → names_by spaces other space frames ≡ true → other ≡ part
+only_by : (spaces part other : ℕ) (space : Option ℕ) (frames : Bool) → OnlyBy spaces part space frames
+    → names_by spaces other space frames ≡ true → other ≡ part
 only_by spaces part other space frames only names = only_by_at spaces part other space frames (eqb other spaces) refl only names
 
 -- the list of a space, and of the frames
@@ -68,7 +71,9 @@ part_list-space spaces part history below = let other : part ≡ spaces → ⊥ 
 pub part_list-frames : (spaces part : ℕ) (history : List Entry) → part ≡ spaces → part_list spaces part history ≡ frames_part history
 part_list-frames spaces part history is = rw (eq-eqb part spaces is)
 
-space_allows : (g : Given) (spaces part : ℕ) (entries history : List Entry) (e : Entry) (space : Option ℕ) → entries ≡ part_list spaces part history → IfSome space (λ s. (s ≡ part) × (s < spaces)) → IfSome space (λ s. SpaceJudges g s entries e)
+space_allows : (g : Given) (spaces part : ℕ) (entries history : List Entry) (e : Entry) (space : Option ℕ)
+    → entries ≡ part_list spaces part history → IfSome space (λ s. (s ≡ part) × (s < spaces))
+    → IfSome space (λ s. SpaceJudges g s entries e)
     → IfSome space (λ s. SpaceJudges g s (space_part s history) e)
 space_allows g spaces part entries history e None is only allows = tt
 space_allows g spaces part entries history e (Some s) is only allows =
@@ -78,18 +83,21 @@ space_below : (spaces part : ℕ) (space : Option ℕ) → IfSome space (λ s. (
 space_below spaces part None only = tt
 space_below spaces part (Some s) only = only.1
 
-pub ordered : (g : Given) (p : PassState) (history : List Entry) (e : Entry) → e.processor ≡ p.processor → p.entries ≡ own_list p.processor history → KeepsOrder g (entries_in p.entries) e → KeepsOrder g (entries_of e.processor history) e
+pub ordered : (g : Given) (p : PassState) (history : List Entry) (e : Entry) → e.processor ≡ p.processor
+    → p.entries ≡ own_list p.processor history → KeepsOrder g (entries_in p.entries) e → KeepsOrder g (entries_of e.processor history) e
 ordered g p history e own is order =
     let same = ap entries_in is ∙ own_entries p.processor history ∙ ap (λ d. entries_of d history) (sym own) in
     subst (λ l. KeepsOrder g l e) same order
 
-pub short_enough : (p : PassState) (history : List Entry) (e : Entry) → e.processor ≡ p.processor → p.entries ≡ own_list p.processor history → length p.entries < p.room → p.room ≤ most_entries → length (entries_of e.processor history) < most_entries
+pub short_enough : (p : PassState) (history : List Entry) (e : Entry) → e.processor ≡ p.processor → p.entries ≡ own_list p.processor history
+    → length p.entries < p.room → p.room ≤ most_entries → length (entries_of e.processor history) < most_entries
 short_enough p history e own is room most =
     let same = ap entries_in is ∙ own_entries p.processor history ∙ ap (λ d. entries_of d history) (sym own) in
     omega (arith, ap length same, length-map p.entries (λ (n : Numbered). n.entry))
 
 -- an author and a pass, under the pass's setting
-pub one_may : (a : AuthorState) (p : PassState) (e : Entry) → a.journal ≡ p.journal → NamesItsParts e → NamesOnly (length a.journal.setting.told) a.part e → e.processor ≡ p.processor
+pub one_may : (a : AuthorState) (p : PassState) (e : Entry) → a.journal ≡ p.journal → NamesItsParts e
+    → NamesOnly (length a.journal.setting.told) a.part e → e.processor ≡ p.processor
     → AllowedAfter a.journal.setting a.entries e → KeepsOrder p.journal.setting (entries_in p.entries) e → length p.entries < p.room → p.room ≤ most_entries → p.processor < length p.journal.setting.marks → MayGrow (joined (pass_view p) (author_view a)) e
 one_may a p e same parts only own allowed order room most processor = record {
   live = refl;

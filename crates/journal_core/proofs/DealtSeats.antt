@@ -68,23 +68,27 @@ deal_first f i n below = let e : n - i ≡ suc (n - (i + 1)) = omega arith in rw
 abbrev pub authors_left : Given → List Own → ℕ → ℕ → Me Unit View
 authors_left g passes i n = (record { live = true; setting = g; authors = map blank_part (range_with_len i (n - i)); passes = passes }, [])
 
-pub author_rest : (g : Given) (passes : List Own) (i n : ℕ) (m k : Me Unit View) → i < n → m ≡ authors_left g passes i n → k ≡ (without_author m.0, m.1) → k ≡ authors_left g passes (i + 1) n
+pub author_rest : (g : Given) (passes : List Own) (i n : ℕ) (m k : Me Unit View) → i < n → m ≡ authors_left g passes i n
+    → k ≡ (without_author m.0, m.1) → k ≡ authors_left g passes (i + 1) n
 author_rest g passes i n m k below before is =
     is
     ∙ ap (λ (x : Me Unit View). (without_author x.0, x.1)) before
     ∙ ap (λ (ps : List Part). (record { live = true; setting = g; authors = ps; passes = passes }, [])) (deal_rest blank_part i n below)
 
-author_seat : (g : Given) (passes : List Own) (i n : ℕ) (table : TableId) (m k : Me Unit View) → i < n → m ≡ authors_left g passes i n → k ≡ (first_author m.0, []) → k ≡ (author_view (new_author (record { table = table; setting = g }) i), [])
+author_seat : (g : Given) (passes : List Own) (i n : ℕ) (table : TableId) (m k : Me Unit View) → i < n → m ≡ authors_left g passes i n
+    → k ≡ (first_author m.0, []) → k ≡ (author_view (new_author (record { table = table; setting = g }) i), [])
 author_seat g passes i n table m k below before is =
     is
     ∙ ap (λ (x : Me Unit View). (first_author x.0, [])) before
     ∙ ap (λ (ps : List Part). (record { live = true; setting = g; authors = ps; passes = [] }, [])) (deal_first blank_part i n below)
 
-pub author_dealt : (g : Given) (passes : List Own) (i n : ℕ) (table : TableId) (m k : Me Unit View) → i < n → n ≤ length g.told + 1 → m ≡ authors_left g passes i n → k ≡ (first_author m.0, []) → IsAuthor table k
+pub author_dealt : (g : Given) (passes : List Own) (i n : ℕ) (table : TableId) (m k : Me Unit View) → i < n → n ≤ length g.told + 1
+    → m ≡ authors_left g passes i n → k ≡ (first_author m.0, []) → IsAuthor table k
 author_dealt g passes i n table m k below parts before is =
     subst (IsAuthor table) (sym (author_seat g passes i n table m k below before is)) (record { seat = refl; part = omega arith })
 
-pub author_is : (g : Given) (passes : List Own) (i n : ℕ) (table : TableId) (m k : Me Unit View) → i < n → m ≡ authors_left g passes i n → k ≡ (first_author m.0, []) → author_of table k.0 ≡ new_author (record { table = table; setting = g }) i
+pub author_is : (g : Given) (passes : List Own) (i n : ℕ) (table : TableId) (m k : Me Unit View) → i < n → m ≡ authors_left g passes i n
+    → k ≡ (first_author m.0, []) → author_of table k.0 ≡ new_author (record { table = table; setting = g }) i
 author_is g passes i n table m k below before is = ap (λ (x : Me Unit View). author_of table x.0) (author_seat g passes i n table m k below before is)
 
 -- the seat that still has the passes from i on
@@ -97,28 +101,33 @@ pass_rest g i n m k below before is =
     ∙ ap (λ (x : Me Unit View). (without_pass x.0, x.1)) before
     ∙ ap (λ (os : List Own). (record { live = true; setting = g; authors = []; passes = os }, [])) (deal_rest blank_own i n below)
 
-pass_seat : (g : Given) (i n room : ℕ) (table : TableId) (m k : Me Unit View) → i < n → m ≡ passes_left g i n → k ≡ (first_pass m.0, []) → k ≡ (pass_view (new_pass (record { table = table; setting = g }) i room), [])
+pass_seat : (g : Given) (i n room : ℕ) (table : TableId) (m k : Me Unit View) → i < n → m ≡ passes_left g i n → k ≡ (first_pass m.0, [])
+    → k ≡ (pass_view (new_pass (record { table = table; setting = g }) i room), [])
 pass_seat g i n room table m k below before is =
     is
     ∙ ap (λ (x : Me Unit View). (first_pass x.0, [])) before
     ∙ ap (λ (os : List Own). (record { live = true; setting = g; authors = []; passes = os }, [])) (deal_first blank_own i n below)
 
-pub pass_is : (g : Given) (i n : ℕ) (table : TableId) (m k : Me Unit View) (entries : List Numbered) (room : ℕ) → i < n → m ≡ passes_left g i n → k ≡ (first_pass m.0, []) → entries ≡ []
+pub pass_is : (g : Given) (i n : ℕ) (table : TableId) (m k : Me Unit View) (entries : List Numbered) (room : ℕ) → i < n
+    → m ≡ passes_left g i n → k ≡ (first_pass m.0, []) → entries ≡ []
     → pass_of table k.0 i entries room ≡ new_pass (record { table = table; setting = g }) i room
 pass_is g i n table m k entries room below before is none =
     ap (λ (x : Me Unit View). pass_of table x.0 i entries room) (pass_seat g i n room table m k below before is) ∙ ap (λ es. pass_of table (pass_view (new_pass (record { table = table; setting = g }) i room)) i es room) none
 
-pub pass_dealt : (g : Given) (i n : ℕ) (table : TableId) (m k : Me Unit View) (entries : List Numbered) (room : ℕ) → i < n → n ≡ length g.marks → room ≤ most_entries → m ≡ passes_left g i n → k ≡ (first_pass m.0, []) → entries ≡ []
+pub pass_dealt : (g : Given) (i n : ℕ) (table : TableId) (m k : Me Unit View) (entries : List Numbered) (room : ℕ) → i < n
+    → n ≡ length g.marks → room ≤ most_entries → m ≡ passes_left g i n → k ≡ (first_pass m.0, []) → entries ≡ []
     → IsPass (pass_of table k.0 i entries room) k
 pass_dealt g i n table m k entries room below all most before is none =
     let p = new_pass (record { table = table; setting = g }) i room in
     subst (λ q. IsPass q k) (sym (pass_is g i n table m k entries room below before is none))
     (subst (IsPass p) (sym (pass_seat g i n room table m k below before is)) (record { seat = refl; room = omega arith; most = most; processor = omega arith }))
 
-new_passes-push_at : (name : JournalName) (c : ℕ) (rooms : List ℕ) (room n : ℕ) → c + length rooms ≡ n → new_passes name c (rooms ++ room ∷ []) ≡ new_passes name c rooms ++ new_pass name n room ∷ []
+new_passes-push_at : (name : JournalName) (c : ℕ) (rooms : List ℕ) (room n : ℕ) → c + length rooms ≡ n
+    → new_passes name c (rooms ++ room ∷ []) ≡ new_passes name c rooms ++ new_pass name n room ∷ []
 new_passes-push_at name c [] room n is = let same : c ≡ n = omega arith in ap (λ k. new_pass name k room ∷ []) same
 new_passes-push_at name c (r ∷ rs) room n is = ap (λ l. new_pass name c r ∷ l) (new_passes-push_at name (suc c) rs room n (omega arith))
 
 -- one pass more
-pub new_passes-push : (name : JournalName) (rooms : List ℕ) (room n : ℕ) → length rooms ≡ n → new_passes name 0 (rooms ++ room ∷ []) ≡ new_passes name 0 rooms ++ new_pass name n room ∷ []
+pub new_passes-push : (name : JournalName) (rooms : List ℕ) (room n : ℕ) → length rooms ≡ n
+    → new_passes name 0 (rooms ++ room ∷ []) ≡ new_passes name 0 rooms ++ new_pass name n room ∷ []
 new_passes-push name rooms room n is = new_passes-push_at name 0 rooms room n (omega arith)

@@ -47,18 +47,21 @@ tail_owns c o os h = omega (arith, sum_by-cons (λ (q : Own). cond (eqb q.proces
 
 module _ (spaces : ℕ) (history : List Entry) (e : Entry) where
   -- the lists of the authors that commit
-  own_parts : (ps : List Part) → AllByRecursion (λ (p : Part). names_part spaces p.part e ≡ true) ps → AllByRecursion (λ (p : Part). p.entries ≡ part_list spaces p.part history) ps
+  own_parts : (ps : List Part) → AllByRecursion (λ (p : Part). names_part spaces p.part e ≡ true) ps
+      → AllByRecursion (λ (p : Part). p.entries ≡ part_list spaces p.part history) ps
       → AllByRecursion (λ (p : Part). p.entries ≡ part_list spaces p.part (history ++ e ∷ [])) (map (part_grown e) ps)
   own_parts [] named k = tt
   own_parts (p ∷ ps) named k = (ap (λ l. l ++ e ∷ []) k.0 ∙ sym (part_list-push spaces p.part history e named.0), own_parts ps named.1 k.1)
 
   -- the lists of the other authors
-  other_parts : (ps : List Part) → ((part : ℕ) → 0 < count_by (is_part part) ps → names_part spaces part e ≡ false) → AllByRecursion (λ (p : Part). p.entries ≡ part_list spaces p.part history) ps
+  other_parts : (ps : List Part) → ((part : ℕ) → 0 < count_by (is_part part) ps → names_part spaces part e ≡ false)
+      → AllByRecursion (λ (p : Part). p.entries ≡ part_list spaces p.part history) ps
       → AllByRecursion (λ (p : Part). p.entries ≡ part_list spaces p.part (history ++ e ∷ [])) ps
   other_parts [] none k = tt
   other_parts (p ∷ ps) none k = (k.0 ∙ sym (part_list-same spaces p.part history e (none p.part (head_counts p.part p ps refl))), other_parts ps (λ part h. none part (tail_counts part p ps h)) k.1)
 
-  own_owns : (place : ℕ) → place ≡ length history → (os : List Own) → AllByRecursion (λ (o : Own). o.processor ≡ e.processor) os → AllByRecursion (λ (o : Own). o.entries ≡ own_list o.processor history) os
+  own_owns : (place : ℕ) → place ≡ length history → (os : List Own) → AllByRecursion (λ (o : Own). o.processor ≡ e.processor) os
+      → AllByRecursion (λ (o : Own). o.entries ≡ own_list o.processor history) os
       → AllByRecursion (λ (o : Own). o.entries ≡ own_list o.processor (history ++ e ∷ [])) (map (own_grown place e) os)
   own_owns place at [] own k = tt
   own_owns place at (o ∷ os) own k = (
@@ -66,17 +69,20 @@ module _ (spaces : ℕ) (history : List Entry) (e : Entry) where
     own_owns place at os own.1 k.1,
   )
 
-  other_owns : (os : List Own) → ((c : ℕ) → 0 < count_by (is_own c) os → is_of c e ≡ false) → AllByRecursion (λ (o : Own). o.entries ≡ own_list o.processor history) os
+  other_owns : (os : List Own) → ((c : ℕ) → 0 < count_by (is_own c) os → is_of c e ≡ false)
+      → AllByRecursion (λ (o : Own). o.entries ≡ own_list o.processor history) os
       → AllByRecursion (λ (o : Own). o.entries ≡ own_list o.processor (history ++ e ∷ [])) os
   other_owns [] none k = tt
   other_owns (o ∷ os) none k = (k.0 ∙ sym (own_list-same o.processor history e (none o.processor (head_owns o.processor o os refl))), other_owns os (λ c h. none c (tail_owns c o os h)) k.1)
 
 -- every processor still has room
-short_by : (history : List Entry) (e : Entry) (c : ℕ) → length (entries_of e.processor history) < most_entries → length (entries_of c history) ≤ most_entries → (b : Bool) → is_of c e ≡ b → length (entries_of c (history ++ e ∷ [])) ≤ most_entries
+short_by : (history : List Entry) (e : Entry) (c : ℕ) → length (entries_of e.processor history) < most_entries
+    → length (entries_of c history) ≤ most_entries → (b : Bool) → is_of c e ≡ b → length (entries_of c (history ++ e ∷ [])) ≤ most_entries
 short_by history e c room short true is = let same = ap (λ d. length (entries_of d history)) (eqb-true e.processor c is) in omega (arith, ap length (entries_of-push c history e is), length_push (entries_of c history) e)
 short_by history e c room short false is = omega (arith, ap length (entries_of-same c history e is))
 
-module _ (words : List ℕ) (views : List View) (seat : ℕ) (v : View) (e : Entry) (s : Stands v.setting words views) (at : get_elem? views seat ≡ some v) (may : MayGrow v e) where
+module _ (words : List ℕ) (views : List View) (seat : ℕ) (v : View) (e : Entry) (s : Stands v.setting words views)
+    (at : get_elem? views seat ≡ some v) (may : MayGrow v e) where
   place : ℕ
   place = slice_index words 16
 
@@ -127,7 +133,8 @@ module _ (words : List ℕ) (views : List View) (seat : ℕ) (v : View) (e : Ent
         (at_set views seat j (grown (slice_index words 16) e v) u is);
   }
 
-pub writes : (g : Given) (slots seat : ℕ) (me : Me Unit View) (e : Entry) (st : Step Unit) → MayGrow me.0 e → Allows (Holds g) slots seat me 16 (λ n. (n + 1) % 18446744073709551616) (Commits e st me)
+pub writes : (g : Given) (slots seat : ℕ) (me : Me Unit View) (e : Entry) (st : Step Unit) → MayGrow me.0 e
+    → Allows (Holds g) slots seat me 16 (λ n. (n + 1) % 18446744073709551616) (Commits e st me)
 writes g slots seat me e st may x s wide at _ =
     let is = (s.known seat me.0 at).setting may.live in
     let s' : Stands me.0.setting x.words x.views = subst (λ h. Stands h x.words x.views) (sym is) s in (

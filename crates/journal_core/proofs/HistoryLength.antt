@@ -70,7 +70,8 @@ count_of-cons : (x : Entry) (xs : List Entry) (c : ℕ) → count_of (x ∷ xs) 
 count_of-cons x xs c = count_of-cons_by x xs c (eqb x.processor c) refl
 
 -- a history is as long as the lists of its processors together
-pub length_by_processors : (n : ℕ) (history : List Entry) → AllByRecursion (λ (e : Entry). e.processor < n) history → length history ≡ up_from (count_of history) 0 n
+pub length_by_processors : (n : ℕ) (history : List Entry) → AllByRecursion (λ (e : Entry). e.processor < n) history
+    → length history ≡ up_from (count_of history) 0 n
 length_by_processors n [] all = sym (up_from-zero 0 n)
 length_by_processors n (x ∷ xs) all =
     let rest = length_by_processors n xs all.1 in

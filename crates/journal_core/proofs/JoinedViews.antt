@@ -17,16 +17,19 @@ use Rattle.journal_core.proofs.HistoryLength.{hit, hit-same}
 use Rattle.journal_core.proofs.CommittedEntries.{part_list-space, part_list-frames, ordered, short_enough}
 use Rattle.journal_core.proofs.HistoryLists.{own_entries}
 
-pub board_one : (s q m : Me Unit View) (p : PassState) (a : AuthorState) → s ≡ (pass_view p, []) → q ≡ (author_view a, []) → m ≡ (joined s.0 q.0, s.1) → m.0 ≡ joined (pass_view p) (author_view a)
+pub board_one : (s q m : Me Unit View) (p : PassState) (a : AuthorState) → s ≡ (pass_view p, []) → q ≡ (author_view a, [])
+    → m ≡ (joined s.0 q.0, s.1) → m.0 ≡ joined (pass_view p) (author_view a)
 board_one s q m p a pass author is = ap (λ (x : Me Unit View). x.0) is ∙ ap₂ (λ (x y : Me Unit View). joined x.0 y.0) pass author
 
-pub board_two : (s q m r n : Me Unit View) (p : PassState) (a b : AuthorState) → s ≡ (pass_view p, []) → q ≡ (author_view a, []) → m ≡ (joined s.0 q.0, s.1) → r ≡ (author_view b, []) → n ≡ (joined m.0 r.0, m.1)
+pub board_two : (s q m r n : Me Unit View) (p : PassState) (a b : AuthorState) → s ≡ (pass_view p, []) → q ≡ (author_view a, [])
+    → m ≡ (joined s.0 q.0, s.1) → r ≡ (author_view b, []) → n ≡ (joined m.0 r.0, m.1)
     → n.0 ≡ joined (joined (pass_view p) (author_view a)) (author_view b)
 board_two s q m r n p a b pass author first other is =
     ap (λ (x : Me Unit View). x.0) is ∙ ap₂ (λ (x : View) (y : Me Unit View). joined x y.0) (board_one s q m p a pass author first) other
 
 -- what a meeting of an author and a pass tells
-pub one_tells : (a : AuthorState) (p : PassState) (v : View) (n : ℕ) → a.journal ≡ p.journal → v ≡ joined (pass_view p) (author_view a) → Meets v.setting n v → (history : List Entry) × AreOf a p history × (length history ≡ n)
+pub one_tells : (a : AuthorState) (p : PassState) (v : View) (n : ℕ) → a.journal ≡ p.journal → v ≡ joined (pass_view p) (author_view a)
+    → Meets v.setting n v → (history : List Entry) × AreOf a p history × (length history ≡ n)
 one_tells a p v n same is meets =
     let m : Meets p.journal.setting n (joined (pass_view p) (author_view a)) = subst (λ (w : View). Meets w.setting n w) is meets in
     let k = m.known in (
@@ -40,7 +43,8 @@ one_tells a p v n same is meets =
     )
 
 -- what a meeting of a space, the frames and a pass tells
-pub two_tells : (s f : AuthorState) (p : PassState) (v : View) (n : ℕ) → s.journal ≡ p.journal → f.journal ≡ p.journal → AreSpaceAndFrames s f → v ≡ joined (joined (pass_view p) (author_view s)) (author_view f) → Meets v.setting n v
+pub two_tells : (s f : AuthorState) (p : PassState) (v : View) (n : ℕ) → s.journal ≡ p.journal → f.journal ≡ p.journal
+    → AreSpaceAndFrames s f → v ≡ joined (joined (pass_view p) (author_view s)) (author_view f) → Meets v.setting n v
     → (history : List Entry) × AreOfTwo s f p history × (length history ≡ n)
 two_tells s f p v n same other are is meets =
     let m : Meets p.journal.setting n (joined (joined (pass_view p) (author_view s)) (author_view f)) = subst (λ (w : View). Meets w.setting n w) is meets in
@@ -64,7 +68,8 @@ named_space spaces part e below is =
 named_frames : (spaces part : ℕ) (e : Entry) → part ≡ spaces → e.frames ≡ true → names_part spaces part e ≡ true
 named_frames spaces part e same is = ap (λ b. cond b e.frames (is_that part e.space)) (eq-eqb part spaces same) ∙ is
 
-two_named_by : (spaces space frames part : ℕ) (e : Entry) (b : Bool) → frames ≡ spaces → e.space ≡ Some space → eqb part spaces ≡ b → names_part spaces part e ≡ true → (space ≡ part) ⊎ (frames ≡ part)
+two_named_by : (spaces space frames part : ℕ) (e : Entry) (b : Bool) → frames ≡ spaces → e.space ≡ Some space → eqb part spaces ≡ b
+    → names_part spaces part e ≡ true → (space ≡ part) ⊎ (frames ≡ part)
 two_named_by spaces space frames part e true all is at names = inr (all ∙ sym (eqb-true part spaces at))
 two_named_by spaces space frames part e false all is at names =
     let n : is_that part e.space ≡ true = ap (λ b. cond b e.frames (is_that part e.space)) (sym at) ∙ names in
@@ -75,7 +80,8 @@ two_counted space frames part (inl is) = omega (arith, hit-same space part is)
 two_counted space frames part (inr is) = omega (arith, hit-same frames part is)
 
 -- the authors of a space and of the frames, and a pass, under the pass's setting
-pub two_may : (s f : AuthorState) (p : PassState) (e : Entry) → s.journal ≡ p.journal → f.journal ≡ p.journal → NamesItsParts e → AreSpaceAndFrames s f × (e.space ≡ Some s.part) × (e.frames ≡ true) → e.processor ≡ p.processor
+pub two_may : (s f : AuthorState) (p : PassState) (e : Entry) → s.journal ≡ p.journal → f.journal ≡ p.journal → NamesItsParts e
+    → AreSpaceAndFrames s f × (e.space ≡ Some s.part) × (e.frames ≡ true) → e.processor ≡ p.processor
     → SpaceJudges s.journal.setting s.part s.entries e → FramesJudge f.journal.setting f.entries e → KeepsOrder p.journal.setting (entries_in p.entries) e → length p.entries < p.room → p.room ≤ most_entries
     → p.processor < length p.journal.setting.marks → MayGrow (joined (joined (pass_view p) (author_view s)) (author_view f)) e
 two_may s f p e same other parts names own by_space by_frames order room most processor = record {

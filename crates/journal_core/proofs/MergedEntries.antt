@@ -52,7 +52,8 @@ has_right : (i : ℕ) (xs ys : List Numbered) → HasPlace i ys → HasPlace i (
 has_right i [] ys h = h
 has_right i (x ∷ xs) ys h = inr (has_right i xs ys h)
 
-numbered_at_from : (all before : List Numbered) (place : ℕ) (es : List Entry) → length before ≡ place → all ≡ before ++ numbered_from place es → AllByRecursion (IsAt all) (numbered_from place es)
+numbered_at_from : (all before : List Numbered) (place : ℕ) (es : List Entry) → length before ≡ place
+    → all ≡ before ++ numbered_from place es → AllByRecursion (IsAt all) (numbered_from place es)
 numbered_at_from all before place [] long is = tt
 numbered_at_from all before place (e ∷ es) long is =
     let n : Numbered = record { number = place; entry = e } in (
@@ -81,7 +82,8 @@ entries_in-numbered_from place (e ∷ es) = ap (λ l. e ∷ l) (entries_in-numbe
 pub entries_in-numbered : (history : List Entry) → entries_in (numbered history) ≡ history
 entries_in-numbered history = entries_in-numbered_from 0 history
 
-has_more : (i c : ℕ) (n : Numbered) (ns : List Numbered) (b : Bool) → is_numbered_of c n ≡ b → HasPlace i (filter (is_numbered_of c) ns) → HasPlace i (filter (is_numbered_of c) (n ∷ ns))
+has_more : (i c : ℕ) (n : Numbered) (ns : List Numbered) (b : Bool) → is_numbered_of c n ≡ b → HasPlace i (filter (is_numbered_of c) ns)
+    → HasPlace i (filter (is_numbered_of c) (n ∷ ns))
 has_more i c n ns true is h = rw is (inr h)
 has_more i c n ns false is h = rw is h
 
@@ -92,13 +94,15 @@ has_first i c n ns at own = rw (eq-eqb n.entry.processor c own) (inl at)
 abbrev Covered : ℕ → ℕ → List Entry → ℕ → Type 0
 Covered processors place es i = (c : ℕ) × (c < processors) × HasPlace i (filter (is_numbered_of c) (numbered_from place es))
 
-covered_by : (processors place : ℕ) (e : Entry) (es : List Entry) (i : ℕ) → e.processor < processors → (place ≢ i → Covered processors (suc place) es i) → Dec (place ≡ i) → Covered processors place (e ∷ es) i
+covered_by : (processors place : ℕ) (e : Entry) (es : List Entry) (i : ℕ) → e.processor < processors
+    → (place ≢ i → Covered processors (suc place) es i) → Dec (place ≡ i) → Covered processors place (e ∷ es) i
 covered_by processors place e es i own later (yes at) = (e.processor, own, has_first i e.processor (record { number = place; entry = e }) (numbered_from (suc place) es) at refl)
 covered_by processors place e es i own later (no apart) =
     let l = later apart in
     (l.0, l.1, has_more i l.0 (record { number = place; entry = e }) (numbered_from (suc place) es) _ refl l.2)
 
-covered_from : (processors place : ℕ) (es : List Entry) (i : ℕ) → AllByRecursion (λ (e : Entry). e.processor < processors) es → place ≤ i → i < place + length es → Covered processors place es i
+covered_from : (processors place : ℕ) (es : List Entry) (i : ℕ) → AllByRecursion (λ (e : Entry). e.processor < processors) es → place ≤ i
+    → i < place + length es → Covered processors place es i
 covered_from processors place [] i all low high = absurd (omega arith)
 covered_from processors place (e ∷ es) i all low high =
     covered_by processors place e es i all.0 (λ apart. covered_from processors (suc place) es i all.1 (omega arith) (omega arith)) (ℕ_discrete place i)
@@ -116,7 +120,8 @@ pub length-placed : (m xs : List Numbered) → length (placed m xs) ≡ length m
 length-placed m [] = refl
 length-placed m (x ∷ xs) = length-placed (put m x) xs ∙ length-set m x.number x
 
-placed_at : (all m xs : List Numbered) (i : ℕ) (d : Numbered) → length m ≡ length all → AllByRecursion (IsAt all) xs → i < length all → (get_or m i d ≡ get_or all i d) ⊎ HasPlace i xs → get_or (placed m xs) i d ≡ get_or all i d
+placed_at : (all m xs : List Numbered) (i : ℕ) (d : Numbered) → length m ≡ length all → AllByRecursion (IsAt all) xs → i < length all
+    → (get_or m i d ≡ get_or all i d) ⊎ HasPlace i xs → get_or (placed m xs) i d ≡ get_or all i d
 placed_at all m [] i d long k below here = ⊎_elim (λ (e : get_or m i d ≡ get_or all i d). e) (λ (h : ⊥). absurd h) here
 placed_at all m (x ∷ xs) i d long k below here = placed_at all (put m x) xs i d (length-set m x.number x ∙ long) k.1 below (next (ℕ_discrete i x.number))
   where
@@ -128,7 +133,8 @@ placed_at all m (x ∷ xs) i d long k below here = placed_at all (put m x) xs i 
         here
 
 -- entries that stand at their places, among them one for each place, make the whole
-pub placed_is : (all m : List Numbered) (logs : List (List Numbered)) → length m ≡ length all → AllByRecursion (IsAt all) (flat logs) → ((i : ℕ) → i < length all → HasPlace i (flat logs)) → placed_all m logs ≡ all
+pub placed_is : (all m : List Numbered) (logs : List (List Numbered)) → length m ≡ length all → AllByRecursion (IsAt all) (flat logs)
+    → ((i : ℕ) → i < length all → HasPlace i (flat logs)) → placed_all m logs ≡ all
 placed_is all m logs long k covered =
     placed_flat m logs
     ∙ same_lists (placed m (flat logs)) all (length-placed m (flat logs) ∙ long)
@@ -185,14 +191,16 @@ module _ (history : List Entry) where
       h
 
   -- every place is in some pass
-  pub all_in : (processors : ℕ) (ps : List PassState) → AllByRecursion (λ (e : Entry). e.processor < processors) history → AllByRecursion Owns (reverse ps) → map (λ (p : PassState). p.processor) ps ≡ range_with_len 0 processors
+  pub all_in : (processors : ℕ) (ps : List PassState) → AllByRecursion (λ (e : Entry). e.processor < processors) history
+      → AllByRecursion Owns (reverse ps) → map (λ (p : PassState). p.processor) ps ≡ range_with_len 0 processors
       → (i : ℕ) → i < length (numbered history) → HasPlace i (flat (logs_of (reverse ps)))
   all_in processors ps all k in_order i below =
       let c = covered_from processors 0 history i all (omega arith) (omega (arith, length-numbered history)) in
       has_in i c.0 (reverse ps) k (pass_reverse c.0 ps (pass_of_each ps 0 processors c.0 in_order (omega arith) (omega (arith, c.1)))) c.2
 
   -- the passes have room for the history
-  pub counts_fit : (ps : List PassState) (a n : ℕ) → map (λ (p : PassState). p.processor) ps ≡ range_with_len a n → AllByRecursion Owns ps → AllByRecursion (λ (p : PassState). length p.entries ≤ p.room) ps
+  pub counts_fit : (ps : List PassState) (a n : ℕ) → map (λ (p : PassState). p.processor) ps ≡ range_with_len a n → AllByRecursion Owns ps
+      → AllByRecursion (λ (p : PassState). length p.entries ≤ p.room) ps
       → up_from (count_of history) a n ≤ sum (map (λ (p : PassState). p.room) ps)
   counts_fit [] a zero is k rooms = omega arith
   counts_fit [] a (suc n) is k rooms = absurd (cc is)

@@ -125,7 +125,8 @@ enters_keep g slots st x s wide _ = (
 pub found_is : (g : Given) (words : List ℕ) (views : List View) (s : Stands g words views) → slice_index words 16 ≡ length s.history
 found_is g words views s = ap (λ ws. slice_index ws 16) s.word
 
-pub meets : (g : Given) (words : List ℕ) (views : List View) (seat : ℕ) (v : View) (s : Stands g words views) → v.live ≡ true → get_elem? views seat ≡ some v → Meets v.setting (slice_index words 16) v
+pub meets : (g : Given) (words : List ℕ) (views : List View) (seat : ℕ) (v : View) (s : Stands g words views) → v.live ≡ true
+    → get_elem? views seat ≡ some v → Meets v.setting (slice_index words 16) v
 meets g words views seat v s live at =
     let k = s.known seat v at in
     subst (λ h. Meets h (slice_index words 16) v) (sym (k.setting live))

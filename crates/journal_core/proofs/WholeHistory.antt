@@ -36,7 +36,8 @@ module _ (g : Given) (authors : List AuthorState) (passes : List PassState) (n :
   owns = each_unreverse (Owns m.history) passes owns_back
 
   -- the history fits into the passes' rooms
-  pub fits : (room : ℕ) → map (λ (p : PassState). p.processor) passes ≡ range_with_len 0 (length g.marks) → AllByRecursion (λ (p : PassState). length p.entries ≤ p.room) passes → sum (map (λ (p : PassState). p.room) passes) ≤ room → n ≤ room
+  pub fits : (room : ℕ) → map (λ (p : PassState). p.processor) passes ≡ range_with_len 0 (length g.marks)
+      → AllByRecursion (λ (p : PassState). length p.entries ≤ p.room) passes → sum (map (λ (p : PassState). p.room) passes) ≤ room → n ≤ room
   fits room in_order rooms enough =
       omega (arith, m.long_is, length_by_processors (length g.marks) m.history (processors_of g m.history m.legal), counts_fit m.history passes 0 (length g.marks) in_order owns rooms)
 
@@ -49,12 +50,15 @@ module _ (g : Given) (authors : List AuthorState) (passes : List PassState) (n :
   placed_each (p ∷ ps) k = (subst (IsPlaced n) (sym k.0) (All-from_recursion _ (own_list p.processor m.history) (placed_from (own_list p.processor m.history) (own_at p.processor m.history))), placed_each ps k.1)
 
   -- the places are below the history's length
-  pub logs_placed : {X : Type 0} (entries : X → List Numbered) (logs : List X) → map entries logs ≡ map (λ (p : PassState). p.entries) (reverse passes) → All (λ x. IsPlaced n (entries x)) logs
+  pub logs_placed : {X : Type 0} (entries : X → List Numbered) (logs : List X)
+      → map entries logs ≡ map (λ (p : PassState). p.entries) (reverse passes) → All (λ x. IsPlaced n (entries x)) logs
   logs_placed entries logs is =
       All-from_recursion (λ x. IsPlaced n (entries x)) logs (each_unmap (IsPlaced n) entries logs (subst (AllByRecursion (IsPlaced n)) (sym is) (placed_each (reverse passes) owns_back)))
 
   -- the merge is the history
-  pub merged : (start : List Numbered) (logs : List (List Numbered)) → map (λ (p : PassState). p.processor) passes ≡ range_with_len 0 (length g.marks) → length start ≡ n → logs ≡ map (λ (p : PassState). p.entries) (reverse passes)
+  pub merged : (start : List Numbered) (logs : List (List Numbered))
+      → map (λ (p : PassState). p.processor) passes ≡ range_with_len 0 (length g.marks) → length start ≡ n
+      → logs ≡ map (λ (p : PassState). p.entries) (reverse passes)
       → placed_all start logs ≡ numbered m.history
   merged start logs in_order long is =
       ap (placed_all start) is

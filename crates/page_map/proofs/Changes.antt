@@ -23,12 +23,15 @@ use Rattle.page_map.proofs.Rows.{HasRow, only_entry, only_one, no_entry, same_en
 -- ---- the rows of a page
 
 -- a page whose rows are as before
-page_same : (t u : Arena Mapping) (p : ℕ) → IsKept t → ((size : ℕ) → size ≤ 3 → row u size p ≡ row t size p) → IsOne (λ size. row u size p) × (entry_at u p ≡ entry_at t p)
+page_same : (t u : Arena Mapping) (p : ℕ) → IsKept t → ((size : ℕ) → size ≤ 3 → row u size p ≡ row t size p)
+    → IsOne (λ size. row u size p) × (entry_at u p ≡ entry_at t p)
 unfolding entry_at
 page_same t u p kept same = (same_one (λ size. row t size p) (λ size. row u size p) same (kept.one p), same_entry (λ size. row t size p) (λ size. row u size p) p same)
 
 -- a page with this row alone
-page_only : (u : Arena Mapping) (p size : ℕ) (v : Mapping) → size ≤ 3 → row u size p ≡ Some v → ((other : ℕ) → other ≤ 3 → other ≢ size → row u other p ≡ None) → IsOne (λ size. row u size p) × (entry_at u p ≡ entry_in size p (Some v))
+page_only : (u : Arena Mapping) (p size : ℕ) (v : Mapping) → size ≤ 3 → row u size p ≡ Some v
+    → ((other : ℕ) → other ≤ 3 → other ≢ size → row u other p ≡ None)
+    → IsOne (λ size. row u size p) × (entry_at u p ≡ entry_in size p (Some v))
 unfolding entry_at
 page_only u p size v low is none = (only_one (λ size. row u size p) size none, only_entry (λ size. row u size p) p size v low is none)
 
@@ -55,7 +58,8 @@ unfolding row
 spot_row t size page spot is = ap (λ s. s.value) is
 
 -- a page with the row of a size has no other row
-others_none : (t : Arena Mapping) (size p : ℕ) (v : Mapping) → IsKept t → size ≤ 3 → row t size p ≡ Some v → (other : ℕ) → other ≤ 3 → other ≢ size → row t other p ≡ None
+others_none : (t : Arena Mapping) (size p : ℕ) (v : Mapping) → IsKept t → size ≤ 3 → row t size p ≡ Some v → (other : ℕ) → other ≤ 3
+    → other ≢ size → row t other p ≡ None
 others_none t size p v kept low is other small apart = kept.one p size other low small apart (ap is_some is)
 
 -- and its entry is that row
@@ -81,7 +85,8 @@ kept_entries t kept = record {
         ∙ ap (λ n. Some (record { extent = record { size = size; first = n }; mapping = entry.mapping })) (ap (λ n. n * 8 ^ size) same ∙ sym has.starts)
 
 -- the entry of each page of its extent
-pub entry_of_all : (t : Arena Mapping) (entry : Entry) → IsKept t → entry_at t entry.extent.first ≡ Some entry → (page : ℕ) → page / 8 ^ entry.extent.size ≡ entry.extent.first / 8 ^ entry.extent.size → entry_at t page ≡ Some entry
+pub entry_of_all : (t : Arena Mapping) (entry : Entry) → IsKept t → entry_at t entry.extent.first ≡ Some entry → (page : ℕ)
+    → page / 8 ^ entry.extent.size ≡ entry.extent.first / 8 ^ entry.extent.size → entry_at t page ≡ Some entry
 entry_of_all t entry kept there page same = (kept_entries t kept).one entry.extent.first page entry there (eq-eqb _ _ same)
 
 -- ---- room
@@ -104,14 +109,16 @@ or_off : (b c : Bool) → c ≡ false → (b || c) ≡ b
 or_off true c off = refl
 or_off false c off = off
 
-one_more : (t : Arena Mapping) (page : ℕ) → IsKept t → page < 512 * t.roots → entry_at t page ≡ None → count_by (with_page t page) (range_with_len 0 (512 * t.roots)) ≡ pages_in t + 1
+one_more : (t : Arena Mapping) (page : ℕ) → IsKept t → page < 512 * t.roots → entry_at t page ≡ None
+    → count_by (with_page t page) (range_with_len 0 (512 * t.roots)) ≡ pages_in t + 1
 unfolding with_page
 one_more t page kept known none =
     count-one_more (λ p. is_some (entry_at t p)) (with_page t page) page (ap is_some none) (or_right (is_some (entry_at t page)) (eqb page page) (eq-eqb page page refl)) (λ g apart. sym (or_off (is_some (entry_at t g)) (eqb g page) (ne_eqb g page apart))) 0 (512 * t.roots) (omega arith) (omega arith)
     ∙ ap (λ n. n + 1) (sym (over_roots t kept))
 
 -- and of one that has none, while a page more may be mapped
-pub put_room : (t : Arena Mapping) (size page : ℕ) → IsKept t → page < 512 * t.roots → entry_at t page ≡ None → pages_in t < frames_in t → splits_with t size page ≤ t.room
+pub put_room : (t : Arena Mapping) (size page : ℕ) → IsKept t → page < 512 * t.roots → entry_at t page ≡ None → pages_in t < frames_in t
+    → splits_with t size page ≤ t.room
 unfolding with_page
 put_room t size page kept known none room =
     omega (arith, room_for t (with_page t page) size page (rows_in t (with_page t page) kept (λ p h. or_left (is_some (entry_at t p)) (eqb p page) h)) (or_right (is_some (entry_at t page)) (eqb page page) (eq-eqb page page refl)), one_more t page kept known none, room)
@@ -124,7 +131,8 @@ record PageIs (t u : Arena Mapping) (extent : Extent) (given : ℕ → Option En
   pub inside : p / 8 ^ extent.size ≡ extent.first / 8 ^ extent.size → entry_at u p ≡ given p
   pub outside : p / 8 ^ extent.size ≢ extent.first / 8 ^ extent.size → entry_at u p ≡ entry_at t p
 
-changed : (t u : Arena Mapping) (extent : Extent) (given : ℕ → Option Entry) → IsKept t → u.roots ≡ t.roots → u.room ≡ t.room → SplitsAreRowsBelow u → pages_in u ≤ frames_in t → ((p : ℕ) → PageIs t u extent given p) → IsKept u × Maps extent given t u
+changed : (t u : Arena Mapping) (extent : Extent) (given : ℕ → Option Entry) → IsKept t → u.roots ≡ t.roots → u.room ≡ t.room
+    → SplitsAreRowsBelow u → pages_in u ≤ frames_in t → ((p : ℕ) → PageIs t u extent given p) → IsKept u × Maps extent given t u
 changed t u extent given kept roots room splits few pages = (
   now,
   record {
@@ -143,7 +151,9 @@ changed t u extent given kept roots room splits few pages = (
     }
 
 -- the same where as many pages are mapped as before
-stays : (t u : Arena Mapping) (extent : Extent) (given : ℕ → Entry) → IsKept t → ((p : ℕ) → p / 8 ^ extent.size ≡ extent.first / 8 ^ extent.size → is_some (entry_at t p) ≡ true) → u.roots ≡ t.roots → u.room ≡ t.room → SplitsAreRowsBelow u → ((p : ℕ) → PageIs t u extent (λ page. Some (given page)) p)
+stays : (t u : Arena Mapping) (extent : Extent) (given : ℕ → Entry) → IsKept t
+    → ((p : ℕ) → p / 8 ^ extent.size ≡ extent.first / 8 ^ extent.size → is_some (entry_at t p) ≡ true) → u.roots ≡ t.roots → u.room ≡ t.room
+    → SplitsAreRowsBelow u → ((p : ℕ) → PageIs t u extent (λ page. Some (given page)) p)
     → IsKept u × Maps extent (λ page. Some (given page)) t u × (pages_in u ≡ pages_in t)
 stays t u extent given kept there roots room splits pages =
     let as_many = same_pages u t alike in
@@ -157,12 +167,16 @@ stays t u extent given kept there roots room splits pages =
     ]
 
 -- the row of an extent changes: a page outside it
-off_row : (t u : Arena Mapping) (extent : Extent) (value : Option Mapping) (p : ℕ) → IsKept t → ChangesOnly t u extent.size extent.first value → p / 8 ^ extent.size ≢ extent.first / 8 ^ extent.size → IsOne (λ size. row u size p) × (entry_at u p ≡ entry_at t p)
+off_row : (t u : Arena Mapping) (extent : Extent) (value : Option Mapping) (p : ℕ) → IsKept t
+    → ChangesOnly t u extent.size extent.first value → p / 8 ^ extent.size ≢ extent.first / 8 ^ extent.size
+    → IsOne (λ size. row u size p) × (entry_at u p ≡ entry_at t p)
 off_row t u extent value p kept changes apart =
     page_same t u p kept (λ k small. changes.others k p small (λ e at. apart (ap (λ s. p / 8 ^ s) (sym e) ∙ (at ∙ ap (λ s. extent.first / 8 ^ s) e))))
 
 -- the rows of an extent and of its eight parts change: a page outside it
-off_eight : (t u : Arena Mapping) (extent : Extent) (value : Option Mapping) (values : List Mapping) (p : ℕ) → IsKept t → ChangesEight t u extent.size extent.first value values → p / 8 ^ extent.size ≢ extent.first / 8 ^ extent.size → IsOne (λ size. row u size p) × (entry_at u p ≡ entry_at t p)
+off_eight : (t u : Arena Mapping) (extent : Extent) (value : Option Mapping) (values : List Mapping) (p : ℕ) → IsKept t
+    → ChangesEight t u extent.size extent.first value values → p / 8 ^ extent.size ≢ extent.first / 8 ^ extent.size
+    → IsOne (λ size. row u size p) × (entry_at u p ≡ entry_at t p)
 off_eight t u extent value values p kept changes apart = page_same t u p kept (λ k small. changes.others k p small (λ _ at. apart at))
 
 -- where the extent round a page begins
@@ -177,7 +191,9 @@ start_of size first p low aligned same = extent_is size first low aligned ∙ ap
     extent_is (suc (suc (suc (suc k)))) n l a = absurd (omega arith)
 
 -- the entry of an extent, at a page of it
-entry_round : (entry : Entry) (p : ℕ) → IsExtent entry.extent.size entry.extent.first → p / 8 ^ entry.extent.size ≡ entry.extent.first / 8 ^ entry.extent.size → entry_in entry.extent.size p (Some entry.mapping) ≡ Some entry
+entry_round : (entry : Entry) (p : ℕ) → IsExtent entry.extent.size entry.extent.first
+    → p / 8 ^ entry.extent.size ≡ entry.extent.first / 8 ^ entry.extent.size
+    → entry_in entry.extent.size p (Some entry.mapping) ≡ Some entry
 entry_round entry p is same =
     ap (λ n. Some (record { extent = record { size = entry.extent.size; first = n }; mapping = entry.mapping })) (sym (start_of entry.extent.size entry.extent.first p is.0 is.1 same))
 
@@ -196,7 +212,9 @@ given_row t u entry kept extent alone changes p = elim (cases_eq (p / 8 ^ entry.
       record { one = as_before.0; inside = λ e. absurd (apart e); outside = λ _. as_before.1 }
 ]
 
-pub put_kept : (t u : Arena Mapping) (entry : Entry) → IsKept t → IsExtent entry.extent.size entry.extent.first → entry.extent.first < 1048576 → ((p : ℕ) → p / 8 ^ entry.extent.size ≡ entry.extent.first / 8 ^ entry.extent.size → entry_at t p ≡ None)
+pub put_kept : (t u : Arena Mapping) (entry : Entry) → IsKept t → IsExtent entry.extent.size entry.extent.first
+    → entry.extent.first < 1048576
+    → ((p : ℕ) → p / 8 ^ entry.extent.size ≡ entry.extent.first / 8 ^ entry.extent.size → entry_at t p ≡ None)
     → pages_in t + 8 ^ entry.extent.size ≤ frames_in t → ChangesOnly t u entry.extent.size entry.extent.first (Some entry.mapping) → SplitsAreRowsBelow u → IsKept u × Maps entry.extent (λ _. Some entry) t u × (pages_in u ≡ pages_in t + 8 ^ entry.extent.size)
 put_kept t u entry kept extent known none room changes splits =
     let after = changed t u entry.extent (λ _. Some entry) kept changes.roots changes.room splits (omega (arith, room, many)) pages in
@@ -209,11 +227,13 @@ put_kept t u entry kept extent known none room changes splits =
     many = more_pages t u entry.extent extent known (λ p same. (ap is_some (none p same), ap is_some ((pages p).inside same))) (λ p apart. (pages p).outside apart)
 
 -- the pages of an extent have the entry that has it
-pub same_extent : (t : Arena Mapping) (extent : Extent) (before : Entry) → IsKept t → entry_at t extent.first ≡ Some before → before.extent ≡ extent → (p : ℕ) → p / 8 ^ extent.size ≡ extent.first / 8 ^ extent.size → entry_at t p ≡ Some before
+pub same_extent : (t : Arena Mapping) (extent : Extent) (before : Entry) → IsKept t → entry_at t extent.first ≡ Some before
+    → before.extent ≡ extent → (p : ℕ) → p / 8 ^ extent.size ≡ extent.first / 8 ^ extent.size → entry_at t p ≡ Some before
 same_extent t extent before kept there e p same =
     (kept_entries t kept).one extent.first p before there (subst (λ (x : Extent). is_in x p ≡ true) (sym e) (eq-eqb _ _ same))
 
-pub replace_kept : (t u : Arena Mapping) (entry before : Entry) → IsKept t → entry_at t entry.extent.first ≡ Some before → before.extent ≡ entry.extent → ChangesOnly t u entry.extent.size entry.extent.first (Some entry.mapping) → SplitsAreRowsBelow u
+pub replace_kept : (t u : Arena Mapping) (entry before : Entry) → IsKept t → entry_at t entry.extent.first ≡ Some before
+    → before.extent ≡ entry.extent → ChangesOnly t u entry.extent.size entry.extent.first (Some entry.mapping) → SplitsAreRowsBelow u
     → IsKept u × Maps entry.extent (λ _. Some entry) t u × (pages_in u ≡ pages_in t)
 replace_kept t u entry before kept there e changes splits =
     stays t u entry.extent (λ _. entry) kept (λ p same. ap is_some (at p same)) changes.roots changes.room splits (given_row t u entry kept extent alone changes)
@@ -230,7 +250,8 @@ replace_kept t u entry before kept there e changes splits =
 
 -- ---- an extent loses its row
 
-pub remove_kept : (t u : Arena Mapping) (entry : Entry) → IsKept t → entry_at t entry.extent.first ≡ Some entry → ChangesOnly t u entry.extent.size entry.extent.first None → SplitsAreRowsBelow u
+pub remove_kept : (t u : Arena Mapping) (entry : Entry) → IsKept t → entry_at t entry.extent.first ≡ Some entry
+    → ChangesOnly t u entry.extent.size entry.extent.first None → SplitsAreRowsBelow u
     → IsKept u × Maps entry.extent (λ _. None) t u × (pages_in u + 8 ^ entry.extent.size ≡ pages_in t)
 remove_kept t u entry kept there changes splits =
     let after = changed t u entry.extent (λ _. None) kept changes.roots changes.room splits (omega (arith, kept.room, fewer)) pages in
@@ -271,12 +292,15 @@ part_offset (suc (suc (suc zero))) p large low = omega arith
 part_offset (suc (suc (suc (suc size)))) p large low = absurd (omega arith)
 
 -- what is kept of the part round a page, by its number
-pub part_value : (whole : Entry) (p : ℕ) → 0 < whole.extent.size → IsExtent whole.extent.size whole.extent.first → p / 8 ^ whole.extent.size ≡ whole.extent.first / 8 ^ whole.extent.size
+pub part_value : (whole : Entry) (p : ℕ) → 0 < whole.extent.size → IsExtent whole.extent.size whole.extent.first
+    → p / 8 ^ whole.extent.size ≡ whole.extent.first / 8 ^ whole.extent.size
     → moved_by (p / 8 ^ (whole.extent.size - 1) % 8 * 8 ^ (whole.extent.size - 1)) whole.mapping ≡ (part_of whole p).mapping
 part_value whole p large is same =
     ap (λ n. moved_by n whole.mapping) (part_offset whole.extent.size p large is.0 ∙ ap (λ n. extent_start (whole.extent.size - 1) p - n) (sym (start_of whole.extent.size whole.extent.first p is.0 is.1 same)))
 
-pub split_kept : (t u : Arena Mapping) (entry : Entry) (parts : List Mapping) → IsKept t → 0 < entry.extent.size → entry_at t entry.extent.first ≡ Some entry → ((part : ℕ) → part < 8 → slice_get parts part ≡ Some (moved_by (part * 8 ^ (entry.extent.size - 1)) entry.mapping))
+pub split_kept : (t u : Arena Mapping) (entry : Entry) (parts : List Mapping) → IsKept t → 0 < entry.extent.size
+    → entry_at t entry.extent.first ≡ Some entry
+    → ((part : ℕ) → part < 8 → slice_get parts part ≡ Some (moved_by (part * 8 ^ (entry.extent.size - 1)) entry.mapping))
     → ChangesEight t u entry.extent.size entry.extent.first None parts → SplitsAreRowsBelow u → IsKept u × Maps entry.extent (λ p. Some (part_of entry p)) t u × (pages_in u ≡ pages_in t)
 split_kept t u entry parts kept large there values changes splits =
     stays t u entry.extent (part_of entry) kept (λ p same. ap is_some (at p same)) changes.roots changes.room splits pages
@@ -308,10 +332,13 @@ split_kept t u entry parts kept large there values changes splits =
 -- ---- eight parts join
 
 -- the row of a part
-pub part_row : (t : Arena Mapping) (whole : Entry) (p : ℕ) → AreParts whole t → p / 8 ^ whole.extent.size ≡ whole.extent.first / 8 ^ whole.extent.size → row t (whole.extent.size - 1) p ≡ Some (part_of whole p).mapping
+pub part_row : (t : Arena Mapping) (whole : Entry) (p : ℕ) → AreParts whole t
+    → p / 8 ^ whole.extent.size ≡ whole.extent.first / 8 ^ whole.extent.size
+    → row t (whole.extent.size - 1) p ≡ Some (part_of whole p).mapping
 part_row t whole p parts same = (has_row t p (part_of whole p) (parts.at p (eq-eqb _ _ same))).is
 
-pub join_kept : (t u : Arena Mapping) (whole : Entry) → IsKept t → 0 < whole.extent.size → IsExtent whole.extent.size whole.extent.first → AreParts whole t → ChangesEight t u whole.extent.size whole.extent.first (Some whole.mapping) [] → SplitsAreRowsBelow u
+pub join_kept : (t u : Arena Mapping) (whole : Entry) → IsKept t → 0 < whole.extent.size → IsExtent whole.extent.size whole.extent.first
+    → AreParts whole t → ChangesEight t u whole.extent.size whole.extent.first (Some whole.mapping) [] → SplitsAreRowsBelow u
     → IsKept u × Maps whole.extent (λ _. Some whole) t u × (pages_in u ≡ pages_in t)
 join_kept t u whole kept large extent parts changes splits =
     stays t u whole.extent (λ _. whole) kept (λ p same. ap is_some (parts.at p (eq-eqb _ _ same))) changes.roots changes.room splits pages

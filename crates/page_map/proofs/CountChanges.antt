@@ -17,14 +17,16 @@ use Rattle.page_map.proofs.Mappings.{maps_inside}
 abbrev pub Given : Arena Mapping → Extent → (ℕ → Option Entry) → Type 0
 Given m extent entries = (page : ℕ) → page / 8 ^ extent.size ≡ extent.first / 8 ^ extent.size → entry_at m page ≡ entries page
 
-begun_is : (m : Arena Mapping) (extent : Extent) (part many size : ℕ) → IsExtent extent.size extent.first → HasParts m extent part → many ≡ 8 ^ (extent.size - part) → begun_in m extent size ≡ cond (eqb size part) many 0
+begun_is : (m : Arena Mapping) (extent : Extent) (part many size : ℕ) → IsExtent extent.size extent.first → HasParts m extent part
+    → many ≡ 8 ^ (extent.size - part) → begun_in m extent size ≡ cond (eqb size part) many 0
 begun_is m extent part many size is parts e = elim (cases_eq size part) [
   | inl here ↦ ap (begun_in m extent) here ∙ (begun_parts m extent part is parts ∙ (sym e ∙ sym (ap (λ b. cond b many 0) (eq-eqb size part here))))
   | inr other ↦ begun_other m extent part size is parts other ∙ sym (ap (λ b. cond b many 0) (ne_eqb size part other))
 ]
 
 -- one entry has the extent
-whole : (m : Arena Mapping) (extent : Extent) (entry : Entry) (size : ℕ) → IsExtent extent.size extent.first → entry.extent ≡ extent → Given m extent (λ _. Some entry) → begun_in m extent size ≡ cond (eqb size extent.size) 1 0
+whole : (m : Arena Mapping) (extent : Extent) (entry : Entry) (size : ℕ) → IsExtent extent.size extent.first → entry.extent ≡ extent
+    → Given m extent (λ _. Some entry) → begun_in m extent size ≡ cond (eqb size extent.size) 1 0
 whole m extent entry size is e given =
     begun_is m extent extent.size 1 size is
     (record {
@@ -37,7 +39,8 @@ whole m extent entry size is e given =
     (ap (λ k. 8 ^ k) {x = 0} {y = extent.size - extent.size} (omega arith))
 
 -- its eight parts have it
-eight : (m : Arena Mapping) (entry : Entry) (size : ℕ) → 0 < entry.extent.size → IsExtent entry.extent.size entry.extent.first → Given m entry.extent (λ page. Some (part_of entry page)) → begun_in m entry.extent size ≡ cond (eqb size (entry.extent.size - 1)) 8 0
+eight : (m : Arena Mapping) (entry : Entry) (size : ℕ) → 0 < entry.extent.size → IsExtent entry.extent.size entry.extent.first
+    → Given m entry.extent (λ page. Some (part_of entry page)) → begun_in m entry.extent size ≡ cond (eqb size (entry.extent.size - 1)) 8 0
 eight m entry size large is given =
     begun_is m entry.extent (entry.extent.size - 1) 8 size is
     (record { low = omega arith; entry = part_of entry; at = given; size = λ _. refl; first = λ page _. refl })
@@ -58,7 +61,8 @@ zeros (suc (suc (suc (suc size)))) low = absurd (omega arith)
 pub none_counts : (m : Arena Mapping) → ((page : ℕ) → entry_at m page ≡ None) → AreCounts (0 ∷ 0 ∷ 0 ∷ 0 ∷ []) m
 none_counts m none = record { four = refl; each = λ size low. zeros size low ∙ sym (count_none m size none) }
 
-pub put_counts : (old new : Arena Mapping) (entry : Entry) (counts after : List ℕ) → IsExtent entry.extent.size entry.extent.first → entry.extent.first < 1048576 → Given old entry.extent (λ _. None) → Maps entry.extent (λ _. Some entry) old new
+pub put_counts : (old new : Arena Mapping) (entry : Entry) (counts after : List ℕ) → IsExtent entry.extent.size entry.extent.first
+    → entry.extent.first < 1048576 → Given old entry.extent (λ _. None) → Maps entry.extent (λ _. Some entry) old new
     → AreCounts counts old → Grows entry.extent.size 1 counts after → AreCounts after new
 put_counts old new entry counts after is within none maps before grows = record {
   four = grows.same_length ∙ before.four;
@@ -73,7 +77,9 @@ put_counts old new entry counts after is within none maps before grows = record 
       );
 }
 
-pub replace_counts : (old new : Arena Mapping) (entry before : Entry) (counts : List ℕ) → IsExtent entry.extent.size entry.extent.first → entry.extent.first < 1048576 → before.extent ≡ entry.extent → Given old entry.extent (λ _. Some before) → Maps entry.extent (λ _. Some entry) old new
+pub replace_counts : (old new : Arena Mapping) (entry before : Entry) (counts : List ℕ) → IsExtent entry.extent.size entry.extent.first
+    → entry.extent.first < 1048576 → before.extent ≡ entry.extent → Given old entry.extent (λ _. Some before)
+    → Maps entry.extent (λ _. Some entry) old new
     → AreCounts counts old → AreCounts counts new
 replace_counts old new entry before counts is within e there maps are = record {
   four = are.four;
@@ -87,7 +93,8 @@ replace_counts old new entry before counts is within e there maps are = record {
       );
 }
 
-pub remove_counts : (old new : Arena Mapping) (entry : Entry) (counts after : List ℕ) → IsExtent entry.extent.size entry.extent.first → entry.extent.first < 1048576 → Given old entry.extent (λ _. Some entry) → Maps entry.extent (λ _. None) old new
+pub remove_counts : (old new : Arena Mapping) (entry : Entry) (counts after : List ℕ) → IsExtent entry.extent.size entry.extent.first
+    → entry.extent.first < 1048576 → Given old entry.extent (λ _. Some entry) → Maps entry.extent (λ _. None) old new
     → AreCounts counts old → Grows entry.extent.size 1 after counts → AreCounts after new
 remove_counts old new entry counts after is within there maps before grows = record {
   four = sym grows.same_length ∙ before.four;
@@ -102,7 +109,8 @@ remove_counts old new entry counts after is within there maps before grows = rec
       );
 }
 
-pub split_counts : (old new : Arena Mapping) (entry : Entry) (counts between after : List ℕ) → 0 < entry.extent.size → IsExtent entry.extent.size entry.extent.first → entry.extent.first < 1048576 → Given old entry.extent (λ _. Some entry)
+pub split_counts : (old new : Arena Mapping) (entry : Entry) (counts between after : List ℕ) → 0 < entry.extent.size
+    → IsExtent entry.extent.size entry.extent.first → entry.extent.first < 1048576 → Given old entry.extent (λ _. Some entry)
     → Maps entry.extent (λ page. Some (part_of entry page)) old new → AreCounts counts old → Grows entry.extent.size 1 between counts → Grows (entry.extent.size - 1) 8 between after → AreCounts after new
 split_counts old new entry counts between after large is within there maps before shrinks grows = record {
   four = grows.same_length ∙ (sym shrinks.same_length ∙ before.four);
@@ -118,7 +126,9 @@ split_counts old new entry counts between after large is within there maps befor
       );
 }
 
-pub join_counts : (old new : Arena Mapping) (entry : Entry) (counts between after : List ℕ) → 0 < entry.extent.size → IsExtent entry.extent.size entry.extent.first → entry.extent.first < 1048576 → Given old entry.extent (λ page. Some (part_of entry page))
+pub join_counts : (old new : Arena Mapping) (entry : Entry) (counts between after : List ℕ) → 0 < entry.extent.size
+    → IsExtent entry.extent.size entry.extent.first → entry.extent.first < 1048576
+    → Given old entry.extent (λ page. Some (part_of entry page))
     → Maps entry.extent (λ _. Some entry) old new → AreCounts counts old → Grows (entry.extent.size - 1) 8 between counts → Grows entry.extent.size 1 between after → AreCounts after new
 join_counts old new entry counts between after large is within there maps before shrinks grows = record {
   four = grows.same_length ∙ (sym shrinks.same_length ∙ before.four);
@@ -136,12 +146,15 @@ join_counts old new entry counts between after large is within there maps before
 
 -- ---- there are as many as went, and a count that grows fits
 
-pub one_there : (m : Arena Mapping) (entry : Entry) (counts : List ℕ) → IsExtent entry.extent.size entry.extent.first → entry.extent.first < 1048576 → Given m entry.extent (λ _. Some entry) → AreCounts counts m → 1 ≤ slice_index counts entry.extent.size
+pub one_there : (m : Arena Mapping) (entry : Entry) (counts : List ℕ) → IsExtent entry.extent.size entry.extent.first
+    → entry.extent.first < 1048576 → Given m entry.extent (λ _. Some entry) → AreCounts counts m → 1 ≤ slice_index counts entry.extent.size
 one_there m entry counts is within there are =
     let size = entry.extent.size in
     omega (arith, are.each size is.0, count_within m entry.extent size is within, whole m entry.extent entry size is refl there, ap (λ b. cond {A = ℕ} b 1 0) (eq-eqb size size refl))
 
-pub eight_there : (m : Arena Mapping) (entry : Entry) (counts : List ℕ) → 0 < entry.extent.size → IsExtent entry.extent.size entry.extent.first → entry.extent.first < 1048576 → Given m entry.extent (λ page. Some (part_of entry page)) → AreCounts counts m
+pub eight_there : (m : Arena Mapping) (entry : Entry) (counts : List ℕ) → 0 < entry.extent.size
+    → IsExtent entry.extent.size entry.extent.first → entry.extent.first < 1048576
+    → Given m entry.extent (λ page. Some (part_of entry page)) → AreCounts counts m
     → 8 ≤ slice_index counts (entry.extent.size - 1)
 eight_there m entry counts large is within there are =
     let size = entry.extent.size - 1 in
@@ -150,10 +163,12 @@ eight_there m entry counts large is within there are =
 pub few : (m : Arena Mapping) (counts : List ℕ) (size : ℕ) → size ≤ 3 → AreCounts counts m → slice_index counts size ≤ 1048576
 few m counts size low are = omega (arith, are.each size low, count_most m size)
 
-pub few_between : (m : Arena Mapping) (counts between : List ℕ) (part entries size : ℕ) → size ≤ 3 → AreCounts counts m → Grows part entries between counts → slice_index between size ≤ 1048576
+pub few_between : (m : Arena Mapping) (counts between : List ℕ) (part entries size : ℕ) → size ≤ 3 → AreCounts counts m
+    → Grows part entries between counts → slice_index between size ≤ 1048576
 few_between m counts between part entries size low are shrinks = omega (arith, few m counts size low are, shrinks.each size)
 
-pub are_four : (counts : List ℕ) (a b c d : ℕ) → length counts ≡ 4 → slice_index counts 0 ≡ a → slice_index counts 1 ≡ b → slice_index counts 2 ≡ c → slice_index counts 3 ≡ d → counts ≡ a ∷ b ∷ c ∷ d ∷ []
+pub are_four : (counts : List ℕ) (a b c d : ℕ) → length counts ≡ 4 → slice_index counts 0 ≡ a → slice_index counts 1 ≡ b
+    → slice_index counts 2 ≡ c → slice_index counts 3 ≡ d → counts ≡ a ∷ b ∷ c ∷ d ∷ []
 are_four (x ∷ y ∷ z ∷ w ∷ []) a b c d four at0 at1 at2 at3 = ap (λ n. n ∷ y ∷ z ∷ w ∷ []) at0 ∙ (ap (λ n. a ∷ n ∷ z ∷ w ∷ []) at1 ∙ (ap (λ n. a ∷ b ∷ n ∷ w ∷ []) at2 ∙ ap (λ n. a ∷ b ∷ c ∷ n ∷ []) at3))
 are_four [] a b c d four at0 at1 at2 at3 = absurd (omega arith)
 are_four (x ∷ []) a b c d four at0 at1 at2 at3 = absurd (omega arith)

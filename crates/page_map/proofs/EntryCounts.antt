@@ -69,7 +69,8 @@ begins_entry m size page = is_first_of size page (entry_at m page)
 pub begun_in : Arena Mapping → Extent → ℕ → ℕ
 begun_in m extent size = count_by (begins_entry m size) (range_with_len extent.first (8 ^ extent.size))
 
-pub begun_none : (m : Arena Mapping) (extent : Extent) (size : ℕ) → IsExtent extent.size extent.first → ((page : ℕ) → page / 8 ^ extent.size ≡ extent.first / 8 ^ extent.size → entry_at m page ≡ None) → begun_in m extent size ≡ 0
+pub begun_none : (m : Arena Mapping) (extent : Extent) (size : ℕ) → IsExtent extent.size extent.first
+    → ((page : ℕ) → page / 8 ^ extent.size ≡ extent.first / 8 ^ extent.size → entry_at m page ≡ None) → begun_in m extent size ≡ 0
 unfolding begun_in
 begun_none m extent size is none =
     count-none (begins_entry m size) extent.first (8 ^ extent.size) (λ page low high.
@@ -98,7 +99,8 @@ and_false : (b c : Bool) → c ≡ false → (b && c) ≡ false
 and_false true c e = e
 and_false false c e = refl
 
-pub begun_parts : (m : Arena Mapping) (extent : Extent) (part : ℕ) → IsExtent extent.size extent.first → HasParts m extent part → begun_in m extent part ≡ 8 ^ (extent.size - part)
+pub begun_parts : (m : Arena Mapping) (extent : Extent) (part : ℕ) → IsExtent extent.size extent.first → HasParts m extent part
+    → begun_in m extent part ≡ 8 ^ (extent.size - part)
 unfolding begun_in
 begun_parts m extent part is parts =
     count-agree (begins_entry m part) (begins part) extent.first (8 ^ extent.size) same
@@ -115,7 +117,8 @@ begun_parts m extent part is parts =
         ∙ (and_true (eqb (parts.entry page).extent.first page) (eqb (parts.entry page).extent.size part) (eq-eqb _ _ (parts.size page))
         ∙ (ap (λ n. eqb n page) (parts.first page at) ∙ (starts part page (omega (arith, is.0, parts.low)) ∙ sym (begins-is part page))))
 
-pub begun_other : (m : Arena Mapping) (extent : Extent) (part size : ℕ) → IsExtent extent.size extent.first → HasParts m extent part → size ≢ part → begun_in m extent size ≡ 0
+pub begun_other : (m : Arena Mapping) (extent : Extent) (part size : ℕ) → IsExtent extent.size extent.first → HasParts m extent part
+    → size ≢ part → begun_in m extent size ≡ 0
 unfolding begun_in
 begun_other m extent part size is parts other =
     count-none (begins_entry m size) extent.first (8 ^ extent.size) (λ page low high.
@@ -133,7 +136,8 @@ entry_count-is : (m : Arena Mapping) (size pages : ℕ) → pages ≡ 1048576 �
 unfolding counted count_pages
 entry_count-is m size pages e = ap (λ n. count_by (begins_entry m size) (range_with_len 0 n)) (sym e)
 
-counted_change : (old new : Arena Mapping) (extent : Extent) (given : ℕ → Option Entry) (size pages : ℕ) → IsExtent extent.size extent.first → extent.first + 8 ^ extent.size ≤ pages → Maps extent given old new
+counted_change : (old new : Arena Mapping) (extent : Extent) (given : ℕ → Option Entry) (size pages : ℕ) → IsExtent extent.size extent.first
+    → extent.first + 8 ^ extent.size ≤ pages → Maps extent given old new
     → counted new size pages + begun_in old extent size ≡ counted old size pages + begun_in new extent size
 unfolding begun_in counted
 counted_change old new extent given size pages is within maps =
@@ -141,7 +145,8 @@ counted_change old new extent given size pages is within maps =
     (λ page apart. ap (is_first_of size page) (maps_outside old new extent given page maps (λ at. let within = of_extent extent.size extent.first page is.0 is.1 at in apart within.0 within.1)))
 
 -- the count of a size changes as that of the extent does
-pub count_change : (old new : Arena Mapping) (extent : Extent) (given : ℕ → Option Entry) (size : ℕ) → IsExtent extent.size extent.first → extent.first < 1048576 → Maps extent given old new
+pub count_change : (old new : Arena Mapping) (extent : Extent) (given : ℕ → Option Entry) (size : ℕ) → IsExtent extent.size extent.first
+    → extent.first < 1048576 → Maps extent given old new
     → entry_count new size + begun_in old extent size ≡ entry_count old size + begun_in new extent size
 count_change old new extent given size is inside maps = over 1048576 refl
   where
@@ -157,7 +162,8 @@ counted_within m extent size pages within =
     omega (arith, whole, count-apart (begins_entry m size) 0 extent.first (8 ^ extent.size + rest) extent.first (omega arith), count-apart (begins_entry m size) extent.first (8 ^ extent.size) rest (extent.first + 8 ^ extent.size) refl)
 
 -- an extent has no more entries of a size than there are
-pub count_within : (m : Arena Mapping) (extent : Extent) (size : ℕ) → IsExtent extent.size extent.first → extent.first < 1048576 → begun_in m extent size ≤ entry_count m size
+pub count_within : (m : Arena Mapping) (extent : Extent) (size : ℕ) → IsExtent extent.size extent.first → extent.first < 1048576
+    → begun_in m extent size ≤ entry_count m size
 count_within m extent size is inside = over 1048576 refl
   where
     over : (pages : ℕ) → pages ≡ 1048576 → begun_in m extent size ≤ entry_count m size
@@ -190,7 +196,8 @@ unfolding count_pages
 is_counted test page known is = count_some test 0 space_pages page (omega arith) known is
 
 -- where no entry of any size is counted there is none
-pub none_counted : (m : Arena Mapping) (counts : List ℕ) → AreEntries m → AreCounts counts m → ((size : ℕ) → size ≤ 3 → slice_index counts size ≡ 0) → (page : ℕ) → entry_at m page ≡ None
+pub none_counted : (m : Arena Mapping) (counts : List ℕ) → AreEntries m → AreCounts counts m
+    → ((size : ℕ) → size ≤ 3 → slice_index counts size ≡ 0) → (page : ℕ) → entry_at m page ≡ None
 none_counted m counts entries are zeros page = elim (entry_at m page) as (λ o. entry_at m page ≡ o → o ≡ None) [
   | None ↦ λ at. refl
   | Some entry ↦ λ at.

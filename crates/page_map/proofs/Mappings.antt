@@ -12,20 +12,24 @@ use Rattle.page_map.specs.Entries.{entry_at, mapping_at, mapping_of, part_of, Ar
 
 -- ---- entries after a change
 
-pub maps_inside : (old new : Arena Mapping) (extent : Extent) (given : ℕ → Option Entry) (page : ℕ) → Maps extent given old new → page / 8 ^ extent.size ≡ extent.first / 8 ^ extent.size → entry_at new page ≡ given page
+pub maps_inside : (old new : Arena Mapping) (extent : Extent) (given : ℕ → Option Entry) (page : ℕ) → Maps extent given old new
+    → page / 8 ^ extent.size ≡ extent.first / 8 ^ extent.size → entry_at new page ≡ given page
 maps_inside old new extent given page maps at = maps.at page ∙ ap (λ b. cond b (given page) (entry_at old page)) (eq-eqb _ _ at)
 
-pub maps_outside : (old new : Arena Mapping) (extent : Extent) (given : ℕ → Option Entry) (page : ℕ) → Maps extent given old new → page / 8 ^ extent.size ≢ extent.first / 8 ^ extent.size → entry_at new page ≡ entry_at old page
+pub maps_outside : (old new : Arena Mapping) (extent : Extent) (given : ℕ → Option Entry) (page : ℕ) → Maps extent given old new
+    → page / 8 ^ extent.size ≢ extent.first / 8 ^ extent.size → entry_at new page ≡ entry_at old page
 maps_outside old new extent given page maps apart = maps.at page ∙ ap (λ b. cond b (given page) (entry_at old page)) (ne_eqb _ _ apart)
 
 -- ---- the pages of an entry
 
 -- the first page of an entry that maps a page
-pub first_is : (m : Arena Mapping) (page : ℕ) (entry : Entry) → AreEntries m → entry_at m page ≡ Some entry → extent_start entry.extent.size page ≡ entry.extent.first
+pub first_is : (m : Arena Mapping) (page : ℕ) (entry : Entry) → AreEntries m → entry_at m page ≡ Some entry
+    → extent_start entry.extent.size page ≡ entry.extent.first
 first_is m page entry entries at = ap (λ (x : Extent). x.first) (entries.round page entry at)
 
 -- a page lies within the entry that maps it
-pub within : (m : Arena Mapping) (page : ℕ) (entry : Entry) → AreEntries m → entry_at m page ≡ Some entry → (entry.extent.first ≤ page) × (page < entry.extent.first + 8 ^ entry.extent.size)
+pub within : (m : Arena Mapping) (page : ℕ) (entry : Entry) → AreEntries m → entry_at m page ≡ Some entry
+    → (entry.extent.first ≤ page) × (page < entry.extent.first + 8 ^ entry.extent.size)
 within m page entry entries at =
     let first = first_is m page entry entries at in
     (omega (arith, first, div-mul-le_self page (8 ^ entry.extent.size)), omega (arith, first, lt-div-mul-add {a = page} (eight_pos entry.extent.size)))
@@ -59,7 +63,8 @@ starts_within (suc (suc (suc zero))) page low = omega arith
 starts_within (suc (suc (suc (suc size)))) page low = absurd (omega arith)
 
 -- an entry's part says of a page what the entry does
-pub part_mapping : (whole : Entry) (page : ℕ) → whole.extent.size ≤ 3 → extent_start whole.extent.size page ≡ whole.extent.first → mapping_of (part_of whole page) page ≡ mapping_of whole page
+pub part_mapping : (whole : Entry) (page : ℕ) → whole.extent.size ≤ 3 → extent_start whole.extent.size page ≡ whole.extent.first
+    → mapping_of (part_of whole page) page ≡ mapping_of whole page
 part_mapping whole page low first =
     let size = whole.extent.size in
     let part = extent_start (size - 1) page in
@@ -67,13 +72,15 @@ part_mapping whole page low first =
     {x = whole.mapping.frame + (part - whole.extent.first) + (page - part)} {y = whole.mapping.frame + (page - whole.extent.first)}
     (omega (arith, first, starts_within size page low, div-mul-le_self page (8 ^ (size - 1))))
 
-by_entries : (old new : Arena Mapping) (page : ℕ) (before after : Entry) → entry_at old page ≡ Some before → entry_at new page ≡ Some after → mapping_of after page ≡ mapping_of before page → mapping_at new page ≡ mapping_at old page
+by_entries : (old new : Arena Mapping) (page : ℕ) (before after : Entry) → entry_at old page ≡ Some before → entry_at new page ≡ Some after
+    → mapping_of after page ≡ mapping_of before page → mapping_at new page ≡ mapping_at old page
 unfolding mapping_at
 by_entries old new page before after was is same =
     ap (option_map (λ entry. mapping_of entry page)) is ∙ (ap Some same ∙ sym (ap (option_map (λ entry. mapping_of entry page)) was))
 
 -- a split leaves each page's mapping as it was
-pub split_mapping : (old new : Arena Mapping) (whole : Entry) → AreEntries old → entry_at old whole.extent.first ≡ Some whole → Maps whole.extent (λ page. Some (part_of whole page)) old new → (p : ℕ) → mapping_at new p ≡ mapping_at old p
+pub split_mapping : (old new : Arena Mapping) (whole : Entry) → AreEntries old → entry_at old whole.extent.first ≡ Some whole
+    → Maps whole.extent (λ page. Some (part_of whole page)) old new → (p : ℕ) → mapping_at new p ≡ mapping_at old p
 split_mapping old new whole entries there maps p = elim (cases_eq (p / 8 ^ whole.extent.size) (whole.extent.first / 8 ^ whole.extent.size)) [
   | inl at ↦
       let was = entries.one whole.extent.first p whole there (eq-eqb _ _ at) in
@@ -83,7 +90,8 @@ split_mapping old new whole entries there maps p = elim (cases_eq (p / 8 ^ whole
 ]
 
 -- and so does a join
-pub join_mapping : (old new : Arena Mapping) (whole : Entry) → AreParts whole old → Maps whole.extent (λ _. Some whole) old new → (p : ℕ) → mapping_at new p ≡ mapping_at old p
+pub join_mapping : (old new : Arena Mapping) (whole : Entry) → AreParts whole old → Maps whole.extent (λ _. Some whole) old new → (p : ℕ)
+    → mapping_at new p ≡ mapping_at old p
 join_mapping old new whole parts maps p = elim (cases_eq (p / 8 ^ whole.extent.size) (whole.extent.first / 8 ^ whole.extent.size)) [
   | inl at ↦
       let is = maps_inside old new whole.extent (λ _. Some whole) p maps at in

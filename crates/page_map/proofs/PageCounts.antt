@@ -16,11 +16,13 @@ unfolding pages_in count_pages
 pages_over m pages e = ap (λ n. count_by (λ page. is_some (entry_at m page)) (range_with_len 0 n)) (sym e)
 
 -- an extent that begins in the space ends in it
-pub ends_within : (extent : Extent) (pages : ℕ) → IsExtent extent.size extent.first → extent.first < 1048576 → pages ≡ 1048576 → extent.first + 8 ^ extent.size ≤ pages
+pub ends_within : (extent : Extent) (pages : ℕ) → IsExtent extent.size extent.first → extent.first < 1048576 → pages ≡ 1048576
+    → extent.first + 8 ^ extent.size ≤ pages
 ends_within extent pages is inside e = omega (arith, extent_within extent.size extent.first 2048 is.0 is.1 (omega (arith, inside)), e)
 
 -- the pages of an extent are mapped where none was
-pub more_pages : (few many : Arena Mapping) (extent : Extent) → IsExtent extent.size extent.first → extent.first < 1048576 → ((page : ℕ) → page / 8 ^ extent.size ≡ extent.first / 8 ^ extent.size → (is_some (entry_at few page) ≡ false) × (is_some (entry_at many page) ≡ true))
+pub more_pages : (few many : Arena Mapping) (extent : Extent) → IsExtent extent.size extent.first → extent.first < 1048576
+    → ((page : ℕ) → page / 8 ^ extent.size ≡ extent.first / 8 ^ extent.size → (is_some (entry_at few page) ≡ false) × (is_some (entry_at many page) ≡ true))
     → ((page : ℕ) → page / 8 ^ extent.size ≢ extent.first / 8 ^ extent.size → entry_at many page ≡ entry_at few page) → pages_in many ≡ pages_in few + 8 ^ extent.size
 more_pages few many extent is within inside outside = over 1048576 refl
   where

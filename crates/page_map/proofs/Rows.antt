@@ -10,7 +10,8 @@ use Rattle.page_map.specs.declared.entry.Entry.{Entry}
 use Rattle.page_map.specs.Entries.{entry_in, first_entry, entry_of_rows}
 use Rattle.page_map.specs.Kept.{IsOne}
 
-pub only_entry : (rows : ℕ → Option Mapping) (page size : ℕ) (v : Mapping) → size ≤ 3 → rows size ≡ Some v → ((other : ℕ) → other ≤ 3 → other ≢ size → rows other ≡ None) → entry_of_rows rows page ≡ entry_in size page (Some v)
+pub only_entry : (rows : ℕ → Option Mapping) (page size : ℕ) (v : Mapping) → size ≤ 3 → rows size ≡ Some v
+    → ((other : ℕ) → other ≤ 3 → other ≢ size → rows other ≡ None) → entry_of_rows rows page ≡ entry_in size page (Some v)
 only_entry rows page zero v low is none =
     ap (λ a. first_entry page a (rows 2) (rows 1) (rows 0)) (none 3 (omega arith) (λ e. omega arith))
     ∙ (ap (λ a. first_entry page None a (rows 1) (rows 0)) (none 2 (omega arith) (λ e. omega arith))
@@ -37,7 +38,8 @@ no_entry rows page none =
     ∙ (ap (λ a. first_entry page None None a (rows 0)) (none 1 (omega arith)) ∙ ap (λ a. first_entry page None None None a) (none 0 (omega arith))))
 
 -- the same rows, the same entry
-pub same_entry : (rows others : ℕ → Option Mapping) (page : ℕ) → ((size : ℕ) → size ≤ 3 → others size ≡ rows size) → entry_of_rows others page ≡ entry_of_rows rows page
+pub same_entry : (rows others : ℕ → Option Mapping) (page : ℕ) → ((size : ℕ) → size ≤ 3 → others size ≡ rows size)
+    → entry_of_rows others page ≡ entry_of_rows rows page
 same_entry rows others page same =
     ap (λ a. first_entry page a (others 2) (others 1) (others 0)) (same 3 (omega arith))
     ∙ (ap (λ a. first_entry page (rows 3) a (others 1) (others 0)) (same 2 (omega arith))
@@ -83,7 +85,8 @@ pub record HasRow (rows : ℕ → Option Mapping) (page : ℕ) (entry : Entry) :
   pub is : rows entry.extent.size ≡ Some entry.mapping
   pub starts : entry.extent.first ≡ extent_start entry.extent.size page
 
-from_row : (rows : ℕ → Option Mapping) (page size : ℕ) (v : Mapping) (entry : Entry) → size ≤ 3 → rows size ≡ Some v → entry_in size page (Some v) ≡ Some entry → HasRow rows page entry
+from_row : (rows : ℕ → Option Mapping) (page size : ℕ) (v : Mapping) (entry : Entry) → size ≤ 3 → rows size ≡ Some v
+    → entry_in size page (Some v) ≡ Some entry → HasRow rows page entry
 from_row rows page size v entry low is at = subst (HasRow rows page) (same_Some _ entry at) (record { low = low; is = is; starts = refl })
 
 pub entry_row : (rows : ℕ → Option Mapping) (page : ℕ) (entry : Entry) → entry_of_rows rows page ≡ Some entry → HasRow rows page entry

@@ -17,7 +17,8 @@ use Rattle.page_map.proofs.Mappings.{start_aligned}
 abbrev pub AreValues : Arena Mapping → List (Spot Mapping) → ℕ → ℕ → Type 0
 AreValues t parts size page = (other : ℕ) → other / 8 ^ size ≡ page / 8 ^ size → value_of parts (other / 8 ^ (size - 1) % 8) ≡ row t (size - 1) other
 
-pub joins_parts : (t : Arena Mapping) (parts : List (Spot Mapping)) (size page : ℕ) (head : Mapping) → IsKept t → 0 < size → size ≤ 3 → AreValues t parts size page → Joins parts (8 ^ (size - 1)) head → AreParts (entry_with size page head) t
+pub joins_parts : (t : Arena Mapping) (parts : List (Spot Mapping)) (size page : ℕ) (head : Mapping) → IsKept t → 0 < size → size ≤ 3
+    → AreValues t parts size page → Joins parts (8 ^ (size - 1)) head → AreParts (entry_with size page head) t
 joins_parts t parts size page head kept large low values joins = record {
   aligned = ap (λ n. head.frame % n) (eight_parts size large) ∙ joins.aligned;
   at = at;
@@ -39,7 +40,8 @@ part_page (suc (suc zero)) page part large low small = (omega arith, omega arith
 part_page (suc (suc (suc zero))) page part large low small = (omega arith, omega arith, omega arith)
 part_page (suc (suc (suc (suc size)))) page part large low small = absurd (omega arith)
 
-parts_join : (t : Arena Mapping) (parts : List (Spot Mapping)) (size page : ℕ) (head : Mapping) → 0 < size → size ≤ 3 → AreValues t parts size page → AreParts (entry_with size page head) t → Joins parts (8 ^ (size - 1)) head
+parts_join : (t : Arena Mapping) (parts : List (Spot Mapping)) (size page : ℕ) (head : Mapping) → 0 < size → size ≤ 3
+    → AreValues t parts size page → AreParts (entry_with size page head) t → Joins parts (8 ^ (size - 1)) head
 parts_join t parts size page head large low values are = record {
   begins = follow 0 (omega arith) ∙ ap (λ n. Some (record { frame = n; region = head.region; rights = head.rights; dirty = head.dirty })) {x = head.frame + 0 * 8 ^ (size - 1)} {y = head.frame} (omega arith);
   aligned = ap (λ n. head.frame % n) (sym (eight_parts size large)) ∙ are.aligned;
@@ -60,7 +62,8 @@ by_extent : (whole : Entry) (size page : ℕ) → whole.extent ≡ extent_round 
 by_extent whole size page e = ap (λ x. record { extent = x; mapping = whole.mapping }) e
 
 -- where they don't, they form none
-pub no_whole : (t : Arena Mapping) (parts : List (Spot Mapping)) (size page pages : ℕ) → 0 < size → size ≤ 3 → pages ≡ 8 ^ (size - 1) → AreValues t parts size page → ((head : Mapping) → Joins parts pages head → ⊥)
+pub no_whole : (t : Arena Mapping) (parts : List (Spot Mapping)) (size page pages : ℕ) → 0 < size → size ≤ 3 → pages ≡ 8 ^ (size - 1)
+    → AreValues t parts size page → ((head : Mapping) → Joins parts pages head → ⊥)
     → (whole : Entry) → whole.extent ≡ extent_round size page → AreParts whole t → ⊥
 no_whole t parts size page pages large low e values none whole extent are =
     none whole.mapping

@@ -1,6 +1,6 @@
 //! How many entries there are of each size.
 
-ghost use Rattle.std.specs.Prelude.{◌≡◌, ℕ, ◌+◌, ◌<◌, ◌≤◌, ◌^◌, slice_index};
+ghost use Rattle.std.specs.Prelude.{◌+◌, ◌<◌, ◌≤◌, ◌^◌, slice_index};
 ghost use Rattle.page_map.specs.Kept.{Grows};
 
 use pager_model::Size;

@@ -9,7 +9,7 @@ ghost use Rattle.std.specs.Prelude.{◌≡◌, ◌∷◌, [], ℕ, ◌+◌, ◌-
 ghost use Rattle.pager_model.specs.Bounds.{most_frames, space_pages};
 ghost use Rattle.pager_model.specs.Extents.{IsExtent};
 ghost use Rattle.page_map.specs.declared.entry.Entry.{Entry as Item};
-ghost use Rattle.page_map.specs.Entries.{entry_at, extent_round, frames_in, pages_in, entry_count, is_in, part_of, AreEntries, AreParts, IsNextEntry, Maps, NoneMapped};
+ghost use Rattle.page_map.specs.Entries.{entry_at, extent_round, frames_in, pages_in, entry_count, is_in, part_of, AreParts, IsNextEntry, Maps, NoneMapped};
 
 mod counts;
 mod entry;

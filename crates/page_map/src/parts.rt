@@ -1,6 +1,6 @@
 //! Whether the eight parts of an extent form one entry.
 
-ghost use Rattle.std.specs.Prelude.{◌≡◌, ℕ, ◌*◌, ◌<◌, ◌≤◌, ◌↔◌, Some, IsTrue, MatchOption};
+ghost use Rattle.std.specs.Prelude.{◌≡◌, ◌*◌, ◌<◌, ◌≤◌, ◌↔◌, Some, IsTrue, MatchOption};
 ghost use Rattle.pager_model.specs.Tiles.{moved_by};
 ghost use Rattle.page_map.specs.Kept.{Joins, value_of};
 

@@ -56,7 +56,8 @@ module _ (t : RightsTree) (tree : IsTree t) (block : ℕ) (b : Block) (within : 
   count_changed = sum_by-set (λ c. cond (has_leaf c) 1 0) t.blocks block b plain (omega (arith, tree.blocks))
 
   -- the block has the leaf that it had
-  pub IsTree-kept : (leaves : List (List (Option Rights))) → leaf_of b ≡ leaf_of (block_at t block) → length leaves ≡ length t.leaves → IsTree (with_block t block b leaves)
+  pub IsTree-kept : (leaves : List (List (Option Rights))) → leaf_of b ≡ leaf_of (block_at t block) → length leaves ≡ length t.leaves
+      → IsTree (with_block t block b leaves)
   IsTree-kept leaves same long =
       let leaf-is : (c : ℕ) → leaf_of (block_at (with_block t block b leaves) c) ≡ leaf_of (block_at t c) = λ c. elim (cases_eq c block) [
         | inl e ↦ rw e (ap leaf_of (block_here leaves) ∙ same)
@@ -75,14 +76,16 @@ rights_in-same t u (Uniform rights leaf) i same = refl
 rights_in-same t u (Mixed leaf) i same = ap (λ (ls : List (Option Rights)). slice_index_or ls i None) (same leaf refl)
 
 -- the pages outside a block have the rights that they had
-rights_of-elsewhere : (t u : RightsTree) (block p : ℕ) → p / 512 ≢ block → ((c : ℕ) → c ≢ block → block_at u c ≡ block_at t c) → ((c k : ℕ) → c ≢ block → leaf_of (block_at t c) ≡ Some k → leaf_at u k ≡ leaf_at t k) → rights_of u p ≡ rights_of t p
+rights_of-elsewhere : (t u : RightsTree) (block p : ℕ) → p / 512 ≢ block → ((c : ℕ) → c ≢ block → block_at u c ≡ block_at t c)
+    → ((c k : ℕ) → c ≢ block → leaf_of (block_at t c) ≡ Some k → leaf_at u k ≡ leaf_at t k) → rights_of u p ≡ rights_of t p
 rights_of-elsewhere t u block p other blocks leaves =
     rights_of-at u p (p / 512) (block_at t (p / 512)) refl (blocks (p / 512) other)
     ∙ rights_in-same t u (block_at t (p / 512)) (p % 512) (λ k is. leaves (p / 512) k other is)
     ∙ sym (rights_of-is t p)
 
 -- a block has these rights for all its pages
-module _ (t : RightsTree) (tree : IsTree t) (block : ℕ) (within : block < 2048) (rights : Option Rights) (leaf : Option ℕ) (same : leaf ≡ leaf_of (block_at t block)) where
+module _ (t : RightsTree) (tree : IsTree t) (block : ℕ) (within : block < 2048) (rights : Option Rights) (leaf : Option ℕ)
+    (same : leaf ≡ leaf_of (block_at t block)) where
   abbrev pub whole : RightsTree
   whole = with_block t block (Uniform rights leaf) t.leaves
 
@@ -113,7 +116,8 @@ module _ (t : RightsTree) (tree : IsTree t) (block : ℕ) (within : block < 2048
       omega (arith, tree.count, tree.blocks, count_changed t tree block (Mixed 0) within, ap {B = ℕ} (λ b. cond (has_leaf b) 1 0) is, count_by-le-length has_leaf (slice_set t.blocks block (Mixed 0)), length-set t.blocks block (Mixed 0))
   mixed_room (Some n) is = tt
 
-  pub mixed_tree : (leaf : Option ℕ) → block_at t block ≡ Uniform rights leaf → IsTree (with_block t block (Mixed (unwrap_or leaf (length t.leaves))) (with_leaf leaf filled t.leaves))
+  pub mixed_tree : (leaf : Option ℕ) → block_at t block ≡ Uniform rights leaf
+      → IsTree (with_block t block (Mixed (unwrap_or leaf (length t.leaves))) (with_leaf leaf filled t.leaves))
   mixed_tree (Some n) is = IsTree-kept t tree block (Mixed n) within (with_leaf (Some n) filled t.leaves) (sym (ap leaf_of is)) (length-set t.leaves n filled)
   mixed_tree None is =
       let n = length t.leaves in
@@ -145,15 +149,18 @@ module _ (t : RightsTree) (tree : IsTree t) (block : ℕ) (within : block < 2048
       }
 
   -- the leaf that is written has the rights
-  leaf_written : (leaf : Option ℕ) → block_at t block ≡ Uniform rights leaf → slice_index_or (with_leaf leaf filled t.leaves) (unwrap_or leaf (length t.leaves)) [] ≡ filled
+  leaf_written : (leaf : Option ℕ) → block_at t block ≡ Uniform rights leaf
+      → slice_index_or (with_leaf leaf filled t.leaves) (unwrap_or leaf (length t.leaves)) [] ≡ filled
   leaf_written None is = get_or-append_seam t.leaves filled [] []
   leaf_written (Some n) is = get_or-set_same t.leaves n filled [] (tree.known block n (ap leaf_of is))
 
-  leaf_unwritten : (leaf : Option ℕ) → block_at t block ≡ Uniform rights leaf → (c k : ℕ) → c ≢ block → leaf_of (block_at t c) ≡ Some k → slice_index_or (with_leaf leaf filled t.leaves) k [] ≡ leaf_at t k
+  leaf_unwritten : (leaf : Option ℕ) → block_at t block ≡ Uniform rights leaf → (c k : ℕ) → c ≢ block → leaf_of (block_at t c) ≡ Some k
+      → slice_index_or (with_leaf leaf filled t.leaves) k [] ≡ leaf_at t k
   leaf_unwritten None is c k other at = get_or_append_left t.leaves (filled ∷ []) [] k (tree.known c k at)
   leaf_unwritten (Some n) is c k other at = get_or-set_other t.leaves n k filled [] (λ same. other (tree.apart c block k at (ap leaf_of is ∙ ap Some (sym same))))
 
-  pub mixed_rights : (leaf : Option ℕ) → block_at t block ≡ Uniform rights leaf → (p : ℕ) → rights_of (with_block t block (Mixed (unwrap_or leaf (length t.leaves))) (with_leaf leaf filled t.leaves)) p ≡ rights_of t p
+  pub mixed_rights : (leaf : Option ℕ) → block_at t block ≡ Uniform rights leaf → (p : ℕ)
+      → rights_of (with_block t block (Mixed (unwrap_or leaf (length t.leaves))) (with_leaf leaf filled t.leaves)) p ≡ rights_of t p
   mixed_rights leaf is p =
       let n = unwrap_or leaf (length t.leaves) in
       let after = with_block t block (Mixed n) (with_leaf leaf filled t.leaves) in
@@ -183,7 +190,9 @@ module _ (t : RightsTree) (tree : IsTree t) (block n : ℕ) (is : block_at t blo
   ]
 
   -- a part of the leaf has these rights
-  pub part_rights : (from end : ℕ) (rights : Option Rights) → ((i : ℕ) → slice_index_or written i None ≡ (if nat_le from i && nat_lt i end then rights else slice_index_or (leaf_at t n) i None)) → (p : ℕ)
+  pub part_rights : (from end : ℕ) (rights : Option Rights)
+      → ((i : ℕ) → slice_index_or written i None ≡ (if nat_le from i && nat_lt i end then rights else slice_index_or (leaf_at t n) i None))
+      → (p : ℕ)
       → rights_of rewritten p ≡ (if (p / 512 == block) && (nat_le from (p % 512) && nat_lt (p % 512) end) then rights else rights_of t p)
   part_rights from end rights at p =
       let inside = nat_le from (p % 512) && nat_lt (p % 512) end in

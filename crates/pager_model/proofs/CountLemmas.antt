@@ -15,7 +15,8 @@ pub count-suc : (p : ℕ → Bool) (a n : ℕ) → count_by p (range_with_len a 
 count-suc p a n = sum_by-cons (λ x. cond (p x) 1 0) a (range_with_len (a + 1) n)
 
 -- those before a number, and those from it on
-pub count-apart : (p : ℕ → Bool) (a m n b : ℕ) → a + m ≡ b → count_by p (range_with_len a (m + n)) ≡ count_by p (range_with_len a m) + count_by p (range_with_len b n)
+pub count-apart : (p : ℕ → Bool) (a m n b : ℕ) → a + m ≡ b
+    → count_by p (range_with_len a (m + n)) ≡ count_by p (range_with_len a m) + count_by p (range_with_len b n)
 count-apart p a zero n b e =
     ap (λ k. count_by p (range_with_len a k)) (zero-add n) ∙ ap (λ k. count_by p (range_with_len k n)) {x = a} {y = b} (omega arith) ∙ sym (zero-add (count_by p (range_with_len b n)))
 count-apart p a (suc m) n b e =
@@ -29,7 +30,8 @@ count-agree p q a (suc n) agree =
     omega (arith, ap weight (agree a (omega arith) (omega arith)), count-agree p q (a + 1) n (λ g low high. agree g (omega arith) (omega arith)), count-suc p a n, count-suc q a n)
 
 -- a test that one more number passes counts one more
-pub count-one_more : (p q : ℕ → Bool) (f : ℕ) → p f ≡ false → q f ≡ true → ((g : ℕ) → g ≢ f → p g ≡ q g) → (a n : ℕ) → a ≤ f → f < a + n → count_by q (range_with_len a n) ≡ count_by p (range_with_len a n) + 1
+pub count-one_more : (p q : ℕ → Bool) (f : ℕ) → p f ≡ false → q f ≡ true → ((g : ℕ) → g ≢ f → p g ≡ q g) → (a n : ℕ) → a ≤ f → f < a + n
+    → count_by q (range_with_len a n) ≡ count_by p (range_with_len a n) + 1
 count-one_more p q f fails passes agree a zero low high = absurd (omega arith)
 count-one_more p q f fails passes agree a (suc n) low high =
     let by_p = count-suc p a n in
@@ -76,7 +78,8 @@ block_change f g count first block within outside =
     )
 
 -- all numbers of a block pass where none did, and the others as before
-pub count_block : (f g : ℕ → Bool) (count first block : ℕ) → first + block ≤ count → ((n : ℕ) → first ≤ n → n < first + block → (f n ≡ false) × (g n ≡ true)) → ((n : ℕ) → (first ≤ n → n < first + block → ⊥) → g n ≡ f n)
+pub count_block : (f g : ℕ → Bool) (count first block : ℕ) → first + block ≤ count
+    → ((n : ℕ) → first ≤ n → n < first + block → (f n ≡ false) × (g n ≡ true)) → ((n : ℕ) → (first ≤ n → n < first + block → ⊥) → g n ≡ f n)
     → count_by g (range_with_len 0 count) ≡ count_by f (range_with_len 0 count) + block
 count_block f g count first block within inside outside =
     omega (

@@ -13,10 +13,12 @@ use Rattle.pager_model.proofs.ExtentLemmas.{eight_pos}
 use Rattle.pager_model.proofs.Ranges.{list_all-range, find_passes}
 
 -- a run is free exactly where each of its frames is
-pub run_free_exactly : (free : List Bool) (first count : ℕ) → (run_free free first count ≡ true) ↔ ((frame : ℕ) → first ≤ frame → frame < first + count → get_or free frame false ≡ true)
+pub run_free_exactly : (free : List Bool) (first count : ℕ)
+    → (run_free free first count ≡ true) ↔ ((frame : ℕ) → first ≤ frame → frame < first + count → get_or free frame false ≡ true)
 run_free_exactly free first count = list_all-range (λ frame. get_or free frame false) first count
 
-pub run_free_frames : (free : List Bool) (first count : ℕ) → run_free free first count ≡ true → (frame : ℕ) → first ≤ frame → frame < first + count → get_or free frame false ≡ true
+pub run_free_frames : (free : List Bool) (first count : ℕ) → run_free free first count ≡ true → (frame : ℕ) → first ≤ frame
+    → frame < first + count → get_or free frame false ≡ true
 run_free_frames free first count = (run_free_exactly free first count).0
 
 -- the same by the places in the run
@@ -53,7 +55,9 @@ none_passes p a (suc n) e i h =
     ]
 
 -- the least block of some orders is a maximal one of one of them
-pub least_of : (free : List Bool) (n count f : ℕ) → (here : Option ℕ) → lowest_block free n ≡ here → (least_block free (n + 1) count ≡ Some f → (m : ℕ) × (n + 1 ≤ m) × (m < n + 1 + count) × (is_maximal free m f ≡ true)) → option_or here (least_block free (n + 1) count) ≡ Some f → (m : ℕ) × (n ≤ m) × (m < n + suc count) × (is_maximal free m f ≡ true)
+pub least_of : (free : List Bool) (n count f : ℕ) → (here : Option ℕ) → lowest_block free n ≡ here
+    → (least_block free (n + 1) count ≡ Some f → (m : ℕ) × (n + 1 ≤ m) × (m < n + 1 + count) × (is_maximal free m f ≡ true))
+    → option_or here (least_block free (n + 1) count) ≡ Some f → (m : ℕ) × (n ≤ m) × (m < n + suc count) × (is_maximal free m f ≡ true)
 least_of free n count f (Some g) at later e = (n, omega arith, omega arith, find_passes (is_maximal free n) 0 (length free) f (at ∙ e))
 least_of free n count f None at later e = let l = later e in (l.0, omega arith, omega arith, l.3)
 
@@ -62,14 +66,18 @@ least_block_is free n zero f e = absurd (none-some _ e)
 least_block_is free n (suc count) f e = least_of free n count f (lowest_block free n) refl (least_block_is free (n + 1) count f) e
 
 -- where they have none, no block of those orders is maximal
-pub none_of : (free : List Bool) (n count : ℕ) → (here : Option ℕ) → lowest_block free n ≡ here → (least_block free (n + 1) count ≡ None → (i : ℕ) → i < count → (f : ℕ) → f < length free → is_maximal free ((n + 1) + i) f ≡ false) → option_or here (least_block free (n + 1) count) ≡ None → (i : ℕ) → i < suc count → (f : ℕ) → f < length free → is_maximal free (n + i) f ≡ false
+pub none_of : (free : List Bool) (n count : ℕ) → (here : Option ℕ) → lowest_block free n ≡ here
+    → (least_block free (n + 1) count ≡ None → (i : ℕ) → i < count → (f : ℕ) → f < length free → is_maximal free ((n + 1) + i) f ≡ false)
+    → option_or here (least_block free (n + 1) count) ≡ None → (i : ℕ) → i < suc count → (f : ℕ) → f < length free
+    → is_maximal free (n + i) f ≡ false
 none_of free n count (Some g) at later e i h f b = absurd (none-some g (sym e))
 none_of free n count None at later e zero h f b =
     let here : 0 + f ≡ f = omega arith in rw (add-zero, ← here) (none_passes (is_maximal free n) 0 (length free) at f b)
 none_of free n count None at later e (suc i) h f b =
     let next : (n + 1) + i ≡ n + suc i = omega arith in rw (← next) (later e i (omega arith) f b)
 
-pub none_maximal : (free : List Bool) (n count : ℕ) → least_block free n count ≡ None → (i : ℕ) → i < count → (f : ℕ) → f < length free → is_maximal free (n + i) f ≡ false
+pub none_maximal : (free : List Bool) (n count : ℕ) → least_block free n count ≡ None → (i : ℕ) → i < count → (f : ℕ) → f < length free
+    → is_maximal free (n + i) f ≡ false
 none_maximal free n zero e i h f b = absurd (omega arith)
 none_maximal free n (suc count) e i h f b = none_of free n count (lowest_block free n) refl (none_maximal free (n + 1) count) e i h f b
 
@@ -80,7 +88,9 @@ block_start_same n f = ap (λ q. q * 2 ^ n) (shl-shr (f / 2 ^ n) n)
 pub not_maximal : (aligned run larger : Bool) → aligned ≡ true → run ≡ true → (aligned && (run && not larger)) ≡ false → larger ≡ true
 not_maximal aligned run larger a r e = not-false _ (rw (a, r) at e)
 
-pub grows : (free : List Bool) (n f count : ℕ) → n + count ≡ 10 → n ≤ 9 → ((i : ℕ) → i < count → (g : ℕ) → g < length free → is_maximal free (n + i) g ≡ false) → block_start n f ≡ f → run_free free f (2 ^ n) ≡ true → ⊥
+pub grows : (free : List Bool) (n f count : ℕ) → n + count ≡ 10 → n ≤ 9
+    → ((i : ℕ) → i < count → (g : ℕ) → g < length free → is_maximal free (n + i) g ≡ false) → block_start n f ≡ f
+    → run_free free f (2 ^ n) ≡ true → ⊥
 grows free n f zero e h none start run = omega arith
 grows free n f (suc count) e h none start run =
     let inside : f < length free = omega (arith, run_free_within free f (2 ^ n) run (pow_pos n), pow_pos n) in
@@ -132,7 +142,8 @@ pub no_choice : (free : List Bool) (k : ℕ) → k ≤ 3 → choice free k ≡ N
 no_choice free k h e f aligned =
     false_from_ne_true _ (λ run. grows free (3 * k) f (10 - 3 * k) (omega arith) (omega arith) (none_maximal free (3 * k) (10 - 3 * k) e) (aligned_block (3 * k) f (rw eight_pow at aligned)) (rw eight_pow at run))
 
-pub some_choice : (free : List Bool) (k : ℕ) (chosen : Option ℕ) → choice free k ≡ chosen → ((f : ℕ) → f % 8 ^ k ≡ 0 → run_free free f (8 ^ k) ≡ false) → choice free k ≡ None
+pub some_choice : (free : List Bool) (k : ℕ) (chosen : Option ℕ) → choice free k ≡ chosen
+    → ((f : ℕ) → f % 8 ^ k ≡ 0 → run_free free f (8 ^ k) ≡ false) → choice free k ≡ None
 some_choice free k None at none = at
 some_choice free k (Some f) at none =
     let block = choice_is_free free k f at in absurd (false≢true (sym (none f block.1) ∙ block.0))

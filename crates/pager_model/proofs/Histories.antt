@@ -23,7 +23,8 @@ progress_from-append p [] ys = refl
 progress_from-append p (x ∷ xs) ys = progress_from-append (progress_by p x) xs ys
 
 -- what the entry does to the state of a space that it names, and of one that it doesn't
-pub space_at-named : (g : Given) (history : List Entry) (e : Entry) (s : ℕ) → names_space s e ≡ true → space_at g (history ++ e ∷ []) s ≡ space_after (space_at g history s) e
+pub space_at-named : (g : Given) (history : List Entry) (e : Entry) (s : ℕ) → names_space s e ≡ true
+    → space_at g (history ++ e ∷ []) s ≡ space_after (space_at g history s) e
 space_at-named g history e s h =
     ap (state_of_space g s) (filter-push_in (names_space s) history e h)
     ∙ fold-append space_after (empty_state g.sizes (is_told g s) (faults_at_entry g s)) (space_part s history) (e ∷ [])
@@ -39,10 +40,12 @@ pub frames_at-other : (g : Given) (history : List Entry) (e : Entry) → e.frame
 frames_at-other g history e h = ap (frames_state g) (filter-push_out names_frames history e h)
 
 -- and to the progress of its processor, and of another
-pub progress_at-own : (g : Given) (history : List Entry) (e : Entry) (c : ℕ) → is_of c e ≡ true → progress_at g (history ++ e ∷ []) c ≡ progress_by (progress_at g history c) e
+pub progress_at-own : (g : Given) (history : List Entry) (e : Entry) (c : ℕ) → is_of c e ≡ true
+    → progress_at g (history ++ e ∷ []) c ≡ progress_by (progress_at g history c) e
 progress_at-own g history e c h = ap (progress_in g c) (filter-push_in (is_of c) history e h) ∙ progress_from-append _ (entries_of c history) (e ∷ [])
 
-pub progress_at-other : (g : Given) (history : List Entry) (e : Entry) (c : ℕ) → is_of c e ≡ false → progress_at g (history ++ e ∷ []) c ≡ progress_at g history c
+pub progress_at-other : (g : Given) (history : List Entry) (e : Entry) (c : ℕ) → is_of c e ≡ false
+    → progress_at g (history ++ e ∷ []) c ≡ progress_at g history c
 progress_at-other g history e c h = ap (progress_in g c) (filter-push_out (is_of c) history e h)
 
 AllFollow-push : (g : Given) (before es : List Entry) (e : Entry) → AllFollow g before es → MayFollow g (before ++ es) e → AllFollow g before (es ++ e ∷ [])

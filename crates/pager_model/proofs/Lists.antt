@@ -34,7 +34,8 @@ unset_before xs i j d x apart is = elim (cases_eq j i) [
 ]
 
 -- a value that stands somewhere is the one that was written there, or stood there before
-pub set_cases : {A : Type 0} (xs : List (Option A)) (i j : ℕ) (o : Option A) (x : A) → get_or (set xs i o) j None ≡ Some x → ((j ≡ i) × (o ≡ Some x)) ⊎ ((j ≢ i) × (get_or xs j None ≡ Some x))
+pub set_cases : {A : Type 0} (xs : List (Option A)) (i j : ℕ) (o : Option A) (x : A) → get_or (set xs i o) j None ≡ Some x
+    → ((j ≡ i) × (o ≡ Some x)) ⊎ ((j ≢ i) × (get_or xs j None ≡ Some x))
 set_cases xs i j o x is = elim (cases_eq j i) [
   | inl here ↦
       let at : get_or (set xs i o) i None ≡ Some x = ap (λ k. get_or (set xs i o) k None) (sym here) ∙ is in
@@ -53,7 +54,9 @@ filter-all test (x ∷ xs) all =
     cond-true (test x) (x ∷ filter test xs) (filter test xs) parts.0 ∙ ap (λ rest. x ∷ rest) (filter-all test xs parts.1)
 
 -- a part of a list is filled: within it each place has the value, and elsewhere it is as before
-pub filled_at : {X : Type 0} (xs part : List X) (from end : ℕ) (v d : X) (i : ℕ) → from ≤ end → end ≤ length xs → part ≡ replicate (end - from) v → get_or (take from xs ++ (part ++ drop (end - from) (drop from xs))) i d ≡ (if nat_le from i && nat_lt i end then v else get_or xs i d)
+pub filled_at : {X : Type 0} (xs part : List X) (from end : ℕ) (v d : X) (i : ℕ) → from ≤ end → end ≤ length xs
+    → part ≡ replicate (end - from) v
+    → get_or (take from xs ++ (part ++ drop (end - from) (drop from xs))) i d ≡ (if nat_le from i && nat_lt i end then v else get_or xs i d)
 filled_at xs part from end v d i order within is =
     let front : length (take from xs) ≡ from = omega (arith, length-take from xs) in
     let long : length part ≡ end - from = ap length is ∙ length-replicate (end - from) v in

@@ -26,7 +26,8 @@ pub unused_in : (p : ℕ → Bool) (first n : ℕ) → none_used p first n ≡ t
 unused_in p first n none f low high =
     not-true (p f) ((list_all-range (λ x. not (p x)) first n).0 none f low high)
 
-pub has_empty-yes : (used : ℕ → Bool) (r : Reservation) (k i : ℕ) → i < 8 ^ (r.size - k) → none_used used (r.frame + i * 8 ^ k) (8 ^ k) ≡ true → has_empty used r k ≡ true
+pub has_empty-yes : (used : ℕ → Bool) (r : Reservation) (k i : ℕ) → i < 8 ^ (r.size - k)
+    → none_used used (r.frame + i * 8 ^ k) (8 ^ k) ≡ true → has_empty used r k ≡ true
 has_empty-yes used r k i within is =
     let all = range_with_len 0 (8 ^ (r.size - k)) in
     let here : get_or all i 0 ≡ i = get_or-range_with_len 0 (8 ^ (r.size - k)) i 0 within ∙ omega arith in

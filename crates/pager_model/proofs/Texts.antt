@@ -37,7 +37,8 @@ rights_are_short Read = lit≤ tt
 rights_are_short Write = lit≤ tt
 
 -- the words of a call behind its processor, with the space before each
-call_is_short : (spaces : ℕ) (call : Call) (word : List ℕ) → spaces ≤ 16 → IsCall spaces call → length word ≤ 7 → length (join_with_byte 32 (word ∷ call_words call)) ≤ 62
+call_is_short : (spaces : ℕ) (call : Call) (word : List ℕ) → spaces ≤ 16 → IsCall spaces call → length word ≤ 7
+    → length (join_with_byte 32 (word ∷ call_words call)) ≤ 62
 call_is_short spaces (Map space page len kind rights) word few is short =
     simp length-append (omega (arith, small space (omega arith), small page (omega arith), small len (omega arith), kind_is_short kind, rights_are_short rights))
 call_is_short spaces (Grow space page by) word few is short =
@@ -60,7 +61,8 @@ line_is_short processors spaces line some few is =
     let short = call_is_short spaces line.call (decimal line.processor) few is.1 (small line.processor (omega (arith, is.0))) in
     omega (arith, length-append (join_with_byte 32 (decimal line.processor ∷ call_words line.call)) (10 ∷ []))
 
-calls_are_short : (processors spaces : ℕ) (lines : List Line) → processors ≤ 16 → spaces ≤ 16 → AllByRecursion (IsLine processors spaces) lines → length (flat_map call_line lines) ≤ 63 * length lines
+calls_are_short : (processors spaces : ℕ) (lines : List Line) → processors ≤ 16 → spaces ≤ 16
+    → AllByRecursion (IsLine processors spaces) lines → length (flat_map call_line lines) ≤ 63 * length lines
 calls_are_short processors spaces [] some few are = omega arith
 calls_are_short processors spaces (line ∷ lines) some few are =
     omega (arith, ap length (flat_map-cons call_line line lines), length-append (call_line line) (flat_map call_line lines), line_is_short processors spaces line some few are.0, calls_are_short processors spaces lines some few are.1)
@@ -75,7 +77,8 @@ sizes_are_short true false true = lit≤ tt
 sizes_are_short true true false = lit≤ tt
 sizes_are_short true true true = lit≤ tt
 
-first_words_short : (version frames processors spaces : ℕ) → version < 10000000 → frames < 10000000 → processors < 10000000 → spaces < 10000000 → (word : List ℕ) → length word ≤ 4
+first_words_short : (version frames processors spaces : ℕ) → version < 10000000 → frames < 10000000 → processors < 10000000
+    → spaces < 10000000 → (word : List ℕ) → length word ≤ 4
     → (unnamed : Bool) → length (line_of_words (codes "trace" ∷ decimal version ∷ decimal frames ∷ decimal processors ∷ decimal spaces ∷ (if unnamed then [] else word ∷ []))) ≤ 43
 first_words_short version frames processors spaces v f p s word short true = simp length-append (omega (arith, small version v, small frames f, small processors p, small spaces s))
 first_words_short version frames processors spaces v f p s word short false = simp length-append (omega (arith, small version v, small frames f, small processors p, small spaces s, short))

@@ -78,7 +78,8 @@ pub record IsPreempted (before after : FrameState) (r : Reservation) : Type 0 wh
 pub record IsOldest (st : FrameState) (r : Reservation) : Type 0 where
   pub list : ℕ
   pub listed : list_in st r ≡ Some list
-  pub oldest : (id : ℕ) (q : Reservation) → record_at (layout_of st) id ≡ Some q → list_in st q ≡ Some list → id ≢ r.frame → is_before (member_of r) (member_of q) ≡ true
+  pub oldest : (id : ℕ) (q : Reservation) → record_at (layout_of st) id ≡ Some q → list_in st q ≡ Some list → id ≢ r.frame
+      → is_before (member_of r) (member_of q) ≡ true
 
 -- each reservation that a taking of a history preempted was the oldest of its list
 abbrev pub PreemptsOldest : Given → List Entry → Type 0

@@ -46,7 +46,8 @@ pub record KeepsFrames (frames : ℕ) (st : FrameState) : Type 0 where
   pub partition : IsPartition frames st
   pub named : (id : ℕ) (r : Reservation) → record_at (layout_of st) id ≡ Some r → r.frame ≡ id
   pub used : (id : ℕ) (r : Reservation) → record_at (layout_of st) id ≡ Some r → HasUsed (layout_of st) r
-  pub apart : (id other space page : ℕ) (r q : Reservation) → record_at (layout_of st) id ≡ Some r → record_at (layout_of st) other ≡ Some q → covers space page r ≡ true → covers space page q ≡ true → id ≡ other
+  pub apart : (id other space page : ℕ) (r q : Reservation) → record_at (layout_of st) id ≡ Some r → record_at (layout_of st) other ≡ Some q
+      → covers space page r ≡ true → covers space page q ≡ true → id ≡ other
   pub ages : (frame other : ℕ) (u v : Used) → used_at st frame ≡ Some u → used_at st other ≡ Some v → u.age ≡ v.age → frame ≡ other
   pub one_claim : (frame other c : ℕ) → claim_in (used_at st frame) ≡ Some c → claim_in (used_at st other) ≡ Some c → frame ≡ other
   pub claims_or_holds : (frame c : ℕ) → claim_in (used_at st frame) ≡ Some c → held_by st c ≡ None

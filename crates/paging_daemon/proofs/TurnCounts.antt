@@ -80,14 +80,16 @@ led_if true o q is = is
 led_if false o q is = absurd (none-some q is)
 
 -- where the entry's effect on the place is told
-goes_to : (mark made : ℕ) (doing : Doing) (what : What) (b : Bool) (n : ℕ) (d : Doing) (q : Progress) → leads b n d ≡ Some q → (b ≡ true → Goes mark made doing (record { made = n; doing = d }) what) → Goes mark made doing q what
+goes_to : (mark made : ℕ) (doing : Doing) (what : What) (b : Bool) (n : ℕ) (d : Doing) (q : Progress) → leads b n d ≡ Some q
+    → (b ≡ true → Goes mark made doing (record { made = n; doing = d }) what) → Goes mark made doing q what
 goes_to mark made doing what b n d q is goes = (let l = led b n d q is in subst (λ x. Goes mark made doing x what) l.1 (goes l.0))
 
 never : (b : Bool) → (b && false) ≡ true → ⊥
 never true is = false≢true is
 never false is = false≢true is
 
-answers : (mark m : ℕ) (d : Doing) (q : Progress) (number : ℕ) (call : Call) (reply : Reply) (b : Bool) → InTurn mark d → leads (b && may_answer d call reply) (m + 1) Idle ≡ Some q → ⊥
+answers : (mark m : ℕ) (d : Doing) (q : Progress) (number : ℕ) (call : Call) (reply : Reply) (b : Bool) → InTurn mark d
+    → leads (b && may_answer d call reply) (m + 1) Idle ≡ Some q → ⊥
 answers mark m (Looking low evictions) q number call reply b place is = never b (led (b && false) (m + 1) Idle q is).0
 answers mark m (Claiming (ForTurn low evictions) v) q number call reply b place is = never b (led (b && false) (m + 1) Idle q is).0
 answers mark m (Unwritten (ForTurn low evictions) v count) q number call reply b place is = never b (led (b && false) (m + 1) Idle q is).0
@@ -99,14 +101,16 @@ one_out : (written : Bool) (page : ℕ) → outs_of (Out page written) ≡ 1
 one_out true page = refl
 one_out false page = refl
 
-outs : (mark m : ℕ) (d : Doing) (q : Progress) (s page : ℕ) (written : Bool) → InTurn mark d → after_out m d s page ≡ Some q → Goes mark m d q (Out page written)
+outs : (mark m : ℕ) (d : Doing) (q : Progress) (s page : ℕ) (written : Bool) → InTurn mark d → after_out m d s page ≡ Some q
+    → Goes mark m d q (Out page written)
 outs mark m (Claiming (ForTurn low evictions) v) q s page written place is =
     goes_to mark m _ (Out page written) _ m (Emptied (ForTurn low evictions) v) q is
     (λ _. (place, inl (record { made = refl; outs = (let one = one_out written page in omega (arith, one)); unclaims = refl; faults = omega arith })))
 outs mark m (Claiming (ForAccess a) v) q s page written place is = absurd place
 outs mark m d q s page written place is = absurd (none-some q is)
 
-fails : (mark m : ℕ) (d : Doing) (q : Progress) (s page : ℕ) (writing : Bool) (count : ℕ) → InTurn mark d → after_failure m d s page writing count ≡ Some q → Goes mark m d q (Failed page writing count)
+fails : (mark m : ℕ) (d : Doing) (q : Progress) (s page : ℕ) (writing : Bool) (count : ℕ) → InTurn mark d
+    → after_failure m d s page writing count ≡ Some q → Goes mark m d q (Failed page writing count)
 fails mark m (Claiming (ForTurn low evictions) v) q s page writing count place is =
     goes_to mark m _ (Failed page writing count) _ m (Unwritten (ForTurn low evictions) v count) q is
     (λ _. (place, inl (record { made = refl; outs = omega arith; unclaims = refl; faults = omega arith })))
@@ -131,7 +135,8 @@ clears : (mark m : ℕ) (d : Doing) (q : Progress) (s first len : ℕ) → InTur
 clears mark m Idle q s first len place is = place
 clears mark m d q s first len place is = none-some q is
 
-claims : (mark m : ℕ) (d : Doing) (q : Progress) (space : Option ℕ) (v page frame : ℕ) (need : Option Need) → InTurn mark d → after_claim m d space (record { space = v; page = page; frame = frame }) need ≡ Some q → Goes mark m d q (Claim v page frame need)
+claims : (mark m : ℕ) (d : Doing) (q : Progress) (space : Option ℕ) (v page frame : ℕ) (need : Option Need) → InTurn mark d
+    → after_claim m d space (record { space = v; page = page; frame = frame }) need ≡ Some q → Goes mark m d q (Claim v page frame need)
 claims mark m (Looking low evictions) q None v page frame None place is =
     goes_to mark m _ (Claim v page frame None) _ m (Claiming (ForTurn low evictions) (record { space = v; page = page; frame = frame })) q is
     (λ fewer. ((place.0, (let less = ltb-true evictions low fewer in omega (arith, less, place.0))), inl (record { made = refl; outs = omega arith; unclaims = refl; faults = omega arith })))
@@ -181,7 +186,8 @@ rests mark m (Looking low evictions) q short place is =
 rests mark m d q short place is = absurd (none-some q is)
 
 -- one entry
-goes : (mark : ℕ) (p q : Progress) (space : Option ℕ) (what : What) → InTurn mark p.doing → progress_after p space what ≡ Some q → Goes mark p.made p.doing q what
+goes : (mark : ℕ) (p q : Progress) (space : Option ℕ) (what : What) → InTurn mark p.doing → progress_after p space what ≡ Some q
+    → Goes mark p.made p.doing q what
 goes mark p q space (Answer number call answered) place is = absurd (answers mark p.made p.doing q number call answered.reply (eqb number p.made) place is)
 goes mark p q (Some s) (Out page written) place is = outs mark p.made p.doing q s page written place is
 goes mark p q (Some s) (Failed page writing count) place is = fails mark p.made p.doing q s page writing count place is
@@ -218,7 +224,8 @@ record Counted (mark : ℕ) (es : List Entry) (p q : Progress) : Type 0 where
   ends_faults : p.made + 1 ≡ q.made → faults_in es + failed p.doing ≤ unclaims_in es
 
 module _ (mark : ℕ) (q : Progress) (none_used : used q.doing ≡ 0) (none_failed : failed q.doing ≡ 0) where
-  counted_more : (e : Entry) (es : List Entry) (p m : Progress) → Same p.made p.doing m e.what ⊎ Ends mark p.made p.doing m e.what → Counted mark es m q → Counted mark (e ∷ es) p q
+  counted_more : (e : Entry) (es : List Entry) (p m : Progress) → Same p.made p.doing m e.what ⊎ Ends mark p.made p.doing m e.what
+      → Counted mark es m q → Counted mark (e ∷ es) p q
   counted_more e es p m step rest =
       let w = sum_by-cons (λ (x : Entry). one (is_written x.what)) e es in
       let c = sum_by-cons (λ (x : Entry). one (is_clean x.what)) e es in

@@ -131,7 +131,8 @@ full_page m marks (suc (suc size)) page small has =
 -- ---- room for nodes
 
 -- a row has a placed page
-pub rows_placed : (m : Arena Mark) → AreMarks m → (size page : ℕ) → size ≤ 3 → is_some (row m size page) ≡ true → (q : ℕ) × (q / 8 ^ size ≡ page / 8 ^ size) × (is_placed m q ≡ true)
+pub rows_placed : (m : Arena Mark) → AreMarks m → (size page : ℕ) → size ≤ 3 → is_some (row m size page) ≡ true
+    → (q : ℕ) × (q / 8 ^ size ≡ page / 8 ^ size) × (is_placed m q ≡ true)
 rows_placed m marks size page small has = elim (marks.in_use size page small has) [
   | inl id ↦ (page, refl, placed_by m size page small id)
   | inr bits ↦ elim bits [

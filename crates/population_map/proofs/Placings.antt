@@ -38,7 +38,8 @@ pub record ChangesIds (m n : Arena Mark) : Type 0 where
   pub full : (size page part : ℕ) → size ≤ 3 → part < 8 → (bit_at (mark_of n size page).full part ≡ 1) ↔ (bit_at (mark_of m size page).full part ≡ 1)
   pub no_parts : (page : ℕ) → ((mark_of n 0 page).some ≡ 0) × ((mark_of n 0 page).full ≡ 0)
   pub pages_full : (page : ℕ) → (mark_of n 1 page).full ≡ (mark_of n 1 page).some
-  pub in_use : (size page : ℕ) → size ≤ 3 → is_some (row n size page) ≡ true → (is_some (id_of n size page) ≡ true) ⊎ (HasBit (mark_of n size page).some ⊎ HasBit (mark_of n size page).full)
+  pub in_use : (size page : ℕ) → size ≤ 3 → is_some (row n size page) ≡ true
+      → (is_some (id_of n size page) ≡ true) ⊎ (HasBit (mark_of n size page).some ⊎ HasBit (mark_of n size page).full)
   pub placed : (page : ℕ) → is_populated n page ≡ true → is_placed n page ≡ true
   pub apart : (a b page : ℕ) → a ≤ 3 → b ≤ 3 → is_some (id_of n a page) ≡ true → is_some (id_of n b page) ≡ true → a ≡ b
 
@@ -65,18 +66,22 @@ marks_with_ids m n marks c = record {
 }
 
 -- the same pages are populated
-same_pages : (m n : Arena Mark) (page : ℕ) → (bit_at (mark_of n 1 page).some (page % 8) ≡ 1) ↔ (bit_at (mark_of m 1 page).some (page % 8) ≡ 1) → is_populated n page ≡ is_populated m page
+same_pages : (m n : Arena Mark) (page : ℕ)
+    → (bit_at (mark_of n 1 page).some (page % 8) ≡ 1) ↔ (bit_at (mark_of m 1 page).some (page % 8) ≡ 1)
+    → is_populated n page ≡ is_populated m page
 same_pages m n page bit =
     both_ways (is_populated n page) (is_populated m page)
     (λ h. page_of_bit m page (bit.0 (bit_of_page n page h))) (λ h. page_of_bit n page (bit.1 (bit_of_page m page h)))
 
 -- ---- the marks after one row changed
 
-mark_here : (m n : Arena Mark) (size page : ℕ) (value : Option Mark) → ChangesOnly m n size page value → (other : ℕ) → other / 8 ^ size ≡ page / 8 ^ size → mark_of n size other ≡ unwrap_or value unmarked
+mark_here : (m n : Arena Mark) (size page : ℕ) (value : Option Mark) → ChangesOnly m n size page value → (other : ℕ)
+    → other / 8 ^ size ≡ page / 8 ^ size → mark_of n size other ≡ unwrap_or value unmarked
 unfolding mark_of
 mark_here m n size page value c other same = ap (λ v. unwrap_or v unmarked) (c.changed other same)
 
-mark_else : (m n : Arena Mark) (size page : ℕ) (value : Option Mark) → ChangesOnly m n size page value → (part other : ℕ) → part ≤ 3 → (part ≡ size → other / 8 ^ part ≡ page / 8 ^ part → ⊥) → mark_of n part other ≡ mark_of m part other
+mark_else : (m n : Arena Mark) (size page : ℕ) (value : Option Mark) → ChangesOnly m n size page value → (part other : ℕ) → part ≤ 3
+    → (part ≡ size → other / 8 ^ part ≡ page / 8 ^ part → ⊥) → mark_of n part other ≡ mark_of m part other
 unfolding mark_of
 mark_else m n size page value c part other less apart = ap (λ v. unwrap_or v unmarked) (c.others part other less apart)
 
@@ -110,7 +115,8 @@ swapped_ids m n size page value s = record {
 }
 
 -- bits are as before
-swapped_some : (m n : Arena Mark) (size page : ℕ) (value : Option Mark) → SwapsId m n size page value → (part other bit : ℕ) → part ≤ 3 → bit < 8 → (bit_at (mark_of n part other).some bit ≡ 1) ↔ (bit_at (mark_of m part other).some bit ≡ 1)
+swapped_some : (m n : Arena Mark) (size page : ℕ) (value : Option Mark) → SwapsId m n size page value → (part other bit : ℕ) → part ≤ 3
+    → bit < 8 → (bit_at (mark_of n part other).some bit ≡ 1) ↔ (bit_at (mark_of m part other).some bit ≡ 1)
 swapped_some m n size page value s part other bit less low = elim (here_or_not size page part other) [
   | inl here ↦
       let there = at_size size page part other here.0 here.1 in
@@ -121,7 +127,8 @@ swapped_some m n size page value s part other bit less low = elim (here_or_not s
 ]
 
 -- and so are populated pages
-swapped_pages : (m n : Arena Mark) (size page : ℕ) (value : Option Mark) → SwapsId m n size page value → (other : ℕ) → is_populated n other ≡ is_populated m other
+swapped_pages : (m n : Arena Mark) (size page : ℕ) (value : Option Mark) → SwapsId m n size page value → (other : ℕ)
+    → is_populated n other ≡ is_populated m other
 swapped_pages m n size page value s other = same_pages m n other (swapped_some m n size page value s 1 other (other % 8) (omega arith) (omega arith))
 
 -- what is kept is right where the placed pages are
@@ -194,13 +201,16 @@ one_more m n size first small aligned low roots inside outside =
     (λ page out. outside page (λ same. let at = of_extent size first page small aligned same in out at.0 at.1))
 
 -- ids of pages beside the extent are as before
-pub beside : (m n : Arena Mark) (size first : ℕ) (id : Option ℕ) → PlacesOnly m n size first id → (page : ℕ) → page / 8 ^ size ≢ first / 8 ^ size → (part : ℕ) → part ≤ 3 → id_of n part page ≡ id_of m part page
+pub beside : (m n : Arena Mark) (size first : ℕ) (id : Option ℕ) → PlacesOnly m n size first id → (page : ℕ)
+    → page / 8 ^ size ≢ first / 8 ^ size → (part : ℕ) → part ≤ 3 → id_of n part page ≡ id_of m part page
 beside m n size first id places page apart part less = places.others part page less (λ e same. apart (at_size size first part page e same))
 
 -- ---- an extent is placed
 
 -- there is room for its nodes
-pub place_room : (m : Arena Mark) (size first : ℕ) → AreMarks m → size ≤ 3 → first % 8 ^ size ≡ 0 → first < 512 * m.roots → ((page : ℕ) → page / 8 ^ size ≡ first / 8 ^ size → IsInNone m page) → 3 * (placed_pages m + 8 ^ size) ≤ m.room → splits_with m size first ≤ m.room
+pub place_room : (m : Arena Mark) (size first : ℕ) → AreMarks m → size ≤ 3 → first % 8 ^ size ≡ 0 → first < 512 * m.roots
+    → ((page : ℕ) → page / 8 ^ size ≡ first / 8 ^ size → IsInNone m page) → 3 * (placed_pages m + 8 ^ size) ≤ m.room
+    → splits_with m size first ≤ m.room
 unfolding placed_pages
 place_room m size first marks small aligned low apart room =
     let most = room_for m (λ q. is_placed m q || (q / 8 ^ size == first / 8 ^ size)) size first
@@ -286,7 +296,8 @@ placed_extent m n size first id marks small apart changes splits = record {
       ]
     ]
 
-pub placed_count : (m n : Arena Mark) (size first id : ℕ) → size ≤ 3 → first % 8 ^ size ≡ 0 → first < 512 * m.roots → n.roots ≡ m.roots → ((page : ℕ) → page / 8 ^ size ≡ first / 8 ^ size → IsInNone m page)
+pub placed_count : (m n : Arena Mark) (size first id : ℕ) → size ≤ 3 → first % 8 ^ size ≡ 0 → first < 512 * m.roots → n.roots ≡ m.roots
+    → ((page : ℕ) → page / 8 ^ size ≡ first / 8 ^ size → IsInNone m page)
     → PlacesOnly m n size first (Some id) → placed_pages n ≡ placed_pages m + 8 ^ size
 placed_count m n size first id small aligned low roots apart ids =
     one_more m n size first small aligned low roots
@@ -295,7 +306,8 @@ placed_count m n size first id small aligned low roots apart ids =
 
 -- ---- an extent is taken out, once none of its pages is populated
 
-pub removed_extent : (m n : Arena Mark) (size first : ℕ) → AreMarks m → size ≤ 3 → ((page : ℕ) → page / 8 ^ size ≡ first / 8 ^ size → is_populated m page ≡ false)
+pub removed_extent : (m n : Arena Mark) (size first : ℕ) → AreMarks m → size ≤ 3
+    → ((page : ℕ) → page / 8 ^ size ≡ first / 8 ^ size → is_populated m page ≡ false)
     → ChangesOnly m n size first None → SplitsAreRowsBelow n → Placed m n size first None
 removed_extent m n size first marks small empty changes splits = record {
   marks = marks_with_ids m n marks (swapped m n size first None marks swaps placed_after (λ a b other x y p q. marks.apart a b other x y (was a other x p) (was b other y q)));
@@ -335,7 +347,8 @@ removed_extent m n size first marks small empty changes splits = record {
         let before = sym (pages other) ∙ is in
         placed_alike m n other (beside m n size first None ids other (λ same. false≢true (sym (empty other same) ∙ before))) ∙ marks.placed other before
 
-pub removed_count : (m n : Arena Mark) (size first : ℕ) → AreMarks m → size ≤ 3 → first % 8 ^ size ≡ 0 → first < 512 * m.roots → n.roots ≡ m.roots → is_some (id_of m size first) ≡ true
+pub removed_count : (m n : Arena Mark) (size first : ℕ) → AreMarks m → size ≤ 3 → first % 8 ^ size ≡ 0 → first < 512 * m.roots
+    → n.roots ≡ m.roots → is_some (id_of m size first) ≡ true
     → PlacesOnly m n size first None → placed_pages m ≡ placed_pages n + 8 ^ size
 removed_count m n size first marks small aligned low roots has ids =
     one_more n m size first small aligned (omega (arith, low, roots)) (sym roots)
@@ -357,21 +370,25 @@ removed_count m n size first marks small aligned low roots has ids =
 -- ---- what a walk finds
 
 -- the id at what a walk sees
-pub spot_id : (m : Arena Mark) (height page : ℕ) (s : Spot Mark) (mark : Mark) → height ≤ 3 → s ≡ spot_of m height page → mark ≡ unwrap_or s.value unmarked → mark.id ≡ id_of m (3 - height) page
+pub spot_id : (m : Arena Mark) (height page : ℕ) (s : Spot Mark) (mark : Mark) → height ≤ 3 → s ≡ spot_of m height page
+    → mark ≡ unwrap_or s.value unmarked → mark.id ≡ id_of m (3 - height) page
 unfolding id_of mark_of row
 spot_id m height page s mark small seen is =
     let back : 3 - (3 - height) ≡ height = omega arith in
     ap (λ v. v.id) is ∙ (ap (λ s. (let v : Mark = unwrap_or s.value unmarked in v.id)) seen ∙ ap (λ h. (let v : Mark = unwrap_or (spot_of m h page).value unmarked in v.id)) (sym back))
 
 -- what is split has a placed page
-pub split_is_placed : (m : Arena Mark) (size page : ℕ) → AreMarks m → size ≤ 3 → is_split m size page ≡ true → (other : ℕ) × (other / 8 ^ size ≡ page / 8 ^ size) × (is_placed m other ≡ true)
+pub split_is_placed : (m : Arena Mark) (size page : ℕ) → AreMarks m → size ≤ 3 → is_split m size page ≡ true
+    → (other : ℕ) × (other / 8 ^ size ≡ page / 8 ^ size) × (is_placed m other ≡ true)
 split_is_placed m size page marks small split =
     let below = marks.splits.below size page small split in
     let q = rows_placed m marks below.0 below.1 (omega (arith, below.2)) below.4 in
     (q.0, coarser below.0 size q.0 below.1 (omega (arith, below.2)) small q.1 ∙ below.3, q.2)
 
 -- where no extent round a page is placed and it isn't split, none has a page of it
-pub none_met : (m : Arena Mark) (size page : ℕ) → AreMarks m → size ≤ 3 → ((whole : ℕ) → size ≤ whole → whole ≤ 3 → id_of m whole page ≡ None) → is_split m size page ≡ false → (other : ℕ) → other / 8 ^ size ≡ page / 8 ^ size → IsInNone m other
+pub none_met : (m : Arena Mark) (size page : ℕ) → AreMarks m → size ≤ 3
+    → ((whole : ℕ) → size ≤ whole → whole ≤ 3 → id_of m whole page ≡ None) → is_split m size page ≡ false → (other : ℕ)
+    → other / 8 ^ size ≡ page / 8 ^ size → IsInNone m other
 none_met m size page marks small none split other same part less = elim (some_or_none (id_of m part other)) [
   | inl none_there ↦ none_there
   | inr some ↦ elim (cases_lt part size) [
@@ -381,12 +398,15 @@ none_met m size page marks small none split other same part less = elim (some_or
 ]
 
 -- an id that was found is the one of a placed extent
-pub found : (m : Arena Mark) (size page : ℕ) (id : Option ℕ) → size ≤ 3 → id ≡ id_of m size page → is_some id ≡ true → MatchOption id (IsInNone m page) (λ n. (k : ℕ) × (k ≤ 3) × (id_of m k page ≡ Some n))
+pub found : (m : Arena Mark) (size page : ℕ) (id : Option ℕ) → size ≤ 3 → id ≡ id_of m size page → is_some id ≡ true
+    → MatchOption id (IsInNone m page) (λ n. (k : ℕ) × (k ≤ 3) × (id_of m k page ≡ Some n))
 found m size page None small is has = absurd (false≢true has)
 found m size page (Some n) small is has = (size, small, sym is)
 
 -- and so is the last one, where no larger extent round the page is placed
-pub found_last : (m : Arena Mark) (page : ℕ) (id : Option ℕ) → id ≡ id_of m 0 page → ((size : ℕ) → 0 < size → size ≤ 3 → id_of m size page ≡ None) → MatchOption id (IsInNone m page) (λ n. (k : ℕ) × (k ≤ 3) × (id_of m k page ≡ Some n))
+pub found_last : (m : Arena Mark) (page : ℕ) (id : Option ℕ) → id ≡ id_of m 0 page
+    → ((size : ℕ) → 0 < size → size ≤ 3 → id_of m size page ≡ None)
+    → MatchOption id (IsInNone m page) (λ n. (k : ℕ) × (k ≤ 3) × (id_of m k page ≡ Some n))
 found_last m page (Some n) is none = (0, omega arith, sym is)
 found_last m page None is none = all
   where
@@ -395,7 +415,8 @@ found_last m page None is none = all
     all (suc size) small = none (suc size) (omega arith) small
 
 -- one size more of which none round the page is placed
-pub none_further : (m : Arena Mark) (page below : ℕ) (id : Option ℕ) → below < 3 → id ≡ id_of m (3 - below) page → is_some id ≡ false → ((size : ℕ) → 3 < size + below → size ≤ 3 → id_of m size page ≡ None)
+pub none_further : (m : Arena Mark) (page below : ℕ) (id : Option ℕ) → below < 3 → id ≡ id_of m (3 - below) page → is_some id ≡ false
+    → ((size : ℕ) → 3 < size + below → size ≤ 3 → id_of m size page ≡ None)
     → (size : ℕ) → 3 < size + (below + 1) → size ≤ 3 → id_of m size page ≡ None
 none_further m page below id low is fails none size far small = elim (cases_eq size (3 - below)) [
   | inl here ↦ ap (λ k. id_of m k page) here ∙ (sym is ∙ none_from_is_some id fails)
@@ -410,7 +431,8 @@ same_count m n roots ids =
     ∙ count-agree (is_placed n) (is_placed m) 0 (512 * m.roots) (λ page _ _. placed_alike m n page (λ size. ids size page))
 
 -- whether what a walk sees is split
-pub spot_split : (m : Arena Mark) (size height page : ℕ) (s : Spot Mark) (b : Bool) → height ≡ 3 - size → s ≡ spot_of m height page → b ≡ is_some s.node → b ≡ is_split m size page
+pub spot_split : (m : Arena Mark) (size height page : ℕ) (s : Spot Mark) (b : Bool) → height ≡ 3 - size → s ≡ spot_of m height page
+    → b ≡ is_some s.node → b ≡ is_split m size page
 unfolding is_split
 spot_split m size height page s b at seen is = is ∙ (ap (λ s. is_some s.node) seen ∙ ap (λ h. is_some (spot_of m h page).node) at)
 
@@ -459,7 +481,8 @@ aligned_at (suc (suc (suc zero))) space first e = (omega arith, omega (arith, e.
 aligned_at (suc (suc (suc (suc size)))) space first e = absurd (omega (arith, e.0))
 
 -- what the bits of a mark say
-pub some_says : (m : Arena Mark) (size page : ℕ) → AreMarks m → 0 < size → size ≤ 3 → (bit_at (mark_of m size page).some (page / 8 ^ (size - 1) % 8) ≡ 1) ↔ SomePopulated m (size - 1) page
+pub some_says : (m : Arena Mark) (size page : ℕ) → AreMarks m → 0 < size → size ≤ 3
+    → (bit_at (mark_of m size page).some (page / 8 ^ (size - 1) % 8) ≡ 1) ↔ SomePopulated m (size - 1) page
 some_says m zero page marks low small = absurd (omega arith)
 some_says m (suc zero) page marks low small =
     let part : page / 1 % 8 ≡ page % 8 = omega arith in (
@@ -474,7 +497,8 @@ some_says m (suc (suc size)) page marks low small =
       λ q. says.1 (subst (λ v. HasBit v.some) (mark_alike m (suc size) q.0 page (omega arith) q.1) (bits_over m marks (suc size) q.0 (omega arith) (omega arith) q.2)),
     )
 
-pub full_says : (m : Arena Mark) (size page : ℕ) → AreMarks m → 0 < size → size ≤ 3 → (bit_at (mark_of m size page).full (page / 8 ^ (size - 1) % 8) ≡ 1) ↔ AllPopulated m (size - 1) page
+pub full_says : (m : Arena Mark) (size page : ℕ) → AreMarks m → 0 < size → size ≤ 3
+    → (bit_at (mark_of m size page).full (page / 8 ^ (size - 1) % 8) ≡ 1) ↔ AllPopulated m (size - 1) page
 full_says m zero page marks low small = absurd (omega arith)
 full_says m (suc zero) page marks low small =
     let part : page / 1 % 8 ≡ page % 8 = omega arith in

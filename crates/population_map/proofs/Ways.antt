@@ -15,7 +15,9 @@ use Rattle.population_map.proofs.Marks.{mark_alike, bits_over, row_if_bit}
 
 -- ---- three marks are written
 
-pub way_written : (m a b n : Arena Mark) (page : ℕ) (small middle large : Mark) → ChangesOnly m a 1 page (kept small) → ChangesOnly a b 2 page (kept middle) → ChangesOnly b n 3 page (kept large) → SplitsAreRowsBelow n → WritesWay m n page small middle large
+pub way_written : (m a b n : Arena Mark) (page : ℕ) (small middle large : Mark) → ChangesOnly m a 1 page (kept small)
+    → ChangesOnly a b 2 page (kept middle) → ChangesOnly b n 3 page (kept large) → SplitsAreRowsBelow n
+    → WritesWay m n page small middle large
 way_written m a b n page small middle large first second third splits = record {
   splits = splits;
   roots = third.roots ∙ (second.roots ∙ first.roots);
@@ -29,7 +31,8 @@ way_written m a b n page small middle large first second third splits = record {
 }
 
 -- each tree on the way has its rows round pages that pass
-pub rows_in_after : (m n : Arena Mark) (size page : ℕ) (value : Option Mark) (test : ℕ → Bool) → RowsIn m test → ChangesOnly m n size page value → SplitsAreRowsBelow n → test page ≡ true → RowsIn n test
+pub rows_in_after : (m n : Arena Mark) (size page : ℕ) (value : Option Mark) (test : ℕ → Bool) → RowsIn m test
+    → ChangesOnly m n size page value → SplitsAreRowsBelow n → test page ≡ true → RowsIn n test
 rows_in_after m n size page value test rows changes splits passes = record { splits = splits; pages = pages }
   where
     pages : (part other : ℕ) → part ≤ 3 → is_some (row n part other) ≡ true → (q : ℕ) × (q / 8 ^ part ≡ other / 8 ^ part) × (test q ≡ true)
@@ -87,24 +90,29 @@ pub record ChangesPage (m n : Arena Mark) (page : ℕ) (is_in : Bool) (small mid
   pub writes : WritesWay m n page small middle large
   pub asks : Asks m page is_in small middle large
 
-here_8 : (m n : Arena Mark) (page : ℕ) (small middle large : Mark) → WritesWay m n page small middle large → (other : ℕ) → other / 8 ≡ page / 8 → mark_of n 1 other ≡ small
+here_8 : (m n : Arena Mark) (page : ℕ) (small middle large : Mark) → WritesWay m n page small middle large → (other : ℕ)
+    → other / 8 ≡ page / 8 → mark_of n 1 other ≡ small
 unfolding mark_of
 here_8 m n page small middle large writes other same = ap (λ v. unwrap_or v unmarked) (writes.of_8 other same) ∙ kept_mark small
 
-here_64 : (m n : Arena Mark) (page : ℕ) (small middle large : Mark) → WritesWay m n page small middle large → (other : ℕ) → other / 64 ≡ page / 64 → mark_of n 2 other ≡ middle
+here_64 : (m n : Arena Mark) (page : ℕ) (small middle large : Mark) → WritesWay m n page small middle large → (other : ℕ)
+    → other / 64 ≡ page / 64 → mark_of n 2 other ≡ middle
 unfolding mark_of
 here_64 m n page small middle large writes other same = ap (λ v. unwrap_or v unmarked) (writes.of_64 other same) ∙ kept_mark middle
 
-here_512 : (m n : Arena Mark) (page : ℕ) (small middle large : Mark) → WritesWay m n page small middle large → (other : ℕ) → other / 512 ≡ page / 512 → mark_of n 3 other ≡ large
+here_512 : (m n : Arena Mark) (page : ℕ) (small middle large : Mark) → WritesWay m n page small middle large → (other : ℕ)
+    → other / 512 ≡ page / 512 → mark_of n 3 other ≡ large
 unfolding mark_of
 here_512 m n page small middle large writes other same = ap (λ v. unwrap_or v unmarked) (writes.of_512 other same) ∙ kept_mark large
 
-elsewhere : (m n : Arena Mark) (page : ℕ) (small middle large : Mark) → WritesWay m n page small middle large → (size other : ℕ) → size ≤ 3 → (0 < size → other / 8 ^ size ≡ page / 8 ^ size → ⊥) → mark_of n size other ≡ mark_of m size other
+elsewhere : (m n : Arena Mark) (page : ℕ) (small middle large : Mark) → WritesWay m n page small middle large → (size other : ℕ) → size ≤ 3
+    → (0 < size → other / 8 ^ size ≡ page / 8 ^ size → ⊥) → mark_of n size other ≡ mark_of m size other
 unfolding mark_of
 elsewhere m n page small middle large writes size other less apart = ap (λ v. unwrap_or v unmarked) (writes.others size other less apart)
 
 -- the same extents are placed
-pub same_ids : (m n : Arena Mark) (page : ℕ) (is_in : Bool) (small middle large : Mark) → ChangesPage m n page is_in small middle large → (size other : ℕ) → size ≤ 3 → id_of n size other ≡ id_of m size other
+pub same_ids : (m n : Arena Mark) (page : ℕ) (is_in : Bool) (small middle large : Mark) → ChangesPage m n page is_in small middle large
+    → (size other : ℕ) → size ≤ 3 → id_of n size other ≡ id_of m size other
 unfolding id_of
 same_ids m n page is_in small middle large c zero other less = ap (λ v. v.id) (elsewhere m n page small middle large c.writes 0 other less (λ low _. omega (arith, low)))
 same_ids m n page is_in small middle large c (suc zero) other less = elim (cases_eq (other / 8) (page / 8)) [
@@ -130,7 +138,8 @@ placed_alike m n other ids =
     ∙ ap (λ o. is_some (id_of m 0 other) || is_some (id_of m 1 other) || is_some (id_of m 2 other) || is_some o) (ids 3 (omega arith))))
 
 -- the page is populated as was asked, and the others as before
-pub populates : (m n : Arena Mark) (page : ℕ) (is_in : Bool) (small middle large : Mark) → ChangesPage m n page is_in small middle large → PopulatesOnly m n page is_in
+pub populates : (m n : Arena Mark) (page : ℕ) (is_in : Bool) (small middle large : Mark) → ChangesPage m n page is_in small middle large
+    → PopulatesOnly m n page is_in
 unfolding is_populated
 populates m n page is_in small middle large c = record {
   changed = ap (λ v. bit_at v.some (page % 8) == 1) (here_8 m n page small middle large c.writes page refl) ∙ (ap (λ b. b == 1) c.asks.small_some.same ∙ bit_of_test is_in);
@@ -192,7 +201,8 @@ full_after m n page size other low small marks step = elim (cases_eq (other / 8 
 ]
 
 -- the steps from 8 to 64 pages and from 64 to 512
-step_over : (m n : Arena Mark) (page : ℕ) (is_in : Bool) (small middle large : Mark) → ChangesPage m n page is_in small middle large → (size : ℕ) → 0 < size → size < 3 → StepOver m n page size
+step_over : (m n : Arena Mark) (page : ℕ) (is_in : Bool) (small middle large : Mark) → ChangesPage m n page is_in small middle large
+    → (size : ℕ) → 0 < size → size < 3 → StepOver m n page size
 step_over m n page is_in small middle large c zero low less = absurd (omega arith)
 step_over m n page is_in small middle large c (suc zero) low less = record {
   carried = rw (here_8 m n page small middle large c.writes page refl, here_64 m n page small middle large c.writes page refl) c.asks.middle_is;
@@ -211,7 +221,8 @@ abbrev Says : Mark → Type 0
 Says v = (is_some v.id ≡ true) ⊎ (HasBit v.some ⊎ HasBit v.full)
 
 -- a row afterwards says something
-says : (m n : Arena Mark) (page : ℕ) (is_in : Bool) (small middle large : Mark) → AreMarks m → ChangesPage m n page is_in small middle large → (size other : ℕ) → size ≤ 3 → is_some (row n size other) ≡ true
+says : (m n : Arena Mark) (page : ℕ) (is_in : Bool) (small middle large : Mark) → AreMarks m → ChangesPage m n page is_in small middle large
+    → (size other : ℕ) → size ≤ 3 → is_some (row n size other) ≡ true
     → (is_some (id_of n size other) ≡ true) ⊎ (HasBit (mark_of n size other).some ⊎ HasBit (mark_of n size other).full)
 unfolding id_of
 says m n page is_in small middle large marks c size other less has = elim (cases_eq (other / 8 ^ size) (page / 8 ^ size)) [
@@ -231,7 +242,8 @@ says m n page is_in small middle large marks c size other less has = elim (cases
         subst Says (sym (here_512 m n page small middle large c.writes other same)) (kept_says large c.asks.large_is.small.0 c.asks.large_is.small.1 (ap is_some (sym (c.writes.of_512 other same)) ∙ has))
     at (suc (suc (suc (suc size)))) same less has = absurd (omega arith)
 
-pub marks_after : (m n : Arena Mark) (page : ℕ) (is_in : Bool) (small middle large : Mark) → AreMarks m → is_placed m page ≡ true → ChangesPage m n page is_in small middle large → AreMarks n
+pub marks_after : (m n : Arena Mark) (page : ℕ) (is_in : Bool) (small middle large : Mark) → AreMarks m → is_placed m page ≡ true
+    → ChangesPage m n page is_in small middle large → AreMarks n
 marks_after m n page is_in small middle large marks placed c = record {
   splits = c.writes.splits;
   in_use = says m n page is_in small middle large marks c;
@@ -270,7 +282,8 @@ kept_bit v has none = elim (cases_Bool (is_none v.id && v.some == 0 && v.full ==
     zero_of false b d h f = absurd (false≢true h)
 
 -- A mark goes only where it was: a page is populated that wasn't, or evicted that was.
-pub may_go : (m : Arena Mark) (page : ℕ) (is_in : Bool) (small middle large : Mark) → AreMarks m → is_populated m page ≡ not is_in → Asks m page is_in small middle large
+pub may_go : (m : Arena Mark) (page : ℕ) (is_in : Bool) (small middle large : Mark) → AreMarks m → is_populated m page ≡ not is_in
+    → Asks m page is_in small middle large
     → (kept small ≡ None → is_some (row m 1 page) ≡ true) × (kept middle ≡ None → is_some (row m 2 page) ≡ true) × (kept large ≡ None → is_some (row m 3 page) ≡ true)
 may_go m page false small middle large marks before asks =
     (λ _. row_if_bit m 1 page (bits_over m marks 1 page (omega arith) (omega arith) before), λ _. row_if_bit m 2 page (bits_over m marks 2 page (omega arith) (omega arith) before), λ _. row_if_bit m 3 page (bits_over m marks 3 page (omega arith) (omega arith) before))

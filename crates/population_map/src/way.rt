@@ -1,9 +1,9 @@
 //! The marks over a page.
 
-ghost use Rattle.std.specs.Prelude.{◌≡◌, ℕ, ◌+◌, ◌*◌, ◌/◌, ◌^◌, ◌<◌, ◌≤◌, true, None, not, is_some, unwrap_or};
+ghost use Rattle.std.specs.Prelude.{◌≡◌, ◌+◌, ◌*◌, ◌/◌, ◌<◌, ◌≤◌, true, None, not, is_some, unwrap_or};
 ghost use Rattle.extent_tree.specs.Counts.{splits_with};
 ghost use Rattle.extent_tree.specs.Rows.{ChangesOnly, SplitsAreRowsBelow, row};
-ghost use Rattle.population_map.specs.Kept.{AreMarks, WritesWay, kept};
+ghost use Rattle.population_map.specs.Kept.{AreMarks, kept};
 ghost use Rattle.population_map.specs.Populations.{PopulatesOnly, SameRoom, is_placed, is_populated, mark_of, placed_pages, unmarked};
 
 use crate::mark::Mark;

@@ -55,7 +55,8 @@ behind_none : (s r : Region) (p : ℕ) → end_of s ≤ r.first → has_page p r
 behind_none s r p h has = has_page-end p s (omega (arith, (in_bounds r.first r.length p has).0))
 
 -- each page of a region finds it
-pub found_same : (low : ℕ) (rs : List Region) → LieFrom low rs → (page : ℕ) (r : Region) → region_at rs page ≡ Some r → (p : ℕ) → has_page p r ≡ true → region_at rs p ≡ Some r
+pub found_same : (low : ℕ) (rs : List Region) → LieFrom low rs → (page : ℕ) (r : Region) → region_at rs page ≡ Some r → (p : ℕ)
+    → has_page p r ≡ true → region_at rs p ≡ Some r
 found_same low [] l page r h p has = absurd (none-some r h)
 found_same low (s ∷ rs) l page r h p has =
     elim (cases_Bool (has_page page s)) [
@@ -75,7 +76,8 @@ swap_tests true false x y z h = refl
 swap_tests false true x y z h = refl
 swap_tests false false x y z h = refl
 
-pub found_with : (new : Region) (rs : List Region) (p : ℕ) → list_any (meets_range new.first new.length) rs ≡ false → region_at (with_region new rs) p ≡ (if has_page p new then Some new else region_at rs p)
+pub found_with : (new : Region) (rs : List Region) (p : ℕ) → list_any (meets_range new.first new.length) rs ≡ false
+    → region_at (with_region new rs) p ≡ (if has_page p new then Some new else region_at rs p)
 found_with new [] p m = refl
 found_with new (r ∷ rs) p m =
     let parts = or_parts (meets_range new.first new.length r) (list_any (meets_range new.first new.length) rs) m in
@@ -87,7 +89,8 @@ found_with new (r ∷ rs) p m =
           ∙ swap_tests (has_page p new) (has_page p r) _ _ _ (λ has. no_common new.first new.length p r parts.0 has)
     ]
 
-pub found_without : (low : ℕ) (rs : List Region) → LieFrom low rs → (page : ℕ) (r : Region) → region_at rs page ≡ Some r → (p : ℕ) → region_at (without_region page rs) p ≡ (if has_page p r then None else region_at rs p)
+pub found_without : (low : ℕ) (rs : List Region) → LieFrom low rs → (page : ℕ) (r : Region) → region_at rs page ≡ Some r → (p : ℕ)
+    → region_at (without_region page rs) p ≡ (if has_page p r then None else region_at rs p)
 found_without low [] l page r h p = absurd (none-some r h)
 found_without low (s ∷ rs) l page r h p =
     elim (cases_Bool (has_page page s)) [
@@ -119,7 +122,8 @@ has_grown by p r h =
       | inr hasnt ↦ hasnt
     ]
 
-pub found_grown : (low : ℕ) (rs : List Region) → LieFrom low rs → (page by : ℕ) (r : Region) → region_at rs page ≡ Some r → (p : ℕ) → region_at (grown_regions page by rs) p ≡ (if has_page p (grown by r) then Some (grown by r) else region_at rs p)
+pub found_grown : (low : ℕ) (rs : List Region) → LieFrom low rs → (page by : ℕ) (r : Region) → region_at rs page ≡ Some r → (p : ℕ)
+    → region_at (grown_regions page by rs) p ≡ (if has_page p (grown by r) then Some (grown by r) else region_at rs p)
 found_grown low [] l page by r h p = absurd (none-some r h)
 found_grown low (s ∷ rs) l page by r h p =
     elim (cases_Bool (has_page page s)) [
@@ -142,14 +146,16 @@ found_grown low (s ∷ rs) l page by r h p =
     ]
 
 -- a page without a region after a map or a growth had none before
-pub mapped-none : (new : Region) (rs : List Region) (p : ℕ) → list_any (meets_range new.first new.length) rs ≡ false → region_at (with_region new rs) p ≡ None → region_at rs p ≡ None
+pub mapped-none : (new : Region) (rs : List Region) (p : ℕ) → list_any (meets_range new.first new.length) rs ≡ false
+    → region_at (with_region new rs) p ≡ None → region_at rs p ≡ None
 mapped-none new rs p m h =
     elim (cases_Bool (has_page p new)) [
       | inl has ↦ none_in new.first new.length p rs m has
       | inr hasnt ↦ sym (found_with new rs p m ∙ cond-false _ _ _ hasnt) ∙ h
     ]
 
-pub grown-none : (low : ℕ) (rs : List Region) → LieFrom low rs → (page by : ℕ) (r : Region) → region_at rs page ≡ Some r → (p : ℕ) → region_at (grown_regions page by rs) p ≡ None → region_at rs p ≡ None
+pub grown-none : (low : ℕ) (rs : List Region) → LieFrom low rs → (page by : ℕ) (r : Region) → region_at rs page ≡ Some r → (p : ℕ)
+    → region_at (grown_regions page by rs) p ≡ None → region_at rs p ≡ None
 grown-none low rs l page by r at p h =
     let is = found_grown low rs l page by r at p in
     elim (cases_Bool (has_page p (grown by r))) [
@@ -170,7 +176,8 @@ pub grown-new : (by p : ℕ) (r : Region) → in_range (end_of r) by p ≡ true 
 grown-new by p r new = let b = in_bounds (end_of r) by p new in bounds_in r.first (r.length + by) p (omega arith) (omega arith)
 
 -- each page of a range within a region finds it
-pub found_within : (low : ℕ) (rs : List Region) → LieFrom low rs → (page len : ℕ) (r : Region) → region_at rs page ≡ Some r → page + len ≤ end_of r → (p : ℕ) → in_range page len p ≡ true → region_at rs p ≡ Some r
+pub found_within : (low : ℕ) (rs : List Region) → LieFrom low rs → (page len : ℕ) (r : Region) → region_at rs page ≡ Some r
+    → page + len ≤ end_of r → (p : ℕ) → in_range page len p ≡ true → region_at rs p ≡ Some r
 found_within low rs l page len r at within p inside =
     let b = in_bounds page len p inside in
     found_same low rs l page r at p (bounds_in r.first r.length p (omega (arith, (in_bounds r.first r.length page (found_has rs page r at)).0)) (omega arith))

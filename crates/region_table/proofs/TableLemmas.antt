@@ -55,7 +55,8 @@ first-ge low [] l j d h = absurd (omega arith)
 first-ge low (r ∷ rs) l zero d h = l.0
 first-ge low (r ∷ rs) l (suc j) d h = omega (arith, l.0, l.1, first-ge (end_of r) rs l.2 j d (omega arith))
 
-pub end-le : (low : ℕ) (rs : List Region) → LieFrom low rs → (j : ℕ) (d : Region) → j < length rs → (1 ≤ (get_or rs j d).length) × (end_of (get_or rs j d) ≤ 1048576)
+pub end-le : (low : ℕ) (rs : List Region) → LieFrom low rs → (j : ℕ) (d : Region) → j < length rs
+    → (1 ≤ (get_or rs j d).length) × (end_of (get_or rs j d) ≤ 1048576)
 end-le low [] l j d h = absurd (omega arith)
 end-le low (r ∷ rs) l zero d h = (l.1, LieFrom-within (end_of r) rs l.2)
 end-le low (r ∷ rs) l (suc j) d h = end-le (end_of r) rs l.2 j d (omega arith)
@@ -79,7 +80,8 @@ begins_by page r = leb r.first page
 pub begins_by-below : (page : ℕ) (rs : List Region) (j : ℕ) (d : Region) → j < prefix_len (begins_by page) rs → (get_or rs j d).first ≤ page
 begins_by-below page rs j d h = leb-true _ _ (prefix_len_passes (begins_by page) rs j d h)
 
-pub begins_by-above : (low : ℕ) (rs : List Region) → LieFrom low rs → (page j : ℕ) (d : Region) → prefix_len (begins_by page) rs ≤ j → j < length rs → page < (get_or rs j d).first
+pub begins_by-above : (low : ℕ) (rs : List Region) → LieFrom low rs → (page j : ℕ) (d : Region) → prefix_len (begins_by page) rs ≤ j
+    → j < length rs → page < (get_or rs j d).first
 begins_by-above low rs l page j d h k =
     let n = prefix_len (begins_by page) rs in
     let stop = leb-false _ _ (prefix_len_stops (begins_by page) rs d (omega arith)) in
@@ -112,7 +114,8 @@ new-behind : (new r : Region) → 1 ≤ new.length → r.first ≤ new.first →
 new-behind new r some behind apart = omega arith
 
 -- the one place at which a test passes, and none
-pub position-is : (p : Region → Bool) (xs : List Region) (i : ℕ) (d : Region) → i < length xs → ((k : ℕ) → k < i → p (get_or xs k d) ≡ false) → p (get_or xs i d) ≡ true → position p xs ≡ Some i
+pub position-is : (p : Region → Bool) (xs : List Region) (i : ℕ) (d : Region) → i < length xs
+    → ((k : ℕ) → k < i → p (get_or xs k d) ≡ false) → p (get_or xs i d) ≡ true → position p xs ≡ Some i
 position-is p xs i d h before here =
     let e = position_or_len_is p xs i d (omega arith) before (λ _. here) in
     cond-true _ _ _ (lt-ltb (position_or_len p xs) (length xs) (omega (arith, e))) ∙ ap Some e
@@ -123,7 +126,8 @@ position-is_none p xs d none =
     cond-false _ _ _ (le-ltb (position_or_len p xs) (length xs) (omega (arith, e)))
 
 -- where no region that begins by the page has it, none has it
-pub place-none : (low : ℕ) (rs : List Region) → LieFrom low rs → (page n : ℕ) (d : Region) → n ≡ prefix_len (begins_by page) rs → ((k : ℕ) → k < n → end_of (get_or rs k d) ≤ page) → position (has_page page) rs ≡ None
+pub place-none : (low : ℕ) (rs : List Region) → LieFrom low rs → (page n : ℕ) (d : Region) → n ≡ prefix_len (begins_by page) rs
+    → ((k : ℕ) → k < n → end_of (get_or rs k d) ≤ page) → position (has_page page) rs ≡ None
 place-none low rs l page n d e ended =
     position-is_none (has_page page) rs d (λ k within.
     elim (cases_lt k n) [
@@ -132,17 +136,20 @@ place-none low rs l page n d e ended =
     ])
 
 -- of those that begin by the page, only the last can have it
-pub last-begun : (low : ℕ) (rs : List Region) → LieFrom low rs → (page i k : ℕ) (d : Region) → i + 1 ≡ prefix_len (begins_by page) rs → k < i → end_of (get_or rs k d) ≤ page
+pub last-begun : (low : ℕ) (rs : List Region) → LieFrom low rs → (page i k : ℕ) (d : Region) → i + 1 ≡ prefix_len (begins_by page) rs
+    → k < i → end_of (get_or rs k d) ≤ page
 last-begun low rs l page i k d e h =
     omega (arith, apart low rs l k i d h (omega (arith, prefix_len-le-length (begins_by page) rs)), begins_by-below page rs i d (omega arith))
 
-pub place-some : (low : ℕ) (rs : List Region) → LieFrom low rs → (page i : ℕ) (d : Region) → i + 1 ≡ prefix_len (begins_by page) rs → page < end_of (get_or rs i d) → position (has_page page) rs ≡ Some i
+pub place-some : (low : ℕ) (rs : List Region) → LieFrom low rs → (page i : ℕ) (d : Region) → i + 1 ≡ prefix_len (begins_by page) rs
+    → page < end_of (get_or rs i d) → position (has_page page) rs ≡ Some i
 place-some low rs l page i d e has =
     position-is (has_page page) rs i d (omega (arith, prefix_len-le-length (begins_by page) rs))
     (λ k h. has_page-end page (get_or rs k d) (last-begun low rs l page i k d e h))
     (has_page-within page (get_or rs i d) (begins_by-below page rs i d (omega arith)) has)
 
-pub place-ended : (low : ℕ) (rs : List Region) → LieFrom low rs → (page i : ℕ) (d : Region) → i + 1 ≡ prefix_len (begins_by page) rs → end_of (get_or rs i d) ≤ page → position (has_page page) rs ≡ None
+pub place-ended : (low : ℕ) (rs : List Region) → LieFrom low rs → (page i : ℕ) (d : Region) → i + 1 ≡ prefix_len (begins_by page) rs
+    → end_of (get_or rs i d) ≤ page → position (has_page page) rs ≡ None
 place-ended low rs l page i d e ended =
     place-none low rs l page (i + 1) d e (λ k h.
     elim (cases_lt k i) [
@@ -181,17 +188,23 @@ meets-none low (r ∷ rs) l first len h =
     or_from _ _ (and_left _ _ (le-ltb r.first (first + len) (omega (arith, l.0)))) (meets-none (end_of r) rs l.2 first len (omega (arith, l.0)))
 
 -- the first region of the list begins above the page: nothing behind it tells
-meets-step_above : (page len : ℕ) (r : Region) (m : Bool) (f : Option Region) (n : ℕ) → page < r.first → 1 ≤ r.length → f ≡ None → (page + len ≤ end_of r → m ≡ false) → (meets_range page len r || m) ≡ (is_some (cond (has_page page r) (Some r) f) || ltb (cond (ltb page r.first) r.first n) (page + len))
+meets-step_above : (page len : ℕ) (r : Region) (m : Bool) (f : Option Region) (n : ℕ) → page < r.first → 1 ≤ r.length → f ≡ None
+    → (page + len ≤ end_of r → m ≡ false)
+    → (meets_range page len r || m) ≡ (is_some (cond (has_page page r) (Some r) f) || ltb (cond (ltb page r.first) r.first n) (page + len))
 meets-step_above page len r m f n h k none past = grind (arith, nat_tests)
 
-meets-step_within : (page len : ℕ) (r : Region) (m : Bool) (f : Option Region) (n : ℕ) → r.first ≤ page → page < end_of r → 1 ≤ len → (meets_range page len r || m) ≡ (is_some (cond (has_page page r) (Some r) f) || ltb (cond (ltb page r.first) r.first n) (page + len))
+meets-step_within : (page len : ℕ) (r : Region) (m : Bool) (f : Option Region) (n : ℕ) → r.first ≤ page → page < end_of r → 1 ≤ len
+    → (meets_range page len r || m) ≡ (is_some (cond (has_page page r) (Some r) f) || ltb (cond (ltb page r.first) r.first n) (page + len))
 meets-step_within page len r m f n h k some = grind (arith, nat_tests)
 
-meets-step_below : (page len : ℕ) (r : Region) (m : Bool) (f : Option Region) (n : ℕ) → end_of r ≤ page → m ≡ (is_some f || ltb n (page + len)) → (meets_range page len r || m) ≡ (is_some (cond (has_page page r) (Some r) f) || ltb (cond (ltb page r.first) r.first n) (page + len))
+meets-step_below : (page len : ℕ) (r : Region) (m : Bool) (f : Option Region) (n : ℕ) → end_of r ≤ page
+    → m ≡ (is_some f || ltb n (page + len))
+    → (meets_range page len r || m) ≡ (is_some (cond (has_page page r) (Some r) f) || ltb (cond (ltb page r.first) r.first n) (page + len))
 meets-step_below page len r m f n h e = grind (arith, nat_tests)
 
 -- a region has one of the pages exactly where one has the first of them, or the next one begins before they end
-pub meets-is : (low : ℕ) (rs : List Region) → LieFrom low rs → (page len : ℕ) → 1 ≤ len → page + len ≤ 1048576 → list_any (meets_range page len) rs ≡ (is_some (find (has_page page) rs) || ltb (next_start rs page) (page + len))
+pub meets-is : (low : ℕ) (rs : List Region) → LieFrom low rs → (page len : ℕ) → 1 ≤ len → page + len ≤ 1048576
+    → list_any (meets_range page len) rs ≡ (is_some (find (has_page page) rs) || ltb (next_start rs page) (page + len))
 meets-is low [] l page len some within = sym (le-ltb 1048576 (page + len) within)
 meets-is low (r ∷ rs) l page len some within =
     elim (cases_lt page r.first) [
@@ -203,7 +216,8 @@ meets-is low (r ∷ rs) l page len some within =
     ]
 
 -- the next region above the page is the one behind all that begin by it
-pub next_start-at_some : (rs : List Region) (page i : ℕ) (d : Region) → i ≡ prefix_len (begins_by page) rs → i < length rs → next_start rs page ≡ (get_or rs i d).first
+pub next_start-at_some : (rs : List Region) (page i : ℕ) (d : Region) → i ≡ prefix_len (begins_by page) rs → i < length rs
+    → next_start rs page ≡ (get_or rs i d).first
 next_start-at_some [] page i d e h = absurd (omega arith)
 next_start-at_some (r ∷ rs) page zero d e h =
     cond-true _ _ _ (lt-ltb page r.first (leb-false r.first page (prefix_len-zero (begins_by page) r rs (sym e))))
@@ -231,7 +245,8 @@ with_region-insert new (r ∷ rs) (suc i) e =
     cond-false _ _ _ (le-ltb new.first r.first (leb-true r.first new.first begun.0)) ∙ ap (λ xs. r ∷ xs) (with_region-insert new rs i (sym begun.1))
 
 -- and with it the regions lie one behind another
-pub LieFrom-with_region : (low : ℕ) (new : Region) (rs : List Region) → LieFrom low rs → low ≤ new.first → 1 ≤ new.length → end_of new ≤ 1048576 → list_any (meets_range new.first new.length) rs ≡ false → LieFrom low (with_region new rs)
+pub LieFrom-with_region : (low : ℕ) (new : Region) (rs : List Region) → LieFrom low rs → low ≤ new.first → 1 ≤ new.length
+    → end_of new ≤ 1048576 → list_any (meets_range new.first new.length) rs ≡ false → LieFrom low (with_region new rs)
 LieFrom-with_region low new [] l above some within free = (above, some, within)
 LieFrom-with_region low new (r ∷ rs) l above some within free =
     let parts = or_parts _ _ free in
@@ -273,12 +288,14 @@ grown_regions-none low (r ∷ rs) l page by h =
     grown-cons (grown_region page by) r r rs rs (cond-false _ _ _ (has_page-first page r (omega (arith, l.0)))) (grown_regions-none (end_of r) rs l.2 page by (omega (arith, l.0)))
 
 -- the page of a later region is behind the first
-pub page-behind : (r : Region) (rs : List Region) → LieFrom (end_of r) rs → (page i : ℕ) (d : Region) → i < length rs → has_page page (get_or rs i d) ≡ true → end_of r ≤ page
+pub page-behind : (r : Region) (rs : List Region) → LieFrom (end_of r) rs → (page i : ℕ) (d : Region) → i < length rs
+    → has_page page (get_or rs i d) ≡ true → end_of r ≤ page
 page-behind r rs l page i d h has =
     omega (arith, first-ge (end_of r) rs l i d h, leb-true (get_or rs i d).first page ((and_parts _ _ has).0))
 
 -- only the region at the place goes, or grows
-pub without_region-at : (low : ℕ) (rs : List Region) → LieFrom low rs → (page i : ℕ) (d : Region) → i < length rs → has_page page (get_or rs i d) ≡ true → without_region page rs ≡ remove rs i
+pub without_region-at : (low : ℕ) (rs : List Region) → LieFrom low rs → (page i : ℕ) (d : Region) → i < length rs
+    → has_page page (get_or rs i d) ≡ true → without_region page rs ≡ remove rs i
 without_region-at low [] l page i d h has = absurd (omega arith)
 without_region-at low (r ∷ rs) l page zero d h has =
     cond-false _ _ _ (not_from_true _ has) ∙ without_region-none (end_of r) rs l.2 page (ltb-true page (end_of r) ((and_parts _ _ has).1))
@@ -288,7 +305,8 @@ without_region-at low (r ∷ rs) l page (suc i) d h has =
 abbrev pub longer : ℕ → Region → Region
 longer by r = record { first = r.first; length = r.length + by; kind = r.kind; rights = r.rights }
 
-pub grown_regions-at : (low : ℕ) (rs : List Region) → LieFrom low rs → (page by i : ℕ) (d : Region) → i < length rs → has_page page (get_or rs i d) ≡ true → grown_regions page by rs ≡ set rs i (longer by (get_or rs i d))
+pub grown_regions-at : (low : ℕ) (rs : List Region) → LieFrom low rs → (page by i : ℕ) (d : Region) → i < length rs
+    → has_page page (get_or rs i d) ≡ true → grown_regions page by rs ≡ set rs i (longer by (get_or rs i d))
 grown_regions-at low [] l page by i d h has = absurd (omega arith)
 grown_regions-at low (r ∷ rs) l page by zero d h has =
     grown-cons (grown_region page by) r (longer by r) rs rs (cond-true _ _ _ has) (grown_regions-none (end_of r) rs l.2 page by (ltb-true page (end_of r) ((and_parts _ _ has).1)))
@@ -296,13 +314,16 @@ grown_regions-at low (r ∷ rs) l page by (suc i) d h has =
     grown-cons (grown_region page by) r r rs (set rs i (longer by (get_or rs i d))) (cond-false _ _ _ (has_page-end page r (page-behind r rs l.2 page i d (omega arith) has))) (grown_regions-at (end_of r) rs l.2 page by i d (omega arith) has)
 
 -- what begins behind a free range lies from its end on
-pub LieFrom-free : (low by : ℕ) (rs : List Region) → LieFrom low rs → 1 ≤ by → low + by ≤ 1048576 → list_any (meets_range low by) rs ≡ false → LieFrom (low + by) rs
+pub LieFrom-free : (low by : ℕ) (rs : List Region) → LieFrom low rs → 1 ≤ by → low + by ≤ 1048576 → list_any (meets_range low by) rs ≡ false
+    → LieFrom (low + by) rs
 LieFrom-free low by [] l some within free = within
 LieFrom-free low by (r ∷ rs) l some within free =
     (range-before low by r l.0 l.1 (apart_from_meets low by r (or_parts _ _ free).0), l.1, l.2)
 
 -- with a region grown by pages that none has, the regions lie one behind another
-pub LieFrom-longer : (low : ℕ) (rs : List Region) → LieFrom low rs → (i by : ℕ) (d : Region) → i < length rs → 1 ≤ by → end_of (get_or rs i d) + by ≤ 1048576 → list_any (meets_range (end_of (get_or rs i d)) by) rs ≡ false → LieFrom low (set rs i (longer by (get_or rs i d)))
+pub LieFrom-longer : (low : ℕ) (rs : List Region) → LieFrom low rs → (i by : ℕ) (d : Region) → i < length rs → 1 ≤ by
+    → end_of (get_or rs i d) + by ≤ 1048576 → list_any (meets_range (end_of (get_or rs i d)) by) rs ≡ false
+    → LieFrom low (set rs i (longer by (get_or rs i d)))
 LieFrom-longer low [] l i by d h some within free = absurd (omega arith)
 LieFrom-longer low (r ∷ rs) l zero by d h some within free =
     let P : ℕ → Type 0 = λ n. LieFrom n rs in
@@ -311,13 +332,16 @@ LieFrom-longer low (r ∷ rs) l (suc i) by d h some within free =
     (l.0, l.1, LieFrom-longer (end_of r) rs l.2 i by d (omega arith) some within ((or_parts _ _ free).1))
 
 -- the table with a region more, without one, and with one grown
-pub IsTable-with_region : (rs : List Region) (new : Region) (i : ℕ) → IsTable rs → 1 ≤ new.length → end_of new ≤ 1048576 → list_any (meets_range new.first new.length) rs ≡ false → length rs < 64 → i ≡ prefix_len (begins_by new.first) rs → IsTable (with_region new rs)
+pub IsTable-with_region : (rs : List Region) (new : Region) (i : ℕ) → IsTable rs → 1 ≤ new.length → end_of new ≤ 1048576
+    → list_any (meets_range new.first new.length) rs ≡ false → length rs < 64 → i ≡ prefix_len (begins_by new.first) rs
+    → IsTable (with_region new rs)
 IsTable-with_region rs new i t some within free room e = record {
   in_order = LieFrom-with_region 0 new rs t.in_order (omega arith) some within free;
   at_most = rw (with_region-insert new rs i e) (omega (arith, length-insert rs i new (omega (arith, prefix_len-le-length (begins_by new.first) rs))));
 }
 
-pub IsTable-without_region : (rs : List Region) (page i : ℕ) → IsTable rs → position (has_page page) rs ≡ Some i → (d : Region) → (without_region page rs ≡ remove rs i) × IsTable (without_region page rs)
+pub IsTable-without_region : (rs : List Region) (page i : ℕ) → IsTable rs → position (has_page page) rs ≡ Some i → (d : Region)
+    → (without_region page rs ≡ remove rs i) × IsTable (without_region page rs)
 IsTable-without_region rs page i t e d =
     let at = position-Some (has_page page) rs i d e in
     let is = without_region-at 0 rs t.in_order page i d at.0 at.1 in (
@@ -328,7 +352,9 @@ IsTable-without_region rs page i t e d =
       },
     )
 
-pub IsTable-grown : (rs : List Region) (page by i : ℕ) (d : Region) → IsTable rs → position (has_page page) rs ≡ Some i → 1 ≤ by → end_of (get_or rs i d) + by ≤ 1048576 → list_any (meets_range (end_of (get_or rs i d)) by) rs ≡ false → (grown_regions page by rs ≡ set rs i (longer by (get_or rs i d))) × IsTable (grown_regions page by rs)
+pub IsTable-grown : (rs : List Region) (page by i : ℕ) (d : Region) → IsTable rs → position (has_page page) rs ≡ Some i → 1 ≤ by
+    → end_of (get_or rs i d) + by ≤ 1048576 → list_any (meets_range (end_of (get_or rs i d)) by) rs ≡ false
+    → (grown_regions page by rs ≡ set rs i (longer by (get_or rs i d))) × IsTable (grown_regions page by rs)
 IsTable-grown rs page by i d t e some within free =
     let at = position-Some (has_page page) rs i d e in
     let is = grown_regions-at 0 rs t.in_order page by i d at.0 at.1 in (

@@ -13,7 +13,8 @@ use Rattle.pager_model.proofs.Lists.{get_or-alike}
 use Rattle.reservations.specs.Counts.{used_in, AreCounts}
 
 -- some frame from first on is unused where fewer than all are used
-pub any-count : (p : ℕ → Bool) (first n b : ℕ) → list_any (λ i. none_used p (first + i * 1) 1) (range_with_len b n) ≡ ltb (count_by p (range_with_len (first + b) n)) n
+pub any-count : (p : ℕ → Bool) (first n b : ℕ)
+    → list_any (λ i. none_used p (first + i * 1) 1) (range_with_len b n) ≡ ltb (count_by p (range_with_len (first + b) n)) n
 any-count p first zero b = refl
 any-count p first (suc n) b =
     let next : first + (b + 1) ≡ first + b + 1 = omega arith in
@@ -83,7 +84,8 @@ AreCounts-none n w width = record {
 }
 
 -- the count of an aligned extent is read at its number
-pub count_read : (used : List Bool) (w : ℕ) (counts : List ℕ) (first k n : ℕ) → 0 < w → AreCounts used w counts → 8 ^ k ≡ w → first % 8 ^ k ≡ 0 → n ≡ get_or counts (first / w) 0 → n ≡ used_in used first (8 ^ k)
+pub count_read : (used : List Bool) (w : ℕ) (counts : List ℕ) (first k n : ℕ) → 0 < w → AreCounts used w counts → 8 ^ k ≡ w
+    → first % 8 ^ k ≡ 0 → n ≡ get_or counts (first / w) 0 → n ≡ used_in used first (8 ^ k)
 count_read used w counts first k n width are size aligned read =
     let start : first / w * w ≡ first = omega (arith, div-add-mod' first w, ap (λ m. first % m) size) in
     read ∙ are.exact (first / w) ∙ ap (λ a. used_in used a w) start ∙ ap (λ m. used_in used first m) (sym size)

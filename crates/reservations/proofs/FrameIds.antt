@@ -13,7 +13,8 @@ use Rattle.reservations.specs.Kept.{AreNoted, AreKept, IsFilled, first_frame}
 use Rattle.reservations.proofs.CountLemmas.{is_used-replicate}
 use Rattle.pager_model.proofs.RecordFrames.{no_frame, has_frame_from, has_frame_bounds, unused_in}
 
-pub ArePlaced-set : (records : List (Option Reservation)) (id : ℕ) (o : Option Reservation) → ArePlaced records → id < length records → ((r : Reservation) → o ≡ Some r → IsPlaced (length records) id r) → ArePlaced (set records id o)
+pub ArePlaced-set : (records : List (Option Reservation)) (id : ℕ) (o : Option Reservation) → ArePlaced records → id < length records
+    → ((r : Reservation) → o ≡ Some r → IsPlaced (length records) id r) → ArePlaced (set records id o)
 ArePlaced-set records id o are within new = λ j r is. rw length-set (elim (cases_eq j id) [
   | inl here ↦
       let at = subst (λ k. get_or (set records id o) k None ≡ Some r) here is in
@@ -22,7 +23,8 @@ ArePlaced-set records id o are within new = λ j r is. rw length-set (elim (case
 ])
 
 -- no reservation begins at a frame that none has
-pub none_begins : (records : List (Option Reservation)) (frame : ℕ) → ArePlaced records → has_frame frame (get_or records frame None) ≡ false → get_or records frame None ≡ None
+pub none_begins : (records : List (Option Reservation)) (frame : ℕ) → ArePlaced records
+    → has_frame frame (get_or records frame None) ≡ false → get_or records frame None ≡ None
 none_begins records frame are free = at (get_or records frame None) refl
   where
     at : (o : Option Reservation) → get_or records frame None ≡ o → get_or records frame None ≡ None
@@ -33,7 +35,8 @@ none_begins records frame are free = at (get_or records frame None) refl
         absurd (false≢true (sym free ∙ ap (has_frame frame) is ∙ has))
 
 -- a reservation that is no longer noted leaves a gap
-module _ (records : List (Option Reservation)) (ids : List (Option ℕ)) (used : List Bool) (id : ℕ) (r : Reservation) (noted : AreNoted records ids used 0 0) (placed : IsPlaced (length records) id r) (is : get_or records id None ≡ Some r) where
+module _ (records : List (Option Reservation)) (ids : List (Option ℕ)) (used : List Bool) (id : ℕ) (r : Reservation)
+    (noted : AreNoted records ids used 0 0) (placed : IsPlaced (length records) id r) (is : get_or records id None ≡ Some r) where
   pub gone : (j : ℕ) → j ≡ id → get_or (set records id None) j None ≡ None
   gone j here = get_or-set_default records id j None here
 
@@ -80,19 +83,23 @@ own_bounds used low w (Some r) belongs f has =
     let bounds = has_frame_bounds f r has in
     (omega (arith, bounds.0, belongs.0), omega (arith, bounds.1, belongs.0, belongs.1))
 
-pub own_noted : (used : List Bool) (low w : ℕ) (o : Option Reservation) → Belongs used low w o → (f j : ℕ) → low ≤ f → f < low + w → (first_frame o ≡ Some j) ↔ ((j ≡ low) × (has_frame f o ≡ true))
+pub own_noted : (used : List Bool) (low w : ℕ) (o : Option Reservation) → Belongs used low w o → (f j : ℕ) → low ≤ f → f < low + w
+    → (first_frame o ≡ Some j) ↔ ((j ≡ low) × (has_frame f o ≡ true))
 own_noted used low w None belongs f j at_least below = (λ e. absurd (none-some j e), λ h. absurd (false≢true h.1))
 own_noted used low w (Some r) belongs f j at_least below = (
   λ e. (sym (same_Some r.frame j e) ∙ belongs.0, has_frame_from f r (omega (arith, belongs.0)) (omega (arith, belongs.0, belongs.1))),
   λ h. ap Some (belongs.0 ∙ sym h.0),
 )
 
-pub own_idle : (used : List Bool) (low w : ℕ) (o : Option Reservation) → Belongs used low w o → (f : ℕ) → low ≤ f → f < low + w → first_frame o ≡ None → is_used used f ≡ false
+pub own_idle : (used : List Bool) (low w : ℕ) (o : Option Reservation) → Belongs used low w o → (f : ℕ) → low ≤ f → f < low + w
+    → first_frame o ≡ None → is_used used f ≡ false
 own_idle used low w None belongs f at_least below e = belongs f at_least below
 own_idle used low w (Some r) belongs f at_least below e = absurd (none-some r.frame (sym e))
 
 -- a part of the gap is closed
-module _ (records : List (Option Reservation)) (ids after : List (Option ℕ)) (used : List Bool) (low high w : ℕ) (o : Option Reservation) (noted : AreNoted records ids used low high) (vacant : get_or records low None ≡ None) (within : low < length records) (inside : low + w ≤ high) (belongs : Belongs used low w o) (filled : IsFilled ids after low w (first_frame o)) where
+module _ (records : List (Option Reservation)) (ids after : List (Option ℕ)) (used : List Bool) (low high w : ℕ) (o : Option Reservation)
+    (noted : AreNoted records ids used low high) (vacant : get_or records low None ≡ None) (within : low < length records)
+    (inside : low + w ≤ high) (belongs : Belongs used low w o) (filled : IsFilled ids after low w (first_frame o)) where
   pub placed_at : (f j : ℕ) → j ≡ low → has_frame f (get_or (set records low o) j None) ≡ has_frame f o
   placed_at f j here = ap (has_frame f) (ap (λ k. get_or (set records low o) k None) here ∙ get_or-set_same records low o None within)
 
@@ -150,7 +157,8 @@ module _ (records : List (Option Reservation)) (ids after : List (Option ℕ)) (
     ];
   }
 
-pub AreNoted-close : (records : List (Option Reservation)) (ids : List (Option ℕ)) (used : List Bool) (n : ℕ) → AreNoted records ids used n n → AreNoted records ids used 0 0
+pub AreNoted-close : (records : List (Option Reservation)) (ids : List (Option ℕ)) (used : List Bool) (n : ℕ)
+    → AreNoted records ids used n n → AreNoted records ids used 0 0
 AreNoted-close records ids used n noted = record {
   exact = λ f j _. noted.exact f j (outside f);
   idle = λ f _. noted.idle f (outside f);
@@ -160,7 +168,9 @@ AreNoted-close records ids used n noted = record {
     outside : (f : ℕ) → (f < n) ⊎ (n ≤ f)
     outside f = cases_lt f n
 
-pub AreNoted-gap : (records : List (Option Reservation)) (ids : List (Option ℕ)) (used : List Bool) (low high : ℕ) → AreNoted records ids used 0 0 → ((f j : ℕ) → low ≤ f → f < high → has_frame f (get_or records j None) ≡ true → ⊥) → AreNoted records ids used low high
+pub AreNoted-gap : (records : List (Option Reservation)) (ids : List (Option ℕ)) (used : List Bool) (low high : ℕ)
+    → AreNoted records ids used 0 0 → ((f j : ℕ) → low ≤ f → f < high → has_frame f (get_or records j None) ≡ true → ⊥)
+    → AreNoted records ids used low high
 AreNoted-gap records ids used low high noted free = record {
   exact = λ f j out. noted.exact f j (inr (omega arith));
   idle = λ f out. noted.idle f (inr (omega arith));
@@ -168,7 +178,8 @@ AreNoted-gap records ids used low high noted free = record {
 }
 
 -- no reservation begins in a gap
-pub vacant_in_gap : (records : List (Option Reservation)) (ids : List (Option ℕ)) (used : List Bool) (low high : ℕ) → ArePlaced records → AreNoted records ids used low high → low < high → get_or records low None ≡ None
+pub vacant_in_gap : (records : List (Option Reservation)) (ids : List (Option ℕ)) (used : List Bool) (low high : ℕ) → ArePlaced records
+    → AreNoted records ids used low high → low < high → get_or records low None ≡ None
 vacant_in_gap records ids used low high are noted room = none_begins records low are (false_from_ne_true _ (noted.gap low low (omega arith) room))
 
 -- nothing is noted at first
@@ -185,7 +196,8 @@ AreKept-none n = record {
 }
 
 -- a reservation is noted anew with the same frames, and one of its places becomes a used one
-module _ (records : List (Option Reservation)) (ids : List (Option ℕ)) (used : List Bool) (id : ℕ) (r : Reservation) (are : AreKept records ids used) (is : get_or records id None ≡ Some r) where
+module _ (records : List (Option Reservation)) (ids : List (Option ℕ)) (used : List Bool) (id : ℕ) (r : Reservation)
+    (are : AreKept records ids used) (is : get_or records id None ≡ Some r) where
   pub place_known : (f : ℕ) → has_frame f (Some r) ≡ true → f < length used
   place_known f has =
       let placed = are.placed id r is in
@@ -204,7 +216,8 @@ module _ (records : List (Option Reservation)) (ids : List (Option ℕ)) (used :
     gap = are.noted.gap;
   }
 
-  pub same_frames : (new : Reservation) → new.frame ≡ r.frame → new.size ≡ r.size → (f j : ℕ) → has_frame f (get_or (set records id (Some new)) j None) ≡ has_frame f (get_or records j None)
+  pub same_frames : (new : Reservation) → new.frame ≡ r.frame → new.size ≡ r.size → (f j : ℕ)
+      → has_frame f (get_or (set records id (Some new)) j None) ≡ has_frame f (get_or records j None)
   same_frames new frame size f j = elim (cases_eq j id) [
     | inl here ↦
         ap (has_frame f) (ap (λ k. get_or (set records id (Some new)) k None) here ∙ get_or-set_same records id (Some new) None (get_or_within records id r is))
@@ -212,7 +225,8 @@ module _ (records : List (Option Reservation)) (ids : List (Option ℕ)) (used :
     | inr other ↦ ap (has_frame f) (get_or-set_other records id j (Some new) None other)
   ]
 
-  pub AreKept-populate : (new : Reservation) (f : ℕ) → new.frame ≡ r.frame → new.size ≡ r.size → new.first ≡ r.first → has_frame f (Some r) ≡ true → AreKept (set records id (Some new)) ids (set used f true)
+  pub AreKept-populate : (new : Reservation) (f : ℕ) → new.frame ≡ r.frame → new.size ≡ r.size → new.first ≡ r.first
+      → has_frame f (Some r) ≡ true → AreKept (set records id (Some new)) ids (set used f true)
   AreKept-populate new f frame size first has =
       let noted = AreNoted-used f has in
       let same = same_frames new frame size in
@@ -235,7 +249,8 @@ module _ (records : List (Option Reservation)) (ids : List (Option ℕ)) (used :
       }
 
 -- a frame that no reservation has is no used place
-pub unused_if_free : (records : List (Option Reservation)) (ids : List (Option ℕ)) (used : List Bool) (f : ℕ) → AreKept records ids used → ((j : ℕ) → has_frame f (get_or records j None) ≡ false) → is_used used f ≡ false
+pub unused_if_free : (records : List (Option Reservation)) (ids : List (Option ℕ)) (used : List Bool) (f : ℕ) → AreKept records ids used
+    → ((j : ℕ) → has_frame f (get_or records j None) ≡ false) → is_used used f ≡ false
 unused_if_free records ids used f are free = at (get_or ids f None) refl
   where
     at : (o : Option ℕ) → get_or ids f None ≡ o → is_used used f ≡ false
@@ -243,7 +258,9 @@ unused_if_free records ids used f are free = at (get_or ids f None) refl
     at (Some j) is = absurd (false≢true (sym (free j) ∙ (are.noted.exact f j (inr (omega arith))).0 is))
 
 -- a reservation without a used place is no longer noted
-pub AreKept-dissolve : (records : List (Option Reservation)) (ids after : List (Option ℕ)) (used : List Bool) (id : ℕ) (r : Reservation) → AreKept records ids used → get_or records id None ≡ Some r → none_used (is_used used) r.frame (8 ^ r.size) ≡ true → IsFilled ids after id (8 ^ r.size) None → length after ≡ length ids → AreKept (set records id None) after used
+pub AreKept-dissolve : (records : List (Option Reservation)) (ids after : List (Option ℕ)) (used : List Bool) (id : ℕ) (r : Reservation)
+    → AreKept records ids used → get_or records id None ≡ Some r → none_used (is_used used) r.frame (8 ^ r.size) ≡ true
+    → IsFilled ids after id (8 ^ r.size) None → length after ≡ length ids → AreKept (set records id None) after used
 AreKept-dissolve records ids after used id r are is none filled long =
     let placed = are.placed id r is in
     let known = get_or_within records id r is in
@@ -260,7 +277,11 @@ AreKept-dissolve records ids after used id r are is none filled long =
     }
 
 -- a reservation over frames of none is noted, and one of its places becomes a used one
-pub AreKept-add : (records : List (Option Reservation)) (ids after : List (Option ℕ)) (used : List Bool) (r : Reservation) (f : ℕ) → AreKept records ids used → IsPlaced (length records) r.frame r → ((g j : ℕ) → has_frame g (Some r) ≡ true → has_frame g (get_or records j None) ≡ false) → has_frame f (Some r) ≡ true → IsFilled ids after r.frame (8 ^ r.size) (Some r.frame) → length after ≡ length ids → AreKept (set records r.frame (Some r)) after (set used f true)
+pub AreKept-add : (records : List (Option Reservation)) (ids after : List (Option ℕ)) (used : List Bool) (r : Reservation) (f : ℕ)
+    → AreKept records ids used → IsPlaced (length records) r.frame r
+    → ((g j : ℕ) → has_frame g (Some r) ≡ true → has_frame g (get_or records j None) ≡ false) → has_frame f (Some r) ≡ true
+    → IsFilled ids after r.frame (8 ^ r.size) (Some r.frame) → length after ≡ length ids
+    → AreKept (set records r.frame (Some r)) after (set used f true)
 AreKept-add records ids after used r f are placed apart has filled long =
     let low = r.frame in
     let high = r.frame + 8 ^ r.size in

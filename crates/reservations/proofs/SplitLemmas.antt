@@ -22,26 +22,30 @@ split_step used r rs i = set rs (part_of r i).frame (kept_part used r i)
 abbrev pub split_up_to : ℕ → (ℕ → Bool) → Reservation → List (Option Reservation) → List (Option Reservation)
 split_up_to n used r records = fold (split_step used r) records (range_with_len 0 n)
 
-pub split_up_to-more : (n : ℕ) (used : ℕ → Bool) (r : Reservation) (records : List (Option Reservation)) → split_up_to (n + 1) used r records ≡ split_step used r (split_up_to n used r records) n
+pub split_up_to-more : (n : ℕ) (used : ℕ → Bool) (r : Reservation) (records : List (Option Reservation))
+    → split_up_to (n + 1) used r records ≡ split_step used r (split_up_to n used r records) n
 split_up_to-more n used r records =
     ap (fold (split_step used r) records) (range_with_len-more n) ∙ fold_push (split_step used r) records (range_with_len 0 n) n
 
 -- that the whole is no longer noted makes no difference, since its first part is noted at the same frame
-pub split_records-open : (used : ℕ → Bool) (r : Reservation) (id : ℕ) (records : List (Option Reservation)) → r.frame ≡ id → split_records used r (set records id None) ≡ split_records used r records
+pub split_records-open : (used : ℕ → Bool) (r : Reservation) (id : ℕ) (records : List (Option Reservation)) → r.frame ≡ id
+    → split_records used r (set records id None) ≡ split_records used r records
 split_records-open used r id records named =
     let first : id ≡ (part_of r 0).frame = omega (arith, named) in
     let same = ap (λ k. set (set records k None) (part_of r 0).frame (kept_part used r 0)) first ∙ set-set records (part_of r 0).frame None (kept_part used r 0) in
     ap (λ rs. fold (split_step used r) rs (range_with_len 1 7)) same
 
 -- a part is the whole part, or it has no used place
-pub kept_cases : (used : ℕ → Bool) (r : Reservation) (i : ℕ) → ((kept_part used r i ≡ None) × (is_part_empty used r i ≡ true)) ⊎ (kept_part used r i ≡ Some (part_of r i))
+pub kept_cases : (used : ℕ → Bool) (r : Reservation) (i : ℕ)
+    → ((kept_part used r i ≡ None) × (is_part_empty used r i ≡ true)) ⊎ (kept_part used r i ≡ Some (part_of r i))
 kept_cases used r i = elim (cases_Bool (is_part_empty used r i)) [
   | inl empty ↦ inl (cond-true _ _ _ empty, empty)
   | inr filled ↦ inr (cond-false _ _ _ filled)
 ]
 
 -- the i-th part is in its place
-pub part_placed : (frames i : ℕ) (r : Reservation) → IsPlaced frames r.frame r → 0 < r.size → i < 8 → IsPlaced frames (r.frame + i * 8 ^ (r.size - 1)) (part_of r i)
+pub part_placed : (frames i : ℕ) (r : Reservation) → IsPlaced frames r.frame r → 0 < r.size → i < 8
+    → IsPlaced frames (r.frame + i * 8 ^ (r.size - 1)) (part_of r i)
 part_placed frames i r placed splits one =
     let small : r.size - 1 ≤ 3 = omega (arith, placed.aligned.0) in
     record {
@@ -51,7 +55,8 @@ part_placed frames i r placed splits one =
       pages_aligned = (small, aligned_part (r.size - 1) r.size r.first i (omega arith) placed.pages_aligned.1);
     }
 
-module _ (records : List (Option Reservation)) (used : List Bool) (r : Reservation) (frames i : ℕ) (long : length records ≡ frames) (splits : 0 < r.size) (one : i < 8) (placed : IsPlaced frames r.frame r) where
+module _ (records : List (Option Reservation)) (used : List Bool) (r : Reservation) (frames i : ℕ) (long : length records ≡ frames)
+    (splits : 0 < r.size) (one : i < 8) (placed : IsPlaced frames r.frame r) where
   pub part_known : r.frame + i * 8 ^ (r.size - 1) < length records
   part_known = omega (arith, part_of_eight i r.size splits one, placed.within, eight_pos (r.size - 1))
 
@@ -75,7 +80,10 @@ module _ (records : List (Option Reservation)) (used : List Bool) (r : Reservati
   ]
 
   -- and leaves a gap at the later parts
-  pub AreNoted-part : (ids after : List (Option ℕ)) → ArePlaced records → AreNoted records ids used (r.frame + i * 8 ^ (r.size - 1)) (r.frame + 8 ^ r.size) → IsFilled ids after (r.frame + i * 8 ^ (r.size - 1)) (8 ^ (r.size - 1)) (first_frame (kept_part (is_used used) r i)) → AreNoted (set records (r.frame + i * 8 ^ (r.size - 1)) (kept_part (is_used used) r i)) after used (r.frame + (i + 1) * 8 ^ (r.size - 1)) (r.frame + 8 ^ r.size)
+  pub AreNoted-part : (ids after : List (Option ℕ)) → ArePlaced records
+      → AreNoted records ids used (r.frame + i * 8 ^ (r.size - 1)) (r.frame + 8 ^ r.size)
+      → IsFilled ids after (r.frame + i * 8 ^ (r.size - 1)) (8 ^ (r.size - 1)) (first_frame (kept_part (is_used used) r i))
+      → AreNoted (set records (r.frame + i * 8 ^ (r.size - 1)) (kept_part (is_used used) r i)) after used (r.frame + (i + 1) * 8 ^ (r.size - 1)) (r.frame + 8 ^ r.size)
   AreNoted-part ids after are noted filled =
       let w = 8 ^ (r.size - 1) in
       let low = r.frame + i * w in

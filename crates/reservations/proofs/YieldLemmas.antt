@@ -33,7 +33,8 @@ pub missed_at : (used : ℕ → Bool) (r : Reservation) (k : ℕ) → has_empty 
 missed_at used r zero no_one = cond-false _ _ _ no_one
 missed_at used r (suc k) no_one = cond-false _ _ _ no_one
 
-pub yield_below-missed : (used : ℕ → Bool) (r : Reservation) (level k : ℕ) → level ≡ suc k → has_empty used r k ≡ false → yield_below used r level ≡ yield_below used r k
+pub yield_below-missed : (used : ℕ → Bool) (r : Reservation) (level k : ℕ) → level ≡ suc k → has_empty used r k ≡ false
+    → yield_below used r level ≡ yield_below used r k
 yield_below-missed used r level k at no_one = subst (λ n. yield_below used r n ≡ yield_below used r k) (sym at) (missed_at used r k no_one)
 
 -- an extent without a used place has the count 0
@@ -45,7 +46,8 @@ none_counted p a n = sum_by-zero (λ x. cond (p x) 1 0) (range_with_len a n) ∙
     alone false = refl
 
 -- a reservation is full where its own count is that of its frames
-pub full_count : (used : List Bool) (r : Reservation) (n m : ℕ) → n ≡ used_in used r.frame (8 ^ r.size) → m ≡ 8 ^ r.size → eqb n m ≡ not (has_empty (is_used used) r 0)
+pub full_count : (used : List Bool) (r : Reservation) (n m : ℕ) → n ≡ used_in used r.frame (8 ^ r.size) → m ≡ 8 ^ r.size
+    → eqb n m ≡ not (has_empty (is_used used) r 0)
 full_count used r n m count all =
     let size : r.size - 0 ≡ r.size = omega arith in
     let start : r.frame + 0 ≡ r.frame = omega arith in
@@ -109,7 +111,8 @@ yield_of-full used r full = down r.size (omega arith)
     down (suc k) le = cond-false _ _ _ (full_none used r (suc k) full le) ∙ down k (omega arith)
 
 -- the counts of the extents inside a reservation are in the list
-pub counts_known : (used : List Bool) (r : Reservation) (k : ℕ) (counts : List ℕ) → AreCounts used (8 ^ k) counts → IsPlaced (length used) r.frame r → k ≤ r.size → r.frame / 8 ^ k + 8 ^ r.size / 8 ^ k ≤ length counts
+pub counts_known : (used : List Bool) (r : Reservation) (k : ℕ) (counts : List ℕ) → AreCounts used (8 ^ k) counts
+    → IsPlaced (length used) r.frame r → k ≤ r.size → r.frame / 8 ^ k + 8 ^ r.size / 8 ^ k ≤ length counts
 counts_known used r k counts are placed le =
     let w = 8 ^ k in
     let first = r.frame / w in
@@ -122,7 +125,8 @@ counts_known used r k counts are placed le =
     ]
 
 -- they stand together
-pub counts_inside : (used : List Bool) (r : Reservation) (k : ℕ) (counts : List ℕ) → AreCounts used (8 ^ k) counts → IsPlaced (length used) r.frame r → k ≤ r.size
+pub counts_inside : (used : List Bool) (r : Reservation) (k : ℕ) (counts : List ℕ) → AreCounts used (8 ^ k) counts
+    → IsPlaced (length used) r.frame r → k ≤ r.size
     → slice_range counts (r.frame / 8 ^ k) (r.frame / 8 ^ k + 8 ^ r.size / 8 ^ k) ≡ map (λ i. used_in used (r.frame + i * 8 ^ k) (8 ^ k)) (range_with_len 0 (8 ^ (r.size - k)))
 counts_inside used r k counts are placed le =
     let w = 8 ^ k in
@@ -140,7 +144,9 @@ counts_inside used r k counts are placed le =
     ∙ ap (λ n. map (λ i. used_in used (r.frame + i * w) w) (range_with_len 0 n)) (eight_quotient k r.size le)
 
 -- a search for a count of 0 finds an empty extent
-pub has_empty-counted : (used : List Bool) (r : Reservation) (k : ℕ) (counts : List ℕ) → counts ≡ map (λ i. used_in used (r.frame + i * 8 ^ k) (8 ^ k)) (range_with_len 0 (8 ^ (r.size - k))) → list_any (λ n. eqb n 0) counts ≡ has_empty (is_used used) r k
+pub has_empty-counted : (used : List Bool) (r : Reservation) (k : ℕ) (counts : List ℕ)
+    → counts ≡ map (λ i. used_in used (r.frame + i * 8 ^ k) (8 ^ k)) (range_with_len 0 (8 ^ (r.size - k)))
+    → list_any (λ n. eqb n 0) counts ≡ has_empty (is_used used) r k
 has_empty-counted used r k counts are = ap (list_any (λ n. eqb n 0)) are ∙ each (range_with_len 0 (8 ^ (r.size - k)))
   where
     each : (is : List ℕ) → list_any (λ n. eqb n 0) (map (λ i. used_in used (r.frame + i * 8 ^ k) (8 ^ k)) is) ≡ list_any (λ i. none_used (is_used used) (r.frame + i * 8 ^ k) (8 ^ k)) is

@@ -27,7 +27,8 @@ HasPlace st id page b = IsSomeAnd (reservation_at st id) (λ r. CoversPage r pag
 -- Of each frame outside the gap from low up to high it is noted which reservation has it, and a frame without one is no used
 -- place; no reservation has a frame of the gap.
 pub record AreNoted (records : List (Option Reservation)) (ids : List (Option ℕ)) (used : List Bool) (low high : ℕ) : Type 0 where
-  pub exact : (frame id : ℕ) → (frame < low) ⊎ (high ≤ frame) → (slice_index_or ids frame None ≡ Some id) ↔ (has_frame frame (slice_index_or records id None) ≡ true)
+  pub exact : (frame id : ℕ) → (frame < low) ⊎ (high ≤ frame)
+      → (slice_index_or ids frame None ≡ Some id) ↔ (has_frame frame (slice_index_or records id None) ≡ true)
   pub idle : (frame : ℕ) → (frame < low) ⊎ (high ≤ frame) → slice_index_or ids frame None ≡ None → is_used used frame ≡ false
   pub gap : (frame id : ℕ) → low ≤ frame → frame < high → has_frame frame (slice_index_or records id None) ≡ true → ⊥
 

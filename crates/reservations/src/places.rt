@@ -1,4 +1,4 @@
-ghost use Rattle.std.specs.Prelude.{◌≡◌, ◌<◌, ◌≤◌, ◌+◌, ◌-◌, ◌*◌, ◌/◌, ◌%◌, ◌^◌, length, replicate, slice_set, map, true, false, IfOk};
+ghost use Rattle.std.specs.Prelude.{◌≡◌, ◌<◌, ◌≤◌, ◌+◌, ◌-◌, ◌*◌, ◌/◌, ◌^◌, length, replicate, slice_set, map, true, false, IfOk};
 ghost use Rattle.std.specs.List.{range_with_len};
 ghost use Rattle.pager_model.specs.Extents.{IsExtent};
 ghost use Rattle.pager_model.specs.Records.{is_used, none_used, yield_of};

@@ -17,11 +17,14 @@ largest_is p (suc (suc (suc zero))) h above here = rw (here (omega arith))
 largest_is p (suc (suc (suc (suc k)))) h above here = absurd (omega arith)
 
 -- a size that fits where no larger one does is the preferred one; size 0 need not fit
-pub preferred_is : (test : ℕ → ℕ → Bool) (page : ℕ) (want : Want) (k : ℕ) → k ≤ 3 → ((j : ℕ) → k < j → j ≤ 3 → fits test page want j ≡ false) → (0 < k → fits test page want k ≡ true) → k ≡ preferred_size test page want
+pub preferred_is : (test : ℕ → ℕ → Bool) (page : ℕ) (want : Want) (k : ℕ) → k ≤ 3
+    → ((j : ℕ) → k < j → j ≤ 3 → fits test page want j ≡ false) → (0 < k → fits test page want k ≡ true) → k ≡ preferred_size test page want
 preferred_is test page want k h above here = sym (largest_is (fits test page want) k h above here)
 
 -- none from n on fits, nor the one below: none from that one on fits
-pub none_from_one_below : (test : ℕ → ℕ → Bool) (page : ℕ) (want : Want) (n k : ℕ) → k ≡ n - 1 → ((j : ℕ) → n ≤ j → j ≤ 3 → fits test page want j ≡ false) → fits test page want k ≡ false → (j : ℕ) → n - 1 ≤ j → j ≤ 3 → fits test page want j ≡ false
+pub none_from_one_below : (test : ℕ → ℕ → Bool) (page : ℕ) (want : Want) (n k : ℕ) → k ≡ n - 1
+    → ((j : ℕ) → n ≤ j → j ≤ 3 → fits test page want j ≡ false) → fits test page want k ≡ false → (j : ℕ) → n - 1 ≤ j → j ≤ 3
+    → fits test page want j ≡ false
 none_from_one_below test page want n k e above here j low high =
     elim (cases_eq j k) [ inl same ↦ rw same here | inr other ↦ above j (omega arith) high ]
 
@@ -46,7 +49,8 @@ largest_passes : (p : ℕ → Bool) (P : ℕ → Type 0) → ((k : ℕ) → p k 
 largest_passes p P passes base =
     cond_both (p 3) 3 _ P (passes 3) (λ _. cond_both (p 2) 2 _ P (passes 2) (λ _. cond_both (p 1) 1 0 P (passes 1) (λ _. base)))
 
-pub Suits-preferred : (test : ℕ → ℕ → Bool) (page : ℕ) (want : Want) → want.low ≤ page → page < want.high → 1 ≤ want.cap → test 0 page ≡ false → Suits test page want (preferred_size test page want)
+pub Suits-preferred : (test : ℕ → ℕ → Bool) (page : ℕ) (want : Want) → want.low ≤ page → page < want.high → 1 ≤ want.cap
+    → test 0 page ≡ false → Suits test page want (preferred_size test page want)
 Suits-preferred test page want low high cap alone =
     largest_passes (fits test page want) (Suits test page want) (Suits-from_fits test page want) (alone_suits test page want low high cap alone)
 

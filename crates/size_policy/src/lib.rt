@@ -3,7 +3,7 @@
 #![tactic(auto)]
 
 ghost use Rattle.std.specs.Bool.{OnTrue};
-ghost use Rattle.std.specs.Prelude.{◌≡◌, ℕ, ◌%◌, ◌^◌, ◌<◌, ◌≤◌, Bool, false};
+ghost use Rattle.std.specs.Prelude.{◌≡◌, ℕ, ◌%◌, ◌^◌, ◌<◌, ◌≤◌, Bool};
 ghost use Rattle.pager_model.specs.Extents.{extent_start};
 ghost use Rattle.pager_model.specs.PreferredSize.{fits, preferred_size};
 ghost use Rattle.size_policy.specs.Answers.{AsksAny, AnswersTest};

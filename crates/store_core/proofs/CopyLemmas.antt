@@ -128,7 +128,8 @@ copies_of_filter p (e ∷ es) = kept (p e.0) e _ _ (copies_of_filter p es)
     kept false e rest copies h = h
 
 -- taking out a page that a test refuses leaves what passes it
-pub filter_without : (test p : ℕ → Bool) (es : Entries) → ((page : ℕ) → test page ≡ true → p page ≡ false) → filter (λ e. p e.0) (remove_entry test es) ≡ filter (λ e. p e.0) es
+pub filter_without : (test p : ℕ → Bool) (es : Entries) → ((page : ℕ) → test page ≡ true → p page ≡ false)
+    → filter (λ e. p e.0) (remove_entry test es) ≡ filter (λ e. p e.0) es
 filter_without test p [] refused = refl
 filter_without test p (e ∷ es) refused = without (test e.0) (remove_entry test es) (refused e.0) (filter_without test p es refused)
   where

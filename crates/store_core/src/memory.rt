@@ -1,12 +1,12 @@
 //! A backing store in memory, which fails where it is told to.
 
-ghost use Rattle.std.specs.Prelude.{◌≡◌, ◌≢◌, ℕ, ◌+◌, ◌-◌, ◌^◌, ◌<◌, ◌≤◌, ◌↔◌, Bool, true, false, ◌&&◌, not, List, [], length, filter, Option, Some, None, IfOk, IfSome, IfNone, IsSome, OnOk, OnErr, IsErr, IsTrue, Contains, unwrap_or};
+ghost use Rattle.std.specs.Prelude.{◌≡◌, ◌≢◌, ℕ, ◌-◌, ◌^◌, ◌<◌, ◌≤◌, ◌↔◌, true, false, ◌&&◌, not, [], length, filter, Option, Some, None, IfOk, IfSome, IfNone, IsSome, OnOk, OnErr, IsErr, IsTrue, Contains, unwrap_or};
 ghost use Rattle.std.specs.BTreeMap.{get, Updates, IsUnchanged};
 ghost use Rattle.std.specs.Option.{option_copied};
 ghost use Rattle.std.specs.Ordering.{nat_cmp};
 ghost use Rattle.pager_model.specs.Regions.{in_range};
 ghost use Rattle.pager_model.specs.SpaceStates.{Rises};
-ghost use Rattle.pager_model.specs.Stored.{Stored, copy_in, copy_at, keeps_at, zero_words, SameCopies, SetsCopy, DropsCopies, TellsZero};
+ghost use Rattle.pager_model.specs.Stored.{copy_in, copy_at, keeps_at, zero_words, SameCopies, SetsCopy, DropsCopies, TellsZero};
 ghost use Rattle.store_core.specs.CopiedWords.{copied_words};
 ghost use Rattle.store_core.specs.MemoryState.{MemoryState, copies_of, one_more, stored_of};
 

@@ -29,7 +29,9 @@ pub none_from : (bit k : ℕ) → 64 ≤ bit → k < 64 → bit_at 0 k ≡ cond 
 none_from bit k high inside = bit_at-zero k ∙ grind (arith, nat_tests)
 
 -- a bit of `word & (from_end | !from_first)`
-pub cleared_bit : (word first end from_first from_end k : ℕ) → k < 64 → from_first < 2 ^ 64 → bit_at from_end k ≡ cond (nat_le end k) 1 0 → bit_at from_first k ≡ cond (nat_le first k) 1 0 → bit_at (bit_and word (bit_or from_end (bit_not w64 from_first))) k ≡ cond (nat_le first k && nat_lt k end) 0 (bit_at word k)
+pub cleared_bit : (word first end from_first from_end k : ℕ) → k < 64 → from_first < 2 ^ 64 → bit_at from_end k ≡ cond (nat_le end k) 1 0
+    → bit_at from_first k ≡ cond (nat_le first k) 1 0
+    → bit_at (bit_and word (bit_or from_end (bit_not w64 from_first))) k ≡ cond (nat_le first k && nat_lt k end) 0 (bit_at word k)
 cleared_bit word first end from_first from_end k inside fits past below =
     let bit = bit_at-lt word k in
     let inverse = bit_at_not w64 from_first k fits inside in
@@ -81,7 +83,8 @@ cleared_word start words at first end word there written before p =
         ∙ (before p ∙ ap (λ b. cond (b && In) false (nat_eq (bit_of start) 1)) same)
 
 -- a page is put in
-pub inserted : (words : List ℕ) (pages : List Bool) (page word : ℕ) → bits_of words ≡ pages → page < 64 * length words → word ≡ get_or words (page / 64) 0 → bits_of (set words (page / 64) (bit_or word (1 * 2 ^ (page % 64) % 2 ^ 64))) ≡ set pages page true
+pub inserted : (words : List ℕ) (pages : List Bool) (page word : ℕ) → bits_of words ≡ pages → page < 64 * length words
+    → word ≡ get_or words (page / 64) 0 → bits_of (set words (page / 64) (bit_or word (1 * 2 ^ (page % 64) % 2 ^ 64))) ≡ set pages page true
 inserted words pages page word view there is =
     bits_of-set words page (bit_or word (1 * 2 ^ (page % 64) % 2 ^ 64)) true there (bit_at_set_same w64 word (page % 64) (omega arith))
     (λ k inside other. bit_at_set_other w64 word (page % 64) (omega arith) k other ∙ ap (λ w. bit_at w k) is)
@@ -92,7 +95,8 @@ either true = refl
 either false = refl
 
 -- the pages of a range are taken out
-pub removed : (words after : List ℕ) (pages : List Bool) (first len end : ℕ) → bits_of words ≡ pages → length words ≡ 16384 → end ≡ min (min (first + len) (2 ^ 32 - 1)) 1048576
+pub removed : (words after : List ℕ) (pages : List Bool) (first len end : ℕ) → bits_of words ≡ pages → length words ≡ 16384
+    → end ≡ min (min (first + len) (2 ^ 32 - 1)) 1048576
     → ((p : ℕ) → has_bit after p ≡ cond (nat_le first p && nat_lt p end) false (has_bit words p))
     → (p : ℕ) → get_or (bits_of after) p false ≡ cond (in_range first len p) false (get_or pages p false)
 removed words after pages first len end view long is_end cleared p =

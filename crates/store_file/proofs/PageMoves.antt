@@ -29,7 +29,8 @@ moves_begin page at n old mid none some few same = record {
   row = grind (arith, nat_tests);
 }
 
-moves_on : (page at n : ℕ) (old mid : Transferred) → 0 < at → 0 < n → at + n ≤ 8192 → MovesFirst page at old mid → MovesFirst page (at + n) old (moved mid (8192 * page + at) n)
+moves_on : (page at n : ℕ) (old mid : Transferred) → 0 < at → 0 < n → at + n ≤ 8192 → MovesFirst page at old mid
+    → MovesFirst page (at + n) old (moved mid (8192 * page + at) n)
 moves_on page at n old mid begun some few before =
     let bytes : mid.bytes ≡ min (old.bytes + at) last_count = before.bytes begun in
     let end : mid.end ≡ 8192 * page + at = before.end begun in
@@ -42,7 +43,8 @@ moves_on page at n old mid begun some few before =
     }
 
 -- with the next so many
-pub moves_more : (page at n : ℕ) (old mid : Transferred) → 0 < n → at + n ≤ 8192 → MovesFirst page at old mid → MovesFirst page (at + n) old (moved mid (8192 * page + at) n)
+pub moves_more : (page at n : ℕ) (old mid : Transferred) → 0 < n → at + n ≤ 8192 → MovesFirst page at old mid
+    → MovesFirst page (at + n) old (moved mid (8192 * page + at) n)
 moves_more page at n old mid some few before =
     elim (cases_eq at 0) [
       | inl none ↦ moves_begin page at n old mid none some (omega arith) (before.start none)

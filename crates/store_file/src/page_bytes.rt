@@ -1,6 +1,6 @@
 //! The bytes of a page, and where they stand in a file.
 
-ghost use Rattle.std.specs.Prelude.{◌≡◌, ◌+◌, ◌*◌, ◌^◌, ◌<◌, ◌≤◌, true, length};
+ghost use Rattle.std.specs.Prelude.{◌≡◌, ◌+◌, ◌*◌, ◌<◌, ◌≤◌, true};
 ghost use Rattle.store_file.specs.FileState.{MovesPage};
 
 use crate::page_file::PageFile;

@@ -1,6 +1,6 @@
 //! A file that counts the bytes that it says it took and gave.
 
-ghost use Rattle.std.specs.Prelude.{◌≡◌, ℕ, ◌+◌, ◌^◌, ◌<◌, ◌≤◌, ◌==◌, true, length, is_some, if◌then◌else◌};
+ghost use Rattle.std.specs.Prelude.{◌≡◌, ◌+◌, ◌^◌, ◌<◌, ◌≤◌, ◌==◌, true, length, is_some, if◌then◌else◌};
 ghost use Rattle.store_file.specs.FileState.{fresh_file, moved, none_yet};
 
 use std::marker::Model;

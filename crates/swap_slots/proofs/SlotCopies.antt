@@ -16,7 +16,8 @@ use Rattle.swap_slots.proofs.SlotTables.{of_slot, page_cases, slot_apart}
 
 -- ---- one page's copy
 
-copy_in-from : (device : Device) (first : ℕ) (cs : List PageCopy) (i page : ℕ) → page ≡ first + i → copy_in (copies_from device first cs) page ≡ words_of device (get_or cs i Zero)
+copy_in-from : (device : Device) (first : ℕ) (cs : List PageCopy) (i page : ℕ) → page ≡ first + i
+    → copy_in (copies_from device first cs) page ≡ words_of device (get_or cs i Zero)
 copy_in-from device first [] i page at = refl
 copy_in-from device first (c ∷ cs) zero page at =
     ap (λ b. cond b (words_of device c) (copy_in (copies_from device (first + 1) cs) page)) (eq-eqb page first (omega (arith, at)))
@@ -62,7 +63,8 @@ reads_zero s page none =
     by_copy (Slot t) some = absurd (none-some t (sym some))
 
 -- that of a page with a slot is the slot's words
-pub reads_slot : (s : SlotState) (page slot : ℕ) (words : List ℕ) → slot_in (copy_of s.slots page) ≡ Some slot → IfSome (words_at s.device slot) (λ known. words ≡ known) → IfSome (copy_at (stored_slots s) page) (λ copy. words ≡ copy)
+pub reads_slot : (s : SlotState) (page slot : ℕ) (words : List ℕ) → slot_in (copy_of s.slots page) ≡ Some slot
+    → IfSome (words_at s.device slot) (λ known. words ≡ known) → IfSome (copy_at (stored_slots s) page) (λ copy. words ≡ copy)
 reads_slot s page slot words has known =
     let P : Option (List ℕ) → Type 0 = λ o. IfSome o (λ copy. words ≡ copy) in
     subst P (ap (words_of s.device) (sym (of_slot (copy_of s.slots page) slot has)) ∙ sym (copy_at-slots s page)) known
@@ -89,7 +91,8 @@ same_copies old new slots words = record {
     same_words (Slot s) told = words.words told s
 
 -- the copy of one page is set, where those of the others are the same
-pub sets_copy : (old new : SlotState) (page : ℕ) (copy : PageCopy) (words : Option (List ℕ)) → SetsPage page copy old.slots new.slots → new.device.tells ≡ old.device.tells → (old.device.tells ≡ true → words_of new.device copy ≡ words)
+pub sets_copy : (old new : SlotState) (page : ℕ) (copy : PageCopy) (words : Option (List ℕ)) → SetsPage page copy old.slots new.slots
+    → new.device.tells ≡ old.device.tells → (old.device.tells ≡ true → words_of new.device copy ≡ words)
     → (old.device.tells ≡ true → (q : ℕ) → q ≢ page → words_of new.device (copy_of old.slots q) ≡ words_of old.device (copy_of old.slots q))
     → SetsCopy page words (stored_slots old) (stored_slots new)
 unfolding keeps_at
@@ -109,7 +112,8 @@ sets_copy old new page copy words sets tells here there = record { tells = tells
     ]
 
 -- what is written to a page's slot leaves the words of every other page
-others_same : (old new : SlotState) (page s : ℕ) (words : Option (List ℕ)) → HaveOwnSlots old.slots → IsSlotFor old.slots page s → SetsWords s words old.device new.device
+others_same : (old new : SlotState) (page s : ℕ) (words : Option (List ℕ)) → HaveOwnSlots old.slots → IsSlotFor old.slots page s
+    → SetsWords s words old.device new.device
     → old.device.tells ≡ true → (q : ℕ) → q ≢ page → words_of new.device (copy_of old.slots q) ≡ words_of old.device (copy_of old.slots q)
 others_same old new page s words own for wrote told q other = by_copy (copy_of old.slots q) refl
   where
@@ -120,23 +124,27 @@ others_same old new page s words own for wrote told q other = by_copy (copy_of o
         let apart : t ≢ s = λ same. slot_apart old.slots page s q own for other (ap slot_in at ∙ ap (λ n. Some n) same) in
         wrote.words told t ∙ ap (λ b. cond b words (words_at old.device t)) (ne_eqb t s apart)
 
-pub sets_written : (old new : SlotState) (page s : ℕ) (words : List ℕ) → HaveOwnSlots old.slots → WritesTo page s (Slot s) (Some words) old new → SetsCopy page (Some words) (stored_slots old) (stored_slots new)
+pub sets_written : (old new : SlotState) (page s : ℕ) (words : List ℕ) → HaveOwnSlots old.slots
+    → WritesTo page s (Slot s) (Some words) old new → SetsCopy page (Some words) (stored_slots old) (stored_slots new)
 sets_written old new page s words own writes =
     sets_copy old new page (Slot s) (Some words) writes.set writes.wrote.tells
     (λ told. writes.wrote.words told s ∙ ap (λ b. cond b (Some words) (words_at old.device s)) (eq-eqb s s refl))
     (others_same old new page s (Some words) own writes.slot writes.wrote)
 
-pub sets_failed : (old new : SlotState) (page s : ℕ) → HaveOwnSlots old.slots → WritesTo page s Lost None old new → SetsCopy page None (stored_slots old) (stored_slots new)
+pub sets_failed : (old new : SlotState) (page s : ℕ) → HaveOwnSlots old.slots → WritesTo page s Lost None old new
+    → SetsCopy page None (stored_slots old) (stored_slots new)
 sets_failed old new page s own writes =
     sets_copy old new page Lost None writes.set writes.wrote.tells (λ told. refl) (others_same old new page s None own writes.slot writes.wrote)
 
 -- a page without a slot is lost, and its device is as before
-pub sets_lost : (old new : SlotState) (page : ℕ) → new.device ≡ old.device → SetsPage page Lost old.slots new.slots → SetsCopy page None (stored_slots old) (stored_slots new)
+pub sets_lost : (old new : SlotState) (page : ℕ) → new.device ≡ old.device → SetsPage page Lost old.slots new.slots
+    → SetsCopy page None (stored_slots old) (stored_slots new)
 sets_lost old new page same sets =
     sets_copy old new page Lost None sets (ap (λ d. d.tells) same) (λ told. refl) (λ told q other. ap (λ d. words_of d (copy_of old.slots q)) same)
 
 -- the pages of a range are zero
-pub drops_copies : (old new : SlotState) (first len : ℕ) → new.device ≡ old.device → new.refused ≡ old.refused → ((p : ℕ) → copy_of new.slots p ≡ cond (in_range first len p) Zero (copy_of old.slots p))
+pub drops_copies : (old new : SlotState) (first len : ℕ) → new.device ≡ old.device → new.refused ≡ old.refused
+    → ((p : ℕ) → copy_of new.slots p ≡ cond (in_range first len p) Zero (copy_of old.slots p))
     → DropsCopies first len (stored_slots old) (stored_slots new)
 unfolding keeps_at
 drops_copies old new first len same refused zeroed = record {
@@ -173,14 +181,16 @@ tells_zero s told = both s.device.tells (list_all is_zero s.slots.pages) refl re
 -- ---- its faults
 
 -- where the device's count rises, so does that of the store
-pub rises_device : (old new : SlotState) → new.refused ≡ old.refused → Rises old.device.faults new.device.faults → Rises (min (old.device.faults + old.refused) last_count) (min (new.device.faults + new.refused) last_count)
+pub rises_device : (old new : SlotState) → new.refused ≡ old.refused → Rises old.device.faults new.device.faults
+    → Rises (min (old.device.faults + old.refused) last_count) (min (new.device.faults + new.refused) last_count)
 rises_device old new same (inl above) = elim (cases_lt (new.device.faults + new.refused) last_count) [
   | inl low ↦ inl (omega arith)
   | inr high ↦ inr (omega arith)
 ]
 rises_device old new same (inr last) = inr (omega arith)
 
-pub rises_refused : (old new : SlotState) → new.device ≡ old.device → new.refused ≡ min (old.refused + 1) last_count → Rises (min (old.device.faults + old.refused) last_count) (min (new.device.faults + new.refused) last_count)
+pub rises_refused : (old new : SlotState) → new.device ≡ old.device → new.refused ≡ min (old.refused + 1) last_count
+    → Rises (min (old.device.faults + old.refused) last_count) (min (new.device.faults + new.refused) last_count)
 rises_refused old new same more =
     let faults : new.device.faults ≡ old.device.faults = ap (λ d. d.faults) same in
     elim (cases_lt (old.device.faults + old.refused) last_count) [

@@ -11,7 +11,8 @@ use Rattle.swap_slots.specs.declared.table.PageCopy.TheVariants.{Zero, Slot}
 use Rattle.swap_slots.specs.Slots.{is_in}
 
 -- an element that fails a test is replaced by another that does
-pub list_any-set_failing : {X : Type 0} (p : X → Bool) (xs : List X) (i : ℕ) (x d : X) → p x ≡ false → p (get_or xs i d) ≡ false → list_any p (set xs i x) ≡ list_any p xs
+pub list_any-set_failing : {X : Type 0} (p : X → Bool) (xs : List X) (i : ℕ) (x d : X) → p x ≡ false → p (get_or xs i d) ≡ false
+    → list_any p (set xs i x) ≡ list_any p xs
 list_any-set_failing p [] i x d fails none = refl
 list_any-set_failing p (y ∷ ys) zero x d fails none = ap (λ b. b || list_any p ys) (fails ∙ sym none)
 list_any-set_failing p (y ∷ ys) (suc i) x d fails none = ap (λ b. p y || b) (list_any-set_failing p ys i x d fails none)

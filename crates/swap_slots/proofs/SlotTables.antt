@@ -43,7 +43,8 @@ length-with_slot bits Zero b = refl
 length-with_slot bits Lost b = refl
 length-with_slot bits (Slot s) b = length-set bits s b
 
-get_or-with_slot : (bits : List Bool) (copy : PageCopy) (b : Bool) (s : ℕ) → IfSome (slot_in copy) (λ t. t < length bits) → get_or (with_slot bits copy b) s false ≡ cond (is_in s copy) b (get_or bits s false)
+get_or-with_slot : (bits : List Bool) (copy : PageCopy) (b : Bool) (s : ℕ) → IfSome (slot_in copy) (λ t. t < length bits)
+    → get_or (with_slot bits copy b) s false ≡ cond (is_in s copy) b (get_or bits s false)
 get_or-with_slot bits Zero b s inside = refl
 get_or-with_slot bits Lost b s inside = refl
 get_or-with_slot bits (Slot t) b s inside = elim (cases_eq s t) [
@@ -54,7 +55,8 @@ get_or-with_slot bits (Slot t) b s inside = elim (cases_eq s t) [
 
 -- ---- the copy of one page changes
 
-pub sets_page : (count page : ℕ) (copy : PageCopy) (xs ys : List PageCopy) → ys ≡ set (grown xs page) page copy → SetsPage page copy (slots count xs) (slots count ys)
+pub sets_page : (count page : ℕ) (copy : PageCopy) (xs ys : List PageCopy) → ys ≡ set (grown xs page) page copy
+    → SetsPage page copy (slots count xs) (slots count ys)
 sets_page count page copy xs ys is = record { count = refl; copies = copies }
   where
     copies : (p : ℕ) → get_or ys p Zero ≡ cond (p == page) copy (get_or xs p Zero)
@@ -71,7 +73,8 @@ sets_page count page copy xs ys is = record { count = refl; copies = copies }
     ]
 
 -- the copy that a page has now is its new one, or it is another page and has the copy that it had
-pub page_cases : (page : ℕ) (copy : PageCopy) (old new : Slots) → SetsPage page copy old new → (p : ℕ) → ((p ≡ page) × (copy_of new p ≡ copy)) ⊎ ((p ≢ page) × (copy_of new p ≡ copy_of old p))
+pub page_cases : (page : ℕ) (copy : PageCopy) (old new : Slots) → SetsPage page copy old new → (p : ℕ)
+    → ((p ≡ page) × (copy_of new p ≡ copy)) ⊎ ((p ≢ page) × (copy_of new p ≡ copy_of old p))
 page_cases page copy old new sets p = elim (cases_eq p page) [
   | inl same ↦ inl (same, sets.copies p ∙ ap (λ b. cond b copy (copy_of old p)) (eq-eqb p page same))
   | inr other ↦ inr (other, sets.copies p ∙ ap (λ b. cond b copy (copy_of old p)) (ne_eqb p page other))

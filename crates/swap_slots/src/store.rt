@@ -1,14 +1,13 @@
 //! A store over slots.
 
-ghost use Rattle.std.specs.Prelude.{◌≡◌, ◌≢◌, ℕ, ◌+◌, ◌-◌, ◌^◌, ◌<◌, ◌≤◌, ◌⊎◌, ◌↔◌, true, false, [], length, min, Some, None, IfOk, IfErr, IfSome, OnOk, OnErr, if◌then◌else◌};
+ghost use Rattle.std.specs.Prelude.{◌≡◌, ℕ, ◌-◌, ◌^◌, ◌<◌, ◌≤◌, ◌⊎◌, ◌↔◌, true, false, [], length, min, Some, None, IfOk, IfErr, IfSome, OnOk, OnErr, if◌then◌else◌};
 ghost use Rattle.pager_model.specs.SpaceStates.{Rises};
 ghost use Rattle.pager_model.specs.Stored.{copy_at, keeps_at, SameCopies, SetsCopy, DropsCopies, TellsZero};
 ghost use Rattle.pager_model.specs.Regions.{in_range};
 ghost use Rattle.store_core.specs.CopiedWords.{copied_words};
 ghost use Rattle.store_core.specs.MemoryState.{one_more};
-ghost use Rattle.swap_slots.specs.Devices.{SetsWords};
 ghost use Rattle.swap_slots.specs.SlotState.{SlotState, stored_slots, WritesTo};
-ghost use Rattle.swap_slots.specs.Slots.{copy_of, slot_in, free_count, HaveOwnSlots, IsSlotFor, LacksSlot, SetsPage};
+ghost use Rattle.swap_slots.specs.Slots.{copy_of, slot_in, free_count, HaveOwnSlots, LacksSlot, SetsPage};
 
 use crate::blocks::Blocks;
 use crate::table::{PageCopy, SlotTable};

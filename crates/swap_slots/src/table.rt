@@ -1,6 +1,6 @@
 //! Which slot each page has, and which slots are free.
 
-ghost use Rattle.std.specs.Prelude.{◌≡◌, ◌≢◌, ℕ, ◌+◌, ◌-◌, ◌<◌, ◌≤◌, false, true, List, [], ◌++◌, length, replicate, slice_set, slice_index_or, if◌then◌else◌, vec_capacity, IfOk, IfSome, IfNone};
+ghost use Rattle.std.specs.Prelude.{◌≡◌, ◌≢◌, ℕ, ◌+◌, ◌-◌, ◌<◌, ◌≤◌, false, true, [], ◌++◌, length, replicate, slice_set, if◌then◌else◌, vec_capacity, IfOk, IfSome, IfNone};
 ghost use Rattle.std.specs.List.{list_all};
 ghost use Rattle.pager_model.specs.Regions.{in_range};
 ghost use Rattle.swap_slots.specs.SlotState.{is_zero};

@@ -10,13 +10,16 @@ use Rattle.pager_model.specs.TurnOrders.{next_state, drawn}
 use Rattle.trace_make.specs.Made.{CanMake, after_line, call_of_kind, drawn_address, drawn_call, drawn_line, drawn_lines, drawn_page, made, map_line}
 
 -- the first of the lines that are left, and the others
-drawn_next : (processors spaces count i x : ℕ) → i < count → drawn_lines processors spaces (count - i) x ≡ drawn_line processors spaces x ∷ drawn_lines processors spaces (count - (i + 1)) (after_line x)
+drawn_next : (processors spaces count i x : ℕ) → i < count
+    → drawn_lines processors spaces (count - i) x ≡ drawn_line processors spaces x ∷ drawn_lines processors spaces (count - (i + 1)) (after_line x)
 drawn_next processors spaces count i x below =
     let e : count - i ≡ suc (count - (i + 1)) = omega arith in
     ap (λ n. drawn_lines processors spaces n x) e
 
 -- one more is added, and the others are left
-pub lines_more : (processors spaces count i x : ℕ) (lines all : List Line) → i < count → lines ++ drawn_lines processors spaces (count - i) x ≡ all → (lines ++ drawn_line processors spaces x ∷ []) ++ drawn_lines processors spaces (count - (i + 1)) (after_line x) ≡ all
+pub lines_more : (processors spaces count i x : ℕ) (lines all : List Line) → i < count
+    → lines ++ drawn_lines processors spaces (count - i) x ≡ all
+    → (lines ++ drawn_line processors spaces x ∷ []) ++ drawn_lines processors spaces (count - (i + 1)) (after_line x) ≡ all
 lines_more processors spaces count i x lines all below so_far =
     append_assoc lines (drawn_line processors spaces x ∷ []) (drawn_lines processors spaces (count - (i + 1)) (after_line x))
     ∙ ap (λ l. lines ++ l) (sym (drawn_next processors spaces count i x below)) ∙ so_far

@@ -92,7 +92,8 @@ call_words_are spaces (Sync space page) few is =
 call_words_are spaces (Evict space page) few is =
     (is_word (codes "evict") refl, (decimal_is space (omega arith), (decimal_is page (omega arith), tt)))
 
-line_words_are : (processors spaces : ℕ) (line : Line) → processors ≤ 2 ^ 64 → spaces ≤ 2 ^ 64 → IsLine processors spaces line → AllByRecursion IsWord (line_words line)
+line_words_are : (processors spaces : ℕ) (line : Line) → processors ≤ 2 ^ 64 → spaces ≤ 2 ^ 64 → IsLine processors spaces line
+    → AllByRecursion IsWord (line_words line)
 line_words_are processors spaces line some few is = (decimal_is line.processor (omega (arith, is.0)), call_words_are spaces line.call few is.1)
 
 first_words_are : (plan : Plan) → HasText plan → AllByRecursion IsWord (first_words plan.version plan.frames plan.processors plan.spaces plan.sizes)
@@ -127,7 +128,8 @@ no_feed (word ∷ next ∷ words) are =
     All-append IsNoFeed word (32 ∷ join_with_byte 32 (next ∷ words)) (lacks_all 10 word (omega arith) are.0) (All-cons IsNoFeed 32 (join_with_byte 32 (next ∷ words)) refl (no_feed (next ∷ words) are.1))
 
 -- the first line of a text that begins with these words
-pub line_again : (words : List (List ℕ)) (rest : List ℕ) → AllByRecursion IsWord words → lines_of (line_of_words words ++ rest) ≡ join_with_byte 32 words ∷ lines_of rest
+pub line_again : (words : List (List ℕ)) (rest : List ℕ) → AllByRecursion IsWord words
+    → lines_of (line_of_words words ++ rest) ≡ join_with_byte 32 words ∷ lines_of rest
 line_again words rest are =
     ap lines_of (append_assoc (join_with_byte 32 words) (10 ∷ []) rest) ∙ slice_split_at (λ b. eqb b 10) (join_with_byte 32 words) 10 rest (no_feed words are) refl
 
@@ -144,11 +146,14 @@ pub calls_text-cons : (call : Line) (calls : List Line) → calls_text (call ∷
 calls_text-cons call calls =
     ap (λ (x : List ℕ). x ++ end_line) (flat_map-cons call_line call calls) ∙ append_assoc (call_line call) (flat_map call_line calls) end_line
 
-pub call_again : (processors spaces : ℕ) (call : Line) (calls : List Line) → processors ≤ 2 ^ 64 → spaces ≤ 2 ^ 64 → IsLine processors spaces call → lines_of (calls_text (call ∷ calls)) ≡ join_with_byte 32 (line_words call) ∷ lines_of (calls_text calls)
+pub call_again : (processors spaces : ℕ) (call : Line) (calls : List Line) → processors ≤ 2 ^ 64 → spaces ≤ 2 ^ 64
+    → IsLine processors spaces call
+    → lines_of (calls_text (call ∷ calls)) ≡ join_with_byte 32 (line_words call) ∷ lines_of (calls_text calls)
 call_again processors spaces call calls some few is =
     ap lines_of (calls_text-cons call calls) ∙ line_again (line_words call) (calls_text calls) (line_words_are processors spaces call some few is)
 
-pub call_words_again : (processors spaces : ℕ) (call : Line) → processors ≤ 2 ^ 64 → spaces ≤ 2 ^ 64 → IsLine processors spaces call → words_of (join_with_byte 32 (line_words call)) ≡ line_words call
+pub call_words_again : (processors spaces : ℕ) (call : Line) → processors ≤ 2 ^ 64 → spaces ≤ 2 ^ 64 → IsLine processors spaces call
+    → words_of (join_with_byte 32 (line_words call)) ≡ line_words call
 call_words_again processors spaces call some few is = words_again (decimal call.processor) (call_words call.call) (line_words_are processors spaces call some few is)
 
 three_words : (call : Call) → 3 ≤ length (call_words call)
@@ -162,7 +167,8 @@ three_words (Sync space page) = omega arith
 three_words (Evict space page) = omega arith
 
 -- a call has more words than the end
-pub call_is_not_end : (processors spaces : ℕ) (call : Line) → processors ≤ 2 ^ 64 → spaces ≤ 2 ^ 64 → IsLine processors spaces call → bytes_eq (join_with_byte 32 (line_words call)) (codes "end") ≡ false
+pub call_is_not_end : (processors spaces : ℕ) (call : Line) → processors ≤ 2 ^ 64 → spaces ≤ 2 ^ 64 → IsLine processors spaces call
+    → bytes_eq (join_with_byte 32 (line_words call)) (codes "end") ≡ false
 call_is_not_end processors spaces call some few is =
     elim (cases_Bool (bytes_eq (join_with_byte 32 (line_words call)) (codes "end"))) [
       | inl same ↦
@@ -172,7 +178,9 @@ call_is_not_end processors spaces call some few is =
       | inr other ↦ other
     ]
 
-calls_are_lawful : (processors spaces number before : ℕ) (calls : List Line) → processors ≤ 2 ^ 64 → spaces ≤ 2 ^ 64 → AllByRecursion (IsLine processors spaces) calls → before + length calls ≤ 262144 → calls_refusal (call_forms processors spaces) number before (lines_of (calls_text calls)) ≡ None
+calls_are_lawful : (processors spaces number before : ℕ) (calls : List Line) → processors ≤ 2 ^ 64 → spaces ≤ 2 ^ 64
+    → AllByRecursion (IsLine processors spaces) calls → before + length calls ≤ 262144
+    → calls_refusal (call_forms processors spaces) number before (lines_of (calls_text calls)) ≡ None
 calls_are_lawful processors spaces number before [] some few are in' = refl
 calls_are_lawful processors spaces number before (call ∷ calls) some few are in' =
     let lawful : line_fault (call_forms processors spaces) (words_of (join_with_byte 32 (line_words call))) ≡ None = rw (call_words_again processors spaces call some few are.0) (line_is_lawful processors spaces call some few are.0) in
@@ -188,14 +196,16 @@ daemon_words_are d is = (is_word (codes "daemon") refl, (decimal_is d.low (omega
 abbrev pub behind_text : Option Daemon → List Line → List ℕ
 behind_text daemon calls = daemon_line daemon ++ calls_text calls
 
-pub daemon_again : (d : Daemon) (calls : List Line) → IsDaemon (Some d) → lines_of (behind_text (Some d) calls) ≡ join_with_byte 32 (daemon_words d) ∷ lines_of (calls_text calls)
+pub daemon_again : (d : Daemon) (calls : List Line) → IsDaemon (Some d)
+    → lines_of (behind_text (Some d) calls) ≡ join_with_byte 32 (daemon_words d) ∷ lines_of (calls_text calls)
 daemon_again d calls is = line_again (daemon_words d) (calls_text calls) (daemon_words_are d is)
 
 pub daemon_words_again : (d : Daemon) → IsDaemon (Some d) → words_of (join_with_byte 32 (daemon_words d)) ≡ daemon_words d
 daemon_words_again d is = words_again (codes "daemon") (decimal d.low ∷ decimal d.turns ∷ []) (daemon_words_are d is)
 
 -- a call has more words than a daemon's line
-pub call_is_no_daemons : (processors spaces : ℕ) (call : Line) → processors ≤ 2 ^ 64 → spaces ≤ 2 ^ 64 → IsLine processors spaces call → fits daemon_form (words_of (join_with_byte 32 (line_words call))) ≡ false
+pub call_is_no_daemons : (processors spaces : ℕ) (call : Line) → processors ≤ 2 ^ 64 → spaces ≤ 2 ^ 64 → IsLine processors spaces call
+    → fits daemon_form (words_of (join_with_byte 32 (line_words call))) ≡ false
 call_is_no_daemons processors spaces call some few is =
     elim (cases_Bool (fits daemon_form (words_of (join_with_byte 32 (line_words call))))) [
       | inl same ↦
@@ -203,7 +213,9 @@ call_is_no_daemons processors spaces call some few is =
       | inr other ↦ other
     ]
 
-daemon_is_lawful : (processors spaces : ℕ) (daemon : Option Daemon) (calls : List Line) → processors ≤ 2 ^ 64 → spaces ≤ 2 ^ 64 → IsDaemon daemon → AllByRecursion (IsLine processors spaces) calls → second_refusal (call_forms processors spaces) (lines_of (behind_text daemon calls)) ≡ calls_refusal (call_forms processors spaces) (first_call daemon) 0 (lines_of (calls_text calls))
+daemon_is_lawful : (processors spaces : ℕ) (daemon : Option Daemon) (calls : List Line) → processors ≤ 2 ^ 64 → spaces ≤ 2 ^ 64
+    → IsDaemon daemon → AllByRecursion (IsLine processors spaces) calls
+    → second_refusal (call_forms processors spaces) (lines_of (behind_text daemon calls)) ≡ calls_refusal (call_forms processors spaces) (first_call daemon) 0 (lines_of (calls_text calls))
 daemon_is_lawful processors spaces None [] some few is are = refl
 daemon_is_lawful processors spaces None (call ∷ calls) some few is are =
     no_daemon (call_forms processors spaces) (calls_text (call ∷ calls)) (join_with_byte 32 (line_words call)) (calls_text calls) (call_again processors spaces call calls some few are.0) (call_is_no_daemons processors spaces call some few are.0)
@@ -219,10 +231,12 @@ pub text_is : (plan : Plan) → text_of plan ≡ first_line plan ++ behind_text 
 text_is plan =
     append_assoc (first_line plan ++ daemon_line plan.daemon) (flat_map call_line plan.calls) end_line ∙ append_assoc (first_line plan) (daemon_line plan.daemon) (calls_text plan.calls)
 
-pub first_again : (plan : Plan) → HasText plan → lines_of (text_of plan) ≡ join_with_byte 32 (first_words plan.version plan.frames plan.processors plan.spaces plan.sizes) ∷ lines_of (behind_text plan.daemon plan.calls)
+pub first_again : (plan : Plan) → HasText plan
+    → lines_of (text_of plan) ≡ join_with_byte 32 (first_words plan.version plan.frames plan.processors plan.spaces plan.sizes) ∷ lines_of (behind_text plan.daemon plan.calls)
 first_again plan has = ap lines_of (text_is plan) ∙ line_again (first_words plan.version plan.frames plan.processors plan.spaces plan.sizes) (behind_text plan.daemon plan.calls) (first_words_are plan has)
 
-pub first_words_again : (plan : Plan) → HasText plan → words_of (join_with_byte 32 (first_words plan.version plan.frames plan.processors plan.spaces plan.sizes)) ≡ first_words plan.version plan.frames plan.processors plan.spaces plan.sizes
+pub first_words_again : (plan : Plan) → HasText plan
+    → words_of (join_with_byte 32 (first_words plan.version plan.frames plan.processors plan.spaces plan.sizes)) ≡ first_words plan.version plan.frames plan.processors plan.spaces plan.sizes
 first_words_again plan has = words_again (codes "trace") (decimal plan.version ∷ decimal plan.frames ∷ decimal plan.processors ∷ decimal plan.spaces ∷ (if plan.version == 1 then [] else sizes_word plan.sizes ∷ [])) (first_words_are plan has)
 
 pub not_refused : (plan : Plan) → HasText plan → refusal_of (text_of plan) ≡ None

@@ -245,7 +245,8 @@ first_says words none =
       | inr others ↦ elim others [ inl two ↦ two_says words two | inr none_left ↦ absurd none_left ]
     ]
 
-daemon_says : (words : List (List ℕ)) → fits daemon_form words ≡ true → leftmost daemon_form words ≡ None → (d : Daemon) × IsDaemon (Some d) × (words ≡ daemon_words d)
+daemon_says : (words : List (List ℕ)) → fits daemon_form words ≡ true → leftmost daemon_form words ≡ None
+    → (d : Daemon) × IsDaemon (Some d) × (words ≡ daemon_words d)
 daemon_says words fit none =
     let is = filled daemon_form words fit none in
     let f = is.0 in
@@ -267,11 +268,13 @@ nothing_behind number (b ∷ next) (line ∷ lines) e = absurd cc
 abbrev SayCalls : ℕ → ℕ → ℕ → List (List ℕ) → Type 0
 SayCalls processors spaces before lines = (calls : List Line) × AllByRecursion (IsLine processors spaces) calls × (before + length calls ≤ 262144) × (join_with_byte 10 lines ≡ calls_text calls)
 
-one_call_more : (line behind : List ℕ) (call : Line) (calls : List Line) → words_of line ≡ line_words call → behind ≡ calls_text calls → line ++ 10 ∷ behind ≡ calls_text (call ∷ calls)
+one_call_more : (line behind : List ℕ) (call : Line) (calls : List Line) → words_of line ≡ line_words call → behind ≡ calls_text calls
+    → line ++ 10 ∷ behind ≡ calls_text (call ∷ calls)
 one_call_more line behind call calls words is =
     line_is (line ++ 10 ∷ behind) line behind (line_words call) refl words ∙ ap (λ (t : List ℕ). call_line call ++ t) is ∙ sym (calls_text-cons call calls)
 
-calls_say : (processors spaces number before : ℕ) (lines : List (List ℕ)) → before ≤ 262144 → calls_refusal (call_forms processors spaces) number before lines ≡ None → SayCalls processors spaces before lines
+calls_say : (processors spaces number before : ℕ) (lines : List (List ℕ)) → before ≤ 262144
+    → calls_refusal (call_forms processors spaces) number before lines ≡ None → SayCalls processors spaces before lines
 calls_say processors spaces number before [] few none = absurd cc
 calls_say processors spaces number before (line ∷ []) few none = absurd cc
 calls_say processors spaces number before (line ∷ next ∷ lines) few none =

@@ -9,7 +9,9 @@ use Rattle.trace_reader.specs.Forms.{Place, may_stand, fits, line_fault, call_fo
 use Rattle.trace_reader.specs.Heads.{word_of_name}
 
 -- a word that names no call
-pub no_name : (processors spaces : ℕ) (processor word : List ℕ) (arguments : List (List ℕ)) → ((name : Name) → bytes_eq word (word_of_name name) ≡ false) → line_fault (call_forms processors spaces) (processor ∷ word ∷ arguments) ≡ Some causes.Form
+pub no_name : (processors spaces : ℕ) (processor word : List ℕ) (arguments : List (List ℕ))
+    → ((name : Name) → bytes_eq word (word_of_name name) ≡ false)
+    → line_fault (call_forms processors spaces) (processor ∷ word ∷ arguments) ≡ Some causes.Form
 no_name processors spaces processor word arguments none =
     let map : bytes_eq word (codes "map") ≡ false = none Map in
     let grow : bytes_eq word (codes "grow") ≡ false = none Grow in
@@ -34,7 +36,8 @@ abbrev pub AreShort : ℕ → List (List Place) → Type 0
 AreShort most [] = Unit {0}
 AreShort most (form ∷ forms) = (length form ≤ most) × AreShort most forms
 
-pub too_many_words : (most : ℕ) (forms : List (List Place)) (words : List (List ℕ)) → AreShort most forms → most < length words → line_fault forms words ≡ Some causes.Form
+pub too_many_words : (most : ℕ) (forms : List (List Place)) (words : List (List ℕ)) → AreShort most forms → most < length words
+    → line_fault forms words ≡ Some causes.Form
 too_many_words most [] words short more = refl
 too_many_words most (form ∷ forms) words short more =
     elim (cases_Bool (fits form words)) [

@@ -35,7 +35,8 @@ some_pages n low high = number_in_again 1 1 1048577 n (omega arith) low (omega a
 an_address : (n : ℕ) → n % 8 ≡ 0 → n < 8589934592 → number_in 8 0 8589934592 (decimal n) ≡ Ok n
 an_address n whole high = number_in_again 8 0 8589934592 n whole (omega arith) high (omega arith)
 
-call_is_lawful : (processors spaces processor : ℕ) (call : Call) → processors ≤ 2 ^ 64 → spaces ≤ 2 ^ 64 → processor < processors → IsCall spaces call → line_fault (call_forms processors spaces) (decimal processor ∷ call_words call) ≡ None
+call_is_lawful : (processors spaces processor : ℕ) (call : Call) → processors ≤ 2 ^ 64 → spaces ≤ 2 ^ 64 → processor < processors
+    → IsCall spaces call → line_fault (call_forms processors spaces) (decimal processor ∷ call_words call) ≡ None
 call_is_lawful processors spaces processor (Map space page len kind rights) few small of is =
     rw (kind_stands kind, rights_stand rights, below processors processor few of, below spaces space small is.0, below 1048576 page (lit≤ tt) is.1, some_pages len is.2 is.3) refl
 call_is_lawful processors spaces processor (Grow space page by) few small of is =
@@ -53,7 +54,8 @@ call_is_lawful processors spaces processor (Sync space page) few small of is =
 call_is_lawful processors spaces processor (Evict space page) few small of is =
     rw (below processors processor few of, below spaces space small is.0, below 1048576 page (lit≤ tt) is.1) refl
 
-pub line_is_lawful : (processors spaces : ℕ) (line : Line) → processors ≤ 2 ^ 64 → spaces ≤ 2 ^ 64 → IsLine processors spaces line → line_fault (call_forms processors spaces) (line_words line) ≡ None
+pub line_is_lawful : (processors spaces : ℕ) (line : Line) → processors ≤ 2 ^ 64 → spaces ≤ 2 ^ 64 → IsLine processors spaces line
+    → line_fault (call_forms processors spaces) (line_words line) ≡ None
 line_is_lawful processors spaces line few small is = call_is_lawful processors spaces line.processor line.call few small is.0 is.1
 
 sizes_stand : (one two three : Bool) → may_stand any_sizes (sizes_word (record { one = one; two = two; three = three })) ≡ true
@@ -66,7 +68,8 @@ sizes_stand true false true = refl
 sizes_stand true true false = refl
 sizes_stand true true true = refl
 
-pub first_is_lawful : (head : Head) → IsInRange head → line_fault first_forms (first_words head.version head.frames head.processors head.spaces head.sizes) ≡ None
+pub first_is_lawful : (head : Head) → IsInRange head
+    → line_fault first_forms (first_words head.version head.frames head.processors head.spaces head.sizes) ≡ None
 first_is_lawful head is =
     let frames : number_in 512 512 32769 (decimal head.frames) ≡ Ok head.frames = number_in_again 512 512 32769 head.frames is.2 is.1.0 (omega (arith, is.1.1)) (omega (arith, is.1.1)) in
     let processors : number_in 1 1 17 (decimal head.processors) ≡ Ok head.processors = number_in_again 1 1 17 head.processors (omega arith) is.3.0 (omega (arith, is.3.1)) (omega (arith, is.3.1)) in

@@ -69,7 +69,8 @@ by_index : IsNumeralModel (λ ds. AreDigits ds (length ds)) (digits_value 10)
 by_index = numerals_by_value (λ ds. AreDigits ds (length ds)) tells_by_index
 
 -- digits alone, with no zero before others
-pub number_of-digits : (word : List ℕ) → IsPlain word → AreDigits word (length word) → digits_value 10 word < 2 ^ 64 → number_of word ≡ Some (digits_value 10 word)
+pub number_of-digits : (word : List ℕ) → IsPlain word → AreDigits word (length word) → digits_value 10 word < 2 ^ 64
+    → number_of word ≡ Some (digits_value 10 word)
 number_of-digits word plain digits small =
     let is : decimal (digits_value 10 word) ≡ word = decimal-digits_value by_index word digits plain.0 (λ z. let l = plain.1 z in omega (arith, l, plain.0)) small in
     subst (λ w. number_of w ≡ Some (digits_value 10 word)) is (number_again (digits_value 10 word) small)
@@ -78,7 +79,8 @@ pub number_of-zeros : (word : List ℕ) → (IsPlain word → ⊥) → number_of
 number_of-zeros word zeros = no_number word (λ n small e. zeros (is_plain n word small e))
 
 -- one digit more
-pub digits_more : (word : List ℕ) (i number : ℕ) → i < length word → (number ≡ digits_value 10 (take i word)) × AreDigits word i → 48 ≤ get_or word i 0 → get_or word i 0 ≤ 57
+pub digits_more : (word : List ℕ) (i number : ℕ) → i < length word → (number ≡ digits_value 10 (take i word)) × AreDigits word i
+    → 48 ≤ get_or word i 0 → get_or word i 0 ≤ 57
     → (number * 10 + (get_or word i 0 - 48) ≡ digits_value 10 (take (i + 1) word)) × AreDigits word (i + 1)
 digits_more word i number below so_far low high =
     let more = digits_value_more 10 word i below in
@@ -99,7 +101,8 @@ number_of-other word i below other =
     other (omega (arith, here)) (omega (arith, here)))
 
 -- digits of which those up to this place make too large a number
-pub number_of-large : (word : List ℕ) (i : ℕ) → i < length word → AreDigits word (i + 1) → 2 ^ 64 ≤ digits_value 10 (take i word) * 10 + (get_or word i 0 - 48) → number_of word ≡ None
+pub number_of-large : (word : List ℕ) (i : ℕ) → i < length word → AreDigits word (i + 1)
+    → 2 ^ 64 ≤ digits_value 10 (take i word) * 10 + (get_or word i 0 - 48) → number_of word ≡ None
 number_of-large word i below digits large =
     no_number word (λ n small e.
     let whole : digits_value 10 word ≡ n = ap (digits_value 10) e ∙ digits_value-decimal own n small in
@@ -143,12 +146,14 @@ pub number_in_none : (step low end : ℕ) (word : List ℕ) → number_of word �
 unfolding number_in
 number_in_none step low end word e = rw e refl
 
-pub number_in_some : (step low end : ℕ) (word : List ℕ) (n : ℕ) → number_of word ≡ Some n → n % step ≡ 0 → low ≤ n → n < end → number_in step low end word ≡ Ok n
+pub number_in_some : (step low end : ℕ) (word : List ℕ) (n : ℕ) → number_of word ≡ Some n → n % step ≡ 0 → low ≤ n → n < end
+    → number_in step low end word ≡ Ok n
 number_in_some step low end word n e whole above below =
     let t = number_takes word n e in
     rw t.1 (number_in_again step low end n whole above below t.0)
 
-pub number_in_out : (step low end : ℕ) (word : List ℕ) (n : ℕ) → number_of word ≡ Some n → ((n % step ≡ 0) × (low ≤ n) × (n < end) → ⊥) → number_in step low end word ≡ Err causes.Range
+pub number_in_out : (step low end : ℕ) (word : List ℕ) (n : ℕ) → number_of word ≡ Some n → ((n % step ≡ 0) × (low ≤ n) × (n < end) → ⊥)
+    → number_in step low end word ≡ Err causes.Range
 unfolding number_in
 number_in_out step low end word n e out =
     rw e (elim (cases_Bool ((eqb (n % step) 0) && (leb low n && ltb n end))) [

@@ -22,34 +22,47 @@ use Rattle.trace_reader.proofs.Numbers.{decimal_value}
 use Rattle.trace_reader.specs.Refusals.{lines_of, words_of, end_refusal, calls_refusal, second_refusal, forms_behind, refusal_of_lines, refusal_of}
 use Rattle.trace_reader.proofs.Splits.{some_piece}
 
-pub faulty_line : (forms : List (List Place)) (number calls : ℕ) (rest line after : List ℕ) (cause : LineCause) → lines_of rest ≡ line ∷ lines_of after → bytes_eq line (codes "end") ≡ false → line_fault forms (words_of line) ≡ Some cause → calls_refusal forms number calls (lines_of rest) ≡ Some (Line number cause)
+pub faulty_line : (forms : List (List Place)) (number calls : ℕ) (rest line after : List ℕ) (cause : LineCause)
+    → lines_of rest ≡ line ∷ lines_of after → bytes_eq line (codes "end") ≡ false → line_fault forms (words_of line) ≡ Some cause
+    → calls_refusal forms number calls (lines_of rest) ≡ Some (Line number cause)
 faulty_line forms number calls rest line after cause first other fault = let p = some_piece 10 after in rw (first, p.2, other, fault) refl
 
-pub one_call_more : (forms : List (List Place)) (number calls : ℕ) (rest line after : List ℕ) → lines_of rest ≡ line ∷ lines_of after → bytes_eq line (codes "end") ≡ false → line_fault forms (words_of line) ≡ None → calls ≡ 262144 → calls_refusal forms number calls (lines_of rest) ≡ Some TooManyCalls
+pub one_call_more : (forms : List (List Place)) (number calls : ℕ) (rest line after : List ℕ) → lines_of rest ≡ line ∷ lines_of after
+    → bytes_eq line (codes "end") ≡ false → line_fault forms (words_of line) ≡ None → calls ≡ 262144
+    → calls_refusal forms number calls (lines_of rest) ≡ Some TooManyCalls
 one_call_more forms number calls rest line after first other lawful many = let p = some_piece 10 after in rw (first, p.2, other, lawful, eq-eqb calls 262144 many) refl
 
-pub goes_on : (forms : List (List Place)) (number calls : ℕ) (rest line after : List ℕ) → lines_of rest ≡ line ∷ lines_of after → bytes_eq line (codes "end") ≡ false → line_fault forms (words_of line) ≡ None → calls ≢ 262144 → calls_refusal forms number calls (lines_of rest) ≡ calls_refusal forms (number + 1) (calls + 1) (lines_of after)
+pub goes_on : (forms : List (List Place)) (number calls : ℕ) (rest line after : List ℕ) → lines_of rest ≡ line ∷ lines_of after
+    → bytes_eq line (codes "end") ≡ false → line_fault forms (words_of line) ≡ None → calls ≢ 262144
+    → calls_refusal forms number calls (lines_of rest) ≡ calls_refusal forms (number + 1) (calls + 1) (lines_of after)
 goes_on forms number calls rest line after first other lawful few = let p = some_piece 10 after in rw (first, p.2, other, lawful, ne_eqb calls 262144 few) refl
 
 -- behind the end something stands
-something : (number : ℕ) (after first : List ℕ) (others : List (List ℕ)) → lines_of after ≡ first ∷ others → after ≢ [] → end_refusal number (first ∷ others) ≡ Some (Line (number + 1) causes.After)
+something : (number : ℕ) (after first : List ℕ) (others : List (List ℕ)) → lines_of after ≡ first ∷ others → after ≢ []
+    → end_refusal number (first ∷ others) ≡ Some (Line (number + 1) causes.After)
 something number after [] [] e some = absurd (some (sym (join_with_byte-slice_split 10 after) ∙ ap (join_with_byte 10) e))
 something number after [] (line ∷ others) e some = refl
 something number after (b ∷ first) [] e some = refl
 something number after (b ∷ first) (line ∷ others) e some = refl
 
-pub past_the_end : (forms : List (List Place)) (number calls : ℕ) (rest line after : List ℕ) → lines_of rest ≡ line ∷ lines_of after → bytes_eq line (codes "end") ≡ true → after ≢ [] → calls_refusal forms number calls (lines_of rest) ≡ Some (Line (number + 1) causes.After)
+pub past_the_end : (forms : List (List Place)) (number calls : ℕ) (rest line after : List ℕ) → lines_of rest ≡ line ∷ lines_of after
+    → bytes_eq line (codes "end") ≡ true → after ≢ []
+    → calls_refusal forms number calls (lines_of rest) ≡ Some (Line (number + 1) causes.After)
 past_the_end forms number calls rest line after first same some =
     let p = some_piece 10 after in
     rw (first, p.2, same) (something number after p.0 p.1 p.2 some)
 
-pub no_daemon : (forms : List (List Place)) (rest line after : List ℕ) → lines_of rest ≡ line ∷ lines_of after → fits daemon_form (words_of line) ≡ false → second_refusal forms (lines_of rest) ≡ calls_refusal forms 2 0 (lines_of rest)
+pub no_daemon : (forms : List (List Place)) (rest line after : List ℕ) → lines_of rest ≡ line ∷ lines_of after
+    → fits daemon_form (words_of line) ≡ false → second_refusal forms (lines_of rest) ≡ calls_refusal forms 2 0 (lines_of rest)
 no_daemon forms rest line after first other = let p = some_piece 10 after in rw (first, p.2, other) refl
 
-pub faulty_daemon : (forms : List (List Place)) (rest line after low turns : List ℕ) (cause : LineCause) → lines_of rest ≡ line ∷ lines_of after → words_of line ≡ codes "daemon" ∷ low ∷ turns ∷ [] → leftmost daemon_form (codes "daemon" ∷ low ∷ turns ∷ []) ≡ Some cause → second_refusal forms (lines_of rest) ≡ Some (Line 2 cause)
+pub faulty_daemon : (forms : List (List Place)) (rest line after low turns : List ℕ) (cause : LineCause)
+    → lines_of rest ≡ line ∷ lines_of after → words_of line ≡ codes "daemon" ∷ low ∷ turns ∷ []
+    → leftmost daemon_form (codes "daemon" ∷ low ∷ turns ∷ []) ≡ Some cause → second_refusal forms (lines_of rest) ≡ Some (Line 2 cause)
 faulty_daemon forms rest line after low turns cause first words fault = let p = some_piece 10 after in rw (first, p.2, words, fault) refl
 
-pub behind_daemon : (forms : List (List Place)) (rest line after : List ℕ) (d : Daemon) → lines_of rest ≡ line ∷ lines_of after → words_of line ≡ daemon_words d → IsDaemon (Some d) → second_refusal forms (lines_of rest) ≡ calls_refusal forms 3 0 (lines_of after)
+pub behind_daemon : (forms : List (List Place)) (rest line after : List ℕ) (d : Daemon) → lines_of rest ≡ line ∷ lines_of after
+    → words_of line ≡ daemon_words d → IsDaemon (Some d) → second_refusal forms (lines_of rest) ≡ calls_refusal forms 3 0 (lines_of after)
 behind_daemon forms rest line after d first words is = let p = some_piece 10 after in rw (first, p.2, words, daemon_is_lawful d is) refl
 
 -- a line of these words, with its line feed
@@ -59,7 +72,8 @@ line_is text line rest words cut are =
     cut ∙ ap (λ (x : List ℕ). x ++ 10 ∷ rest) whole ∙ sym (append_assoc (join_with_byte 32 words) (10 ∷ []) rest)
 
 -- the lines so far, and one more that ends at a line feed
-pub parts_go_on : (text rest line after : List ℕ) (calls : List Call) (call : Call) → text ≡ flat_map call_line calls ++ rest → rest ≡ line ++ 10 ∷ after → words_of line ≡ line_words call → text ≡ flat_map call_line (calls ++ call ∷ []) ++ after
+pub parts_go_on : (text rest line after : List ℕ) (calls : List Call) (call : Call) → text ≡ flat_map call_line calls ++ rest
+    → rest ≡ line ++ 10 ∷ after → words_of line ≡ line_words call → text ≡ flat_map call_line (calls ++ call ∷ []) ++ after
 parts_go_on text rest line after calls call so_far cut words =
     let front : flat_map call_line (calls ++ call ∷ []) ≡ flat_map call_line calls ++ call_line call = flat_map-append call_line calls (call ∷ []) ∙ ap (λ (x : List ℕ). flat_map call_line calls ++ x) (flat_map-cons call_line call [] ∙ append-nil (call_line call)) in
     let next : rest ≡ call_line call ++ after = line_is rest line after (line_words call) cut words in
@@ -78,22 +92,29 @@ short_enough text few = rw (le-ltb 16777216 (length text) few) refl
 pub no_first_line : (text : List ℕ) → length text ≤ 16777216 → lines_of text ≡ text ∷ [] → refusal_of text ≡ Some NoEnd
 no_first_line text few last = short_enough text few ∙ ap refusal_of_lines last
 
-pub faulty_first_line : (text line rest : List ℕ) (cause : LineCause) → length text ≤ 16777216 → lines_of text ≡ line ∷ lines_of rest → line_fault first_forms (words_of line) ≡ Some cause → refusal_of text ≡ Some (Line 1 cause)
+pub faulty_first_line : (text line rest : List ℕ) (cause : LineCause) → length text ≤ 16777216 → lines_of text ≡ line ∷ lines_of rest
+    → line_fault first_forms (words_of line) ≡ Some cause → refusal_of text ≡ Some (Line 1 cause)
 faulty_first_line text line rest cause few first fault = let p = some_piece 10 rest in rw (short_enough text few, first, p.2, fault) refl
 
-pub forms_again : (head : Head) → IsInRange head → forms_behind (first_words head.version head.frames head.processors head.spaces head.sizes) ≡ call_forms head.processors head.spaces
+pub forms_again : (head : Head) → IsInRange head
+    → forms_behind (first_words head.version head.frames head.processors head.spaces head.sizes) ≡ call_forms head.processors head.spaces
 forms_again head is =
     let processors : digits_value 10 (decimal head.processors) ≡ head.processors = decimal_value head.processors (omega (arith, is.3)) in
     let spaces : digits_value 10 (decimal head.spaces) ≡ head.spaces = decimal_value head.spaces (omega (arith, is.4)) in
     rw (processors, spaces) refl
 
-pub behind_first_line : (text line rest : List ℕ) (head : Head) → length text ≤ 16777216 → lines_of text ≡ line ∷ lines_of rest → words_of line ≡ first_words head.version head.frames head.processors head.spaces head.sizes → IsInRange head → refusal_of text ≡ second_refusal (call_forms head.processors head.spaces) (lines_of rest)
+pub behind_first_line : (text line rest : List ℕ) (head : Head) → length text ≤ 16777216 → lines_of text ≡ line ∷ lines_of rest
+    → words_of line ≡ first_words head.version head.frames head.processors head.spaces head.sizes → IsInRange head
+    → refusal_of text ≡ second_refusal (call_forms head.processors head.spaces) (lines_of rest)
 behind_first_line text line rest head few first words is =
     let p = some_piece 10 rest in
     rw (short_enough text few, first, p.2, words, first_is_lawful head is, forms_again head is) refl
 
 -- the trace of what was read
-pub is_text : (text line behind rest : List ℕ) (head : Head) (daemon : Option Daemon) (calls : List Call) → text ≡ line ++ 10 ∷ behind → words_of line ≡ first_words head.version head.frames head.processors head.spaces head.sizes → IsInRange head → behind ≡ daemon_line daemon ++ rest → IsDaemon daemon → All (IsLine head.processors head.spaces) calls → length calls ≤ 262144 → rest ≡ flat_map call_line calls ++ line_of_words (codes "end" ∷ [])
+pub is_text : (text line behind rest : List ℕ) (head : Head) (daemon : Option Daemon) (calls : List Call) → text ≡ line ++ 10 ∷ behind
+    → words_of line ≡ first_words head.version head.frames head.processors head.spaces head.sizes → IsInRange head
+    → behind ≡ daemon_line daemon ++ rest → IsDaemon daemon → All (IsLine head.processors head.spaces) calls → length calls ≤ 262144
+    → rest ≡ flat_map call_line calls ++ line_of_words (codes "end" ∷ [])
     → IsTextOf text (record { version = head.version; frames = head.frames; processors = head.processors; spaces = head.spaces; sizes = head.sizes; daemon = daemon; calls = calls })
 is_text text line behind rest head daemon calls cut words is second told are few lines =
     let first : List ℕ = line_of_words (first_words head.version head.frames head.processors head.spaces head.sizes) in

@@ -10,7 +10,8 @@ Took None now text = Unit {0}
 Took (Some bytes) now text = (rest : List ℕ) × (now ≡ Some rest) × (bytes ≡ text ++ rest)
 
 -- where so many more come, the text is too long
-pub longer : (old now : Option (List ℕ)) (text : List ℕ) (n : ℕ) → Took old now text → IfSome now (λ bytes. n ≤ length bytes) → 16777216 < length text + n → IfSome old (λ bytes. refusal_of bytes ≡ Some TooLong)
+pub longer : (old now : Option (List ℕ)) (text : List ℕ) (n : ℕ) → Took old now text → IfSome now (λ bytes. n ≤ length bytes)
+    → 16777216 < length text + n → IfSome old (λ bytes. refusal_of bytes ≡ Some TooLong)
 longer None now text n took had more = tt
 longer (Some bytes) now text n took had more =
     let within : n ≤ length took.0 = subst (λ (o : Option (List ℕ)). IfSome o (λ bytes. n ≤ length bytes)) took.1 had in

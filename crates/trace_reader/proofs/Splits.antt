@@ -25,7 +25,8 @@ some_piece byte (b ∷ bytes) =
     ]
 
 -- where a byte stands first, and where it doesn't stand
-pub at_first : (byte : ℕ) (bytes : List ℕ) (i : ℕ) → position (λ b. eqb b byte) bytes ≡ Some i → (bytes ≡ take i bytes ++ byte ∷ drop (i + 1) bytes) × (pieces byte bytes ≡ take i bytes ∷ pieces byte (drop (i + 1) bytes))
+pub at_first : (byte : ℕ) (bytes : List ℕ) (i : ℕ) → position (λ b. eqb b byte) bytes ≡ Some i
+    → (bytes ≡ take i bytes ++ byte ∷ drop (i + 1) bytes) × (pieces byte bytes ≡ take i bytes ∷ pieces byte (drop (i + 1) bytes))
 at_first byte bytes i e =
     let at = position-Some (λ b. eqb b byte) bytes i 0 e in
     let is : get_or bytes i 0 ≡ byte = eqb-true _ _ at.1 in

@@ -57,7 +57,8 @@ call_back name words =
 abbrev line_back : List (List ℕ) → Line
 line_back words = record { processor = number_back words 0; call = call_back (get_or words 1 []) words }
 
-call_is_back : (spaces processor : ℕ) (call : Call) → spaces ≤ 2 ^ 64 → processor < 2 ^ 64 → IsCall spaces call → line_back (decimal processor ∷ call_words call) ≡ record { processor = processor; call = call }
+call_is_back : (spaces processor : ℕ) (call : Call) → spaces ≤ 2 ^ 64 → processor < 2 ^ 64 → IsCall spaces call
+    → line_back (decimal processor ∷ call_words call) ≡ record { processor = processor; call = call }
 call_is_back spaces processor (Map space page len kind rights) few small is =
     rw (decimal_value processor small, decimal_value space (omega arith), decimal_value page (omega arith), decimal_value len (omega arith), kind_again kind, rights_again rights) refl
 call_is_back spaces processor (Grow space page by) few small is =
@@ -80,7 +81,8 @@ abbrev calls_back : List (List ℕ) → List Line
 calls_back [] = []
 calls_back (line ∷ lines) = cond (bytes_eq line (codes "end")) [] (line_back (words_of line) ∷ calls_back lines)
 
-calls_are_back : (processors spaces : ℕ) (calls : List Line) → processors ≤ 2 ^ 64 → spaces ≤ 2 ^ 64 → AllByRecursion (IsLine processors spaces) calls → calls_back (lines_of (calls_text calls)) ≡ calls
+calls_are_back : (processors spaces : ℕ) (calls : List Line) → processors ≤ 2 ^ 64 → spaces ≤ 2 ^ 64
+    → AllByRecursion (IsLine processors spaces) calls → calls_back (lines_of (calls_text calls)) ≡ calls
 calls_are_back processors spaces [] some few are = refl
 calls_are_back processors spaces (call ∷ calls) some few are =
     let back : line_back (line_words call) ≡ call = call_is_back spaces call.processor call.call few (omega (arith, are.0)) are.0.1 in
@@ -102,7 +104,9 @@ daemon_back lines = daemon_by (next_words lines)
 abbrev calls_behind : List (List ℕ) → List Line
 calls_behind lines = calls_by (next_words lines) lines
 
-behind_is_back : (processors spaces : ℕ) (daemon : Option Daemon) (calls : List Line) → processors ≤ 2 ^ 64 → spaces ≤ 2 ^ 64 → IsDaemon daemon → AllByRecursion (IsLine processors spaces) calls → (daemon_back (lines_of (behind_text daemon calls)) ≡ daemon) × (calls_behind (lines_of (behind_text daemon calls)) ≡ calls)
+behind_is_back : (processors spaces : ℕ) (daemon : Option Daemon) (calls : List Line) → processors ≤ 2 ^ 64 → spaces ≤ 2 ^ 64
+    → IsDaemon daemon → AllByRecursion (IsLine processors spaces) calls
+    → (daemon_back (lines_of (behind_text daemon calls)) ≡ daemon) × (calls_behind (lines_of (behind_text daemon calls)) ≡ calls)
 behind_is_back processors spaces None [] some few is are = (refl, refl)
 behind_is_back processors spaces None (call ∷ calls) some few is are =
     let again = call_again processors spaces call calls some few are.0 in
@@ -134,7 +138,8 @@ sizes_again true false true = refl
 sizes_again true true false = refl
 sizes_again true true true = refl
 
-sizes_are_back : (version frames processors spaces : ℕ) (z : SizeSet) → IsVersion version z → sizes_by version (first_words version frames processors spaces z) ≡ z
+sizes_are_back : (version frames processors spaces : ℕ) (z : SizeSet) → IsVersion version z
+    → sizes_by version (first_words version frames processors spaces z) ≡ z
 sizes_are_back version frames processors spaces z is =
     elim is [
       | inl one ↦ rw (eq-eqb version 1 one.0) (sym one.1)

@@ -32,7 +32,8 @@ link_age_cases (Some u) age is = elim (cases_Bool u.wired) [
   | inr unwired ↦ let some = link_age-unwired u unwired in (u, refl, unwired, let same : Some u.age ≡ Some age = sym some ∙ is in cc)
 ]
 
-pub link_age_noted : (notes : List (Option Used)) (frame age : ℕ) → get_or (map link_age notes) frame None ≡ Some age → (u : Used) × (get_or notes frame None ≡ Some u) × (u.age ≡ age)
+pub link_age_noted : (notes : List (Option Used)) (frame age : ℕ) → get_or (map link_age notes) frame None ≡ Some age
+    → (u : Used) × (get_or notes frame None ≡ Some u) × (u.age ≡ age)
 link_age_noted notes frame age is =
     let cases = link_age_cases (get_or notes frame None) age (sym (link_age_at notes frame) ∙ is) in
     (cases.0, cases.1, cases.3)
@@ -74,7 +75,8 @@ map-none : {X : Type 0} (f : Option X → Option ℕ) → f None ≡ None → (n
 map-none f none zero = refl
 map-none f none (suc n) = rw none (ap (λ xs. None ∷ xs) (map-none f none n))
 
-pub AreKept-none : (frames processors : ℕ) (order : Links) → IsInOrder order (replicate frames None) → AreKept (replicate frames None) order (replicate processors None)
+pub AreKept-none : (frames processors : ℕ) (order : Links) → IsInOrder order (replicate frames None)
+    → AreKept (replicate frames None) order (replicate processors None)
 AreKept-none frames processors order is = record {
   ordered = subst (IsInOrder order) (sym (map-none link_age refl frames)) is;
   claimed = rw (map-none claim_in refl frames) (AreMutual-none frames processors);
@@ -123,7 +125,8 @@ claim_in-with_claim claim None some = cc
 claim_in-with_claim claim (Some u) some = refl
 
 -- a claim or none in place of another leaves the order
-module _ (notes : List (Option Used)) (order : Links) (claims : List (Option ℕ)) (are : AreKept notes order claims) (frame processor : ℕ) (u : Used) (is : get_or notes frame None ≡ Some u) (known : processor < length claims) where
+module _ (notes : List (Option Used)) (order : Links) (claims : List (Option ℕ)) (are : AreKept notes order claims) (frame processor : ℕ)
+    (u : Used) (is : get_or notes frame None ≡ Some u) (known : processor < length claims) where
   frame_within : frame < length (map claim_in notes)
   frame_within = omega (arith, get_or_within notes frame u is, length-map notes claim_in)
 

@@ -28,7 +28,8 @@ abbrev pub ages_left : List (Option Used) → Links → Option ℕ → ℕ
 ages_left notes order None = 0
 ages_left notes order (Some frame) = least_after (age_of (ages_of notes) (prev_of order order.end)) - age_in (get_or notes frame None)
 
-in_order_from : (ages : List (Option ℕ)) (low : ℕ) (next : Option ℕ) → IsLeastFrom ages low next → IfSome next (λ frame. (age : ℕ) × (age_of ages frame ≡ Some age))
+in_order_from : (ages : List (Option ℕ)) (low : ℕ) (next : Option ℕ) → IsLeastFrom ages low next
+    → IfSome next (λ frame. (age : ℕ) × (age_of ages frame ≡ Some age))
 in_order_from ages low None least = tt
 in_order_from ages low (Some frame) least = (least.from.0, least.from.1)
 
@@ -39,7 +40,8 @@ IsReached-first notes next least = record {
 }
 
 -- after a claimed frame
-pub IsReached-after : (notes : List (Option Used)) (order : Links) (frame age : ℕ) (next : Option ℕ) → IsInOrder order (ages_of notes) → IsReached notes (Some frame)
+pub IsReached-after : (notes : List (Option Used)) (order : Links) (frame age : ℕ) (next : Option ℕ) → IsInOrder order (ages_of notes)
+    → IsReached notes (Some frame)
     → age_of (ages_of notes) frame ≡ Some age → is_claimed_place (get_or notes frame None) ≡ true → IsLeastFrom (ages_of notes) (age + 1) next → IsReached notes next
 IsReached-after notes order frame age next ordered reached has claimed least = record {
   in_order = in_order_from (ages_of notes) (age + 1) next least;
@@ -79,7 +81,8 @@ evictable_noted (Some u) is = elim (cases_Bool u.wired) [
 ]
 
 -- the first frame that nobody claims is the victim
-pub IsLeast-reached : (notes : List (Option Used)) (frame : ℕ) → IsReached notes (Some frame) → is_claimed_place (get_or notes frame None) ≡ false → IsLeast notes frame
+pub IsLeast-reached : (notes : List (Option Used)) (frame : ℕ) → IsReached notes (Some frame)
+    → is_claimed_place (get_or notes frame None) ≡ false → IsLeast notes frame
 IsLeast-reached notes frame reached unclaimed =
     let age = reached.in_order in
     let own : link_age (get_or notes frame None) ≡ Some age.0 = sym (link_age_at notes frame) ∙ age.1 in
@@ -101,7 +104,8 @@ none_reached notes reached = false_from_ne_true _ (λ some.
     reached.passed found.0 (age_in (get_or notes found.0 None)) (link_age_at notes found.0 ∙ noted.0) noted.1)
 
 -- no frame is younger than the last
-below_last : (ages : List (Option ℕ)) (order : Links) (frame age : ℕ) → IsInOrder order ages → age_of ages frame ≡ Some age → age < least_after (age_of ages (prev_of order order.end))
+below_last : (ages : List (Option ℕ)) (order : Links) (frame age : ℕ) → IsInOrder order ages → age_of ages frame ≡ Some age
+    → age < least_after (age_of ages (prev_of order order.end))
 below_last ages order frame age ordered has = elim (cases_lt age (least_after (age_of ages (prev_of order order.end)))) [
   | inl below ↦ below
   | inr above ↦

@@ -7,4 +7,5 @@ use Rattle.pager_model.specs.FrameStates.{is_evictable, age_in}
 pub record IsLeast (used : List (Option Used)) (at : ℕ) : Type 0 where
   pub known : at < length used
   pub evictable : is_evictable (slice_index_or used at None) ≡ true
-  pub least : (other : ℕ) → is_evictable (slice_index_or used other None) ≡ true → age_in (slice_index_or used at None) ≤ age_in (slice_index_or used other None)
+  pub least : (other : ℕ) → is_evictable (slice_index_or used other None) ≡ true
+      → age_in (slice_index_or used at None) ≤ age_in (slice_index_or used other None)

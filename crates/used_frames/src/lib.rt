@@ -5,7 +5,7 @@
 //! the counts are kept as they change: no call looks through all frames.
 #![tactic(auto)]
 
-ghost use Rattle.std.specs.Prelude.{◌≡◌, ℕ, ◌<◌, ◌≤◌, Some, None, IfOk, IfSome, IfNone, is_some, length, replicate, count_by, true, false};
+ghost use Rattle.std.specs.Prelude.{◌≡◌, ℕ, ◌<◌, Some, None, IfOk, IfSome, IfNone, is_some, length, replicate, count_by, true, false};
 ghost use Rattle.std.specs.List.{list_any};
 ghost use Rattle.pager_model.specs.FrameStates.{claim_in, is_evictable, is_wired_place, is_claimed_place};
 ghost use Rattle.used_frames.specs.Noted.{note_of, with_note, with_claim_of, Claims, AreOlder};

@@ -2,7 +2,7 @@
 
 ghost use Rattle.std.specs.Prelude.{◌≡◌, ◌+◌, ◌^◌, ◌<◌, ◌≤◌, length, replicate, slice_index_or, slice_set, count_by, is_some, Some, None, IfOk};
 ghost use Rattle.std.specs.Int.{from_bool};
-ghost use Rattle.pager_model.specs.FrameStates.{claim_in, is_wired_place, is_claimed_place, with_claim};
+ghost use Rattle.pager_model.specs.FrameStates.{is_wired_place, is_claimed_place, with_claim};
 
 use pager_model::{NoMemory, Used};
 use std::alloc::Global;

@@ -15,7 +15,8 @@ overflow_add-self g c =
     omega (arith, few_free c.self.inside.nodes c.self.inside.frames c.self.inside.count c.self.invariant, c.pages.ensures, c.requires.within, ap length c.self.view_is, length-free_in c.self.inside.nodes c.self.inside.frames, c.self.invariant.most)
 
 -- the extent is given, in terms of the nodes
-done : (g : Over) (c : goal.After-self-1 g) → IsGiven c.self.inside.nodes c.put_in.new.nodes c.self.inside.frames c.self.inside.count c.args.extent.size c.args.extent.first
+done : (g : Over) (c : goal.After-self-1 g)
+    → IsGiven c.self.inside.nodes c.put_in.new.nodes c.self.inside.frames c.self.inside.count c.args.extent.size c.args.extent.first
 done g c =
     give_by_nodes c.self.inside.nodes c.put_in.new.nodes c.self.inside.frames c.self.inside.count c.args.extent.size c.args.extent.first c.self.invariant c.requires.aligned
     (omega (arith, c.requires.within, ap length c.self.view_is, length-free_in c.self.inside.nodes c.self.inside.frames))

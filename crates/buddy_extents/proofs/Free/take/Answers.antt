@@ -25,7 +25,8 @@ overflow_sub-self g c =
     omega (arith, enough, c.pages.ensures)
 
 -- the extent is taken, in terms of the nodes
-done : (g : Over) (c : goal.After-self-1 g) → IsTaken c.self.inside.nodes c.cut.new.nodes c.self.inside.frames c.self.inside.count c.args.size ((c.in_ok-node.node - first_node c.order_of-whole.result) * 2 ^ c.order_of-whole.result)
+done : (g : Over) (c : goal.After-self-1 g)
+    → IsTaken c.self.inside.nodes c.cut.new.nodes c.self.inside.frames c.self.inside.count c.args.size ((c.in_ok-node.node - first_node c.order_of-whole.result) * 2 ^ c.order_of-whole.result)
 done g c =
     let found : IsFirstFrom c.self.inside.nodes (first_node (3 * c.args.size)) (Some c.in_ok-node.node) = rw (c.first_node.ensures, c.order_of_size-order.ensures.order) at c.in_ok-node.ensures.first in
     take_by_nodes c.self.inside.nodes c.cut.new.nodes c.self.inside.frames c.self.inside.count c.args.size c.order_of-whole.result c.in_ok-node.node c.self.invariant (omega arith) c.order_of-whole.ensures.order found c.order_of-whole.ensures.from c.order_of-whole.ensures.to

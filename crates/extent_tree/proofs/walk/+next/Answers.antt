@@ -98,13 +98,15 @@ passed g t c =
     ]
 
 -- the looks at the extent round the page
-looks : (g : Over) (t : ℕ) (c : goal.Joined-spot-2 g t) → c.match-spot-2.steps ≤ c.loop-page.steps + 1 + (4 - (c.args.height + 1)) * (c.loop-page.page + c.min.result - c.loop-page.page)
+looks : (g : Over) (t : ℕ) (c : goal.Joined-spot-2 g t)
+    → c.match-spot-2.steps ≤ c.loop-page.steps + 1 + (4 - (c.args.height + 1)) * (c.loop-page.page + c.min.result - c.loop-page.page)
 looks g t c = elim c.match-spot-2.branch [
   | in-Some-node+in_default-next w ↦ omega (arith, w.steps-is, w.in_default-next.ensures.cost, c.spot-spot.ensures.cost)
   | in_default-node w ↦ omega (arith, w.steps-is, c.spot-spot.ensures.cost)
 ]
 
-root_look : (g : Over) (t : ℕ) (c : goal.Joined-spot-2 g t) → c.args.height ≡ 0 → NoSplitRoots c.args.store.now c.args.from c.args.end → c.match-spot-2.steps ≡ c.loop-page.steps + 1
+root_look : (g : Over) (t : ℕ) (c : goal.Joined-spot-2 g t) → c.args.height ≡ 0 → NoSplitRoots c.args.store.now c.args.from c.args.end
+    → c.match-spot-2.steps ≡ c.loop-page.steps + 1
 root_look g t c root bare =
     let s = c.args.store.now in
     let at = first_place s c.args.height c.loop-page.place c.loop-page.page c.args.end c.loop-page.invariant.places c.loop-page-test.true in

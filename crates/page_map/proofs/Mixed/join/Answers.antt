@@ -27,7 +27,8 @@ first g c =
     let t = c.self.inside.tree in
     (kept_entries t c.self.invariant.0).in_space whole.extent.first (part_of whole whole.extent.first) (there g c whole.extent.first refl)
 
-after : (g : Over) (c : After-join g) → IsKept c.join.new.self × Maps c.args.whole.now.extent (λ _. Some c.args.whole.now) c.self.inside.tree c.join.new.self × (pages_in c.join.new.self ≡ pages_in c.self.inside.tree)
+after : (g : Over) (c : After-join g)
+    → IsKept c.join.new.self × Maps c.args.whole.now.extent (λ _. Some c.args.whole.now) c.self.inside.tree c.join.new.self × (pages_in c.join.new.self ≡ pages_in c.self.inside.tree)
 after g c =
     join_kept c.self.inside.tree c.join.new.self c.args.whole.now c.self.invariant.0 c.requires.large c.requires.extent (parts g (goal.at.After-join g c).After-self) c.join.ensures.rows c.join.ensures.splits
 

@@ -21,7 +21,8 @@ put-requires-clause-room g c =
 apart : (g : Over) (c : After-put g) → Given c.self.inside.tree c.args.entry.now.extent (λ _. None)
 apart g c page same = ap (λ t. entry_at t page) c.self.view_is ∙ c.requires.apart page (eq-eqb _ _ same)
 
-after : (g : Over) (c : After-put g) → IsKept c.put.new.self × Maps c.args.entry.now.extent (λ _. Some c.args.entry.now) c.self.inside.tree c.put.new.self × (pages_in c.put.new.self ≡ pages_in c.self.inside.tree + 8 ^ c.args.entry.now.extent.size)
+after : (g : Over) (c : After-put g)
+    → IsKept c.put.new.self × Maps c.args.entry.now.extent (λ _. Some c.args.entry.now) c.self.inside.tree c.put.new.self × (pages_in c.put.new.self ≡ pages_in c.self.inside.tree + 8 ^ c.args.entry.now.extent.size)
 after g c =
     let t = c.self.inside.tree in
     let entry = c.args.entry.now in

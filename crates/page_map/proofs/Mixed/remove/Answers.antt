@@ -16,7 +16,8 @@ remove-requires g c =
     let entry = c.args.entry.now in
     ap is_some (has_row c.self.inside.tree entry.extent.first entry (there g (goal.at.remove-requires g c).After-self)).is
 
-after : (g : Over) (c : After-remove g) → IsKept c.remove.new.self × Maps c.args.entry.now.extent (λ _. None) c.self.inside.tree c.remove.new.self × (pages_in c.remove.new.self + 8 ^ c.args.entry.now.extent.size ≡ pages_in c.self.inside.tree)
+after : (g : Over) (c : After-remove g)
+    → IsKept c.remove.new.self × Maps c.args.entry.now.extent (λ _. None) c.self.inside.tree c.remove.new.self × (pages_in c.remove.new.self + 8 ^ c.args.entry.now.extent.size ≡ pages_in c.self.inside.tree)
 after g c = remove_kept c.self.inside.tree c.remove.new.self c.args.entry.now c.self.invariant.0 (there g (goal.at.After-remove g c).After-self) c.remove.ensures.row c.remove.ensures.splits
 
 pub subtract-requires : goal.subtract-requires

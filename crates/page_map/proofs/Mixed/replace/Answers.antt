@@ -23,7 +23,8 @@ put-requires-clause-room g c =
     let extent = c.args.entry.now.extent in
     mapped_room c.self.inside.tree extent.size extent.first c.self.invariant.0 (ap is_some (there g (goal.at.put-requires-clause-room g c).After-self))
 
-after : (g : Over) (c : After-put g) → IsKept c.put.new.self × Maps c.args.entry.now.extent (λ _. Some c.args.entry.now) c.self.inside.tree c.put.new.self × (pages_in c.put.new.self ≡ pages_in c.self.inside.tree)
+after : (g : Over) (c : After-put g)
+    → IsKept c.put.new.self × Maps c.args.entry.now.extent (λ _. Some c.args.entry.now) c.self.inside.tree c.put.new.self × (pages_in c.put.new.self ≡ pages_in c.self.inside.tree)
 after g c =
     replace_kept c.self.inside.tree c.put.new.self c.args.entry.now c.requires.0 c.self.invariant.0 (there g (goal.at.After-put g c).After-self) c.requires.2 c.put.ensures.row c.put.ensures.splits
 

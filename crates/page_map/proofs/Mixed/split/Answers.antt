@@ -31,7 +31,8 @@ split-requires-clause-room g c =
     let extent = c.args.entry.now.extent in
     mapped_room c.self.inside.tree (extent.size - 1) extent.first c.self.invariant.0 (ap is_some (there g (goal.at.split-requires-clause-room g c).After-self))
 
-after : (g : Over) (c : After-split g) → IsKept c.split.new.self × Maps c.args.entry.now.extent (λ page. Some (part_of c.args.entry.now page)) c.self.inside.tree c.split.new.self × (pages_in c.split.new.self ≡ pages_in c.self.inside.tree)
+after : (g : Over) (c : After-split g)
+    → IsKept c.split.new.self × Maps c.args.entry.now.extent (λ page. Some (part_of c.args.entry.now page)) c.self.inside.tree c.split.new.self × (pages_in c.split.new.self ≡ pages_in c.self.inside.tree)
 after g c =
     let entry = c.args.entry.now in
     split_kept c.self.inside.tree c.split.new.self entry c.parts_from-parts.result c.self.invariant.0 c.requires.large (there g (goal.at.After-split g c).After-self)

@@ -13,7 +13,8 @@ use Rattle.population_map.proofs.way.change.Goals as goal
 use Rattle.population_map.proofs.way.change.Goals.{After-at_level, After-write, After-write-2, After-write-3}
 use Rattle.population_map.proofs.way.change.Given.{Over}
 
-asks : (g : Over) (c : After-at_level g) → Asks c.args.tree.now c.args.page c.args.is_in c.with_page-small.result c.with_part-middle.result c.with_part-large.result
+asks : (g : Over) (c : After-at_level g)
+    → Asks c.args.tree.now c.args.page c.args.is_in c.with_page-small.result c.with_part-middle.result c.with_part-large.result
 asks g c = record {
   small_id = c.with_page-small.ensures.id ∙ ap (λ v. v.id) c.read-way.ensures.small;
   small_some = subst (λ v. WithBit v.some c.with_page-small.result.some (c.args.page % 8) c.args.is_in) c.read-way.ensures.small c.with_page-small.ensures.some;
@@ -27,7 +28,8 @@ rows : (m : Arena Mark) → AreMarks m → RowsIn m (is_placed m)
 rows m marks = record { splits = marks.splits; pages = rows_placed m marks }
 
 -- and there is room where they are
-room : (m n : Arena Mark) (size page : ℕ) → 3 * placed_pages m ≤ m.room → n.roots ≡ m.roots → n.room ≡ m.room → RowsIn n (is_placed m) → is_placed m page ≡ true → splits_with n size page ≤ n.room
+room : (m n : Arena Mark) (size page : ℕ) → 3 * placed_pages m ≤ m.room → n.roots ≡ m.roots → n.room ≡ m.room → RowsIn n (is_placed m)
+    → is_placed m page ≡ true → splits_with n size page ≤ n.room
 unfolding placed_pages
 room m n size page enough roots same rows_of placed =
     omega (arith, room_for n (is_placed m) size page rows_of placed, ap (λ r. count_by (is_placed m) (range_with_len 0 (512 * r))) roots)
@@ -77,7 +79,8 @@ write-requires-3-clause-row g c none =
     ∙ (may_go c.args.tree.now c.args.page c.args.is_in c.with_page-small.result c.with_part-middle.result c.with_part-large.result c.requires.marks c.requires.before (asks g at.After-at_level)).2 none))
 
 -- what the three writes do
-changes : (g : Over) (c : After-write-3 g) → Asks c.args.tree.now c.args.page c.args.is_in c.with_page-small.result c.with_part-middle.result c.with_part-large.result
+changes : (g : Over) (c : After-write-3 g)
+    → Asks c.args.tree.now c.args.page c.args.is_in c.with_page-small.result c.with_part-middle.result c.with_part-large.result
     → ChangesOnly c.args.tree.now c.write.new.tree 1 c.args.page (kept c.with_page-small.result) → ChangesOnly c.write.new.tree c.write-2.new.tree 2 c.args.page (kept c.with_part-middle.result)
     → ChangesPage c.args.tree.now c.write-3.new.tree c.args.page c.args.is_in c.with_page-small.result c.with_part-middle.result c.with_part-large.result
 changes g c asked a b = record {

@@ -44,7 +44,8 @@ returns-clause-reply c =
     (rw (c.deref.ensures.0 ∙ c.self.view_is) at c.if-ne.ensures) false (omega (arith, within.1))
     (rw (c.deref.ensures.0 ∙ c.self.view_is) at c.if-meets.ensures)
 
-law : (c : goal.After-self-1) → (grown_regions c.args.page c.args.by c.args.self.now ≡ set c.args.self.now c.in-Some.place (longer c.args.by (get_or c.args.self.now c.in-Some.place blank))) × IsTable (grown_regions c.args.page c.args.by c.args.self.now)
+law : (c : goal.After-self-1)
+    → (grown_regions c.args.page c.args.by c.args.self.now ≡ set c.args.self.now c.in-Some.place (longer c.args.by (get_or c.args.self.now c.in-Some.place blank))) × IsTable (grown_regions c.args.page c.args.by c.args.self.now)
 law c =
     let near = rw (c.deref.ensures.0 ∙ c.self.view_is) at c.if-by-end.false in
     let within = end-le 0 c.args.self.now c.in-Some.ensures.ordered.in_order c.in-Some.place blank c.in-Some.ensures.within in

@@ -8,7 +8,8 @@ use Rattle.report_text.proofs.Lines.{line-ended}
 use Rattle.trace_make.proofs.written.line_of_first.Goals as goal
 
 -- the first line of a trace by what it says
-same : (plan : Plan) (version frames processors spaces : ℕ) (z : SizeSet) → version ≡ plan.version → frames ≡ plan.frames → processors ≡ plan.processors → spaces ≡ plan.spaces → z ≡ plan.sizes
+same : (plan : Plan) (version frames processors spaces : ℕ) (z : SizeSet) → version ≡ plan.version → frames ≡ plan.frames
+    → processors ≡ plan.processors → spaces ≡ plan.spaces → z ≡ plan.sizes
     → line_of_words (first_words version frames processors spaces z) ≡ first_line plan
 same plan version frames processors spaces z v f p s e =
     rw (v, f, p)

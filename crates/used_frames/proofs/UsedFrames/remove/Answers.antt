@@ -21,11 +21,13 @@ listed c processor claims_it =
     get_or_within c.self.inside.claims.items processor c.args.frame
     (claim_listed _ _ _ c.self.invariant c.args.frame processor (ap claim_in (noted c) ∙ claims_it))
 
-cleared : (c : After-set) (processor : ℕ) → c.unwrap-used.result.claim ≡ Some processor → AreMutual (map claim_in (set c.self.inside.notes c.args.frame None)) (set c.self.inside.claims.items processor None)
+cleared : (c : After-set) (processor : ℕ) → c.unwrap-used.result.claim ≡ Some processor
+    → AreMutual (map claim_in (set c.self.inside.notes c.args.frame None)) (set c.self.inside.claims.items processor None)
 cleared c processor claims_it =
     AreMutual-cleared _ _ _ c.self.invariant c.args.frame processor c.unwrap-used.result (noted c) (listed c processor claims_it) None refl (ap claim_in (noted c) ∙ claims_it)
 
-unclaimed : (c : After-set) → c.unwrap-used.result.claim ≡ None → AreMutual (map claim_in (set c.self.inside.notes c.args.frame None)) c.self.inside.claims.items
+unclaimed : (c : After-set) → c.unwrap-used.result.claim ≡ None
+    → AreMutual (map claim_in (set c.self.inside.notes c.args.frame None)) c.self.inside.claims.items
 unclaimed c no_claim = AreMutual-same _ _ _ c.self.invariant c.args.frame None (sym (ap claim_in (noted c) ∙ no_claim))
 
 -- the fields once the note and the claim are gone

@@ -16,7 +16,8 @@ start : (c : After-pages-pages) → c.args.page / c.pages-pages.result * c.pages
 start c = ap (λ n. c.args.page / n * n) (c.pages-pages.ensures ∙ ap (λ k. 8 ^ k) c.smaller-size.ensures)
 
 -- it begins in the entry
-inside : (c : After-pages-pages) → (c.args.self.now.extent.first ≤ extent_start (c.args.self.now.extent.size - 1) c.args.page) × (extent_start (c.args.self.now.extent.size - 1) c.args.page < c.args.self.now.extent.first + 8 ^ c.args.self.now.extent.size)
+inside : (c : After-pages-pages)
+    → (c.args.self.now.extent.first ≤ extent_start (c.args.self.now.extent.size - 1) c.args.page) × (extent_start (c.args.self.now.extent.size - 1) c.args.page < c.args.self.now.extent.first + 8 ^ c.args.self.now.extent.size)
 inside c =
     let extent = c.args.self.now.extent in
     let is = c.requires.extent in

@@ -4,7 +4,8 @@ use Rattle.pager_model.specs.Frame.{words_or_zeros}
 use Rattle.swap_slots.proofs.memory.slot.Slot.read.Goals as goal
 
 -- words that were never written are zero
-unwritten : (is_known : Bool) (items words : List ℕ) → length items ≡ 0 → words ≡ replicate 1024 0 → IfSome (if is_known then Some (words_or_zeros items) else None) (λ known. words ≡ known)
+unwritten : (is_known : Bool) (items words : List ℕ) → length items ≡ 0 → words ≡ replicate 1024 0
+    → IfSome (if is_known then Some (words_or_zeros items) else None) (λ known. words ≡ known)
 unwritten true items words none zero = zero ∙ sym (cond-true _ _ _ (eq-eqb (length items) 0 none))
 unwritten false items words none zero = tt
 
