@@ -16,6 +16,8 @@ PROGRAM = os.path.join(TOP, 'crates', 'superpager', 'out', 'superpager')
 
 # The sets of page sizes that a trace may name, each the digits of its levels: a page of level k is 8**k base pages.
 SIZE_SETS = ('0', '01', '02', '03', '012', '013', '023', '0123')
+# The least and the most frames that a trace may have, and what their number is a multiple of.
+FRAMES = (512, 32768, 512)
 # The first words of a trace's first line, and what stands behind its numbers of frames, processors and spaces.
 FIRST_LINES = [([b'trace', b'1'], [])] + [([b'trace', b'2'], [sizes.encode()]) for sizes in SIZE_SETS]
 
@@ -37,12 +39,17 @@ def program_at(given: Optional[str] = None) -> str:
     return program
 
 
+def is_number(text: str, low: int, high: int, step: int = 1) -> bool:
+    """Whether a word is a number of this range, and a multiple of the step."""
+    return bool(re.fullmatch('0|[1-9][0-9]{0,19}', text)) and low <= int(text) <= high and int(text) % step == 0
+
+
 def number_in(low: int, high: int, step: int = 1) -> Callable[[str], int]:
     """Reads a number among the words, for argparse: one of this range, and a multiple of the step."""
     kind = 'a number' if step == 1 else 'a multiple of %d' % step
 
     def number(text: str) -> int:
-        if not re.fullmatch('0|[1-9][0-9]{0,19}', text) or not low <= int(text) <= high or int(text) % step:
+        if not is_number(text, low, high, step):
             raise argparse.ArgumentTypeError('%r is not %s from %d to %d' % (text, kind, low, high))
         return int(text)
     return number
@@ -61,10 +68,11 @@ def size_sets_in(text: str) -> List[str]:
 
 
 def with_first_line(trace: bytes, frames: Optional[int], sizes: Optional[str]) -> bytes:
-    """The trace with another number of frames and other page sizes, where they are given. What has no first line is left for the program to refuse."""
+    """The trace with another number of frames and other page sizes, where they are given. What has no first line, or one with no number of frames, is
+    left for the program to refuse."""
     first, line_feed, rest = trace.partition(b'\n')
     words = first.split(b' ')
-    if len(words) < 5 or (words[:2], words[5:]) not in FIRST_LINES:
+    if len(words) < 5 or (words[:2], words[5:]) not in FIRST_LINES or not is_number(words[2].decode('latin-1'), *FRAMES):
         return trace
     if frames is not None:
         words[2] = b'%d' % frames

@@ -177,16 +177,21 @@ def read_entry(line: bytes, number: int, trace: Trace, calls: List[list]) -> Ent
 
 
 def history_in(trace: Trace, text: bytes) -> List[Entry]:
-    """The history in a text that was printed with it: the lines between those of the answers and those of the counts. `BadLine` tells the
-    number of a line that is none."""
+    """The history in a text that was printed with it: the lines between those of the answers and those of the counts. `BadLine` tells what is
+    missing, or the number of a line that is no entry."""
     lines = text.split(b'\n')
+    end = next((n for n, line in enumerate(lines) if line.startswith(b'tiles ')), None)
+    if end is None:
+        raise BadLine('the text has no counts')
+    if end < len(trace.lines):
+        raise BadLine('the text has fewer answers than the trace has calls')
+    if end == len(trace.lines) and (trace.lines or trace.daemon):
+        raise BadLine('the text has no history: it is printed with --history')
     calls = [trace.calls_of(c) for c in range(trace.processors)]
     history: List[Entry] = []
-    for n, line in enumerate(lines[len(trace.lines):], len(trace.lines) + 1):
-        if line.startswith(b'tiles '):
-            return history
+    for n, line in enumerate(lines[len(trace.lines):end], len(trace.lines) + 1):
         try:
             history.append(read_entry(line, len(history), trace, calls))
         except BadLine:
             raise BadLine('line %d of the text is no entry of a history' % n)
-    raise BadLine('the text has no counts')
+    return history
