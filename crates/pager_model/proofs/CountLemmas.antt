@@ -18,16 +18,25 @@ count-suc p a n = sum_by-cons (λ x. cond (p x) 1 0) a (range_with_len (a + 1) n
 pub count-apart : (p : ℕ → Bool) (a m n b : ℕ) → a + m ≡ b
     → count_by p (range_with_len a (m + n)) ≡ count_by p (range_with_len a m) + count_by p (range_with_len b n)
 count-apart p a zero n b e =
-    ap (λ k. count_by p (range_with_len a k)) (zero-add n) ∙ ap (λ k. count_by p (range_with_len k n)) {x = a} {y = b} (omega arith) ∙ sym (zero-add (count_by p (range_with_len b n)))
+    ap (λ k. count_by p (range_with_len a k)) (zero-add n) ∙ ap (λ k. count_by p (range_with_len k n)) {x = a} {y = b} (omega arith)
+    ∙ sym (zero-add (count_by p (range_with_len b n)))
 count-apart p a (suc m) n b e =
     ap (λ k. count_by p (range_with_len a k)) (suc-add m n)
     ∙ omega (arith, count-suc p a (m + n), count-suc p a m, count-apart p (a + 1) m n b (omega arith))
 
 -- two tests that agree from a on count the same
-pub count-agree : (p q : ℕ → Bool) (a n : ℕ) → ((g : ℕ) → a ≤ g → g < a + n → p g ≡ q g) → count_by p (range_with_len a n) ≡ count_by q (range_with_len a n)
+pub count-agree : (p q : ℕ → Bool) (a n : ℕ) → ((g : ℕ) → a ≤ g → g < a + n → p g ≡ q g)
+    → count_by p (range_with_len a n) ≡ count_by q (range_with_len a n)
 count-agree p q a zero agree = refl
 count-agree p q a (suc n) agree =
-    omega (arith, ap weight (agree a (omega arith) (omega arith)), count-agree p q (a + 1) n (λ g low high. agree g (omega arith) (omega arith)), count-suc p a n, count-suc q a n)
+    omega (
+      arith,
+      ap weight (agree a (omega arith) (omega arith)),
+      count-agree p q (a + 1) n
+          (λ g low high. agree g (omega arith) (omega arith)),
+      count-suc p a n,
+      count-suc q a n,
+    )
 
 -- a test that one more number passes counts one more
 pub count-one_more : (p q : ℕ → Bool) (f : ℕ) → p f ≡ false → q f ≡ true → ((g : ℕ) → g ≢ f → p g ≡ q g) → (a n : ℕ) → a ≤ f → f < a + n
@@ -49,24 +58,37 @@ count-one_more p q f fails passes agree a (suc n) low high =
 pub count-none : (p : ℕ → Bool) (a n : ℕ) → ((g : ℕ) → a ≤ g → g < a + n → p g ≡ false) → count_by p (range_with_len a n) ≡ 0
 count-none p a zero none = refl
 count-none p a (suc n) none =
-    omega (arith, count-suc p a n, ap weight (none a (omega arith) (omega arith)), count-none p (a + 1) n (λ g low high. none g (omega arith) (omega arith)))
+    omega (
+      arith,
+      count-suc p a n,
+      ap weight (none a (omega arith) (omega arith)),
+      count-none p (a + 1) n (λ g low high. none g (omega arith) (omega arith)),
+    )
 
 -- one that all pass counts all
 count-all : (p : ℕ → Bool) (a n : ℕ) → ((g : ℕ) → a ≤ g → g < a + n → p g ≡ true) → count_by p (range_with_len a n) ≡ n
 count-all p a zero all = refl
 count-all p a (suc n) all =
-    omega (arith, count-suc p a n, ap weight (all a (omega arith) (omega arith)), count-all p (a + 1) n (λ g low high. all g (omega arith) (omega arith)))
+    omega (
+      arith,
+      count-suc p a n,
+      ap weight (all a (omega arith) (omega arith)),
+      count-all p (a + 1) n (λ g low high. all g (omega arith) (omega arith)),
+    )
 
 -- and none counts more
 pub count-most : (p : ℕ → Bool) (a n : ℕ) → count_by p (range_with_len a n) ≤ n
 count-most p a n = omega (arith, count_by-le-length p (range_with_len a n), length-range_with_len a n)
 
 -- a change of a block changes a count as it changes the block's
-pub block_change : (f g : ℕ → Bool) (count first block : ℕ) → first + block ≤ count → ((n : ℕ) → (first ≤ n → n < first + block → ⊥) → g n ≡ f n)
-    → count_by g (range_with_len 0 count) + count_by f (range_with_len first block) ≡ count_by f (range_with_len 0 count) + count_by g (range_with_len first block)
+pub block_change : (f g : ℕ → Bool) (count first block : ℕ) → first + block ≤ count
+    → ((n : ℕ) → (first ≤ n → n < first + block → ⊥) → g n ≡ f n)
+    → count_by g (range_with_len 0 count) + count_by f (range_with_len first block) ≡ count_by f (range_with_len 0 count) + count_by g
+    (range_with_len first block)
 block_change f g count first block within outside =
     let rest = count - (first + block) in
-    let parts : (p : ℕ → Bool) → count_by p (range_with_len 0 count) ≡ count_by p (range_with_len 0 first) + (count_by p (range_with_len first block) + count_by p (range_with_len (first + block) rest)) = λ p.
+    let parts : (p : ℕ → Bool) → count_by p (range_with_len 0 count) ≡ count_by p (range_with_len 0 first) +
+    (count_by p (range_with_len first block) + count_by p (range_with_len (first + block) rest)) = λ p.
     ap (λ n. count_by p (range_with_len 0 n)) {x = count} {y = first + (block + rest)} (omega arith)
     ∙ omega (arith, count-apart p 0 first (block + rest) first (omega arith), count-apart p first block rest (first + block) refl) in
     omega (

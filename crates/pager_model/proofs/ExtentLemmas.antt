@@ -68,12 +68,14 @@ range_of_extent i w f width same =
     (omega (arith, start, div-mul-le_self f w), omega (arith, start, lt-div-mul-add {a = f} width))
 
 -- both, for an extent by its first number
-pub in_extent : (size first page : ℕ) → size ≤ 3 → first % 8 ^ size ≡ 0 → first ≤ page → page < first + 8 ^ size → page / 8 ^ size ≡ first / 8 ^ size
+pub in_extent : (size first page : ℕ) → size ≤ 3 → first % 8 ^ size ≡ 0 → first ≤ page → page < first + 8 ^ size
+    → page / 8 ^ size ≡ first / 8 ^ size
 in_extent size first page small aligned low high =
     let start : first / 8 ^ size * 8 ^ size ≡ first = omega (arith, div-add-mod' first (8 ^ size), aligned) in
     extent_of_frame (first / 8 ^ size) (8 ^ size) page (omega arith) (omega arith)
 
-pub of_extent : (size first page : ℕ) → size ≤ 3 → first % 8 ^ size ≡ 0 → page / 8 ^ size ≡ first / 8 ^ size → (first ≤ page) × (page < first + 8 ^ size)
+pub of_extent : (size first page : ℕ) → size ≤ 3 → first % 8 ^ size ≡ 0 → page / 8 ^ size ≡ first / 8 ^ size
+    → (first ≤ page) × (page < first + 8 ^ size)
 of_extent size first page small aligned same =
     let start : first / 8 ^ size * 8 ^ size ≡ first = omega (arith, div-add-mod' first (8 ^ size), aligned) in
     let range = range_of_extent (first / 8 ^ size) (8 ^ size) page (eight_pos size) same in

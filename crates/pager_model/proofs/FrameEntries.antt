@@ -11,7 +11,8 @@ use Rattle.pager_model.specs.declared.reservation.Reservation.{Reservation}
 use Rattle.pager_model.specs.Layouts.{Placing, covering, placing}
 use Rattle.pager_model.specs.FrameStates.{FrameState, layout_of, frame_of, held_by, take_frame, taking, state_taken, given_in, give_page, give_if_used, dropped, dropped_in, named_space, moved, moved_by_answer, frames_after}
 
-placed-entries : (st : FrameState) (want : Want) (o : Option Placing) → (state_taken st (option_map (taking st want) o)).entries ≡ st.entries
+placed-entries : (st : FrameState) (want : Want) (o : Option Placing)
+    → (state_taken st (option_map (taking st want) o)).entries ≡ st.entries
 placed-entries st want None = refl
 placed-entries st want (Some place) = refl
 

@@ -22,14 +22,18 @@ pub run_free_frames : (free : List Bool) (first count : ℕ) → run_free free f
 run_free_frames free first count = (run_free_exactly free first count).0
 
 -- the same by the places in the run
-pub run_free_at : (free : List Bool) (first count : ℕ) → run_free free first count ≡ true → (i : ℕ) → i < count → get_or free (first + i) false ≡ true
+pub run_free_at : (free : List Bool) (first count : ℕ) → run_free free first count ≡ true → (i : ℕ) → i < count
+    → get_or free (first + i) false ≡ true
 run_free_at free first count run i h = run_free_frames free first count run (first + i) (omega arith) (omega arith)
 
-pub run_free_from : (free : List Bool) (first count : ℕ) → ((i : ℕ) → i < count → get_or free (first + i) false ≡ true) → run_free free first count ≡ true
+pub run_free_from : (free : List Bool) (first count : ℕ) → ((i : ℕ) → i < count → get_or free (first + i) false ≡ true)
+    → run_free free first count ≡ true
 run_free_from free first count each =
-    (run_free_exactly free first count).1 (λ frame low high. let place : first + (frame - first) ≡ frame = omega arith in rw (← place) (each (frame - first) (omega arith)))
+    (run_free_exactly free first count).1 (λ frame low high. let place : first + (frame - first) ≡ frame = omega arith in
+    rw (← place) (each (frame - first) (omega arith)))
 
-pub run_free_part : (free : List Bool) (first count part : ℕ) → run_free free first count ≡ true → part ≤ count → run_free free first part ≡ true
+pub run_free_part : (free : List Bool) (first count part : ℕ) → run_free free first count ≡ true → part ≤ count
+    → run_free free first part ≡ true
 run_free_part free first count part e h =
     run_free_from free first part (λ i b. run_free_at free first count e i (omega arith))
 
@@ -38,11 +42,13 @@ pub run_free_within : (free : List Bool) (first count : ℕ) → run_free free f
 run_free_within free first count e h =
     elim (cases_lt (first + (count - 1)) (length free)) [
       | inl inside ↦ omega arith
-      | inr past ↦ absurd (false≢true (sym (get_or_past free (first + (count - 1)) false past) ∙ run_free_at free first count e (count - 1) (omega arith)))
+      | inr past ↦ absurd (false≢true (sym (get_or_past free (first + (count - 1)) false past)
+          ∙ run_free_at free first count e (count - 1) (omega arith)))
     ]
 
 -- none passes where none is found
-pub none_passes_on : (p : ℕ → Bool) (a n : ℕ) → p a ≡ false → ((i : ℕ) → i < n → p ((a + 1) + i) ≡ false) → (i : ℕ) → i < suc n → p (a + i) ≡ false
+pub none_passes_on : (p : ℕ → Bool) (a n : ℕ) → p a ≡ false → ((i : ℕ) → i < n → p ((a + 1) + i) ≡ false) → (i : ℕ) → i < suc n
+    → p (a + i) ≡ false
 none_passes_on p a n here later zero h = rw add-zero here
 none_passes_on p a n here later (suc i) h = let next : (a + 1) + i ≡ a + suc i = omega arith in rw (← next) (later i (omega arith))
 
@@ -61,7 +67,8 @@ pub least_of : (free : List Bool) (n count f : ℕ) → (here : Option ℕ) → 
 least_of free n count f (Some g) at later e = (n, omega arith, omega arith, find_passes (is_maximal free n) 0 (length free) f (at ∙ e))
 least_of free n count f None at later e = let l = later e in (l.0, omega arith, omega arith, l.3)
 
-pub least_block_is : (free : List Bool) (n count f : ℕ) → least_block free n count ≡ Some f → (m : ℕ) × (n ≤ m) × (m < n + count) × (is_maximal free m f ≡ true)
+pub least_block_is : (free : List Bool) (n count f : ℕ) → least_block free n count ≡ Some f
+    → (m : ℕ) × (n ≤ m) × (m < n + count) × (is_maximal free m f ≡ true)
 least_block_is free n zero f e = absurd (none-some _ e)
 least_block_is free n (suc count) f e = least_of free n count f (lowest_block free n) refl (least_block_is free (n + 1) count f) e
 
@@ -112,7 +119,8 @@ pub aligned_smaller : (m n f : ℕ) → m ≤ n → block_start n f ≡ f → f 
 aligned_smaller m n f h start =
     let sum : (n - m) + m ≡ n = omega arith in
     let power : 2 ^ n ≡ 2 ^ (n - m) * 2 ^ m = ap (λ j. 2 ^ j) (sym sum) ∙ pow-add 2 (n - m) m in
-    let product : f ≡ (f / 2 ^ n * 2 ^ (n - m)) * 2 ^ m = sym start ∙ (ap (λ p. f / 2 ^ n * p) power ∙ sym (mul_assoc (f / 2 ^ n) (2 ^ (n - m)) (2 ^ m))) in
+    let product : f ≡ (f / 2 ^ n * 2 ^ (n - m)) * 2 ^ m = sym start ∙ (ap (λ p. f / 2 ^ n * p) power
+    ∙ sym (mul_assoc (f / 2 ^ n) (2 ^ (n - m)) (2 ^ m))) in
     ap (λ g. g % 2 ^ m) product ∙ mul-mod_left _ _
 
 pub aligned_block : (m f : ℕ) → f % 2 ^ m ≡ 0 → block_start m f ≡ f
@@ -125,7 +133,10 @@ choice_is_free free k f e =
     let parts = and_parts (eqb (block_start block.0 f) f) _ block.3 in
     let run : run_free free f (2 ^ block.0) ≡ true = (and_parts _ _ parts.1).0 in
     let two : 0 < 2 = omega arith in
-    rw eight_pow (run_free_part free f (2 ^ block.0) (2 ^ (3 * k)) run (pow-le-pow_right two block.1), aligned_smaller (3 * k) block.0 f block.1 (eqb-true _ _ parts.0))
+    rw eight_pow (
+      run_free_part free f (2 ^ block.0) (2 ^ (3 * k)) run (pow-le-pow_right two block.1),
+      aligned_smaller (3 * k) block.0 f block.1 (eqb-true _ _ parts.0),
+    )
 
 pub run_free-choice : (free : List Bool) (k f : ℕ) → choice free k ≡ Some f → run_free free f (8 ^ k) ≡ true
 run_free-choice free k f e = (choice_is_free free k f e).0
@@ -140,7 +151,8 @@ choice_within free k f e = run_free_within free f (8 ^ k) (choice_is_free free k
 -- there is none only where no such run is
 pub no_choice : (free : List Bool) (k : ℕ) → k ≤ 3 → choice free k ≡ None → (f : ℕ) → f % 8 ^ k ≡ 0 → run_free free f (8 ^ k) ≡ false
 no_choice free k h e f aligned =
-    false_from_ne_true _ (λ run. grows free (3 * k) f (10 - 3 * k) (omega arith) (omega arith) (none_maximal free (3 * k) (10 - 3 * k) e) (aligned_block (3 * k) f (rw eight_pow at aligned)) (rw eight_pow at run))
+    false_from_ne_true _ (λ run. grows free (3 * k) f (10 - 3 * k) (omega arith) (omega arith) (none_maximal free (3 * k) (10 - 3 * k) e)
+    (aligned_block (3 * k) f (rw eight_pow at aligned)) (rw eight_pow at run))
 
 pub some_choice : (free : List Bool) (k : ℕ) (chosen : Option ℕ) → choice free k ≡ chosen
     → ((f : ℕ) → f % 8 ^ k ≡ 0 → run_free free f (8 ^ k) ≡ false) → choice free k ≡ None
@@ -148,5 +160,6 @@ some_choice free k None at none = at
 some_choice free k (Some f) at none =
     let block = choice_is_free free k f at in absurd (false≢true (sym (none f block.1) ∙ block.0))
 
-pub no_choice_exactly : (free : List Bool) (k : ℕ) → k ≤ 3 → (choice free k ≡ None) ↔ ((f : ℕ) → f % 8 ^ k ≡ 0 → run_free free f (8 ^ k) ≡ false)
+pub no_choice_exactly : (free : List Bool) (k : ℕ) → k ≤ 3 → (choice free k ≡ None) ↔
+    ((f : ℕ) → f % 8 ^ k ≡ 0 → run_free free f (8 ^ k) ≡ false)
 no_choice_exactly free k h = (no_choice free k h, some_choice free k (choice free k) refl)

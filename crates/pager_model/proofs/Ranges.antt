@@ -16,7 +16,8 @@ bounds_in first len p low high = and_from _ _ (le-leb first p low) (lt-ltb p (fi
 -- one number more from 0 on
 pub range_with_len-more : (n : ℕ) → range_with_len 0 (n + 1) ≡ range_with_len 0 n ++ n ∷ []
 range_with_len-more n =
-    sym (map-id (range_with_len 0 (n + 1))) ∙ map-range_with_len_more (λ (x : ℕ). x) 0 n n (omega arith) ∙ ap (λ l. l ++ n ∷ []) (map-id (range_with_len 0 n))
+    sym (map-id (range_with_len 0 (n + 1))) ∙ map-range_with_len_more (λ (x : ℕ). x) 0 n n (omega arith)
+    ∙ ap (λ l. l ++ n ∷ []) (map-id (range_with_len 0 n))
 
 -- all numbers pass exactly where each does
 pub list_all-range : (p : ℕ → Bool) (a n : ℕ) → (list_all p (range_with_len a n) ≡ true) ↔ ((i : ℕ) → a ≤ i → i < a + n → p i ≡ true)
@@ -26,7 +27,8 @@ list_all-range p a (suc n) = (
     | inl here ↦ ap p (sym here) ∙ (and_parts _ _ all).0
     | inr later ↦ (list_all-range p (a + 1) n).0 (and_parts _ _ all).1 i (omega arith) (omega arith)
   ],
-  λ each. and_from _ _ (each a (omega arith) (omega arith)) ((list_all-range p (a + 1) n).1 (λ i low high. each i (omega arith) (omega arith))),
+  λ each. and_from _ _ (each a (omega arith) (omega arith)) ((list_all-range p (a + 1) n).1
+      (λ i low high. each i (omega arith) (omega arith))),
 )
 
 -- what the first number that passes is
@@ -39,7 +41,8 @@ find_passes p a (suc n) f e =
     ]
 
 -- the first number of a range that passes, where none below it does
-pub find_first : (p : ℕ → Bool) (a n i : ℕ) → ((k : ℕ) → a ≤ k → k < i → p k ≡ false) → a ≤ i → i < a + n → p i ≡ true → find p (range_with_len a n) ≡ Some i
+pub find_first : (p : ℕ → Bool) (a n i : ℕ) → ((k : ℕ) → a ≤ k → k < i → p k ≡ false) → a ≤ i → i < a + n → p i ≡ true
+    → find p (range_with_len a n) ≡ Some i
 find_first p a zero i none low high is = absurd (omega arith)
 find_first p a (suc n) i none low high is = elim (cases_eq a i) [
   | inl here ↦ cond-true _ _ _ (ap p here ∙ is) ∙ ap Some here

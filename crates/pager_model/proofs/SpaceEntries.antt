@@ -19,7 +19,8 @@ frees-unlawful st (Evict space page) reply is = ap (λ b. b && is_some (st.base 
 frees-unlawful st call reply is = refl
 
 -- says no word
-pub said-unlawful : (p i : ℕ) (call : Call) (reply : Reply) (before : Option ℕ) → is_lawful reply ≡ false → said_at p i call reply before ≡ before
+pub said-unlawful : (p i : ℕ) (call : Call) (reply : Reply) (before : Option ℕ) → is_lawful reply ≡ false
+    → said_at p i call reply before ≡ before
 said-unlawful p i (Load space address) (Value word) before is = absurd (true≢false is)
 said-unlawful p i (Store space address word) Done before is = absurd (true≢false is)
 said-unlawful p i call reply before is = refl

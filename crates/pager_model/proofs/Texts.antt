@@ -40,13 +40,26 @@ rights_are_short Write = lit≤ tt
 call_is_short : (spaces : ℕ) (call : Call) (word : List ℕ) → spaces ≤ 16 → IsCall spaces call → length word ≤ 7
     → length (join_with_byte 32 (word ∷ call_words call)) ≤ 62
 call_is_short spaces (Map space page len kind rights) word few is short =
-    simp length-append (omega (arith, small space (omega arith), small page (omega arith), small len (omega arith), kind_is_short kind, rights_are_short rights))
+    simp length-append (omega (
+      arith,
+      small space (omega arith),
+      small page (omega arith),
+      small len (omega arith),
+      kind_is_short kind,
+      rights_are_short rights,
+    ))
 call_is_short spaces (Grow space page by) word few is short =
     simp length-append (omega (arith, small space (omega arith), small page (omega arith), small by (omega arith)))
 call_is_short spaces (Unmap space page) word few is short =
     simp length-append (omega (arith, small space (omega arith), small page (omega arith)))
 call_is_short spaces (Protect space page len rights) word few is short =
-    simp length-append (omega (arith, small space (omega arith), small page (omega arith), small len (omega arith), rights_are_short rights))
+    simp length-append (omega (
+      arith,
+      small space (omega arith),
+      small page (omega arith),
+      small len (omega arith),
+      rights_are_short rights,
+    ))
 call_is_short spaces (Load space address) word few is short =
     simp length-append (omega (arith, small space (omega arith), middle address (omega arith)))
 call_is_short spaces (Store space address stored) word few is short =
@@ -56,7 +69,8 @@ call_is_short spaces (Sync space page) word few is short =
 call_is_short spaces (Evict space page) word few is short =
     simp length-append (omega (arith, small space (omega arith), small page (omega arith)))
 
-line_is_short : (processors spaces : ℕ) (line : Line) → processors ≤ 16 → spaces ≤ 16 → IsLine processors spaces line → length (call_line line) ≤ 63
+line_is_short : (processors spaces : ℕ) (line : Line) → processors ≤ 16 → spaces ≤ 16 → IsLine processors spaces line
+    → length (call_line line) ≤ 63
 line_is_short processors spaces line some few is =
     let short = call_is_short spaces line.call (decimal line.processor) few is.1 (small line.processor (omega (arith, is.0))) in
     omega (arith, length-append (join_with_byte 32 (decimal line.processor ∷ call_words line.call)) (10 ∷ []))
@@ -65,7 +79,13 @@ calls_are_short : (processors spaces : ℕ) (lines : List Line) → processors �
     → AllByRecursion (IsLine processors spaces) lines → length (flat_map call_line lines) ≤ 63 * length lines
 calls_are_short processors spaces [] some few are = omega arith
 calls_are_short processors spaces (line ∷ lines) some few are =
-    omega (arith, ap length (flat_map-cons call_line line lines), length-append (call_line line) (flat_map call_line lines), line_is_short processors spaces line some few are.0, calls_are_short processors spaces lines some few are.1)
+    omega (
+      arith,
+      ap length (flat_map-cons call_line line lines),
+      length-append (call_line line) (flat_map call_line lines),
+      line_is_short processors spaces line some few are.0,
+      calls_are_short processors spaces lines some few are.1,
+    )
 
 sizes_are_short : (one two three : Bool) → length (sizes_word (record { one = one; two = two; three = three })) ≤ 4
 sizes_are_short false false false = lit≤ tt
@@ -79,9 +99,13 @@ sizes_are_short true true true = lit≤ tt
 
 first_words_short : (version frames processors spaces : ℕ) → version < 10000000 → frames < 10000000 → processors < 10000000
     → spaces < 10000000 → (word : List ℕ) → length word ≤ 4
-    → (unnamed : Bool) → length (line_of_words (codes "trace" ∷ decimal version ∷ decimal frames ∷ decimal processors ∷ decimal spaces ∷ (if unnamed then [] else word ∷ []))) ≤ 43
-first_words_short version frames processors spaces v f p s word short true = simp length-append (omega (arith, small version v, small frames f, small processors p, small spaces s))
-first_words_short version frames processors spaces v f p s word short false = simp length-append (omega (arith, small version v, small frames f, small processors p, small spaces s, short))
+    → (unnamed : Bool) → length
+    (line_of_words (codes "trace" ∷ decimal version ∷ decimal frames ∷ decimal processors ∷ decimal spaces ∷
+    (if unnamed then [] else word ∷ []))) ≤ 43
+first_words_short version frames processors spaces v f p s word short true =
+    simp length-append (omega (arith, small version v, small frames f, small processors p, small spaces s))
+first_words_short version frames processors spaces v f p s word short false =
+    simp length-append (omega (arith, small version v, small frames f, small processors p, small spaces s, short))
 
 -- there are two versions
 pub version_low : (version : ℕ) (z : SizeSet) → IsVersion version z → version ≤ 2
@@ -89,8 +113,11 @@ version_low version z is = elim is [ inl one ↦ omega (arith, one.0) | inr two 
 
 first_is_short : (plan : Plan) → HasText plan → length (first_line plan) ≤ 43
 first_is_short plan has =
-    first_words_short plan.version plan.frames plan.processors plan.spaces (let low = version_low plan.version plan.sizes has.version_in in omega arith) (omega (arith, has.frames_in)) (omega (arith, has.processors_in))
-    (omega (arith, has.spaces_in)) (sizes_word plan.sizes) (sizes_are_short plan.sizes.one plan.sizes.two plan.sizes.three) (plan.version == 1)
+    first_words_short plan.version plan.frames plan.processors plan.spaces
+    (let low = version_low plan.version plan.sizes has.version_in in omega arith) (omega (arith, has.frames_in))
+    (omega (arith, has.processors_in))
+    (omega (arith, has.spaces_in)) (sizes_word plan.sizes) (sizes_are_short plan.sizes.one plan.sizes.two plan.sizes.three)
+    (plan.version == 1)
 
 daemon_is_short : (daemon : Option Daemon) → IsDaemon daemon → length (daemon_line daemon) ≤ 40
 daemon_is_short None is = omega arith
@@ -107,7 +134,8 @@ text_is_short plan has =
       has.few,
       first_is_short plan has,
       daemon_is_short plan.daemon has.daemon_in,
-      calls_are_short plan.processors plan.spaces plan.calls has.processors_in.1 has.spaces_in.1 (recursion_from_All _ plan.calls has.lines),
+      calls_are_short plan.processors plan.spaces plan.calls has.processors_in.1 has.spaces_in.1
+          (recursion_from_All _ plan.calls has.lines),
       length-append (first ++ daemon ++ calls) (line_of_words (codes "end" ∷ [])),
       length-append (first ++ daemon) calls,
       length-append first daemon,

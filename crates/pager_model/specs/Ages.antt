@@ -1,5 +1,5 @@
 -- The lists of reservations by age: one for each yield from 0 to 2, in order of stamp and then of first frame.
-use Rattle.std.specs.Prelude.{ℕ, zero, suc, Bool, ◌&&◌, ◌||◌, ◌==◌, not, nat_lt, if◌then◌else◌, List, [], ◌∷◌, filter, Option, Some, None}
+use Rattle.std.specs.Prelude.{ℕ, zero, suc, Bool, ◌&&◌, ◌||◌, ◌==◌, nat_lt, if◌then◌else◌, List, [], ◌∷◌, Option, Some, None}
 
 -- a reservation in a list: its stamp and its first frame
 pub record Member : Type 0 where
@@ -9,16 +9,10 @@ pub record Member : Type 0 where
 abbrev pub is_before : Member → Member → Bool
 is_before a b = nat_lt a.stamp b.stamp || ((a.stamp == b.stamp) && nat_lt a.frame b.frame)
 
-abbrev pub same_member : Member → Member → Bool
-same_member a b = (a.stamp == b.stamp) && (a.frame == b.frame)
-
 -- the list with one more member, in its place
 abbrev pub with_member : Member → List Member → List Member
 with_member new [] = new ∷ []
 with_member new (m ∷ ms) = if is_before new m then new ∷ m ∷ ms else m ∷ with_member new ms
-
-abbrev pub without_member : Member → List Member → List Member
-without_member gone ms = filter (λ m. not (same_member gone m)) ms
 
 -- the first frame of the first member
 abbrev pub oldest_in : List Member → Option ℕ

@@ -31,7 +31,8 @@ pub record NothingHeld (st : FrameState) : Type 0 where
 
 -- The processor claims the victim's frame, as the used place of the victim's page, or holds it.
 pub record ClaimsOrHolds (st : FrameState) (processor : ℕ) (victim : Victim) : Type 0 where
-  pub frame : (held_by st processor ≡ Some victim.frame) ⊎ ((claim_in (used_at st victim.frame) ≡ Some processor) × (frame_of st victim.space victim.page ≡ Some victim.frame))
+  pub frame : (held_by st processor ≡ Some victim.frame) ⊎ ((claim_in (used_at st victim.frame) ≡ Some processor)
+      × (frame_of st victim.space victim.page ≡ Some victim.frame))
 
 abbrev pub OwnsVictim : FrameState → ℕ → Bool → Option Victim → Type 0
 OwnsVictim st processor holding None = HasNothing st processor

@@ -16,3 +16,15 @@ most_frames = 32768
 -- at most how many calls a trace has
 abbrev pub most_calls : ℕ
 most_calls = 262144
+
+-- at most how many spaces a program has
+abbrev pub most_spaces : ℕ
+most_spaces = 16
+
+-- at most how many processors a trace has
+abbrev pub most_processors : ℕ
+most_processors = 16
+
+-- at most how many actors there are: the processors of a trace, and its daemon
+abbrev pub most_actors : ℕ
+most_actors = 17

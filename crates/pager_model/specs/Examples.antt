@@ -197,7 +197,8 @@ made_up_fault =
 
 -- a space whose store tells nothing, with a page that was stored to after it was filled
 abbrev pub untold_space : SpaceState
-untold_space = fold space_after (empty_state all_sizes false 0) (answer 0 map_eight Done ∷ take_page_one ∷ missed 1 (Store 0 8192 5) Done ∷ [])
+untold_space = fold space_after (empty_state all_sizes false 0) (answer 0 map_eight Done ∷ take_page_one ∷ missed 1
+    (Store 0 8192 5) Done ∷ [])
 
 -- a page of one region that may be written, in this frame
 abbrev pub writable : ℕ → Bool → Mapping
@@ -212,10 +213,12 @@ with_dirty dirty pages page = if page == dirty then Some (writable (16 + page) t
 
 -- a page that may only be read, and one of another region
 abbrev pub with_read : ℕ → (ℕ → Option Mapping) → ℕ → Option Mapping
-with_read read pages page = if page == read then Some (record { frame = 16 + page; region = 0; rights = Read; dirty = false }) else pages page
+with_read read pages page = if page == read then Some
+    (record { frame = 16 + page; region = 0; rights = Read; dirty = false }) else pages page
 
 abbrev pub with_region : ℕ → (ℕ → Option Mapping) → ℕ → Option Mapping
-with_region first pages page = if nat_lt page first then pages page else option_map (λ (m : Mapping). record m { region = first }) (pages page)
+with_region first pages page = if nat_lt page first then pages page else option_map (λ (m : Mapping). record m { region = first })
+    (pages page)
 
 -- a translation of one page
 abbrev pub small_tile : ℕ → Tile

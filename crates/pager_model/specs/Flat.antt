@@ -74,7 +74,8 @@ reply_of f (Grow space page by) = grow_reply f.regions page by
 reply_of f (Unmap space page) = unmap_reply f.regions page
 reply_of f (Protect space page len rights) = if range_in page len (region_at f.regions page) then Done else Unmapped
 reply_of f (Load space address) =
-    access_reply (region_at f.regions (page_of address)) (can_read (f.rights (page_of address))) (Value (f.words (page_of address) (word_of address)))
+    access_reply (region_at f.regions (page_of address)) (can_read (f.rights (page_of address)))
+    (Value (f.words (page_of address) (word_of address)))
 reply_of f (Store space address word) = access_reply (region_at f.regions (page_of address)) (can_write (f.rights (page_of address))) Done
 reply_of f (Sync space page) = sync_reply (region_at f.regions page) (f.dirty page)
 reply_of f (Evict space page) = evict_reply (region_at f.regions page) (f.dirty page)
@@ -98,7 +99,8 @@ is_lawful NoMemory = false
 -- The flat memory after a call, part by part. A refusal changes nothing.
 abbrev pub regions_after : Flat → Call → List Region
 regions_after f (Map space page len kind rights) =
-    if is_lawful (map_reply f.regions page len) then with_region (record { first = page; length = len; kind = kind; rights = rights }) f.regions else f.regions
+    if is_lawful (map_reply f.regions page len) then with_region
+    (record { first = page; length = len; kind = kind; rights = rights }) f.regions else f.regions
 regions_after f (Grow space page by) = if is_lawful (grow_reply f.regions page by) then grown_regions page by f.regions else f.regions
 regions_after f (Unmap space page) = without_region page f.regions
 regions_after f call = f.regions
@@ -109,9 +111,12 @@ grown_rights f by None p = f.rights p
 grown_rights f by (Some r) p = if in_range (end_of r) by p then r.rights else f.rights p
 
 abbrev pub rights_after : Flat → Call → ℕ → Rights
-rights_after f (Map space page len kind rights) p = if is_lawful (map_reply f.regions page len) && in_range page len p then rights else f.rights p
-rights_after f (Grow space page by) p = if is_lawful (grow_reply f.regions page by) then grown_rights f by (region_at f.regions page) p else f.rights p
-rights_after f (Protect space page len rights) p = if range_in page len (region_at f.regions page) && in_range page len p then rights else f.rights p
+rights_after f (Map space page len kind rights) p = if is_lawful
+    (map_reply f.regions page len) && in_range page len p then rights else f.rights p
+rights_after f (Grow space page by) p = if is_lawful (grow_reply f.regions page by) then grown_rights f by
+    (region_at f.regions page) p else f.rights p
+rights_after f (Protect space page len rights) p = if range_in page len
+    (region_at f.regions page) && in_range page len p then rights else f.rights p
 rights_after f call p = f.rights p
 
 -- the page goes with the region that is unmapped
@@ -132,7 +137,8 @@ copies_after f (Evict space page) p = if is_lawful (reply_of f (Evict space page
 copies_after f call p = f.copies p
 
 abbrev pub dirty_after : Flat → Call → ℕ → Bool
-dirty_after f (Store space address word) p = if is_lawful (reply_of f (Store space address word)) && (p == page_of address) then true else f.dirty p
+dirty_after f (Store space address word) p = if is_lawful (reply_of f (Store space address word)) &&
+    (p == page_of address) then true else f.dirty p
 dirty_after f (Unmap space page) p = if goes (region_at f.regions page) p then false else f.dirty p
 dirty_after f (Sync space page) p = if is_lawful (reply_of f (Sync space page)) && (p == page) then false else f.dirty p
 dirty_after f (Evict space page) p = if is_lawful (reply_of f (Evict space page)) && (p == page) then false else f.dirty p
@@ -140,7 +146,13 @@ dirty_after f call p = f.dirty p
 
 abbrev pub after_call : Flat → Call → Flat
 after_call f call =
-    record { regions = regions_after f call; rights = rights_after f call; words = words_after f call; copies = copies_after f call; dirty = dirty_after f call }
+    record {
+      regions = regions_after f call;
+      rights = rights_after f call;
+      words = words_after f call;
+      copies = copies_after f call;
+      dirty = dirty_after f call;
+    }
 
 -- a page is written to its copy
 abbrev pub out : Flat → ℕ → Flat

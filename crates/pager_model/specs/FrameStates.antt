@@ -32,7 +32,15 @@ pub record FrameState : Type 0 where
 -- at first all frames are free
 abbrev pub start_frames : SizeSet → ℕ → ℕ → FrameState
 start_frames z frames processors =
-    record { sizes = z; free = replicate frames true; records = replicate frames None; used = replicate frames None; held = replicate processors None; entries = 0; preemptions = 0 }
+    record {
+      sizes = z;
+      free = replicate frames true;
+      records = replicate frames None;
+      used = replicate frames None;
+      held = replicate processors None;
+      entries = 0;
+      preemptions = 0;
+    }
 
 -- the layout of the frames
 abbrev pub layout_of : FrameState → Layout
@@ -260,12 +268,14 @@ AllowsAnswer st space call = ⊥
 abbrev pub FramesAllow : FrameState → ℕ → ℕ → Option ℕ → What → Type 0
 FramesAllow st mark c space (Answer number call answered) = AllowsAnswer st (named_space space) call
 FramesAllow st mark c space (Take page frame want) =
-    (frame_of st (named_space space) page ≡ None) × HasNothing st c × IsSomeAnd (take_frame st (named_space space) page want) (λ t. t.frame ≡ frame)
+    (frame_of st (named_space space) page ≡ None) × HasNothing st c × IsSomeAnd (take_frame st (named_space space) page want)
+    (λ t. t.frame ≡ frame)
 FramesAllow st mark c space (Give page frame) = frame_of st (named_space space) page ≡ Some frame
 FramesAllow st mark c space (Clear first len) = Unit {0}
 FramesAllow st mark c space (Claim victim page frame need) = HasNothing st c × IsVictim st victim page frame × MayClaim st mark
 FramesAllow st mark c space (UseHeld page frame want) =
-    (frame_of st (named_space space) page ≡ None) × ((h : ℕ) × (held_by st c ≡ Some h)) × IsSomeAnd (take_frame (dropped st c) (named_space space) page want) (λ t. t.frame ≡ frame)
+    (frame_of st (named_space space) page ≡ None) × ((h : ℕ) × (held_by st c ≡ Some h))
+    × IsSomeAnd (take_frame (dropped st c) (named_space space) page want) (λ t. t.frame ≡ frame)
 FramesAllow st mark c space (DropHeld frame) = held_by st c ≡ Some frame
 FramesAllow st mark c space (Got frame) = held_by st c ≡ Some frame
 FramesAllow st mark c space (Unclaim frame) =

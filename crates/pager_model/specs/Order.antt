@@ -219,14 +219,18 @@ after_out made doing space page = None
 -- a write of a sync or an evict fails, or of a victim's page; or a read of a page that just got its frame
 abbrev pub after_failure : ℕ → Doing → ℕ → ℕ → Bool → ℕ → Option Progress
 after_failure made Idle space page writing count = leads writing made (Uncopied space page count)
-after_failure made (Claiming purpose victim) space page writing count = leads (writing && is_victim victim space page) made (Unwritten purpose victim count)
-after_failure made (Filling a frame) space page writing count = leads (not writing && ((space == a.space) && (page == a.page))) made (Unfilling a frame count)
+after_failure made (Claiming purpose victim) space page writing count =
+    leads (writing && is_victim victim space page) made (Unwritten purpose victim count)
+after_failure made (Filling a frame) space page writing count = leads (not writing && ((space == a.space) && (page == a.page))) made
+    (Unfilling a frame count)
 after_failure made doing space page writing count = None
 
 -- the page whose read failed gives its frame up, or the victim's page does
 abbrev pub after_give : ℕ → Doing → ℕ → ℕ → ℕ → Option Progress
-after_give made (Unfilling a own count) space page frame = leads (((space == a.space) && (page == a.page)) && (frame == own)) made (Faulted a space count)
-after_give made (Emptied purpose victim) space page frame = leads (is_victim victim space page && (frame == victim.frame)) made (Holding purpose victim)
+after_give made (Unfilling a own count) space page frame = leads (((space == a.space) && (page == a.page)) && (frame == own)) made
+    (Faulted a space count)
+after_give made (Emptied purpose victim) space page frame = leads (is_victim victim space page && (frame == victim.frame)) made
+    (Holding purpose victim)
 after_give made doing space page frame = None
 
 -- an access claims a frame for its page; a turn claims one for no page, while it has made fewer evictions than its mark

@@ -16,7 +16,8 @@ pub record IsWanted (want : Want) (page : ℕ) : Type 0 where
 -- meets nothing; whether an extent of a size and a first page meets a reservation of the space is a test.
 abbrev pub fits : (ℕ → ℕ → Bool) → ℕ → Want → ℕ → Bool
 fits meets page want k =
-    (nat_le want.low (extent_start k page) && nat_le (extent_start k page + 8 ^ k) want.high) && (nat_le (8 ^ k) want.cap && not (meets k (extent_start k page)))
+    (nat_le want.low (extent_start k page) && nat_le (extent_start k page + 8 ^ k) want.high) &&
+    (nat_le (8 ^ k) want.cap && not (meets k (extent_start k page)))
 
 -- The preferred size by all four sizes: the largest whose extent round the page fits. Where the want is one for the page and no
 -- reservation of the space has it, the page alone always fits; a taking asks for the size only there, so that size 0 needs no test.

@@ -94,7 +94,8 @@ lowest_as_wide z k used r =
 -- the part at which a breaking into parts of size k goes on: none where one is empty, else the lowest part with the yield of the whole
 abbrev pub goes_on_in : SizeSet → ℕ → (ℕ → Bool) → Reservation → Option Reservation
 goes_on_in z k used r =
-    if list_any (is_empty_at k used r) (range_with_len 0 (part_count k r)) then None else option_map (part_at k r) (lowest_as_wide z k used r)
+    if list_any (is_empty_at k used r) (range_with_len 0 (part_count k r)) then None else option_map (part_at k r)
+    (lowest_as_wide z k used r)
 
 -- the part at which, by these sizes, a breaking goes on, where parts have more than one frame
 abbrev pub goes_on_at : SizeSet → (ℕ → Bool) → Reservation → Option Reservation

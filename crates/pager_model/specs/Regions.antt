@@ -4,6 +4,8 @@ use Rattle.std.specs.List.{list_any}
 use Rattle.pager_model.specs.declared.region.Region.{Region}
 use Rattle.pager_model.specs.declared.region.Kind.{Kind}
 use Rattle.pager_model.specs.declared.region.Kind.TheVariants.{Fixed, Growing, Wired}
+use Rattle.pager_model.specs.declared.region.Rights.{Rights}
+use Rattle.pager_model.specs.declared.region.Rights.TheVariants.{NoAccess}
 use Rattle.pager_model.specs.declared.entry.Want.{Want}
 use Rattle.pager_model.specs.declared.reply.Reply.{Reply}
 use Rattle.pager_model.specs.declared.reply.Reply.TheVariants.{Done, Unmapped, Overlap, OutOfSpace, NotGrowing, RegionsFull}
@@ -27,6 +29,12 @@ meets_range first len r = nat_lt r.first (first + len) && nat_lt first (end_of r
 -- the region that has the page, where one has it
 abbrev pub region_at : List Region → ℕ → Option Region
 region_at regions page = find (has_page page) regions
+
+-- the rights of a page: those of its own, where a protect gave it any, or else its region's first ones
+abbrev pub rights_by : Option Rights → Option Region → Rights
+rights_by None None = NoAccess
+rights_by None (Some r) = r.rights
+rights_by (Some own) region = own
 
 -- the first page of the next region above a page, or the space's end
 abbrev pub next_start : List Region → ℕ → ℕ

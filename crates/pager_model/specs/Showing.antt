@@ -56,7 +56,8 @@ MakesTurns plan (Some d) history = progress_of d.low (entries_of plan.processors
 -- For each processor its answers are its calls, in order and numbered from 0, and each call that was begun is answered; and where there is a
 -- daemon it made its turns, no more and no less, and each that was begun has ended.
 pub record Shows (plan : Plan) (history : List Entry) : Type 0 where
-  pub calls : (c : ℕ) → c < plan.processors → (answers_in (entries_of c history) ≡ enumerate_from 0 (calls_of c plan.calls)) × IsWhole 0 (entries_of c history)
+  pub calls : (c : ℕ) → c < plan.processors → (answers_in (entries_of c history) ≡ enumerate_from 0 (calls_of c plan.calls))
+      × IsWhole 0 (entries_of c history)
   pub turns : MakesTurns plan plan.daemon history
 
 -- The sequence of a line's call: the entries are of its processor, they lead it from rest to one call more answered, and the one
@@ -85,7 +86,8 @@ FilesLines c mark turns [] history = AreTurns c mark turns history
 FilesLines c mark zero (line ∷ lines) history =
     (piece rest : List Entry) × (history ≡ piece ++ rest) × IsSequence line piece × FilesLines c mark zero lines rest
 FilesLines c mark (suc n) (line ∷ lines) history =
-    (turn piece rest : List Entry) × (history ≡ turn ++ (piece ++ rest)) × IsTurn c mark turn × IsSequence line piece × FilesLines c mark n lines rest
+    (turn piece rest : List Entry) × (history ≡ turn ++ (piece ++ rest)) × IsTurn c mark turn × IsSequence line piece
+    × FilesLines c mark n lines rest
 
 -- a trace without a daemon is as one whose daemon has no turn
 abbrev pub FilesBy : Plan → Option Daemon → List Entry → Type 0

@@ -50,7 +50,18 @@ pub record SpaceState : Type 0 where
 -- a space begins empty, with these page sizes and a store that tells its copies or doesn't, and that failed so often
 abbrev pub empty_state : SizeSet → Bool → ℕ → SpaceState
 empty_state z told faults =
-    record { sizes = z; flat = empty_space; base = λ p. None; next = Anyone; told = told; tied = λ p i. None; highest = faults; images = λ c. []; promotions = 0; demotions = 0 }
+    record {
+      sizes = z;
+      flat = empty_space;
+      base = λ p. None;
+      next = Anyone;
+      told = told;
+      tied = λ p i. None;
+      highest = faults;
+      images = λ c. [];
+      promotions = 0;
+      demotions = 0;
+    }
 
 -- its resident pages
 abbrev pub pages_of : SpaceState → ℕ → Option Mapping
@@ -139,7 +150,8 @@ space_after st e =
       told = st.told;
       tied = tied_after st.tied e.what;
       highest = highest_after st.highest e.what;
-      images = images_with st.sizes (pages_after st e.frames e.what) e.processor (used_tile st.sizes (pages_after st e.frames e.what) e.what) st.images;
+      images = images_with st.sizes (pages_after st e.frames e.what) e.processor
+          (used_tile st.sizes (pages_after st e.frames e.what) e.what) st.images;
       promotions = st.promotions + promotions_in st.sizes (pages_of st) (pages_after st e.frames e.what);
       demotions = st.demotions + demotions_in st.sizes (pages_of st) (pages_after st e.frames e.what);
     }
@@ -287,7 +299,8 @@ has_right writing rights = if writing then can_write rights else can_read rights
 abbrev pub IsNeeded : SpaceState → Option Need → Type 0
 IsNeeded st None = ⊥
 IsNeeded st (Some need) =
-    (is_some (region_at st.flat.regions need.page) ≡ true) × (has_right need.writing (st.flat.rights need.page) ≡ true) × (st.base need.page ≡ None)
+    (is_some (region_at st.flat.regions need.page) ≡ true) × (has_right need.writing (st.flat.rights need.page) ≡ true)
+    × (st.base need.page ≡ None)
 
 -- Which entries of a processor a space allows, where it may go on. Where the frames are named the entry's frame is theirs to allow.
 abbrev pub WhatAllowed : SpaceState → Bool → ℕ → What → Type 0

@@ -45,7 +45,8 @@ is_mapping m (Some n) = ((n.frame == m.frame) && (n.region == m.region)) && (sam
 
 abbrev pub same_tile : Tile → Tile → Bool
 same_tile a b =
-    ((a.extent.size == b.extent.size) && (a.extent.first == b.extent.first)) && ((a.frame == b.frame) && (same_rights a.rights b.rights && same_flag a.dirty b.dirty))
+    ((a.extent.size == b.extent.size) && (a.extent.first == b.extent.first)) &&
+    ((a.frame == b.frame) && (same_rights a.rights b.rights && same_flag a.dirty b.dirty))
 
 -- Eligible extents.
 
@@ -140,7 +141,8 @@ tile_size_in z pages page = size_in (tile_in z pages page)
 
 -- the page is the first of a tile by these sizes that is larger than its tile was before: an extent of size 1 or more that lay in no tile
 abbrev pub is_promoted_in : SizeSet → (ℕ → Option Mapping) → (ℕ → Option Mapping) → ℕ → Bool
-is_promoted_in z before after page = begins_at page (tile_in z after page) && nat_lt (tile_size_in z before page) (tile_size_in z after page)
+is_promoted_in z before after page = begins_at page (tile_in z after page) && nat_lt (tile_size_in z before page)
+    (tile_size_in z after page)
 
 -- promotions by these sizes: the extents of size 1 or more that are tiles after a change and lay in no tile before it
 abbrev pub promotions_in : SizeSet → (ℕ → Option Mapping) → (ℕ → Option Mapping) → ℕ
@@ -157,7 +159,12 @@ tile_count_in z pages size = count_pages (λ page. begins_at page (tile_in z pag
 -- the part of size k round a page of a tile
 abbrev pub part_round : ℕ → ℕ → Tile → Tile
 part_round k page t =
-    record { extent = record { size = k; first = extent_start k page }; frame = t.frame + (extent_start k page - t.extent.first); rights = t.rights; dirty = t.dirty }
+    record {
+      extent = record { size = k; first = extent_start k page };
+      frame = t.frame + (extent_start k page - t.extent.first);
+      rights = t.rights;
+      dirty = t.dirty;
+    }
 
 -- the part, of the largest of these sizes that fits, round a page of a tile
 abbrev pub cut_to : SizeSet → ℕ → Tile → Tile

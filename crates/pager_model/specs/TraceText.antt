@@ -11,7 +11,7 @@ use Rattle.pager_model.specs.declared.region.Rights.{Rights}
 use Rattle.pager_model.specs.declared.region.Rights.TheVariants.{NoAccess, Read, Write}
 use Rattle.pager_model.specs.Plans.{Plan}
 use Rattle.pager_model.specs.SizeSets.{SizeSet, all_sizes}
-use Rattle.pager_model.specs.Bounds.{most_calls, most_frames, space_bytes, space_pages}
+use Rattle.pager_model.specs.Bounds.{most_calls, most_frames, space_bytes, space_pages, most_processors, most_spaces}
 
 abbrev pub kind_word : Kind → List ℕ
 kind_word Fixed = codes "fixed"
@@ -57,7 +57,8 @@ sizes_word z = codes "0" ++ level_digit z.one (codes "1") ++ level_digit z.two (
 -- the words of a first line of this version, for so many frames, processors and spaces and these page sizes, which version 1 doesn't name
 abbrev pub first_words : (version frames processors spaces : ℕ) → SizeSet → List (List ℕ)
 first_words version frames processors spaces z =
-    codes "trace" ∷ decimal version ∷ decimal frames ∷ decimal processors ∷ decimal spaces ∷ (if version == 1 then [] else sizes_word z ∷ [])
+    codes "trace" ∷ decimal version ∷ decimal frames ∷ decimal processors ∷ decimal spaces ∷
+    (if version == 1 then [] else sizes_word z ∷ [])
 
 abbrev pub first_line : Plan → List ℕ
 first_line plan = line_of_words (first_words plan.version plan.frames plan.processors plan.spaces plan.sizes)
@@ -106,8 +107,8 @@ pub record HasText (plan : Plan) : Type 0 where
   pub version_in : IsVersion plan.version plan.sizes
   pub frames_in : (512 ≤ plan.frames) × (plan.frames ≤ most_frames)
   pub frames_whole : plan.frames % 512 ≡ 0
-  pub processors_in : (1 ≤ plan.processors) × (plan.processors ≤ 16)
-  pub spaces_in : (1 ≤ plan.spaces) × (plan.spaces ≤ 16)
+  pub processors_in : (1 ≤ plan.processors) × (plan.processors ≤ most_processors)
+  pub spaces_in : (1 ≤ plan.spaces) × (plan.spaces ≤ most_spaces)
   pub daemon_in : IsDaemon plan.daemon
   pub lines : All (IsLine plan.processors plan.spaces) plan.calls
   pub few : length plan.calls ≤ most_calls

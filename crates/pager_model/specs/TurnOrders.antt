@@ -28,7 +28,8 @@ abbrev pub standing_by : List Job → Progress → Option Standing
 standing_by jobs p = option_and_then (λ job. Some (record { own = own_of job; doing = p.doing })) (slice_get jobs p.made)
 
 abbrev pub standing_at : Plan → List Entry → ℕ → Option Standing
-standing_at plan history c = option_and_then (standing_by (jobs_of c plan)) (progress_of (slice_index_or (marks_of plan) c 0) (entries_of c history))
+standing_at plan history c = option_and_then (standing_by (jobs_of c plan))
+    (progress_of (slice_index_or (marks_of plan) c 0) (entries_of c history))
 
 -- the space that its next step is made under; where there is none it is made under the frames alone
 abbrev pub under_of : Standing → Option ℕ
@@ -99,7 +100,8 @@ AreLowest plan history (e ∷ es) =
 abbrev pub Follows : Plan → List ℕ → List Entry → List Entry → Type 0
 Follows plan [] history entries = AreLowest plan history entries
 Follows plan (n ∷ ns) history entries =
-    (can_step plan history n ≡ true → (e : Entry) × (es : List Entry) × (entries ≡ e ∷ es) × (e.processor ≡ n) × Follows plan ns (history ++ e ∷ []) es)
+    (can_step plan history n ≡ true → (e : Entry) × (es : List Entry) × (entries ≡ e ∷ es) × (e.processor ≡ n)
+    × Follows plan ns (history ++ e ∷ []) es)
     × (can_step plan history n ≡ false → Follows plan ns history entries)
 
 abbrev pub IsScheduled : Plan → List ℕ → List Entry → Type 0

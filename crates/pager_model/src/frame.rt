@@ -1,4 +1,4 @@
-ghost use Rattle.std.specs.Prelude.{◌≡◌, ◌≤◌, [], length, replicate, map, vec_capacity, IfOk};
+ghost use Rattle.std.specs.Prelude.{◌≡◌, length, replicate, map, IfOk};
 ghost use Rattle.std.specs.List.{range_with_len};
 ghost use Rattle.std.specs.Borrow.{sem};
 ghost use Rattle.pager_model.specs.Frame.{zero_frame};
@@ -6,6 +6,8 @@ ghost use Rattle.pager_model.specs.FrameLoan.{LendsWords};
 
 use std::alloc::{AllocError, AllocFailed, Global};
 use std::marker::Model;
+pub use word_rooms::WORDS;
+use word_rooms::{Room, rooms};
 
 /// No memory could be had.
 #[derive(Clone, Copy, Debug, PartialEq, Eq)]
@@ -23,9 +25,6 @@ impl<T: Drop> From<AllocFailed<T>> for NoMemory {
     }
 }
 
-/// The number of words of a page and of a frame.
-pub const WORDS: usize = 1024;
-
 /// The words of a frame that nothing was written to.
 static ZEROS: [u64; WORDS] = [0; WORDS];
 
@@ -33,20 +32,16 @@ static ZEROS: [u64; WORDS] = [0; WORDS];
 #[derive(Debug, Drop)]
 pub struct Frame {
     number: u32,
-    /// Its words, or none of them before they are first written, while each is zero. The room for all of them is there from the start,
-    /// so that a frame which is never written costs no writes.
-    words: Vec<u64>,
+    /// Its words, or none of them while each is zero. Its memory is there from the start, and a frame that is never written touches none of it.
+    room: Room,
 }
 
 impl Model for Frame {
-    ghost use Rattle.std.specs.Prelude.{◌≡◌, ◌⊎◌, ◌≤◌, [], length, vec_capacity};
     ghost use Rattle.pager_model.specs.Frame.{Framed, words_or_zeros};
 
     ghost Value = { Framed };
 
-    ghost view = { λ f. record { number = f.number; words = words_or_zeros f.words.items } };
-
-    ghost invariant = { λ f. (1024 ≤ vec_capacity f.words) × ((f.words.items ≡ []) ⊎ (length f.words.items ≡ 1024)) };
+    ghost view = { λ f. record { number = f.number; words = words_or_zeros f.room } };
 }
 
 impl Frame {
@@ -62,10 +57,10 @@ impl Frame {
         ensures words { result.now ≡ self.now.words }
         ensures count { length result.now ≡ 1024 }
     {
-        if self.words.is_empty() {
+        if self.room.is_empty() {
             return zeros();
         }
-        self.words.as_slice()
+        self.room.as_slice()
     }
 
     /// Its words, to be written.
@@ -74,26 +69,18 @@ impl Frame {
         ensures words { result.now ≡ self.old.words }
         ensures count { length result.now ≡ 1024 }
     {
-        if self.words.is_empty() {
-            fill(&mut self.words);
+        if self.room.is_empty() {
+            self.room.fill_zeros();
         }
-        self.words.as_mut_slice()
+        self.room.as_mut_slice()
     }
 
     /// Makes its words zero, which writes none of them.
     pub fn clear(&mut self)
         ensures { self.new ≡ zero_frame self.old.number }
     {
-        self.words.clear();
+        self.room.clear();
     }
-}
-
-/// The frame of this number, with zero words.
-fn blank_frame(alloc: Global, number: u32) -> Result<Frame, NoMemory>
-    ensures { IfOk result (λ frame. frame ≡ zero_frame number) }
-{
-    let words = Vec::with_capacity(alloc, WORDS)?;
-    Ok(Frame { number, words })
 }
 
 /// Zero words, which are not written.
@@ -103,26 +90,17 @@ fn zeros() -> &'static [u64]
     &ZEROS
 }
 
-/// Fills a list, which has room for them, with zero words.
-fn fill(words: &mut Vec<u64>)
-    requires empty { words.old.items ≡ [] }
-    requires room { 1024 ≤ vec_capacity words.old }
-    ensures words { words.new.items ≡ replicate 1024 0 }
-    ensures still_room { 1024 ≤ vec_capacity words.new }
-{
-    let Ok(()) = words.resize(WORDS, 0) else {
-        unreachable!()
-    };
-}
-
 /// Frames 0 to `count - 1`, with zero words.
 pub fn frames_of(alloc: Global, count: u32) -> Result<Vec<Frame>, NoMemory>
     ensures { IfOk result (λ frames. frames.items ≡ map zero_frame (range_with_len 0 count)) }
 {
+    let mut rooms = rooms(alloc, count as usize)?;
     let mut frames = Vec::with_capacity(alloc, count as usize)?;
     for number in 0..count {
-        let frame = blank_frame(alloc, number)?;
-        frames.push(frame)?;
+        let Some(room) = rooms.pop() else {
+            unreachable!()
+        };
+        frames.push_reserved(Frame { number, room });
     }
     Ok(frames)
 }

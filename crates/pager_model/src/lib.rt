@@ -5,6 +5,8 @@
 //! the flat memory that each answer is measured by, the frames' state, and which histories are legal.
 #![tactic(auto)]
 
+mod address;
+pub mod bounds;
 pub mod call;
 pub mod entry;
 pub mod extent;
@@ -23,6 +25,8 @@ pub mod summary;
 pub mod tile;
 pub mod trace;
 
+pub use address::{PAGE_BYTES, WORD_BYTES, page_of, word_of};
+pub use bounds::{MOST_ACTORS, MOST_CALLS, MOST_FRAMES, MOST_PROCESSORS, MOST_SPACES};
 pub use call::{Call, Line};
 pub use entry::{Entry, Need, Numbered, Victim, Want, What};
 pub use extent::{Extent, PAGES};

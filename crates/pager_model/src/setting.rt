@@ -1,4 +1,5 @@
 ghost use Rattle.std.specs.Prelude.{◌≡◌, ◌≤◌, vec_len, length};
+ghost use Rattle.pager_model.specs.Bounds.{most_spaces, most_actors};
 ghost use Rattle.pager_model.specs.SizeSets.{all_sizes};
 
 use crate::sizes::Sizes;
@@ -26,9 +27,9 @@ impl Setting {
     /// The number of frames; for each processor 0 where it makes calls, and a daemon's low mark; and for each space
     /// whether its store tells its copies, and its store's count of faults at entry. All four page sizes are there.
     pub fn of(frames: u32, marks: Vec<u32>, told: Vec<bool>, faults: Vec<u64>) -> Setting
-        requires spaces { (1 ≤ vec_len told) × (vec_len told ≤ 16) }
+        requires spaces { (1 ≤ vec_len told) × (vec_len told ≤ most_spaces) }
         requires counts { vec_len faults ≡ vec_len told }
-        requires processors { (1 ≤ vec_len marks) × (vec_len marks ≤ 17) }
+        requires processors { (1 ≤ vec_len marks) × (vec_len marks ≤ most_actors) }
         ensures { result ≡ record { frames = frames; sizes = all_sizes; marks = marks.items; told = told.items; faults = faults.items } }
     {
         Setting {

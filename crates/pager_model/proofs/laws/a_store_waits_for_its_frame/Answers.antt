@@ -41,13 +41,22 @@ third =
       ordered = (record { made = 2; doing = Idle }, refl);
     }
 
-fourth : MayFollow small_setting (answer 0 map_eight Done ∷ take_page_one ∷ missed 1 (Store 0 8192 5) Done ∷ []) (answer 2 (Load 0 65536) Unmapped)
+fourth : MayFollow small_setting (answer 0 map_eight Done ∷ take_page_one ∷ missed 1 (Store 0 8192 5) Done ∷ [])
+    (answer 2 (Load 0 65536) Unmapped)
 fourth =
     record {
       parts = refl;
       processor = lit< tt;
       space = lit< tt;
-      by_space = (tt, record { reply = (refl, λ lawful. absurd (let h : false ≡ true = lawful in cc)); parts = refl; hit = refl; size = refl });
+      by_space = (
+        tt,
+        record {
+          reply = (refl, λ lawful. absurd (let h : false ≡ true = lawful in cc));
+          parts = refl;
+          hit = refl;
+          size = refl;
+        },
+      );
       by_frames = λ e. (let h : false ≡ true = e in cc);
       ordered = (record { made = 3; doing = Idle }, refl);
     }
